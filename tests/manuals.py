@@ -31,8 +31,8 @@ OTHERS |= {"systemctl(1)", "journalctl(1)", "date(1)", "cups(1)", "signal(7)", "
 
 # The programs whose options clap knows: the page, the crates whose sources have the words, and the built program.
 SPOOLERS = {
-    "spool_shell": ("spool_shell.8", ["spool_host/src/options.rt", "spool_host/src/words.rt"]),
-    "spool_service": ("spool_service.8", ["spool_host/src/options.rt", "spool_service/src/words.rt"]),
+    "spool_shell": ("spool_shell.8", ["spool_runtime/src/options.rt", "spool_runtime/src/words.rt"]),
+    "spool_service": ("spool_service.8", ["spool_runtime/src/options.rt", "spool_service/src/words.rt"]),
     "spool_admin": ("spool_admin.8", ["spool_admin/src/words.rt"]),
 }
 FRONT = ("spool.1", "front_words/src")
@@ -211,7 +211,7 @@ def faults():
     """What `#[error(..)]` of the programs tells."""
     pages = {
         "spool_shell.8": [
-            *(f"spool_host/src/{it}.rt" for it in ("fault", "reasons", "shortage")),
+            *(f"spool_runtime/src/{it}.rt" for it in ("fault", "reasons", "shortage")),
             "program_fitness/src/lib.rt",
         ],
         "spool_admin.8": ["spool_admin/src/fault.rt"],
@@ -229,12 +229,12 @@ def faults():
 def tools():
     """The small tools, and what they tell."""
     heads_there, said = items_of("spool_tools.8"), words_of("spool_tools.8")
-    for tool in re.findall(r'name == "([a-z-]+)"', source("stage_tools/src/words.rt")):
+    for tool in re.findall(r'name == "([a-z-]+)"', source("builtin_stages/src/words.rt")):
         check(any(head.split()[0] == tool for head in heads_there), f"spool_tools.8 lacks {tool}")
-    for option in re.findall(r'options, "([a-z]+)"', source("stage_tools/src/options.rt")):
+    for option in re.findall(r'options, "([a-z]+)"', source("builtin_stages/src/options.rt")):
         check(re.search(rf"\b{option}\b", said), f"spool_tools.8 lacks the option {option}")
     silent = {"no answer", "no partner"}
-    for text in re.findall(r'"ERROR: ([a-z ]+)\\n"', source("stage_tools/src/fault.rt")):
+    for text in re.findall(r'"ERROR: ([a-z ]+)\\n"', source("builtin_stages/src/fault.rt")):
         check(text in silent or f"ERROR: {text}" in said, f"spool_tools.8 lacks ERROR: {text}")
 
 

@@ -22,7 +22,7 @@ top = os.path.join(os.path.dirname(os.path.abspath(__file__)), "..")
 OF_TESTS = {"disk_images", "spool_scripts"}
 
 # A program whose library is another crate. Both are looked up in the tables under the library's name.
-LIBRARIES = {"spool_shell": "spool_host", "spool_tools": "stage_tools"}
+LIBRARIES = {"spool_shell": "spool_runtime", "spool_tools": "builtin_stages"}
 
 # The functions with an arm, an `else` or a `map_err` for a call whose only fault is out of memory, and how many of these
 # they have. Whoever adds one here has looked at that call.
@@ -92,11 +92,11 @@ PASSED_ON = {
     ("spool_front", "queue_line"): 1,
     ("spool_front", "send_line"): 1,
     # An error of the system whose kind says so.
-    ("spool_host", "from"): 1,
-    ("spool_host", "mistake"): 1,
-    ("spool_host", "no_words"): 1,
-    ("spool_host", "read_words"): 1,
-    ("spool_host", "words_fault"): 1,
+    ("spool_runtime", "from"): 1,
+    ("spool_runtime", "mistake"): 1,
+    ("spool_runtime", "no_words"): 1,
+    ("spool_runtime", "read_words"): 1,
+    ("spool_runtime", "words_fault"): 1,
     ("spool_service", "read_words"): 1,
 }
 
@@ -117,8 +117,8 @@ CAPACITIES = {
     ("filter_args", "words"): ["6"],
     # 64 KiB, for as long as a spool is opened.
     ("gate_journal", "new"): ["BLOCK_LEN"],
-    ("half_rows", "end_row"): ["1"],
-    ("half_rows", "finish"): ["1"],
+    ("split_rows", "end_row"): ["1"],
+    ("split_rows", "finish"): ["1"],
     ("job_rows", "reserve"): ["1"],
     ("job_table", "reserve_extent"): ["1"],
     ("job_table", "reserve_queue"): ["1", "1"],
@@ -135,7 +135,7 @@ CAPACITIES = {
     ("spool_core", "put_zeros"): ["block.len() + count"],
     # 64 KiB, for as long as a document is sent.
     ("spool_front", "new"): ["PIECE"],
-    ("spool_host", "reserve"): ["1"],
+    ("spool_runtime", "reserve"): ["1"],
 }
 
 # The great numbers in bodies: bounds of loops, of counts and of fields. None is a capacity.
@@ -163,17 +163,17 @@ NUMBERS = {
     ("spool_front", "watch_by"): ["u64::MAX"],
     ("spool_front", "width_in"): ["u64::MAX"],
     ("spool_front", "write_page"): ["u64::MAX"],
-    ("spool_host", "attend"): ["u64::MAX"],
-    ("spool_host", "counted"): ["u64::MAX"],
-    ("spool_host", "read_at_most"): ["u64::MAX"],
-    ("spool_host", "spool_command"): ["4194304"],
+    ("spool_runtime", "attend"): ["u64::MAX"],
+    ("spool_runtime", "counted"): ["u64::MAX"],
+    ("spool_runtime", "read_at_most"): ["u64::MAX"],
+    ("spool_runtime", "spool_command"): ["4194304"],
     ("spool_service", "bound_options"): ["1_000_000"],
-    ("stage_tools", "connect_seconds_of"): ["u32::MAX"],
-    ("stage_tools", "end_seconds_of"): ["u32::MAX"],
-    ("stage_tools", "turns_of"): ["u32::MAX"],
-    ("stage_tools", "wait"): ["u64::MAX"],
-    ("stage_tools", "write"): ["u64::MAX"],
-    ("stage_tools", "write_result"): ["u64::MAX"],
+    ("builtin_stages", "connect_seconds_of"): ["u32::MAX"],
+    ("builtin_stages", "end_seconds_of"): ["u32::MAX"],
+    ("builtin_stages", "turns_of"): ["u32::MAX"],
+    ("builtin_stages", "wait"): ["u64::MAX"],
+    ("builtin_stages", "write"): ["u64::MAX"],
+    ("builtin_stages", "write_result"): ["u64::MAX"],
     ("stderr_lines", "number_of"): ["u32::MAX"],
     ("whole_writes", "write_whole"): ["u64::MAX"],
 }
@@ -184,7 +184,7 @@ CONSTANTS = {
     ("command_lines", "GREATEST"): 1,
     ("front_words", "GREATEST_JOB"): 1,
     ("front_words", "GREATEST_MOMENT"): 1,
-    ("half_rows", "LONGEST_BLOCK"): 1,
+    ("split_rows", "LONGEST_BLOCK"): 1,
     ("mime_lines", "TOO_GREAT"): 1,
     ("mime_rules", "GREATEST"): 1,
     ("side_channel", "SESSION_READS"): 1,
@@ -192,12 +192,12 @@ CONSTANTS = {
     ("spool_core", "BLOCK_ROOM"): 1,
     ("spool_front", "GREATEST_SIZE"): 1,
     ("spool_front", "MOST_PATIENCE"): 1,
-    ("spool_host", "DEFAULT_SIZE"): 1,
-    ("spool_host", "GREATEST_SIZE"): 1,
-    ("spool_host", "MOST_BLOCKS"): 1,
-    ("spool_host", "MOST_ERRORS"): 1,
-    ("spool_host", "MOST_LINES"): 1,
-    ("spool_host", "STRIDE"): 1,
+    ("spool_runtime", "DEFAULT_SIZE"): 1,
+    ("spool_runtime", "GREATEST_SIZE"): 1,
+    ("spool_runtime", "MOST_BLOCKS"): 1,
+    ("spool_runtime", "MOST_ERRORS"): 1,
+    ("spool_runtime", "MOST_LINES"): 1,
+    ("spool_runtime", "STRIDE"): 1,
     ("service_loop", "LONGEST_IDLE"): 1,
     ("spool_service", "MOST"): 1,
     ("spool_types", "GREATEST"): 2,

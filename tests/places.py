@@ -34,8 +34,8 @@ LISTS = {
     "What is of the newest version": ("`Two`", r"\bTwo\b|(?i:\bnewest_version\b)", r"-", PARTS[:2]),
 }
 # Crates of tests and of examples, those of the front, which knows texts alone, and those in which `One` and `Two` are other things.
-ASIDE = re.compile(r".*_(tests|facts|scripts|rows)|front_.*|spool_front")
-OTHERS = {"`One`": ("side_channel", "spool_host"), "`Two`": ("side_channel",)}
+ASIDE = re.compile(r".*_(tests|examples|facts|scripts|rows)|front_.*|spool_front")
+OTHERS = {"`One`": ("side_channel", "spool_runtime"), "`Two`": ("side_channel",)}
 
 IMPORT = {
     ".rt": re.compile(r"^ *(pub(\([a-z]+\))? )?(ghost )?use .*?;$", re.MULTILINE | re.DOTALL),

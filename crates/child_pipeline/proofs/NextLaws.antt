@@ -8,7 +8,7 @@ use Rattle.std.specs.BTreeMap.{BTreeMap, get}
 use Rattle.std.specs.BTreeMap.Range.{IsRangeOf, IsInRange}
 use Rattle.std.specs.FinMap as finite
 use Rattle.std.proofs.lemmas.Bool.Decides.{nat_tests}
-use Rattle.child_pipeline.specs.Slots.{Slots, IsBehind, IsNextJob, bound_behind}
+use Rattle.child_pipeline.specs.StageSlots.{Slots, IsBehind, IsNextJob, bound_behind}
 
 below_less : (k j : ℕ) → k < j → nat_cmp k j ≡ Less
 below_less k j lt = grind (arith, nat_tests)

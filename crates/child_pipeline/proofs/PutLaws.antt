@@ -6,9 +6,9 @@ use Rattle.std.specs.Ordering.{nat_cmp, eq_by_cmp}
 use Rattle.std.specs.Cmp.{nat_cmp_total, eq_by_cmp_equiv, unsigned_tied}
 use Rattle.std.proofs.lemmas.Bool.{eqb-true}
 use Rattle.std.specs.FinMap as finite
-use Rattle.child_pipeline.specs.Slots.{Slots, slot_in, put_progress, with_progress, begun, IsReporting, IsTicketless, IsEnded, IsRunning, is_ready, is_ended, IsFinish}
+use Rattle.child_pipeline.specs.StageSlots.{Slots, slot_in, put_progress, with_progress, begun, IsReporting, IsTicketless, IsEnded, IsRunning, is_ready, is_ended, IsFinish}
 use Rattle.child_pipeline.specs.Finishes.{kept}
-use Rattle.child_pipeline.specs.Told.{Told, finish_in, Finishes}
+use Rattle.child_pipeline.specs.ChildTraces.{ChildTrace, finish_in, Finishes}
 use Rattle.child_pipeline.specs.declared.order.Finish.{Finish}
 use Rattle.child_pipeline.specs.declared.order.ChildFault.{ChildFault}
 use Rattle.child_pipeline.specs.declared.runner.Slot.{Slot}
@@ -52,7 +52,7 @@ ended_if (Some slot) reports rests = by_progress slot.progress reports rests
     by_progress (Ended finish) reports rests = refl
 
 -- what a child's finish says of the finish that is kept
-pub finish_kept : (told : Option Told) (n : ℕ) (result : Result Finish ChildFault) (f : Finish) (told' : Option Told) → f ≡ kept (finish_in result) → Finishes told n result told' → IsFinish told n f told'
+pub finish_kept : (told : Option ChildTrace) (n : ℕ) (result : Result Finish ChildFault) (f : Finish) (told' : Option ChildTrace) → f ≡ kept (finish_in result) → Finishes told n result told' → IsFinish told n f told'
 finish_kept None n result f told' is finishes = finishes
 finish_kept (Some t) n result f told' is finishes = λ running. (is ∙ ap kept (finishes running).answer, (finishes running).told)
 

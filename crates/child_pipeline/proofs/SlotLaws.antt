@@ -10,8 +10,8 @@ use Rattle.std.specs.FinMap as finite
 use Rattle.std.specs.FinMap.Entries.{find}
 use Rattle.std.proofs.lemmas.Bool.Decides.{eqb_tells}
 use Rattle.slab.specs.Slab.{Slab, get, Updates}
-use Rattle.child_pipeline.specs.Kept.{slots_of, slot_at, key_in, AreKept}
-use Rattle.child_pipeline.specs.Slots.{Slots, numbered, begun}
+use Rattle.child_pipeline.specs.RunnerFields.{slots_of, slot_at, key_in, AreKept}
+use Rattle.child_pipeline.specs.StageSlots.{Slots, numbered, begun}
 use Rattle.child_pipeline.specs.declared.runner.Slot.{Slot}
 
 tied : (k q : ℕ) → is_eq (nat_cmp k q) ≡ is_eq (nat_cmp q k)

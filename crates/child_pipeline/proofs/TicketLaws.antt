@@ -4,8 +4,8 @@ use Rattle.std.specs.FinMap as finite
 use Rattle.std.specs.Cmp.{nat_cmp_total, unsigned_tied}
 use Rattle.std.proofs.lemmas.Bool.{eqb-true, eq-eqb}
 use Rattle.std.proofs.lemmas.List.{length-append}
-use Rattle.child_pipeline.specs.Slots.{Slots, slot_in, with_progress, put_progress, progress_after, IsStartOf, IsTicketless, Waits}
-use Rattle.child_pipeline.specs.Told.{Told, is_in, without, starts_first, started_by, after_finish, after_look, HasLooked}
+use Rattle.child_pipeline.specs.StageSlots.{Slots, slot_in, with_progress, put_progress, progress_after, IsStartOf, IsTicketless, Waits}
+use Rattle.child_pipeline.specs.ChildTraces.{ChildTrace, is_in, without, starts_first, started_by, after_finish, after_look, HasLooked}
 use Rattle.child_pipeline.specs.Tickets.{IsRunningAs, AreOnce, HasTickets, IsBalanced, AreKeptBy}
 use Rattle.child_pipeline.specs.Finishes.{no_start}
 use Rattle.child_pipeline.specs.declared.order.ChildFault.{ChildFault}
@@ -185,7 +185,7 @@ module _ (m : Slots) (j : ℕ) (x : Slot ℕ) where
       by_test false is = inr (is, record { slot = r.slot; there = sym (get_other m j k x is) ∙ r.there; runs = r.runs })
 
   -- a slot without a child, in the place of one without a child
-  pub quiet_put : ((n : ℕ) → ¬ (x.progress ≡ Running n)) → IsTicketless (finite.get m j) → (t : Told) → HasTickets m t → HasTickets (finite.insert m j x) t
+  pub quiet_put : ((n : ℕ) → ¬ (x.progress ≡ Running n)) → IsTicketless (finite.get m j) → (t : ChildTrace) → HasTickets m t → HasTickets (finite.insert m j x) t
   quiet_put quiet rests t has = record {
     running = λ k n r. has.running k n (back k n r);
     owned = λ n is. let (k, r) = has.owned n is in (k, other_runs k n (differs k j (λ same. no_child m j n rests (subst (λ i. IsRunningAs m i n) same r))) r);
@@ -201,7 +201,7 @@ module _ (m : Slots) (j : ℕ) (x : Slot ℕ) where
       ]
 
 -- more orders, of which no child runs
-more_orders : (m : Slots) (t : Told) (starts : List (Result (Unit {0}) ChildFault)) (p : Placed) → HasTickets m t → HasTickets m (record t { starts = starts; orders = t.orders ++ p ∷ [] })
+more_orders : (m : Slots) (t : ChildTrace) (starts : List (Result (Unit {0}) ChildFault)) (p : Placed) → HasTickets m t → HasTickets m (record t { starts = starts; orders = t.orders ++ p ∷ [] })
 more_orders m t starts p has = record {
   running = has.running;
   owned = has.owned;
@@ -210,11 +210,11 @@ more_orders m t starts p has = record {
   once = has.once;
 }
 
-same_balance : (t : Told) → IsBalanced t 0 t
+same_balance : (t : ChildTrace) → IsBalanced t 0 t
 same_balance t = omega arith
 
 -- a start
-module _ (m : Slots) (j : ℕ) (t : Told) (order : Order) (has : HasTickets m t) (rests : IsTicketless (finite.get m j)) where
+module _ (m : Slots) (j : ℕ) (t : ChildTrace) (order : Order) (has : HasTickets m t) (rests : IsTicketless (finite.get m j)) where
   unstarted : (n : ℕ) → HasTickets (put_progress m j (progress_after false n)) t
   unstarted n = quiet_put m j (with_progress (slot_in m j) (progress_after false n)) (λ k is. absurd (cc)) rests t has
 
@@ -267,10 +267,10 @@ module _ (m : Slots) (j : ℕ) (t : Told) (order : Order) (has : HasTickets m t)
       none true is = let lt = has.known new is in absurd (omega (arith, lt))
       none false is = refl
 
-  pub start_keeps : (b : Bool) (n : ℕ) (told : Option Told) → IsStartOf t order b n told → AreKeptBy t (cond b 1 0) (put_progress m j (progress_after b n)) told
+  pub start_keeps : (b : Bool) (n : ℕ) (told : Option ChildTrace) → IsStartOf t order b n told → AreKeptBy t (cond b 1 0) (put_progress m j (progress_after b n)) told
   start_keeps b n told start = by_answer t.starts refl
     where
-      shown : (c : Bool) (k : ℕ) (now : Told) → b ≡ c → told ≡ Some now → IsBalanced t (cond c 1 0) now → HasTickets (put_progress m j (progress_after c k)) now → (c ≡ true → n ≡ k) → AreKeptBy t (cond b 1 0) (put_progress m j (progress_after b n)) told
+      shown : (c : Bool) (k : ℕ) (now : ChildTrace) → b ≡ c → told ≡ Some now → IsBalanced t (cond c 1 0) now → HasTickets (put_progress m j (progress_after c k)) now → (c ≡ true → n ≡ k) → AreKeptBy t (cond b 1 0) (put_progress m j (progress_after b n)) told
       shown true k now is tells even tickets same = subst (λ d. AreKeptBy t (cond d 1 0) (put_progress m j (progress_after d n)) told) (sym is)
           (record { now = now; tells = tells; tickets = subst (λ i. HasTickets (put_progress m j (Running i)) now) (sym (same refl)) tickets; balanced = even })
       shown false k now is tells even tickets same = subst (λ d. AreKeptBy t (cond d 1 0) (put_progress m j (progress_after d n)) told) (sym is)
@@ -290,7 +290,7 @@ module _ (m : Slots) (j : ℕ) (t : Told) (order : Order) (has : HasTickets m t)
           (more_orders (put_progress m j (Ended no_start)) t rest p (unstarted n)) (λ is. absurd (cc))
 
 -- a finish of a child that a slot has
-pub finish_keeps : (m : Slots) (j n : ℕ) (t : Told) → HasTickets m t → IsRunningAs m j n → (new : Slots) (told : Option Told) → Waits (Some t) n m j new told → AreKeptBy t 0 new told
+pub finish_keeps : (m : Slots) (j n : ℕ) (t : ChildTrace) → HasTickets m t → IsRunningAs m j n → (new : Slots) (told : Option ChildTrace) → Waits (Some t) n m j new told → AreKeptBy t 0 new told
 finish_keeps m j n t has runs new told waits = record {
   now = after_finish t n;
   tells = (waits.answer there).1;
@@ -335,7 +335,7 @@ finish_keeps m j n t has runs new told waits = record {
         never (is_in n (without n t.running)) (subst (λ o. is_in o (without n t.running) ≡ true) equal is) (gone_from n t.running has.once)
 
 -- a look, which says nothing of tickets
-pub look_keeps : (m : Slots) (t : Told) (ended : Bool) (told : Option Told) → HasTickets m t → HasLooked t ended told → AreKeptBy t 0 m told
+pub look_keeps : (m : Slots) (t : ChildTrace) (ended : Bool) (told : Option ChildTrace) → HasTickets m t → HasLooked t ended told → AreKeptBy t 0 m told
 look_keeps m t ended told has looked = record {
   now = after_look t;
   tells = looked.told;
@@ -344,7 +344,7 @@ look_keeps m t ended told has looked = record {
 }
 
 -- slots without a child may go
-pub release_keeps : (m : Slots) (j : ℕ) (t : Told) → HasTickets m t → IsTicketless (finite.get m j) → HasTickets (finite.remove m j) t
+pub release_keeps : (m : Slots) (j : ℕ) (t : ChildTrace) → HasTickets m t → IsTicketless (finite.get m j) → HasTickets (finite.remove m j) t
 release_keeps m j t has rests = record {
   running = λ k n r. has.running k n (back k n r);
   owned = λ n is. let (k, r) = has.owned n is in (k, record { slot = r.slot; there = left k (differs k j (λ same. no_child m j n rests (subst (λ i. IsRunningAs m i n) same r))) ∙ r.there; runs = r.runs });

@@ -1,7 +1,7 @@
 pub mod Orders
 pub mod Finishes
-pub mod Told
-pub mod Memory
-pub mod Slots
-pub mod Kept
+pub mod ChildTraces
+pub mod MemoryChildren
+pub mod StageSlots
+pub mod RunnerFields
 pub mod Tickets

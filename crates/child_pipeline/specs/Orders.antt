@@ -1,7 +1,7 @@
 -- What the child of a stage is started by.
 use Rattle.std.specs.Prelude.{ℕ, ◌-◌, cond, ◌==◌, List, [], Option, None, Some, Result, Ok, Err, slice_get}
 use Rattle.std.specs.String.{string_bytes}
-use Rattle.filter_args.specs.Arguments.{arguments}
+use Rattle.filter_args.specs.FilterArguments.{arguments}
 use Rattle.filter_args.specs.Environment.{environment_of}
 use Rattle.filter_args.specs.Files.{file_name}
 use Rattle.filter_args.specs.declared.files.ChildFile.TheVariants as files

@@ -1,8 +1,8 @@
 //! What is so of the inputs of stages, and of the tickets. The functions do nothing: their clauses are the laws.
 ghost use Rattle.std.specs.Prelude.{◌≡◌, ℕ, ◌+◌, Bool, cond, List, [], Option, Some};
 ghost use Rattle.std.specs.FinMap as finite;
-ghost use Rattle.child_pipeline.specs.Slots.{Slots, IsTicketless, IsStart, Waits, put_progress, progress_after, begun, advanced, finish_in, input_in};
-ghost use Rattle.child_pipeline.specs.Told.{Told, Looks};
+ghost use Rattle.child_pipeline.specs.StageSlots.{Slots, IsTicketless, IsStart, Waits, put_progress, progress_after, begun, advanced, finish_in, input_in};
+ghost use Rattle.child_pipeline.specs.ChildTraces.{ChildTrace, Looks};
 ghost use Rattle.child_pipeline.specs.Tickets.{HasTickets, IsRunningAs, AreKeptBy};
 ghost use Rattle.child_pipeline.specs.declared.order.Order.{Order as OrderOf};
 ghost use Rattle.child_pipeline.specs.declared.order.Input.TheVariants as inputs;
@@ -19,11 +19,11 @@ pub fn right_input()
 /// No ticket is lost, and none is spent twice: a start puts the new child's ticket into the job's slot, a finish takes it
 /// out, a look leaves it where it is, and a slot without a ticket may go, or have another without one in its place.
 pub fn tickets_stay()
-    ensures starts { (slots : Slots) (j : ℕ) (t : Told) (order : OrderOf) (b : Bool) (n : ℕ) (told : Option Told) →
+    ensures starts { (slots : Slots) (j : ℕ) (t : ChildTrace) (order : OrderOf) (b : Bool) (n : ℕ) (told : Option ChildTrace) →
         HasTickets slots t → IsTicketless (finite.get slots j) → IsStart (Some t) order b n told → AreKeptBy t (cond b 1 0) (put_progress slots j (progress_after b n)) told }
-    ensures finishes { (slots : Slots) (j n : ℕ) (t : Told) (new : Slots) (told : Option Told) →
+    ensures finishes { (slots : Slots) (j n : ℕ) (t : ChildTrace) (new : Slots) (told : Option ChildTrace) →
         HasTickets slots t → IsRunningAs slots j n → Waits (Some t) n slots j new told → AreKeptBy t 0 new told }
-    ensures looks { (slots : Slots) (t : Told) (ended : Bool) (told : Option Told) → HasTickets slots t → Looks (Some t) ended told → AreKeptBy t 0 slots told }
-    ensures releases { (slots : Slots) (j : ℕ) (t : Told) → HasTickets slots t → IsTicketless (finite.get slots j) → HasTickets (finite.remove slots j) t }
-    ensures replaces { (slots : Slots) (j : ℕ) (slot : SlotOf ℕ) (t : Told) → HasTickets slots t → IsTicketless (finite.get slots j) → IsTicketless (Some slot) → HasTickets (finite.insert slots j slot) t }
+    ensures looks { (slots : Slots) (t : ChildTrace) (ended : Bool) (told : Option ChildTrace) → HasTickets slots t → Looks (Some t) ended told → AreKeptBy t 0 slots told }
+    ensures releases { (slots : Slots) (j : ℕ) (t : ChildTrace) → HasTickets slots t → IsTicketless (finite.get slots j) → HasTickets (finite.remove slots j) t }
+    ensures replaces { (slots : Slots) (j : ℕ) (slot : SlotOf ℕ) (t : ChildTrace) → HasTickets slots t → IsTicketless (finite.get slots j) → IsTicketless (Some slot) → HasTickets (finite.insert slots j slot) t }
 {}

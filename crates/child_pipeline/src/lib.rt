@@ -19,7 +19,7 @@
 //! - *RightInput*: the order of a stage is exactly `order_in`, with the program, words and environment that the job's row
 //!   and its queue's row name (`Orders`). Its input is the document in the first stage, and in each later one the output
 //!   of the stage before in the same attempt (`right_input`). Outputs are moved, never copied.
-//! - *EachFinishedOnce*: what children tell (`Told`) counts the children that run. `start_stage` starts one child at most
+//! - *EachFinishedOnce*: what children tell (`ChildTrace`) counts the children that run. `start_stage` starts one child at most
 //!   (`StartsStage`), and none where it answers out of memory. `finish_stage` finishes the child of a slot that runs one,
 //!   and else none (`FinishesStage`), whatever it answers. A slot with a ticket can't be freed. So the children that are told
 //!   to be running stay those whose tickets the slots have, each in one slot, and each that was started runs or has been
@@ -46,7 +46,7 @@ mod reports;
 mod runner;
 mod texts;
 
-pub use children::{Children, Places};
+pub use children::{Children, StartRoom};
 pub use groups::Grouped;
 pub use laws::{right_input, tickets_stay};
 pub use memory::{MemChildren, MemTicket};

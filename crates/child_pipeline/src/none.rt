@@ -1,9 +1,9 @@
 //! Children of which none can be started.
 ghost use Rattle.std.specs.Prelude.{◌≡◌, true, None, IsErr};
-ghost use Rattle.child_pipeline.specs.Told.{Starts, Looks};
+ghost use Rattle.child_pipeline.specs.ChildTraces.{Starts, Looks};
 ghost use Rattle.child_pipeline.specs.declared.none.NoTicket.{NoTicket as NoTicketValue};
 
-use crate::children::{Children, Places};
+use crate::children::{Children, StartRoom};
 use crate::order::{ChildFault, Finish, Order};
 
 /// Children of which none can be started, and that tell nothing.
@@ -21,7 +21,7 @@ impl Children for NoChildren {
 
     ghost number = { λ _. 0 };
 
-    ghost rooms = { λ _ places _. places ≡ None };
+    ghost rooms = { λ _ start_room _. start_room ≡ None };
 
     fn start(&mut self, order: Order) -> Result<NoTicket, ChildFault>
         ensures told { Starts (λ (_ : NoTicketValue). 0) None order result None }
@@ -43,7 +43,7 @@ impl Children for NoChildren {
     }
 
     // A start would find nothing that it could want.
-    fn places(&mut self) -> Option<Places>
+    fn start_room(&mut self) -> Option<StartRoom>
         ensures none { result ≡ None }
     {
         None

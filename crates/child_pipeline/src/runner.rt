@@ -3,9 +3,9 @@ ghost use Rattle.std.specs.Prelude.{◌≡◌, ◌&&◌, ◌==◌, false, nat_lt
 ghost use Rattle.std.specs.Option.{option_copied, option_map};
 ghost use Rattle.std.specs.FinMap as finite;
 ghost use Rattle.slab.specs.Slab.{Updates};
-ghost use Rattle.child_pipeline.specs.Slots.{numbered, begun_in, bound_behind, IsFirstStage, IsNextJob, IsReady, IsDue, IsReporting, IsTicketless, HasNext, StartsStage, FinishesStage, order_in, end_in, advanced_in, slot_in, input_in, put_progress, numbered_progress, is_ready, is_running, is_ended, IsRunning, IsEnded};
+ghost use Rattle.child_pipeline.specs.StageSlots.{numbered, begun_in, bound_behind, IsFirstStage, IsNextJob, IsReady, IsDue, IsReporting, IsTicketless, HasNext, StartsStage, FinishesStage, order_in, end_in, advanced_in, slot_in, input_in, put_progress, numbered_progress, is_ready, is_running, is_ended, IsRunning, IsEnded};
 ghost use Rattle.child_pipeline.specs.Finishes.{kept};
-ghost use Rattle.child_pipeline.specs.Told.{finish_in as finish_told, Looks};
+ghost use Rattle.child_pipeline.specs.ChildTraces.{finish_in as finish_told, Looks};
 
 use crate::children::Children;
 use crate::order::{ChildFault, Finish, Input, Order};
@@ -78,8 +78,8 @@ pub struct Runner<C: Children> {
 }
 
 impl<C: Children> Model for Runner<C> {
-    ghost use Rattle.child_pipeline.specs.Kept.{slots_of, AreKept};
-    ghost use Rattle.child_pipeline.specs.Slots.{Slots};
+    ghost use Rattle.child_pipeline.specs.RunnerFields.{slots_of, AreKept};
+    ghost use Rattle.child_pipeline.specs.StageSlots.{Slots};
     ghost use Rattle.std.specs.Coded.{codes};
     ghost use Rattle.std.specs.FinMap as map;
 

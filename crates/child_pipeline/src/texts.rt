@@ -1,7 +1,7 @@
 //! Bytes and texts that children take and give. Each is seen as a list, and made of what it holds without memory.
 ghost use Rattle.std.specs.Prelude.{◌≡◌, [], map};
 ghost use Rattle.std.specs.String.{string_bytes};
-ghost use Rattle.filter_args.specs.Seen.{texts as texts_of};
+ghost use Rattle.filter_args.specs.OptionFields.{texts as texts_of};
 
 use std::alloc::Global;
 use std::marker::Model;
@@ -60,7 +60,7 @@ pub struct Texts {
 
 impl Model for Texts {
     ghost use Rattle.std.specs.Prelude.{List, ℕ};
-    ghost use Rattle.filter_args.specs.Seen.{texts as texts_of};
+    ghost use Rattle.filter_args.specs.OptionFields.{texts as texts_of};
 
     ghost Value = { List (List ℕ) };
 

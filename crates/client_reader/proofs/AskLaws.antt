@@ -2,20 +2,20 @@
 use Rattle.std.proofs.Common.{◌≡◌, ℕ, suc, zero, ◌+◌, true, false, cond, List, [], ◌∷◌, ◌++◌, length, take, drop, map, refl, ap, sym, ◌∙◌, append_assoc, Bool, Option, None, Some}
 use Rattle.std.specs.Prelude.{nat_le}
 use Rattle.std.proofs.lemmas.List.{append-nil}
-use Rattle.command_lines.specs.Lines.{first_line, after_line}
-use Rattle.command_lines.specs.Grammar.{kind_of}
+use Rattle.command_lines.specs.TextLines.{first_line, after_line}
+use Rattle.command_lines.specs.CommandGrammar.{kind_of}
 use Rattle.command_lines.specs.Text as texts
 use Rattle.command_lines.specs.Text.{commands_within, commands_of, is_lf_at, sent}
 use Rattle.command_lines.specs.declared.command.Command.{Command}
 use Rattle.command_lines.specs.declared.command.Command.TheVariants.{Malformed}
 use Rattle.command_lines.specs.declared.command.Kind.{Kind}
 use Rattle.command_lines.specs.declared.command.Kind.TheVariants.{Remark, Takes, Says}
-use Rattle.service_texts.specs.Words.{own_word}
+use Rattle.service_texts.specs.ServiceWords.{own_word}
 use Rattle.service_texts.specs.declared.own_words.OwnWord.{OwnWord}
 use Rattle.client_reader.specs.declared.ask.Ask.{Ask}
 use Rattle.client_reader.specs.declared.ask.Ask.TheVariants as asking
 use Rattle.client_reader.specs.Asks.{own_of, after_send, after_kind, after_own, asks_within, asks_of}
-use Rattle.client_reader.specs.Calls.{Call, takes, gives, AreCalls, AreFirstOf, as_command, given_in, taken_in}
+use Rattle.client_reader.specs.ReaderCalls.{Call, takes, gives, AreCalls, AreFirstOf, as_command, given_in, taken_in}
 
 -- no word of the service is a command, as its crate says it
 abbrev pub AreNoCommands : Type 0

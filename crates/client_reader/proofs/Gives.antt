@@ -1,9 +1,9 @@
 -- What each step of a reader comes to.
 use Rattle.std.proofs.Common.{◌≡◌, ◌⊎◌, inl, inr, ℕ, ◌+◌, ◌<◌, ◌≤◌, true, false, List, [], ◌∷◌, ◌++◌, length, get_or, take, drop, map, refl, ap, sym, ◌∙◌, arith, append_assoc, min, None, Some}
 use Rattle.std.proofs.lemmas.List.{drop_more, take_more, take_all, take-append-drop, length-take-le}
-use Rattle.command_lines.specs.Lines.{has_lf}
-use Rattle.command_lines.specs.Grammar.{kind_of}
-use Rattle.command_lines.specs.Pending.{IsPartial, Leads, nothing_read, to_come}
+use Rattle.command_lines.specs.TextLines.{has_lf}
+use Rattle.command_lines.specs.CommandGrammar.{kind_of}
+use Rattle.command_lines.specs.PendingCommands.{IsPartial, Leads, nothing_read, to_come}
 use Rattle.command_lines.specs.Waits.{wanted_of}
 use Rattle.command_lines.specs.declared.commands.Wanted.TheVariants as wants
 use Rattle.command_lines.specs.declared.command.Command.{Command}
@@ -13,7 +13,7 @@ use Rattle.client_reader.specs.declared.ask.Ask.TheVariants as asking
 use Rattle.client_reader.specs.declared.ask.Next.TheVariants as nexts
 use Rattle.client_reader.specs.declared.reader.Reader.{Reader}
 use Rattle.client_reader.specs.Asks.{own_of, after_own, asks_of}
-use Rattle.client_reader.specs.Reading.{Where, at_line, in_line, in_send, asked_from, IsAt, Awaits, Gives, ends_within}
+use Rattle.client_reader.specs.AwaitedRequests.{Where, at_line, in_line, in_send, asked_from, IsAt, Awaits, Gives, ends_within}
 use Rattle.client_reader.proofs.Lines.{LineByLine, asks_line, ends_within_front, ends_within_line}
 use Rattle.client_reader.proofs.Steps.{waits_line, waits_sending, IsLineMode, IsSending, no_send_place, given_first, send_place, none_given, Goes, goes_on, goes_line, goes_front, goes_rest, goes_part, goes_send}
 
@@ -34,53 +34,53 @@ pub stays : (old new : Reader) → Leads old.commands [] new.commands → new.te
     (asks : List ℕ → List Ask) → Awaits old asks → Awaits new asks
 stays old new leads text within asks a = record {
   given = a.given;
-  place = a.place;
+  position = a.position;
   at = record { commands = λ more. sym (leads more) ∙ a.at.commands more; fits = rw within a.at.fits };
-  asked = λ more. a.asked more ∙ ap (λ l. map asking.Command a.given ++ asked_from a.place (l ++ more)) (sym text);
+  asked = λ more. a.asked more ∙ ap (λ l. map asking.Command a.given ++ asked_from a.position (l ++ more)) (sym text);
 }
 
 -- bytes were given to it
 pub were_given : (old new : Reader) (xs rest : List ℕ) → new.commands ≡ record old.commands { held = old.commands.held ++ xs } →
     old.text.items ≡ xs ++ rest → new.text.items ≡ rest → new.within ≡ ends_within xs →
-    (asks : List ℕ → List Ask) (a : Awaits old asks) → Goes xs (ends_within xs) a.given a.place → Awaits new asks
+    (asks : List ℕ → List Ask) (a : Awaits old asks) → Goes xs (ends_within xs) a.given a.position → Awaits new asks
 were_given old new xs rest commands text left within asks a goes =
-    let at = goes_on old.commands xs old.within (ends_within xs) a.given a.place a.at goes in
+    let at = goes_on old.commands xs old.within (ends_within xs) a.given a.position a.at goes in
     record {
       given = goes.given';
-      place = goes.place';
+      position = goes.position';
       at = rw (commands, within) at;
       asked = λ more. a.asked more
-          ∙ ap (λ l. map asking.Command a.given ++ asked_from a.place l) (ap (λ l. l ++ more) text ∙ append_assoc xs rest more)
+          ∙ ap (λ l. map asking.Command a.given ++ asked_from a.position l) (ap (λ l. l ++ more) text ∙ append_assoc xs rest more)
           ∙ goes.asks (rest ++ more)
-          ∙ ap (λ l. map asking.Command goes.given' ++ asked_from goes.place' (l ++ more)) (sym left);
+          ∙ ap (λ l. map asking.Command goes.given' ++ asked_from goes.position' (l ++ more)) (sym left);
     }
 
 module _ (law : LineByLine) where
   pub gives_command : (old new : Reader) (c : Command) → Leads old.commands (c ∷ []) new.commands → new.text.items ≡ old.text.items → new.within ≡ old.within →
       (asks : List ℕ → List Ask) → Awaits old asks → Gives asks (nexts.Asked (asking.Command c)) new
   gives_command old new c leads text within asks a =
-      let r = given_first law old.commands new.commands old.within a.given a.place c a.at leads in (
-        λ more. map asking.Command r.0 ++ asked_from a.place (new.text.items ++ more),
-        λ more. a.asked more ∙ ap (λ g. map asking.Command g ++ asked_from a.place (old.text.items ++ more)) r.1 ∙ ap (λ l. asking.Command c ∷ (map asking.Command r.0 ++ asked_from a.place (l ++ more))) (sym text),
-        record { given = r.0; place = a.place; at = rw within r.2; asked = λ more. refl },
+      let r = given_first law old.commands new.commands old.within a.given a.position c a.at leads in (
+        λ more. map asking.Command r.0 ++ asked_from a.position (new.text.items ++ more),
+        λ more. a.asked more ∙ ap (λ g. map asking.Command g ++ asked_from a.position (old.text.items ++ more)) r.1 ∙ ap (λ l. asking.Command c ∷ (map asking.Command r.0 ++ asked_from a.position (l ++ more))) (sym text),
+        record { given = r.0; position = a.position; at = rw within r.2; asked = λ more. refl },
       )
 
   -- where a line is waited for, and the front of one wasn't given last, the text stands at a line's beginning
   at_beginning : (r : Reader) → IsLineMode r.commands.mode → IsPartial r.commands.mode r.commands.held → r.within ≡ false →
-      (asks : List ℕ → List Ask) (a : Awaits r asks) → (a.given ≡ []) × (a.place ≡ at_line)
-  at_beginning r mode partial out asks a = by_place a.given a.place a.at (no_send_place law r.commands r.within a.given a.place a.at mode partial)
+      (asks : List ℕ → List Ask) (a : Awaits r asks) → (a.given ≡ []) × (a.position ≡ at_line)
+  at_beginning r mode partial out asks a = by_place a.given a.position a.at (no_send_place law r.commands r.within a.given a.position a.at mode partial)
     where
-      by_place : (given : List Command) (place : Where) → IsAt r.commands r.within given place → (place ≡ at_line) ⊎ (place ≡ in_line) → (given ≡ []) × (place ≡ at_line)
+      by_place : (given : List Command) (position : Where) → IsAt r.commands r.within given position → (position ≡ at_line) ⊎ (position ≡ in_line) → (given ≡ []) × (position ≡ at_line)
       by_place given at_line at e = (none_given law r.commands r.within given at mode partial, refl)
       by_place given in_line at e = absurd (let k : true ≡ false = sym at.fits ∙ out in cc)
       by_place given (in_send job n held) at (inl e) = absurd (cc)
       by_place given (in_send job n held) at (inr e) = absurd (cc)
 
   in_rest : (r : Reader) → IsLineMode r.commands.mode → IsPartial r.commands.mode r.commands.held → r.within ≡ true →
-      (asks : List ℕ → List Ask) (a : Awaits r asks) → a.place ≡ in_line
-  in_rest r mode partial out asks a = by_place a.given a.place a.at (no_send_place law r.commands r.within a.given a.place a.at mode partial)
+      (asks : List ℕ → List Ask) (a : Awaits r asks) → a.position ≡ in_line
+  in_rest r mode partial out asks a = by_place a.given a.position a.at (no_send_place law r.commands r.within a.given a.position a.at mode partial)
     where
-      by_place : (given : List Command) (place : Where) → IsAt r.commands r.within given place → (place ≡ at_line) ⊎ (place ≡ in_line) → place ≡ in_line
+      by_place : (given : List Command) (position : Where) → IsAt r.commands r.within given position → (position ≡ at_line) ⊎ (position ≡ in_line) → position ≡ in_line
       by_place given at_line at e = absurd (let k : false ≡ true = sym at.fits ∙ out in cc)
       by_place given in_line at e = refl
       by_place given (in_send job n held) at (inl e) = absurd (cc)
@@ -96,29 +96,29 @@ module _ (law : LineByLine) where
       let at : IsAt old.commands old.within [] at_line = (rw (p.0, p.1) at (a.at)) in (
         λ more. asks_of (new.text.items ++ more),
         λ more. a.asked more
-            ∙ ap (λ g. map asking.Command g ++ asked_from a.place (old.text.items ++ more)) p.0
+            ∙ ap (λ g. map asking.Command g ++ asked_from a.position (old.text.items ++ more)) p.0
             ∙ ap (λ w. asked_from w (old.text.items ++ more)) p.1
             ∙ ap (λ t. asks_of (t ++ more)) text
             ∙ ap asks_of (append_assoc l (10 ∷ rest) more)
             ∙ asks_line l (rest ++ more) none
             ∙ ap (λ w. after_own asks_of w (kind_of l) (rest ++ more)) own
             ∙ ap (λ t. asking.Own word ∷ asks_of (t ++ more)) (sym left),
-        record { given = []; place = at_line; at = rw (commands, within) at; asked = λ more. refl },
+        record { given = []; position = at_line; at = rw (commands, within) at; asked = λ more. refl },
       )
 
   -- bytes that are no word of the service, at a line's beginning
   pub line_given : (r : Reader) (xs : List ℕ) → IsLineMode r.commands.mode → IsPartial r.commands.mode r.commands.held → r.within ≡ false →
-      Goes xs (ends_within xs) [] at_line → (asks : List ℕ → List Ask) (a : Awaits r asks) → Goes xs (ends_within xs) a.given a.place
+      Goes xs (ends_within xs) [] at_line → (asks : List ℕ → List Ask) (a : Awaits r asks) → Goes xs (ends_within xs) a.given a.position
   line_given r xs mode partial out goes asks a = let p = at_beginning r mode partial out asks a in rw (p.0, p.1) goes
 
   pub rest_given : (r : Reader) (xs : List ℕ) → IsLineMode r.commands.mode → IsPartial r.commands.mode r.commands.held → r.within ≡ true →
-      ((given : List Command) → Goes xs (ends_within xs) given in_line) → (asks : List ℕ → List Ask) (a : Awaits r asks) → Goes xs (ends_within xs) a.given a.place
+      ((given : List Command) → Goes xs (ends_within xs) given in_line) → (asks : List ℕ → List Ask) (a : Awaits r asks) → Goes xs (ends_within xs) a.given a.position
   rest_given r xs mode partial out goes asks a = let p = in_rest r mode partial out asks a in rw p (goes a.given)
 
   pub send_given : (r : Reader) (xs : List ℕ) (missing : ℕ) → IsSending r.commands missing → length xs ≤ missing + 1 → 0 < length xs →
-      (asks : List ℕ → List Ask) (a : Awaits r asks) → Goes xs (ends_within xs) a.given a.place
+      (asks : List ℕ → List Ask) (a : Awaits r asks) → Goes xs (ends_within xs) a.given a.position
   send_given r xs missing sends le some asks a =
-      let p = send_place law r.commands r.within a.given a.place missing a.at sends in
+      let p = send_place law r.commands r.within a.given a.position missing a.at sends in
       rw (p.0, p.4) (goes_send p.1 p.2 p.3 xs (let fits = p.5 in omega arith) some)
 
   pub goes_whole : (l : List ℕ) → has_lf l ≡ false → own_of l ≡ None → Goes (l ++ 10 ∷ []) (ends_within (l ++ 10 ∷ [])) [] at_line
@@ -140,7 +140,7 @@ pub record WasGiven (old new : Reader) (count : ℕ) : Type 0 where
   pub within : new.within ≡ ends_within (take count old.text.items)
 
 pub awaits_given : (old new : Reader) (count : ℕ) → WasGiven old new count → (asks : List ℕ → List Ask) (a : Awaits old asks) →
-    Goes (take count old.text.items) (ends_within (take count old.text.items)) a.given a.place → Awaits new asks
+    Goes (take count old.text.items) (ends_within (take count old.text.items)) a.given a.position → Awaits new asks
 awaits_given old new count was asks a goes =
     were_given old new (take count old.text.items) (drop count old.text.items) was.commands (sym (take-append-drop count old.text.items)) was.text was.within asks a goes
 
@@ -190,7 +190,7 @@ send_on law old new partial count wanted some given least was asks a =
 pub begins : (r : Reader) → r.commands ≡ nothing_read → r.text.items ≡ [] → r.within ≡ false → Awaits r asks_of
 begins r commands text within = record {
   given = [];
-  place = at_line;
+  position = at_line;
   at = record { commands = λ more. ap (λ p. to_come p more) commands; fits = within };
   asked = λ more. ap (λ t. asks_of (t ++ more)) (sym text);
 }
@@ -199,7 +199,7 @@ pub takes : (old new : Reader) (piece : List ℕ) → new.commands ≡ old.comma
     (asks : List ℕ → List Ask) → Awaits old asks → Awaits new (λ more. asks (piece ++ more))
 takes old new piece commands text within asks a = record {
   given = a.given;
-  place = a.place;
+  position = a.position;
   at = rw (commands, within) a.at;
-  asked = λ more. a.asked (piece ++ more) ∙ ap (λ t. map asking.Command a.given ++ asked_from a.place t) (sym (append_assoc old.text.items piece more) ∙ ap (λ t. t ++ more) (sym text));
+  asked = λ more. a.asked (piece ++ more) ∙ ap (λ t. map asking.Command a.given ++ asked_from a.position t) (sym (append_assoc old.text.items piece more) ∙ ap (λ t. t ++ more) (sym text));
 }

@@ -3,20 +3,20 @@ use Rattle.std.proofs.Common.{◌≡◌, ℕ, suc, zero, ◌+◌, ◌-◌, ◌<�
 use Rattle.std.proofs.lemmas.List.{append-nil, get_or_append_left, get_or_past, get_or_at, take-append-le, take_at, drop-append-le, drop_at, drop_all, drop_more}
 use Rattle.std.proofs.lemmas.Bool.{false≢true}
 use Rattle.std.specs.Prelude.{nat_le}
-use Rattle.command_lines.specs.Lines.{has_lf, first_line, after_line}
-use Rattle.command_lines.specs.Grammar.{kind_of, kind_of_words, is_remark}
-use Rattle.command_lines.specs.Words.{words_of, words_within}
+use Rattle.command_lines.specs.TextLines.{has_lf, first_line, after_line}
+use Rattle.command_lines.specs.CommandGrammar.{kind_of, kind_of_words, is_remark}
+use Rattle.command_lines.specs.CommandWords.{words_of, words_within}
 use Rattle.command_lines.specs.Text as texts
 use Rattle.command_lines.specs.Text.{commands_within, commands_of, after_bytes, is_lf_at, sent}
 use Rattle.command_lines.specs.declared.command.Command.TheVariants.{Malformed}
 use Rattle.command_lines.specs.declared.command.Kind.{Kind}
 use Rattle.command_lines.specs.declared.command.Kind.TheVariants.{Remark, Takes, Says}
-use Rattle.service_texts.specs.Words.{own_word}
+use Rattle.service_texts.specs.ServiceWords.{own_word}
 use Rattle.service_texts.specs.declared.own_words.OwnWord.{OwnWord}
 use Rattle.client_reader.specs.declared.ask.Ask.{Ask}
 use Rattle.client_reader.specs.declared.ask.Ask.TheVariants as asking
 use Rattle.client_reader.specs.Asks.{own_of, after_send, after_kind, after_own, asks_within, asks_of}
-use Rattle.client_reader.specs.Reading.{ends_within}
+use Rattle.client_reader.specs.AwaitedRequests.{ends_within}
 
 -- ## Lines
 

@@ -6,8 +6,8 @@ use Rattle.spool_types.specs.Values.{is_queue_name, is_uri, is_user_name, is_tit
 use Rattle.spool_types.specs.declared.phase.Policy.{Policy}
 use Rattle.spool_types.specs.declared.event.Event.{Event}
 use Rattle.spool_types.specs.declared.event.Event.TheVariants.{SetAccept, SetStop, Send, Release, Abandon, Cancel, Purge, Clock}
-use Rattle.command_lines.specs.Words.{words_of}
-use Rattle.command_lines.specs.Grammar.{is_word, policy_in, interval_in, limit_in, copies_in, priority_in, count_in, until_in, job_in, moment_in, queue_in, one_word, one_word_line, new_queue_of, queue_line, info_of, info_line, creation_of, creation_in, create_line, createby_line, send_of, send_line, close_of, close_line, hold_of, hold_line, jobs_line, queues_line, rounds_in, round_line, drain_line, checkpoint_line, line_of, or_malformed, kind_of_words, is_remark, kind_of}
+use Rattle.command_lines.specs.CommandWords.{words_of}
+use Rattle.command_lines.specs.CommandGrammar.{is_word, policy_in, interval_in, limit_in, copies_in, priority_in, count_in, until_in, job_in, moment_in, queue_in, one_word, one_word_line, new_queue_of, queue_line, info_of, info_line, creation_of, creation_in, create_line, createby_line, send_of, send_line, close_of, close_line, hold_of, hold_line, jobs_line, queues_line, rounds_in, round_line, drain_line, checkpoint_line, line_of, or_malformed, kind_of_words, is_remark, kind_of}
 use Rattle.command_lines.specs.declared.command.Command.{Command}
 use Rattle.command_lines.specs.declared.command.Command.TheVariants.{Apply, Drain, OversizedSend}
 use Rattle.command_lines.specs.declared.command.Kind.{Kind}

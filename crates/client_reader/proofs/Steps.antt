@@ -2,12 +2,12 @@
 use Rattle.std.proofs.Common.{◌≡◌, ◌⊎◌, inl, inr, ℕ, suc, zero, ◌+◌, ◌-◌, ◌<◌, ◌≤◌, Bool, true, false, not, cond, List, [], ◌∷◌, ◌++◌, length, get_or, take, drop, map, refl, ap, sym, ◌∙◌, eqb, leb, arith, append_assoc, length-append, replicate, None}
 use Rattle.std.proofs.lemmas.List.{append-nil, get_or-append_right, get_or_append_left, get_or-replicate, length-replicate}
 use Rattle.std.proofs.lemmas.Bool.{false≢true}
-use Rattle.command_lines.specs.Lines.{has_lf, after_line}
-use Rattle.command_lines.specs.Grammar.{kind_of, is_remark}
+use Rattle.command_lines.specs.TextLines.{has_lf, after_line}
+use Rattle.command_lines.specs.CommandGrammar.{kind_of, is_remark}
 use Rattle.command_lines.specs.Waits.{wanted_in, wanted_of}
 use Rattle.command_lines.specs.declared.commands.Wanted.TheVariants as wants
-use Rattle.command_lines.specs.Pending.{Pending, IsPartial, Leads, to_come}
-use Rattle.command_lines.specs.Pending as pendings
+use Rattle.command_lines.specs.PendingCommands.{Pending, IsPartial, Leads, to_come}
+use Rattle.command_lines.specs.PendingCommands as pendings
 use Rattle.command_lines.specs.Text as texts
 use Rattle.command_lines.specs.Text.{commands_of, after_bytes, is_lf_at, sent}
 use Rattle.command_lines.specs.declared.command.Command.{Command}
@@ -20,7 +20,7 @@ use Rattle.command_lines.specs.declared.command.Mode.{Mode}
 use Rattle.command_lines.specs.declared.command.Mode.TheVariants.{Line, Skip, Payload, Counting}
 use Rattle.client_reader.specs.declared.ask.Ask.TheVariants as asking
 use Rattle.client_reader.specs.Asks.{own_of, after_send, after_kind, after_own, asks_of}
-use Rattle.client_reader.specs.Reading.{Where, at_line, in_line, in_send, asked_from, heard_from, IsWithin, IsAt, ends_within}
+use Rattle.client_reader.specs.AwaitedRequests.{Where, at_line, in_line, in_send, asked_from, heard_from, IsWithin, IsAt, ends_within}
 use Rattle.client_reader.proofs.NoSends.{is_send, SaysNone, no_send_kind}
 use Rattle.client_reader.proofs.Lines.{LineByLine, split_wrong, split_cut, split_whole, split_full, split_off, commands_of-nil, commands_line, one_fault, asks_line, commands_long, asks_long, after_line_part, has_lf_append}
 
@@ -100,8 +100,8 @@ module _ (law : LineByLine) where
       ∙ ap (λ l. sent job n (held ++ replicate (n - length held) 0) ∷ l) commands_of-nil
 
   -- where a line is waited for the text doesn't stand in a send
-  pub no_send_place : (p : Pending) (within : Bool) (given : List Command) (place : Where) → IsAt p within given place → IsLineMode p.mode → IsPartial p.mode p.held →
-      (place ≡ at_line) ⊎ (place ≡ in_line)
+  pub no_send_place : (p : Pending) (within : Bool) (given : List Command) (position : Where) → IsAt p within given position → IsLineMode p.mode → IsPartial p.mode p.held →
+      (position ≡ at_line) ⊎ (position ≡ in_line)
   no_send_place p within given at_line at mode partial = inl refl
   no_send_place p within given in_line at mode partial = inr refl
   no_send_place p within given (in_send job n held) at mode partial =
@@ -109,8 +109,8 @@ module _ (law : LineByLine) where
       (at.commands (filling (n - length held)) ∙ ap (λ l. given ++ l) (filled job n held at.fits)))
 
   -- the first command of those to come is the first that was still to be given
-  pub given_first : (p new : Pending) (within : Bool) (given : List Command) (place : Where) (c : Command) → IsAt p within given place → Leads p (c ∷ []) new →
-      (rest : List Command) × (given ≡ c ∷ rest) × IsAt new within rest place
+  pub given_first : (p new : Pending) (within : Bool) (given : List Command) (position : Where) (c : Command) → IsAt p within given position → Leads p (c ∷ []) new →
+      (rest : List Command) × (given ≡ c ∷ rest) × IsAt new within rest position
   given_first p new within [] at_line c at leads = absurd (let e = sym commands_of-nil ∙ sym (at.commands []) ∙ leads [] in cc)
   given_first p new within [] in_line c at leads = absurd (let e = sym commands_of-nil ∙ sym (at.commands []) ∙ leads [] in cc)
   given_first p new within [] (in_send job n held) c at leads =
@@ -121,8 +121,8 @@ module _ (law : LineByLine) where
       let a : Malformed ≡ c = cc in
       let b : sent job n (held ++ replicate (n - length held) 0) ≡ c = cc in
       absurd (false≢true (ap is_send (a ∙ sym b) ∙ sent_is job n _))
-  given_first p new within (g ∷ rest) place c at leads =
-      let e : (more : List ℕ) → g ∷ (rest ++ heard_from place more) ≡ c ∷ to_come new more = λ more. sym (at.commands more) ∙ leads more in
+  given_first p new within (g ∷ rest) position c at leads =
+      let e : (more : List ℕ) → g ∷ (rest ++ heard_from position more) ≡ c ∷ to_come new more = λ more. sym (at.commands more) ∙ leads more in
       let same : g ≡ c = first g c _ _ (e []) in
       (rest, ap (λ x. x ∷ rest) same, record { commands = λ more. sym (others g c _ _ (e more)); fits = at.fits })
     where
@@ -133,9 +133,9 @@ module _ (law : LineByLine) where
       others x y xs ys e = cc
 
   -- where a send's bytes are waited for the text stands in a send that wants no fewer, and no command is still to be given
-  pub send_place : (p : Pending) (within : Bool) (given : List Command) (place : Where) (missing : ℕ) → IsAt p within given place → IsSending p missing →
-      (given ≡ []) × (job : ℕ) × (n : ℕ) × (held : List ℕ) × (place ≡ in_send job n held) × (length held + missing ≤ n)
-  send_place p within (g ∷ given) place missing at sends =
+  pub send_place : (p : Pending) (within : Bool) (given : List Command) (position : Where) (missing : ℕ) → IsAt p within given position → IsSending p missing →
+      (given ≡ []) × (job : ℕ) × (n : ℕ) × (held : List ℕ) × (position ≡ in_send job n held) × (length held + missing ≤ n)
+  send_place p within (g ∷ given) position missing at sends =
       let a : g ≡ Malformed = first g Malformed _ _ (sym (at.commands []) ∙ sends.cut) in
       let b : g ≡ sends.command = first g sends.command _ _ (sym (at.commands (filling missing)) ∙ sends.whole) in
       absurd (false≢true (ap is_send (sym a ∙ b) ∙ sends.send))
@@ -234,17 +234,17 @@ waits_line p = by_mode p.mode p.held
 -- ## What giving bytes comes to
 
 -- these bytes lead from one place to another, over what is still to be given, and what is asked for is the same
-pub record Goes (xs : List ℕ) (within : Bool) (given : List Command) (place : Where) : Type 0 where
+pub record Goes (xs : List ℕ) (within : Bool) (given : List Command) (position : Where) : Type 0 where
   pub given' : List Command
-  pub place' : Where
-  pub commands : (more : List ℕ) → given ++ heard_from place (xs ++ more) ≡ given' ++ heard_from place' more
-  pub asks : (more : List ℕ) → map asking.Command given ++ asked_from place (xs ++ more) ≡ map asking.Command given' ++ asked_from place' more
-  pub fits : IsWithin place' within
+  pub position' : Where
+  pub commands : (more : List ℕ) → given ++ heard_from position (xs ++ more) ≡ given' ++ heard_from position' more
+  pub asks : (more : List ℕ) → map asking.Command given ++ asked_from position (xs ++ more) ≡ map asking.Command given' ++ asked_from position' more
+  pub fits : IsWithin position' within
 
 -- so it does for the reader that was given them
-pub goes_on : (p : Pending) (xs : List ℕ) (old within : Bool) (given : List Command) (place : Where) → IsAt p old given place → (goes : Goes xs within given place) →
-    IsAt (record p { held = p.held ++ xs }) within goes.given' goes.place'
-goes_on p xs old within given place at goes = record {
+pub goes_on : (p : Pending) (xs : List ℕ) (old within : Bool) (given : List Command) (position : Where) → IsAt p old given position → (goes : Goes xs within given position) →
+    IsAt (record p { held = p.held ++ xs }) within goes.given' goes.position'
+goes_on p xs old within given position at goes = record {
   commands = λ more. fed p.mode p.held more ∙ at.commands (xs ++ more) ∙ goes.commands more;
   fits = goes.fits;
 }
@@ -260,9 +260,9 @@ module _ (law : LineByLine) where
     where
       by_kind : (kind : Kind) → ((more : List ℕ) → commands_of ((l ++ 10 ∷ []) ++ more) ≡ texts.after_kind commands_of kind more) →
           ((more : List ℕ) → asks_of ((l ++ 10 ∷ []) ++ more) ≡ after_kind asks_of kind more) → Goes (l ++ 10 ∷ []) false [] at_line
-      by_kind Remark c a = record { given' = []; place' = at_line; commands = c; asks = a; fits = refl }
-      by_kind (Says d) c a = record { given' = d ∷ []; place' = at_line; commands = c; asks = a; fits = refl }
-      by_kind (Takes job n) c a = record { given' = []; place' = in_send job n []; commands = c; asks = a; fits = omega arith }
+      by_kind Remark c a = record { given' = []; position' = at_line; commands = c; asks = a; fits = refl }
+      by_kind (Says d) c a = record { given' = d ∷ []; position' = at_line; commands = c; asks = a; fits = refl }
+      by_kind (Takes job n) c a = record { given' = []; position' = in_send job n []; commands = c; asks = a; fits = omega arith }
 
   -- the front of a line that is too long
   pub goes_front : (l : List ℕ) → has_lf l ≡ false → 4096 < length l → Goes l true [] at_line
@@ -270,8 +270,8 @@ module _ (law : LineByLine) where
     where
       by_kind : (remark : Bool) → ((more : List ℕ) → commands_of (l ++ more) ≡ texts.after_kind commands_of (cond remark Remark (Says Malformed)) (after_line more)) →
           ((more : List ℕ) → asks_of (l ++ more) ≡ after_kind asks_of (cond remark Remark (Says Malformed)) (after_line more)) → Goes l true [] at_line
-      by_kind true c a = record { given' = []; place' = in_line; commands = c; asks = a; fits = refl }
-      by_kind false c a = record { given' = Malformed ∷ []; place' = in_line; commands = c; asks = a; fits = refl }
+      by_kind true c a = record { given' = []; position' = in_line; commands = c; asks = a; fits = refl }
+      by_kind false c a = record { given' = Malformed ∷ []; position' = in_line; commands = c; asks = a; fits = refl }
 
 -- the rest of a line, or a part of it
 pub goes_rest : (l : List ℕ) (given : List Command) → has_lf l ≡ false → Goes (l ++ 10 ∷ []) false given in_line
@@ -279,7 +279,7 @@ goes_rest l given none =
     let e : (more : List ℕ) → after_line ((l ++ 10 ∷ []) ++ more) ≡ more = λ more. ap after_line (append_assoc l (10 ∷ []) more) ∙ after_line_part l (10 ∷ more) none in
     record {
       given' = given;
-      place' = at_line;
+      position' = at_line;
       commands = λ more. ap (λ t. given ++ commands_of t) (e more);
       asks = λ more. ap (λ t. map asking.Command given ++ asks_of t) (e more);
       fits = refl;
@@ -288,7 +288,7 @@ goes_rest l given none =
 pub goes_part : (l : List ℕ) (given : List Command) → has_lf l ≡ false → Goes l true given in_line
 goes_part l given none = record {
   given' = given;
-  place' = in_line;
+  position' = in_line;
   commands = λ more. ap (λ t. given ++ commands_of t) (after_line_part l more none);
   asks = λ more. ap (λ t. map asking.Command given ++ asks_of t) (after_line_part l more none);
   fits = refl;
@@ -312,14 +312,14 @@ goes_send job n held xs le some = by_length (grind arith)
     by_last : length held + length xs ≡ n + 1 → (last : Bool) → is_lf_at (length xs - 1) xs ≡ last → Goes xs (not last) [] (in_send job n held)
     by_last e true is = record {
       given' = sent job n (take n (held ++ xs)) ∷ [];
-      place' = at_line;
+      position' = at_line;
       commands = λ more. ap (after_bytes commands_of (sent job n) n) (here more) ∙ split_full commands_of (sent job n) Malformed n (held ++ xs) (joined ∙ e) (last_same e ∙ is) more;
       asks = λ more. ap (after_send asks_of job n) (here more) ∙ split_full asks_of (λ b. asking.Command (sent job n b)) (asking.Command Malformed) n (held ++ xs) (joined ∙ e) (last_same e ∙ is) more;
       fits = refl;
     }
     by_last e false is = record {
       given' = Malformed ∷ [];
-      place' = in_line;
+      position' = in_line;
       commands = λ more. ap (after_bytes commands_of (sent job n) n) (here more) ∙ split_off commands_of (sent job n) Malformed n (held ++ xs) (joined ∙ e) (last_same e ∙ is) more;
       asks = λ more. ap (after_send asks_of job n) (here more) ∙ split_off asks_of (λ b. asking.Command (sent job n b)) (asking.Command Malformed) n (held ++ xs) (joined ∙ e) (last_same e ∙ is) more;
       fits = refl;
@@ -328,7 +328,7 @@ goes_send job n held xs le some = by_length (grind arith)
     by_length : (length held + length xs ≤ n) ⊎ (length held + length xs ≡ n + 1) → Goes xs (ends_within xs) [] (in_send job n held)
     by_length (inl less) = record {
       given' = [];
-      place' = in_send job n (held ++ xs);
+      position' = in_send job n (held ++ xs);
       commands = λ more. ap (after_bytes commands_of (sent job n) n) (here more);
       asks = λ more. ap (after_send asks_of job n) (here more);
       fits = omega (arith, joined);

@@ -1,12 +1,12 @@
 -- What the text of a client of the service asks for: commands of the engine, and words of the service alone.
 use Rattle.std.specs.Prelude.{ℕ, zero, suc, ◌+◌, cond, nat_le, List, [], ◌∷◌, length, take, drop, Option, None, Some}
-use Rattle.command_lines.specs.Lines.{first_line, after_line}
-use Rattle.command_lines.specs.Grammar.{kind_of}
+use Rattle.command_lines.specs.TextLines.{first_line, after_line}
+use Rattle.command_lines.specs.CommandGrammar.{kind_of}
 use Rattle.command_lines.specs.Text.{is_lf_at, sent}
 use Rattle.command_lines.specs.declared.command.Command.TheVariants.{Malformed}
 use Rattle.command_lines.specs.declared.command.Kind.{Kind}
 use Rattle.command_lines.specs.declared.command.Kind.TheVariants.{Remark, Says, Takes}
-use Rattle.service_texts.specs.Words.{own_word}
+use Rattle.service_texts.specs.ServiceWords.{own_word}
 use Rattle.service_texts.specs.declared.own_words.OwnWord.{OwnWord}
 use Rattle.client_reader.specs.declared.ask.Ask.{Ask}
 use Rattle.client_reader.specs.declared.ask.Ask.TheVariants.{Command, Own}

@@ -1,3 +1,3 @@
 pub mod Asks
-pub mod Calls
-pub mod Reading
+pub mod ReaderCalls
+pub mod AwaitedRequests

@@ -2,7 +2,7 @@
 ghost use Rattle.std.specs.Prelude.{◌≡◌, ℕ, List, map};
 ghost use Rattle.command_lines.specs.Text.{commands_of};
 ghost use Rattle.client_reader.specs.Asks.{asks_of};
-ghost use Rattle.client_reader.specs.Calls.{AreCalls, AreFirstOf, Call, as_command, given_in, taken_in};
+ghost use Rattle.client_reader.specs.ReaderCalls.{AreCalls, AreFirstOf, Call, as_command, given_in, taken_in};
 ghost use Rattle.client_reader.specs.declared.ask.Ask.{Ask as AskOf};
 
 use service_texts::own_words_are_no_commands;

@@ -1,10 +1,10 @@
 //! A reader of what a client asks for.
 ghost use Rattle.std.specs.Prelude.{◌≡◌, ◌⊎◌, ℕ, ◌<◌, ◌≤◌, true, false, List, ◌++◌, length, take, drop, slice_index, vec_len, IfSome, IfNone, OnErr, OnOk, IfOk};
-ghost use Rattle.command_lines.specs.Lines.{has_lf};
-ghost use Rattle.command_lines.specs.Pending.{IsPartial};
+ghost use Rattle.command_lines.specs.TextLines.{has_lf};
+ghost use Rattle.command_lines.specs.PendingCommands.{IsPartial};
 ghost use Rattle.command_lines.specs.Waits.{wanted_of};
 ghost use Rattle.client_reader.specs.Asks.{asks_of, own_of};
-ghost use Rattle.client_reader.specs.Reading.{Awaits, ComesFurther, Gives, ends_within};
+ghost use Rattle.client_reader.specs.AwaitedRequests.{Awaits, ComesFurther, Gives, ends_within};
 ghost use Rattle.client_reader.specs.declared.ask.Ask.{Ask as AskOf};
 
 use crate::ask::{Ask, Next};

@@ -1,6 +1,6 @@
 -- Values of words, and lines of another number of words.
 use Rattle.std.proofs.Common.{◌≡◌, ℕ, List, [], ◌∷◌, length, map, refl, arith, ◌<◌, ◌≤◌, None}
-use Rattle.command_lines.specs.Grammar.{create_line, createby_line, queue_line}
+use Rattle.command_lines.specs.CommandGrammar.{create_line, createby_line, queue_line}
 
 -- a creation has six words behind its name
 pub no_creation : {A : Type 0} (bytes : A → List ℕ) (words : List A) → (length words ≡ 6 → ⊥) → None ≡ create_line (map bytes words)

@@ -2,8 +2,8 @@
 use Rattle.std.proofs.Common.{◌≡◌, ℕ, suc, zero, ◌+◌, ◌-◌, ◌<◌, ◌≤◌, Bool, true, false, cond, List, [], ◌∷◌, ◌++◌, length, get_or, take, drop, refl, ap, sym, ◌∙◌, eqb, arith, add-one}
 use Rattle.std.proofs.lemmas.List.{take-append-drop, take-take, drop-take, drop-drop, get_or-drop, length-drop}
 use Rattle.std.proofs.lemmas.Bool.{false≢true}
-use Rattle.command_lines.specs.Lines.{has_lf, first_line, after_line}
-use Rattle.command_lines.specs.Moves.{IsAt}
+use Rattle.command_lines.specs.TextLines.{has_lf, first_line, after_line}
+use Rattle.command_lines.specs.ReaderSteps.{IsAt}
 
 pub has_lf-append : (xs ys : List ℕ) → has_lf (xs ++ ys) ≡ cond (has_lf xs) true (has_lf ys)
 has_lf-append [] ys = refl

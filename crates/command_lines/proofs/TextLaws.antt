@@ -3,11 +3,11 @@ use Rattle.std.proofs.Common.{◌≡◌, ℕ, suc, zero, ◌+◌, ◌-◌, ◌<�
 use Rattle.std.proofs.lemmas.List.{append-nil}
 use Rattle.std.proofs.lemmas.Bool.{false≢true}
 use Rattle.std.proofs.lemmas.List.{get_or_append_left, get_or-append_right, get_or_past, take-append-le, drop-append-le, drop-drop, drop_at, drop_all, drop_more}
-use Rattle.command_lines.specs.Lines.{has_lf, first_line, after_line}
-use Rattle.command_lines.specs.Moves.{IsAt}
-use Rattle.command_lines.specs.Grammar.{kind_of, kind_of_words}
-use Rattle.command_lines.specs.Words.{words_of}
-use Rattle.command_lines.specs.Moves.{starts_remark}
+use Rattle.command_lines.specs.TextLines.{has_lf, first_line, after_line}
+use Rattle.command_lines.specs.ReaderSteps.{IsAt}
+use Rattle.command_lines.specs.CommandGrammar.{kind_of, kind_of_words}
+use Rattle.command_lines.specs.CommandWords.{words_of}
+use Rattle.command_lines.specs.ReaderSteps.{starts_remark}
 use Rattle.command_lines.specs.Text.{commands_within, commands_of, after_kind, after_bytes, is_lf_at, sent}
 use Rattle.command_lines.specs.declared.command.Command.{Command}
 use Rattle.command_lines.specs.declared.command.Command.TheVariants.{Malformed}

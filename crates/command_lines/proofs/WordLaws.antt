@@ -5,7 +5,7 @@ use Rattle.line_words.specs.Blanks.{is_blank, after_blanks, word_here, behind_wo
 use Rattle.line_words.specs.Quotes.{is_quote, QuotedFront, quoted}
 use Rattle.line_words.proofs.BlankLaws.{behind_short}
 use Rattle.line_words.proofs.QuoteLaws.{IsRestWithin, quoted_within}
-use Rattle.command_lines.specs.Words.{Front, ended, broken, word, with_word, bare_word, is_end, quoted_word, front_here, next_word, after_front, words_within, words_of}
+use Rattle.command_lines.specs.CommandWords.{Front, ended, broken, word, with_word, bare_word, is_end, quoted_word, front_here, next_word, after_front, words_within, words_of}
 
 -- fronts that leave at most so much
 abbrev pub Leaves : Front → ℕ → Type 0

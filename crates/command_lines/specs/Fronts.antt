@@ -1,6 +1,6 @@
 -- What a reader of words has found, as lists of bytes. No caller needs this.
-use Rattle.line_words.specs.Seen.{bytes_of}
-use Rattle.command_lines.specs.Words.{Front, ended, broken, word}
+use Rattle.line_words.specs.WordFields.{bytes_of}
+use Rattle.command_lines.specs.CommandWords.{Front, ended, broken, word}
 use Rattle.command_lines.specs.declared.words.Front.{Front as Found}
 use Rattle.command_lines.specs.declared.words.Front.TheVariants.{Ended, Broken, Word as Next}
 

@@ -1,6 +1,6 @@
 -- What a call of a reader of commands gives.
 use Rattle.std.specs.Prelude.{◌≡◌, ◌<◌, ◌≤◌, [], ◌∷◌, Option, None, Some}
-use Rattle.command_lines.specs.Pending.{Pending, Leads, IsPartial, to_come, weight}
+use Rattle.command_lines.specs.PendingCommands.{Pending, Leads, IsPartial, to_come, weight}
 use Rattle.command_lines.specs.declared.command.Command.{Command}
 
 -- one command was given, and less is left

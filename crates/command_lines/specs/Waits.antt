@@ -1,6 +1,6 @@
 -- What a reader of commands waits for.
 use Rattle.std.specs.Prelude.{ℕ, ◌+◌, ◌-◌, length}
-use Rattle.command_lines.specs.Pending.{Pending}
+use Rattle.command_lines.specs.PendingCommands.{Pending}
 use Rattle.command_lines.specs.declared.command.Mode.{Mode}
 use Rattle.command_lines.specs.declared.command.Mode.TheVariants.{Line, Skip, Payload, Counting}
 use Rattle.command_lines.specs.declared.commands.Wanted.{Wanted}

@@ -1,11 +1,11 @@
 //! What the definitions that count lines and words down say without a count, and which events a text asks for.
 ghost use Rattle.std.specs.Prelude.{◌≡◌, ℕ, List};
 ghost use Rattle.std.specs.List.{All};
-ghost use Rattle.command_lines.specs.Lines.{first_line, after_line};
-ghost use Rattle.command_lines.specs.Words.{words_of, after_front, next_word};
-ghost use Rattle.command_lines.specs.Grammar.{kind_of};
+ghost use Rattle.command_lines.specs.TextLines.{first_line, after_line};
+ghost use Rattle.command_lines.specs.CommandWords.{words_of, after_front, next_word};
+ghost use Rattle.command_lines.specs.CommandGrammar.{kind_of};
 ghost use Rattle.command_lines.specs.Text.{commands_of, after_kind};
-ghost use Rattle.command_lines.specs.Asked.{AsksForLineEvent};
+ghost use Rattle.command_lines.specs.AskedEvents.{AsksForLineEvent};
 
 /// The commands of a text are what its first line says, and then the commands of the rest.
 pub fn line_by_line()

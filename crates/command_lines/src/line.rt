@@ -5,8 +5,8 @@ ghost use Rattle.spool_types.specs.declared.event.Event.{Event};
 ghost use Rattle.command_lines.specs.declared.command.Command.{Command};
 ghost use Rattle.command_lines.specs.declared.command.Kind.{Kind};
 ghost use Rattle.spool_types.specs.Values.{is_queue_name, is_uri, is_note, text_in, media_in};
-ghost use Rattle.line_words.specs.Seen.{bytes_of};
-ghost use Rattle.command_lines.specs.Grammar.{kind_of, is_remark, kind_in, line_of, one_word, one_word_line, queue_line, new_queue_of, info_line, info_of, creation_in, create_line, createby_line, send_line, send_of, close_line, close_of, hold_line, jobs_line, queues_line, round_line, drain_line, checkpoint_line, rounds_in, queue_in, policy_in};
+ghost use Rattle.line_words.specs.WordFields.{bytes_of};
+ghost use Rattle.command_lines.specs.CommandGrammar.{kind_of, is_remark, kind_in, line_of, one_word, one_word_line, queue_line, new_queue_of, info_line, info_of, creation_in, create_line, createby_line, send_line, send_of, close_line, close_of, hold_line, jobs_line, queues_line, round_line, drain_line, checkpoint_line, rounds_in, queue_in, policy_in};
 
 use crate::command::{Command, Creation, Kind, Rounds};
 use crate::numbers::{job_number, moment_number, ranged_number, short_number, small_number};
@@ -30,7 +30,7 @@ const USUAL_INTERVAL: u32 = 30;
 const USUAL_LIMIT: u16 = 5;
 
 /// What the line says.
-#[tactic(auto, unfolding(crate::specs::Grammar::kind_of))]
+#[tactic(auto, unfolding(crate::specs::CommandGrammar::kind_of))]
 pub fn kind_of(alloc: Global, line: &[u8]) -> Result<Kind, AllocError>
     ensures { IfOk result (λ kind. kind ≡ kind_of line.now) }
 {

@@ -1,7 +1,7 @@
 //! Numbers of 1 to 13 digits.
 ghost use Rattle.std.specs.Prelude.{◌≡◌};
 ghost use Rattle.spool_types.specs.Limits.{greatest_number, greatest_moment};
-ghost use Rattle.command_lines.specs.Numbers.{number_of, ranged};
+ghost use Rattle.command_lines.specs.CommandNumbers.{number_of, ranged};
 
 use line_words::decimal;
 use spool_types::{JobId, Moment, Ranged};

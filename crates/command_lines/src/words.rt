@@ -2,8 +2,8 @@
 ghost use Rattle.std.specs.Prelude.{◌≡◌, IfOk, false, map};
 ghost use Rattle.std.specs.Option.{option_map};
 ghost use Rattle.line_words.specs.Quotes.{quoted};
-ghost use Rattle.line_words.specs.Seen.{bytes_of};
-ghost use Rattle.command_lines.specs.Words.{bare_word, quoted_word, is_end, next_word, words_of};
+ghost use Rattle.line_words.specs.WordFields.{bytes_of};
+ghost use Rattle.command_lines.specs.CommandWords.{bare_word, quoted_word, is_end, next_word, words_of};
 ghost use Rattle.command_lines.specs.Fronts.{front_of};
 
 use line_words::{Word, after_blanks, has_quote, is_blank, is_quote, read_quoted, split_at_blank};

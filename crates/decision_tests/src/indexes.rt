@@ -1,6 +1,6 @@
 //! The index of waiting jobs. That its next job is that of the choice among all rows is its law.
 ghost use Rattle.std.specs.Prelude.{IfOk};
-ghost use Rattle.queue_sched.specs.Index.{HasEachOnce};
+ghost use Rattle.queue_sched.specs.WaitingIndex.{HasEachOnce};
 
 use crate::samples::{Held, Waiting, entry, moment};
 use Change::{Add, Bring, Take};

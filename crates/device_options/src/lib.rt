@@ -16,7 +16,7 @@
 
 ghost use Rattle.std.specs.Prelude.{◌≡◌, IfOk};
 ghost use Rattle.std.specs.Option.{option_map};
-ghost use Rattle.device_options.specs.Options.{last_value, options_or_none};
+ghost use Rattle.device_options.specs.DeviceOptions.{last_value, options_or_none};
 
 use device_uri::{DeviceOption, DeviceUri, OptionsFault};
 use std::alloc::{AllocError, Global};

@@ -4,8 +4,8 @@ use Rattle.std.specs.List.{list_all}
 use Rattle.std.proofs.lemmas.Bool.{eqb-true, leb-true, le-leb, lt-leb, and_parts, and_from}
 use Rattle.line_words.specs.Blanks.{is_blank, after_blanks}
 use Rattle.line_words.specs.Quotes.{is_quote, is_backslash, escape_of, QuotedFront, with_bytes, quoted}
-use Rattle.device_uri.specs.Fields.{IsBlanks, in_front, unescaped, IsField, IsFieldIfAny}
-use Rattle.device_uri.specs.Reading.{short_front, opened, behind_quote, field_inside, next_field, some_field, next_if_any}
+use Rattle.device_uri.specs.QuotedFields.{IsBlanks, in_front, unescaped, IsField, IsFieldIfAny}
+use Rattle.device_uri.specs.DeviceLineReading.{short_front, opened, behind_quote, field_inside, next_field, some_field, next_if_any}
 
 -- ## Between the quotes
 

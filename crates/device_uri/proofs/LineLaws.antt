@@ -8,9 +8,9 @@ use Rattle.std.proofs.lemmas.Bool.Decides.{nat_tests}
 use Rattle.spool_types.specs.Values.{is_text_of, is_attribute_byte, is_graphic, is_uri, text_in}
 use Rattle.line_words.specs.Blanks.{is_blank, word_here, behind_word, after_blanks}
 use Rattle.line_words.specs.Quotes.{is_quote}
-use Rattle.device_uri.specs.Fields.{IsBlanks, IsField}
-use Rattle.device_uri.specs.Lines.{IsDeviceLine, is_device_class, is_bare_uri}
-use Rattle.device_uri.specs.Reading.{next_field}
+use Rattle.device_uri.specs.QuotedFields.{IsBlanks, IsField}
+use Rattle.device_uri.specs.BackendLines.{IsDeviceLine, is_device_class, is_bare_uri}
+use Rattle.device_uri.specs.DeviceLineReading.{next_field}
 use Rattle.device_uri.specs.Taken.{AreFields}
 use Rattle.device_uri.specs.declared.fields.Fields.{Fields}
 use Rattle.device_uri.specs.declared.line.DeviceLine.{DeviceLine}

@@ -1,6 +1,6 @@
-pub mod Devices
-pub mod Options
-pub mod Fields
-pub mod Lines
-pub mod Reading
+pub mod DeviceUris
+pub mod UriOptions
+pub mod QuotedFields
+pub mod BackendLines
+pub mod DeviceLineReading
 pub mod Taken

@@ -1,6 +1,6 @@
 -- The quoted fields of a line, as they are read one after the other. No caller needs this.
 use Rattle.std.specs.Prelude.{◌≡◌, ℕ, List, [], Some}
-use Rattle.device_uri.specs.Reading.{next_field, next_if_any}
+use Rattle.device_uri.specs.DeviceLineReading.{next_field, next_if_any}
 use Rattle.device_uri.specs.declared.fields.Fields.{Fields}
 
 -- the line is these fields and no more

@@ -1,7 +1,7 @@
 //! The quoted fields of a device line.
 ghost use Rattle.std.specs.Prelude.{◌≡◌, None, Some, IfOk, IsErrOf};
 ghost use Rattle.std.specs.Option.{option_map};
-ghost use Rattle.device_uri.specs.Reading.{behind_quote, next_field, next_if_any};
+ghost use Rattle.device_uri.specs.DeviceLineReading.{behind_quote, next_field, next_if_any};
 ghost use Rattle.device_uri.specs.Taken.{AreFields};
 
 use crate::line::LineFault;

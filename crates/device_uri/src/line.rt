@@ -1,6 +1,6 @@
 //! The line that a backend prints for each device that it knows.
 ghost use Rattle.std.specs.Prelude.{◌≡◌, ◌⊎◌, false, IfOk, OnOk, IsErrOf, IsTrue, IsUtf8};
-ghost use Rattle.device_uri.specs.Lines.{IsDeviceLine, is_device_class, is_bare_uri};
+ghost use Rattle.device_uri.specs.BackendLines.{IsDeviceLine, is_device_class, is_bare_uri};
 
 use crate::fields::{Field, read_fields};
 use line_words::{after_blanks, has_quote, split_at_blank};

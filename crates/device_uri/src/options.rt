@@ -1,7 +1,7 @@
 //! The options of a device's URI.
 ghost use Rattle.std.specs.Prelude.{◌≡◌, IfOk, map};
 ghost use Rattle.form_urlencoded.specs.Form as form;
-ghost use Rattle.device_uri.specs.Options.{text_of, option_of, is_bad};
+ghost use Rattle.device_uri.specs.UriOptions.{text_of, option_of, is_bad};
 
 use form_urlencoded::{decode, raw_pairs};
 use std::alloc::{AllocError, Global};

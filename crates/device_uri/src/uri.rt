@@ -1,8 +1,8 @@
 //! A device's URI.
 ghost use Rattle.std.specs.Prelude.{◌≡◌, ◌↔◌, [], false, unwrap_or, IfOk, OnOk, IsErrOf, IsTrue};
 ghost use Rattle.spool_types.specs.Values.{is_uri};
-ghost use Rattle.device_uri.specs.Devices.{Reads, IsBadUri, is_device_uri};
-ghost use Rattle.device_uri.specs.Options.{pairs_of, options_of, is_bad};
+ghost use Rattle.device_uri.specs.DeviceUris.{Reads, IsBadUri, is_device_uri};
+ghost use Rattle.device_uri.specs.UriOptions.{pairs_of, options_of, is_bad};
 
 use crate::options::{DeviceOption, OptionsFault, has_bad_pair, read_options};
 use spool_types::{TextFault, Uri};
@@ -39,13 +39,13 @@ pub struct DeviceUri {
 }
 
 impl Model for DeviceUri {
-    ghost use Rattle.device_uri.specs.Devices.{Device, device_code};
+    ghost use Rattle.device_uri.specs.DeviceUris.{Device, device_code};
 
     ghost Value = { Device };
 
     ghost coded = { device_code };
 
-    ghost use Rattle.device_uri.specs.Devices.{Reads};
+    ghost use Rattle.device_uri.specs.DeviceUris.{Reads};
 
     ghost view = { λ a. record { text = a.text; url = a.url } };
 

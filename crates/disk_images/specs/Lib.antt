@@ -1,2 +1,2 @@
 pub mod ImageLaws
-pub mod Kept
+pub mod KeptImages

@@ -5,7 +5,7 @@ ghost use Rattle.std.proofs.lemmas.Option.{same_Some};
 ghost use Rattle.spool_disk.specs.Disk.{Reads, IsSynced, IsWritten, ChangesNothing, ChangesOnly, Counts, HasCause};
 ghost use Rattle.spool_disk.specs.Images.{AddsRange, HasNoneUnsynced, IsImage};
 ghost use Rattle.disk_images.specs.ImageLaws.{what_is_read, counts_now, only_now};
-ghost use Rattle.disk_images.specs.Kept.{device_of, past_of, moment_of, failure_count, exact_images, AddsImages};
+ghost use Rattle.disk_images.specs.KeptImages.{device_of, past_of, moment_of, failure_count, exact_images, AddsImages};
 
 use crate::content::Content;
 use crate::faults::Faults;

@@ -1,6 +1,6 @@
 //! The tests of the crates on disks: devices, their images, the journal, the areas of a spool and documents.
 //!
-//! What bytes of a device are is told by facts (`decision_facts`). Here run the disks that fail, after each call in turn,
+//! What bytes of a device are is told by facts (`decision_examples`). Here run the disks that fail, after each call in turn,
 //! what takes memory, and the calls of a device that are counted.
 #![tactic(auto)]
 

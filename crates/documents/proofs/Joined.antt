@@ -10,7 +10,7 @@ use Rattle.gate_journal.specs.Entries.{records}
 use Rattle.gate_journal.proofs.Places.{at_entry, records-append}
 use Rattle.extents.specs.declared.extent.Extent.{Extent}
 use Rattle.spool_areas.specs.Header.{header_len}
-use Rattle.spool_areas.specs.Extents.{bytes_of}
+use Rattle.spool_areas.specs.PayloadExtents.{bytes_of}
 use Rattle.spool_areas.specs.Payloads.{HasPayloads, gate_after}
 use Rattle.extents.specs.Extents.{size_of}
 use Rattle.documents.specs.Documents.{joined, LieIn}

@@ -11,7 +11,7 @@ use Rattle.spool_types.specs.declared.event.Event.TheVariants.{Send}
 use Rattle.event_codec.specs.Spelling.{spelling, send_code}
 use Rattle.extents.specs.declared.extent.Extent.{Extent}
 use Rattle.spool_areas.specs.Header.{header_len}
-use Rattle.spool_areas.specs.Extents.{bytes_of}
+use Rattle.spool_areas.specs.PayloadExtents.{bytes_of}
 use Rattle.spool_areas.specs.Payloads.{HasPayloads, gate_after}
 use Rattle.extents.specs.Extents.{size_of}
 use Rattle.documents.specs.Documents.{joined, LieIn}

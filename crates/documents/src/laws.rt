@@ -4,7 +4,7 @@ ghost use Rattle.std.specs.List.{flat_map, AllByRecursion};
 ghost use Rattle.spool_disk.specs.Disk.{SameOutside};
 ghost use Rattle.gate_journal.specs.Entries.{records};
 ghost use Rattle.extents.specs.declared.extent.Extent.{Extent};
-ghost use Rattle.spool_areas.specs.Extents.{bytes_of};
+ghost use Rattle.spool_areas.specs.PayloadExtents.{bytes_of};
 ghost use Rattle.spool_areas.specs.Header.{header_len};
 ghost use Rattle.spool_areas.specs.Payloads.{HasPayloads, gate_after};
 ghost use Rattle.spool_types.specs.State.{Job};

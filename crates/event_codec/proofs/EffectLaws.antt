@@ -15,7 +15,7 @@ use Rattle.spool_types.specs.Effects.{is_some_word, names_enough, effect_size, e
 use Rattle.field_codec.specs.declared.fault.CodecFault.{CodecFault}
 use Rattle.field_codec.specs.declared.fault.CodecFault.TheVariants.{Range}
 use Rattle.event_codec.specs.Spelling.{text_code, pages_code, words_code, attribute_code, level_number, message_code, effect_code, effects_code, IsIn, IsText, IsPages, AreWords, IsEffect}
-use Rattle.event_codec.specs.Reading.{Field, ◌>>=◌, number_at, ranged_at, text_at, list_at, pages_at, total_at, words_at, worded_at, attribute_at, level_of, level_at, message_at, kind_of_effect, effect_at, some_room, effect_within, listed_at, effects_at}
+use Rattle.event_codec.specs.EventReading.{Field, ◌>>=◌, number_at, ranged_at, text_at, list_at, pages_at, total_at, words_at, worded_at, attribute_at, level_of, level_at, message_at, kind_of_effect, effect_at, some_room, effect_within, listed_at, effects_at}
 use Rattle.event_codec.proofs.FieldLaws.{IsBytes, bind_ok, ok_is, Takes, Takes-then, Reads, got, again-step, again-last, wide16, wide32, reads_number, reads_ranged, ok_as}
 use Rattle.event_codec.proofs.TextLaws.{reads_reason, reads_attribute_name, reads_message}
 use Rattle.event_codec.proofs.ListLaws.{list_takes, list_again}
@@ -35,13 +35,13 @@ reads_wide = reads_number w32 (2 ^ 32) wide32
 abbrev pub IsLegal : Effect → Type 0
 IsLegal e = IsEffect e × (names_enough e ≡ true)
 
-record Told (bytes : List ℕ) (x : Effect) (rest : List ℕ) : Type 0 where
+record TakesEffect (bytes : List ℕ) (x : Effect) (rest : List ℕ) : Type 0 where
   taken : Takes bytes (effect_code x) rest
   legal : IsLegal x
 
 -- the effect that was read is the one that was meant
-told_as : (bytes : List ℕ) (y : Effect) (after : List ℕ) (x : Effect) (rest : List ℕ) → (let r : Result (Effect × List ℕ) CodecFault = Ok (y, after) in r) ≡ Ok (x, rest) → Told bytes y after → Told bytes x rest
-told_as bytes y after x rest same this = ok_as (λ (z : Effect × List ℕ). Told bytes z.0 z.1) (y, after) (x, rest) same this
+told_as : (bytes : List ℕ) (y : Effect) (after : List ℕ) (x : Effect) (rest : List ℕ) → (let r : Result (Effect × List ℕ) CodecFault = Ok (y, after) in r) ≡ Ok (x, rest) → TakesEffect bytes y after → TakesEffect bytes x rest
+told_as bytes y after x rest same this = ok_as (λ (z : Effect × List ℕ). TakesEffect bytes z.0 z.1) (y, after) (x, rest) same this
 
 within_wide : (n : ℕ) → Wide n → IsIn 0 4294967295 n
 within_wide n h = record { at_least = omega arith; at_most = omega (arith, h) }
@@ -51,7 +51,7 @@ wide_again n h = omega (arith, h.at_most)
 
 -- ---- pages
 
-pages_take : (bytes after : List ℕ) (x : Effect) (rest : List ℕ) → Takes bytes (to_be_bytes w8 1) after → pages_at after ≡ Ok (x, rest) → Told bytes x rest
+pages_take : (bytes after : List ℕ) (x : Effect) (rest : List ℕ) → Takes bytes (to_be_bytes w8 1) after → pages_at after ≡ Ok (x, rest) → TakesEffect bytes x rest
 unfolding pages_at
 pages_take bytes after x rest t e =
     let a = got (number_at w32) (to_be_bytes w32) Wide reads_wide after _ (x, rest) t.rest_fits e in
@@ -68,7 +68,7 @@ pages_again page copies rest h =
     again-step (number_at w32) (to_be_bytes w32) Wide reads_wide page (to_be_bytes w32 copies) rest _ _ (wide_again page h.page)
     (again-last (number_at w32) (to_be_bytes w32) Wide reads_wide copies rest _ (wide_again copies h.copies))
 
-total_takes : (bytes after : List ℕ) (x : Effect) (rest : List ℕ) → Takes bytes (to_be_bytes w8 2) after → total_at after ≡ Ok (x, rest) → Told bytes x rest
+total_takes : (bytes after : List ℕ) (x : Effect) (rest : List ℕ) → Takes bytes (to_be_bytes w8 2) after → total_at after ≡ Ok (x, rest) → TakesEffect bytes x rest
 unfolding total_at
 total_takes bytes after x rest t e =
     let a = got (number_at w32) (to_be_bytes w32) Wide reads_wide after _ (x, rest) t.rest_fits e in
@@ -112,7 +112,7 @@ reads_words least = record { takes = words_take least; again = words_again least
 
 worded_take : (least kind : ℕ) (effect : List (List ℕ) → Effect) (bytes after : List ℕ) (x : Effect) (rest : List ℕ)
     → ((words : List (List ℕ)) → effect_code (effect words) ≡ to_be_bytes w8 kind ++ words_code words) → ((words : List (List ℕ)) → AreWordsFrom least words → IsLegal (effect words))
-    → Takes bytes (to_be_bytes w8 kind) after → worded_at least effect after ≡ Ok (x, rest) → Told bytes x rest
+    → Takes bytes (to_be_bytes w8 kind) after → worded_at least effect after ≡ Ok (x, rest) → TakesEffect bytes x rest
 unfolding worded_at
 worded_take least kind effect bytes after x rest coded legal t e =
     let a = got (words_at least) words_code (AreWordsFrom least) (reads_words least) after (λ words. Ok (effect words.0, words.1)) (x, rest) t.rest_fits e in
@@ -142,7 +142,7 @@ from_one (word ∷ words) h some = record { count = record { at_least = omega ar
 
 -- ---- attributes and messages
 
-attribute_takes : (bytes after : List ℕ) (x : Effect) (rest : List ℕ) → Takes bytes (to_be_bytes w8 6) after → attribute_at after ≡ Ok (x, rest) → Told bytes x rest
+attribute_takes : (bytes after : List ℕ) (x : Effect) (rest : List ℕ) → Takes bytes (to_be_bytes w8 6) after → attribute_at after ≡ Ok (x, rest) → TakesEffect bytes x rest
 unfolding attribute_at
 attribute_takes bytes after x rest t e =
     let a = got (text_at is_attribute_name) text_code (IsText is_attribute_name) reads_attribute_name after _ (x, rest) t.rest_fits e in
@@ -220,7 +220,7 @@ level_again p rest h =
 reads_level : Reads level_at level_code Anything
 reads_level = record { takes = level_takes; again = level_again }
 
-message_takes : (bytes after : List ℕ) (x : Effect) (rest : List ℕ) → Takes bytes (to_be_bytes w8 7) after → message_at after ≡ Ok (x, rest) → Told bytes x rest
+message_takes : (bytes after : List ℕ) (x : Effect) (rest : List ℕ) → Takes bytes (to_be_bytes w8 7) after → message_at after ≡ Ok (x, rest) → TakesEffect bytes x rest
 unfolding message_at
 message_takes bytes after x rest t e =
     let a = got level_at level_code Anything reads_level after _ (x, rest) t.rest_fits e in
@@ -241,15 +241,15 @@ message_again level text rest h =
 
 -- the fields of one kind, or else those of the others
 by_kind : (kind n : ℕ) (read : List ℕ → Field Effect) (others : Field Effect) (bytes after : List ℕ) (x : Effect) (rest : List ℕ) → Takes bytes (to_be_bytes w8 kind) after
-    → (Takes bytes (to_be_bytes w8 n) after → read after ≡ Ok (x, rest) → Told bytes x rest) → (others ≡ Ok (x, rest) → Told bytes x rest)
-    → cond (eqb kind n) (read after) others ≡ Ok (x, rest) → Told bytes x rest
+    → (Takes bytes (to_be_bytes w8 n) after → read after ≡ Ok (x, rest) → TakesEffect bytes x rest) → (others ≡ Ok (x, rest) → TakesEffect bytes x rest)
+    → cond (eqb kind n) (read after) others ≡ Ok (x, rest) → TakesEffect bytes x rest
 by_kind kind n read others bytes after x rest t this other e =
     elim (chosen (eqb kind n) (read after) others (Ok (x, rest)) e) [
       | inl h ↦ this (subst (λ (k : ℕ). Takes bytes (to_be_bytes w8 k) after) (eqb-true kind n h.0) t) h.1
       | inr h ↦ other h.1
     ]
 
-kind_takes : (bytes : List ℕ) (kind : ℕ) (after : List ℕ) (x : Effect) (rest : List ℕ) → Takes bytes (to_be_bytes w8 kind) after → kind_of_effect kind after ≡ Ok (x, rest) → Told bytes x rest
+kind_takes : (bytes : List ℕ) (kind : ℕ) (after : List ℕ) (x : Effect) (rest : List ℕ) → Takes bytes (to_be_bytes w8 kind) after → kind_of_effect kind after ≡ Ok (x, rest) → TakesEffect bytes x rest
 unfolding kind_of_effect
 kind_takes bytes kind after x rest t e =
     by_kind kind 1 pages_at _ bytes after x rest t (pages_take bytes after x rest)

@@ -6,7 +6,7 @@ use Rattle.spool_types.specs.declared.effect.Exit.{Exit}
 use Rattle.spool_types.specs.declared.effect.Exit.TheVariants.{Code, Signal, NoStart, Lost}
 use Rattle.field_codec.specs.declared.fault.CodecFault.TheVariants.{Range}
 use Rattle.event_codec.specs.Spelling.{exit_code, IsIn, IsExit}
-use Rattle.event_codec.specs.Reading.{number_at, status_at, kind_of_exit, exit_at}
+use Rattle.event_codec.specs.EventReading.{number_at, status_at, kind_of_exit, exit_at}
 use Rattle.event_codec.proofs.FieldLaws.{IsBytes, done, Takes, Takes-then, Reads, got, again-then, again-last, ok_as}
 use Rattle.event_codec.proofs.FilterLaws.{chosen, refused, reads_byte}
 

@@ -10,7 +10,7 @@ use Rattle.std.proofs.lemmas.Nat.{be_bytes_2, be_bytes_4, be_bytes_8, from_be_by
 use Rattle.field_codec.specs.declared.fault.CodecFault.{CodecFault}
 use Rattle.field_codec.specs.declared.fault.CodecFault.TheVariants.{Length, Range, Utf8}
 use Rattle.event_codec.specs.Spelling.{text_code, IsIn, IsText}
-use Rattle.event_codec.specs.Reading.{Field, ◌>>=◌, part_at, number_at, checked, ranged, ranged_at, utf8_of, text_at}
+use Rattle.event_codec.specs.EventReading.{Field, ◌>>=◌, part_at, number_at, checked, ranged, ranged_at, utf8_of, text_at}
 
 abbrev pub IsBytes : List ℕ → Type 0
 IsBytes bytes = (i : ℕ) → get_or bytes i 0 < 256

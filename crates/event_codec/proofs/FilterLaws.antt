@@ -9,7 +9,7 @@ use Rattle.spool_types.specs.Values.{is_filter_name}
 use Rattle.field_codec.specs.declared.fault.CodecFault.{CodecFault}
 use Rattle.field_codec.specs.declared.fault.CodecFault.TheVariants.{Range}
 use Rattle.event_codec.specs.Spelling.{text_code, counted_code, policy_number, filters_code, IsIn, IsText, AreFilters}
-use Rattle.event_codec.specs.Reading.{◌>>=◌, number_at, ranged_at, policy_of, policy_at, text_at, list_at, filters_at, some_filters_at, flagged_filters_at, maybe_filters_at}
+use Rattle.event_codec.specs.EventReading.{◌>>=◌, number_at, ranged_at, policy_of, policy_at, text_at, list_at, filters_at, some_filters_at, flagged_filters_at, maybe_filters_at}
 use Rattle.event_codec.proofs.FieldLaws.{IsBytes, bind_ok, ok_is, Takes, Takes-then, Reads, got, again-then, again-last, wide8, reads_number, reads_ranged, ok_as}
 use Rattle.event_codec.proofs.ListLaws.{list_takes, list_again}
 use Rattle.event_codec.proofs.TextLaws.{reads_filter_name}

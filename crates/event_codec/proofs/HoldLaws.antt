@@ -5,7 +5,7 @@ use Rattle.std.proofs.lemmas.Bool.{eqb-true}
 use Rattle.spool_types.specs.Limits.{greatest_moment}
 use Rattle.field_codec.specs.declared.fault.CodecFault.TheVariants.{Range}
 use Rattle.event_codec.specs.Spelling.{flag_code, until_code, IsIn, IsMoment}
-use Rattle.event_codec.specs.Reading.{◌>>=◌, number_at, ranged_at, flag_of, flag_at, moment_at, flagged_until_at, until_at}
+use Rattle.event_codec.specs.EventReading.{◌>>=◌, number_at, ranged_at, flag_of, flag_at, moment_at, flagged_until_at, until_at}
 use Rattle.event_codec.proofs.FieldLaws.{IsBytes, bind_ok, ok_is, Takes, Takes-then, Reads, got, again-then, again-last, wide64, reads_ranged, ok_as}
 use Rattle.event_codec.proofs.FilterLaws.{Anything, chosen, refused, reads_byte}
 

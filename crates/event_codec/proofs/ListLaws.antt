@@ -2,7 +2,7 @@
 use Rattle.std.proofs.Common.{◌≡◌, ℕ, zero, suc, List, [], ◌∷◌, ◌++◌, length, Ok, refl, ap, ◌∙◌}
 use Rattle.std.specs.List.{flat_map, AllByRecursion}
 use Rattle.std.proofs.lemmas.List.Concat.{flat_map-cons}
-use Rattle.event_codec.specs.Reading.{Field, ◌>>=◌, list_at}
+use Rattle.event_codec.specs.EventReading.{Field, ◌>>=◌, list_at}
 use Rattle.event_codec.proofs.FieldLaws.{IsBytes, bind_ok, Takes, Takes-then, Reads, got, again-then, ok_as}
 
 pub record Listed {A : Type 0} (code : A → List ℕ) (Legal : A → Type 0) (n : ℕ) (bytes : List ℕ) (xs : List A) (rest : List ℕ) : Type 0 where

@@ -3,7 +3,7 @@ use Rattle.std.proofs.Common.{◌≡◌, ℕ, suc, ◌-◌, ◌+◌, ◌≤◌, 
 use Rattle.std.proofs.lemmas.List.{append-nil}
 use Rattle.field_codec.specs.declared.fault.CodecFault.{CodecFault}
 use Rattle.field_codec.specs.declared.fault.CodecFault.TheVariants.{Kind, Length, Range, Utf8, Memory}
-use Rattle.event_codec.specs.Reading.{◌>>=◌, Fails, list_at}
+use Rattle.event_codec.specs.EventReading.{◌>>=◌, Fails, list_at}
 
 -- values, and what they were read from after that
 abbrev pub Listing : Type 0 → Type 0 → Type 0

@@ -10,7 +10,7 @@ use Rattle.spool_types.specs.Values.{is_reason, is_attribute_name, is_message}
 use Rattle.field_codec.specs.declared.fault.CodecFault.TheVariants.{Range}
 use Rattle.event_codec.specs.Spelling.{text_code, counted_code, attribute_code, IsIn, IsText, IsAttribute}
 use Rattle.event_codec.specs.RowSpelling.{attributes_code, name_of, Ascend}
-use Rattle.event_codec.specs.Reading.{◌>>=◌, checked, ranged_at, text_at, list_at}
+use Rattle.event_codec.specs.EventReading.{◌>>=◌, checked, ranged_at, text_at, list_at}
 use Rattle.event_codec.specs.RowReading.{last_of, is_above, Item, reason_after, attribute_after, ascending_at, reasons_at, attributes_at}
 use Rattle.event_codec.proofs.FieldLaws.{IsBytes, bind_ok, passed_ok, ok_is, Takes, Takes-then, Reads, got, again-then, again-last, wide8, reads_ranged, ok_as}
 use Rattle.event_codec.proofs.TextLaws.{reads_reason, reads_attribute_name, reads_message}

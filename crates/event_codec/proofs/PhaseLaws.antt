@@ -14,7 +14,7 @@ use Rattle.spool_types.specs.Limits.{greatest_moment}
 use Rattle.field_codec.specs.declared.fault.CodecFault.TheVariants.{Range}
 use Rattle.event_codec.specs.Spelling.{flag_code, IsIn}
 use Rattle.event_codec.specs.RowSpelling.{hold_reason_number, holding_code, abort_reason_number, waiting_code, phase_code, IsHolding, IsWaitingFor}
-use Rattle.event_codec.specs.Reading.{◌>>=◌, number_at, ranged_at, flag_at}
+use Rattle.event_codec.specs.EventReading.{◌>>=◌, number_at, ranged_at, flag_at}
 use Rattle.event_codec.specs.RowReading.{hold_reason_of, indefinite_at, until_moment_at, kind_of_holding, holding_at, abort_reason_of, incoming_at, waiting_at, processing_at, aborted_at, kind_of_phase, phase_at}
 use Rattle.event_codec.proofs.FieldLaws.{IsBytes, bind_ok, done, ok_is, Takes, Takes-then, Reads, got, again-then, again-step, again-last, ok_as}
 use Rattle.event_codec.proofs.FilterLaws.{Anything, chosen, refused, reads_byte}

@@ -25,7 +25,7 @@ use Rattle.field_codec.specs.declared.fault.CodecFault.{CodecFault}
 use Rattle.field_codec.specs.declared.fault.CodecFault.TheVariants.{Kind, Length, Range}
 use Rattle.event_codec.specs.Spelling.{text_code, counted_code, flag_code, queue_code, ticket_code, send_code, spelling, IsIn, IsJobNumber, IsText, IsQueue, IsJob}
 use Rattle.event_codec.specs.RowSpelling.{phase_code, by_code, typed_code, attributes_code, head_code, new_queue_of, queue_state_code, queue_row_code, new_job_of, created_code, job_state_code, job_rest_code, job_row_code, row_spelling, IsTyped, IsQueueState, IsJobState, IsBy, IsOrderedQueue, HasMoments, IsPhaseOf, IsLegalJob, IsRowSpellable}
-use Rattle.event_codec.specs.Reading.{Field, ◌>>=◌, Gives, number_at, ranged_at, text_at, flag_at, filters_at, new_queue_at, ticket_at, piece_at, whole}
+use Rattle.event_codec.specs.EventReading.{Field, ◌>>=◌, Gives, number_at, ranged_at, text_at, flag_at, filters_at, new_queue_at, ticket_at, piece_at, whole}
 use Rattle.event_codec.specs.RowReading.{some_media_at, flagged_media_at, typed_at, reasons_at, attributes_at, phase_at, head_at, queue_state_at, queue_row, listed_queue_at, queue_row_at, created_at, job_state_at, some_by_at, flagged_by_at, by_at, job_row, listed_job_at, job_row_at, piece_row_at, row_fields_at, row_at, row_reading}
 use Rattle.event_codec.proofs.FieldLaws.{IsBytes, bind_ok, passed_ok, done, ok_is, Takes, Takes-then, ◌⨾◌, Reads, reads_then, got, again-then, again-step, again-last, wide32, reads_ranged, ok_as}
 use Rattle.event_codec.proofs.TextLaws.{reads_queue_name, reads_media, reads_note, reads_message}

@@ -4,7 +4,7 @@ use Rattle.std.specs.Prelude.{nat_le, ◌&&◌}
 use Rattle.std.proofs.lemmas.Bool.Decides.{nat_tests}
 use Rattle.spool_types.specs.Values.{is_text_of, is_queue_name, is_uri, is_media_type, is_user_name, is_title, is_options, is_note, is_filter_name, is_reason, is_attribute_name, is_message}
 use Rattle.event_codec.specs.Spelling.{text_code, IsText}
-use Rattle.event_codec.specs.Reading.{text_at}
+use Rattle.event_codec.specs.EventReading.{text_at}
 use Rattle.event_codec.proofs.FieldLaws.{IsShort, Reads, reads_text}
 
 left_true : (a b : Bool) → (a && b) ≡ true → a ≡ true

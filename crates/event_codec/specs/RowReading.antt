@@ -26,7 +26,7 @@ use Rattle.spool_types.specs.Limits.{greatest_number, greatest_moment, longest_d
 use Rattle.spool_types.specs.Values.{is_queue_name, is_media_type, is_note, is_reason, is_attribute_name, is_message}
 use Rattle.field_codec.specs.declared.fault.CodecFault.{CodecFault}
 use Rattle.field_codec.specs.declared.fault.CodecFault.TheVariants.{Kind, Length, Range}
-use Rattle.event_codec.specs.Reading.{Field, ◌>>=◌, number_at, checked, ranged_at, text_at, flag_at, list_at, filters_at, new_queue_at, ticket_at, piece_at, whole}
+use Rattle.event_codec.specs.EventReading.{Field, ◌>>=◌, number_at, checked, ranged_at, text_at, flag_at, list_at, filters_at, new_queue_at, ticket_at, piece_at, whole}
 
 -- ---- phases
 

@@ -3,14 +3,14 @@ ghost use Rattle.std.specs.Prelude.{◌≡◌, ℕ, List, length, nat_le, IfOk, 
 ghost use Rattle.std.specs.Int.{w16};
 ghost use Rattle.spool_types.specs.declared.effect.Effect.TheVariants as Change;
 ghost use Rattle.spool_types.specs.Effects.{most_effect_bytes};
-ghost use Rattle.event_codec.specs.Reading.{Gives, MemoryOnly, list_at, pages_at, total_at, words_at, worded_at, attribute_at, level_at, message_at, effect_at, effect_within, listed_at, effects_at, effects_copy};
+ghost use Rattle.event_codec.specs.EventReading.{Gives, MemoryOnly, list_at, pages_at, total_at, words_at, worded_at, attribute_at, level_at, message_at, effect_at, effect_within, listed_at, effects_at, effects_copy};
 
 use crate::fields::texts_at;
 use field_codec::{CodecFault, text_at, u8_at, u16_at, u32_at};
 use spool_types::{Attribute, Effect, Effects, Level, Words};
 use std::alloc::Global;
 
-#[tactic(auto, unfolding(crate::specs::Reading::pages_at))]
+#[tactic(auto, unfolding(crate::specs::EventReading::pages_at))]
 fn pages_at(bytes: &[u8]) -> Result<(Effect, &[u8]), CodecFault>
     ensures { Gives (λ x. (x.0, x.1.now)) result (pages_at bytes.now) }
 {
@@ -19,7 +19,7 @@ fn pages_at(bytes: &[u8]) -> Result<(Effect, &[u8]), CodecFault>
     Ok((Effect::Pages { page, copies }, rest))
 }
 
-#[tactic(auto, unfolding(crate::specs::Reading::total_at))]
+#[tactic(auto, unfolding(crate::specs::EventReading::total_at))]
 fn total_at(bytes: &[u8]) -> Result<(Effect, &[u8]), CodecFault>
     ensures { Gives (λ x. (x.0, x.1.now)) result (total_at bytes.now) }
 {
@@ -28,7 +28,7 @@ fn total_at(bytes: &[u8]) -> Result<(Effect, &[u8]), CodecFault>
 }
 
 /// So many words at least.
-#[tactic(auto, unfolding(crate::specs::Reading::words_at, field_codec::specs::Fields::ranged_at, field_codec::specs::Fields::ranged, field_codec::specs::Fields::checked))]
+#[tactic(auto, unfolding(crate::specs::EventReading::words_at, field_codec::specs::Fields::ranged_at, field_codec::specs::Fields::ranged, field_codec::specs::Fields::checked))]
 fn words_at(alloc: Global, least: u16, bytes: &[u8]) -> Result<(Words, &[u8]), CodecFault>
     ensures { Gives (λ x. (x.0, x.1.now)) result (words_at least bytes.now) }
 {
@@ -43,7 +43,7 @@ fn words_at(alloc: Global, least: u16, bytes: &[u8]) -> Result<(Words, &[u8]), C
     }
 }
 
-#[tactic(auto, unfolding(crate::specs::Reading::attribute_at))]
+#[tactic(auto, unfolding(crate::specs::EventReading::attribute_at))]
 fn attribute_at(alloc: Global, bytes: &[u8]) -> Result<(Effect, &[u8]), CodecFault>
     ensures { Gives (λ x. (x.0, x.1.now)) result (attribute_at bytes.now) }
 {
@@ -52,7 +52,7 @@ fn attribute_at(alloc: Global, bytes: &[u8]) -> Result<(Effect, &[u8]), CodecFau
     Ok((Effect::Attribute(Attribute { name, value }), rest))
 }
 
-#[tactic(auto, unfolding(crate::specs::Reading::level_at, crate::specs::Reading::level_of))]
+#[tactic(auto, unfolding(crate::specs::EventReading::level_at, crate::specs::EventReading::level_of))]
 fn level_at(bytes: &[u8]) -> Result<(Level, &[u8]), CodecFault>
     ensures { Gives (λ x. (x.0, x.1.now)) result (level_at bytes.now) }
 {
@@ -70,7 +70,7 @@ fn level_at(bytes: &[u8]) -> Result<(Level, &[u8]), CodecFault>
     Ok((level, rest))
 }
 
-#[tactic(auto, unfolding(crate::specs::Reading::message_at))]
+#[tactic(auto, unfolding(crate::specs::EventReading::message_at))]
 fn message_at(alloc: Global, bytes: &[u8]) -> Result<(Effect, &[u8]), CodecFault>
     ensures { Gives (λ x. (x.0, x.1.now)) result (message_at bytes.now) }
 {
@@ -79,7 +79,7 @@ fn message_at(alloc: Global, bytes: &[u8]) -> Result<(Effect, &[u8]), CodecFault
     Ok((Effect::Message { level, text }, rest))
 }
 
-#[tactic(auto, unfolding(crate::specs::Reading::worded_at))]
+#[tactic(auto, unfolding(crate::specs::EventReading::worded_at))]
 fn set_reasons_at(alloc: Global, bytes: &[u8]) -> Result<(Effect, &[u8]), CodecFault>
     ensures { Gives (λ x. (x.0, x.1.now)) result (worded_at 0 (λ words. Change.SetReasons words) bytes.now) }
 {
@@ -87,7 +87,7 @@ fn set_reasons_at(alloc: Global, bytes: &[u8]) -> Result<(Effect, &[u8]), CodecF
     Ok((Effect::SetReasons(words), rest))
 }
 
-#[tactic(auto, unfolding(crate::specs::Reading::worded_at))]
+#[tactic(auto, unfolding(crate::specs::EventReading::worded_at))]
 fn add_reasons_at(alloc: Global, bytes: &[u8]) -> Result<(Effect, &[u8]), CodecFault>
     ensures { Gives (λ x. (x.0, x.1.now)) result (worded_at 1 (λ words. Change.AddReasons words) bytes.now) }
 {
@@ -95,7 +95,7 @@ fn add_reasons_at(alloc: Global, bytes: &[u8]) -> Result<(Effect, &[u8]), CodecF
     Ok((Effect::AddReasons(words), rest))
 }
 
-#[tactic(auto, unfolding(crate::specs::Reading::worded_at))]
+#[tactic(auto, unfolding(crate::specs::EventReading::worded_at))]
 fn drop_reasons_at(alloc: Global, bytes: &[u8]) -> Result<(Effect, &[u8]), CodecFault>
     ensures { Gives (λ x. (x.0, x.1.now)) result (worded_at 1 (λ words. Change.DropReasons words) bytes.now) }
 {
@@ -103,7 +103,7 @@ fn drop_reasons_at(alloc: Global, bytes: &[u8]) -> Result<(Effect, &[u8]), Codec
     Ok((Effect::DropReasons(words), rest))
 }
 
-#[tactic(auto, unfolding(crate::specs::Reading::effect_at, crate::specs::Reading::kind_of_effect))]
+#[tactic(auto, unfolding(crate::specs::EventReading::effect_at, crate::specs::EventReading::kind_of_effect))]
 fn effect_at(alloc: Global, bytes: &[u8]) -> Result<(Effect, &[u8]), CodecFault>
     ensures { Gives (λ x. (x.0, x.1.now)) result (effect_at bytes.now) }
 {
@@ -121,7 +121,7 @@ fn effect_at(alloc: Global, bytes: &[u8]) -> Result<(Effect, &[u8]), CodecFault>
 }
 
 /// An effect whose code has its place in the room, and the room that is left.
-#[tactic(auto, unfolding(crate::specs::Reading::effect_within, crate::specs::Reading::some_room))]
+#[tactic(auto, unfolding(crate::specs::EventReading::effect_within, crate::specs::EventReading::some_room))]
 fn effect_within(
     alloc: Global,
     room: usize,
@@ -154,7 +154,7 @@ fn listed_at(alloc: Global, count: u16, bytes: &[u8]) -> Result<(Vec<Effect>, &[
 }
 
 /// How many effects there are, and each of them.
-#[tactic(auto, unfolding(crate::specs::Reading::effects_at, crate::specs::Reading::effects_copy, crate::specs::Reading::some_effects_at, field_codec::specs::Fields::checked))]
+#[tactic(auto, unfolding(crate::specs::EventReading::effects_at, crate::specs::EventReading::effects_copy, crate::specs::EventReading::some_effects_at, field_codec::specs::Fields::checked))]
 pub(crate) fn effects_at(alloc: Global, bytes: &[u8]) -> Result<(Effects, &[u8]), CodecFault>
     ensures read { Gives (λ x. (x.0, x.1.now)) result (effects_at bytes.now) }
     ensures memory { IfErr result (MemoryOnly (effects_copy bytes.now)) }

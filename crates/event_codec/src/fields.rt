@@ -1,6 +1,6 @@
 //! Texts in turn, at the front of bytes.
 ghost use Rattle.std.specs.Prelude.{◌≡◌, length, IfOk};
-ghost use Rattle.event_codec.specs.Reading.{Gives, list_at, text_at};
+ghost use Rattle.event_codec.specs.EventReading.{Gives, list_at, text_at};
 
 use field_codec::{CodecFault, text_at};
 use spool_types::{Text, TextKind};

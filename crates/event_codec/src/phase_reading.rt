@@ -1,6 +1,6 @@
 //! Reading the phase of a job.
 ghost use Rattle.std.specs.Prelude.{◌≡◌, false, IfErr};
-ghost use Rattle.event_codec.specs.Reading.{Gives, MemoryOnly};
+ghost use Rattle.event_codec.specs.EventReading.{Gives, MemoryOnly};
 ghost use Rattle.event_codec.specs.RowReading.{hold_reason_of, holding_at, abort_reason_of, incoming_at, waiting_at, processing_at, aborted_at, phase_at};
 
 use crate::reading::flag_at;

@@ -4,7 +4,7 @@ ghost use Rattle.std.specs.Int.{w8, w16, w32};
 ghost use Rattle.spool_types.specs.declared.event.Event.{Event};
 ghost use Rattle.spool_types.specs.Values.{is_media_type, is_queue_name};
 ghost use Rattle.event_codec.specs.Spelling.{IsSpellable, spelling};
-ghost use Rattle.event_codec.specs.Reading.{Gives, MemoryOnly, text_at, flag_at, until_at, exit_at, policy_at, filters_at, maybe_filters_at, piece_at, new_queue_at, queue_at, notes_at, accept_at, stop_at, ticket_at, new_job_at, job_at, job_by_at, send_at, closing_at, hold_at, numbered_at, clock_at, stage_at, fields_at, closing_copies, stage_copies, fields_copy, reaches_copy, whole, reading};
+ghost use Rattle.event_codec.specs.EventReading.{Gives, MemoryOnly, text_at, flag_at, until_at, exit_at, policy_at, filters_at, maybe_filters_at, piece_at, new_queue_at, queue_at, notes_at, accept_at, stop_at, ticket_at, new_job_at, job_at, job_by_at, send_at, closing_at, hold_at, numbered_at, clock_at, stage_at, fields_at, closing_copies, stage_copies, fields_copy, reaches_copy, whole, reading};
 
 use crate::effect_reading::effects_at;
 use crate::fields::texts_at;
@@ -17,7 +17,7 @@ use spool_types::{
 };
 use std::alloc::Global;
 
-#[tactic(auto, unfolding(crate::specs::Reading::flag_at, crate::specs::Reading::flag_of))]
+#[tactic(auto, unfolding(crate::specs::EventReading::flag_at, crate::specs::EventReading::flag_of))]
 pub(crate) fn flag_at(bytes: &[u8]) -> Result<(bool, &[u8]), CodecFault>
     ensures read { Gives (λ x. (x.0, x.1.now)) result (flag_at bytes.now) }
     ensures memory { IfErr result (MemoryOnly false) }
@@ -31,7 +31,7 @@ pub(crate) fn flag_at(bytes: &[u8]) -> Result<(bool, &[u8]), CodecFault>
 }
 
 /// Until when a job is held: a moment, or none where it is held until it is released.
-#[tactic(auto, unfolding(crate::specs::Reading::until_at, crate::specs::Reading::flagged_until_at, crate::specs::Reading::moment_at, field_codec::specs::Fields::ranged_at))]
+#[tactic(auto, unfolding(crate::specs::EventReading::until_at, crate::specs::EventReading::flagged_until_at, crate::specs::EventReading::moment_at, field_codec::specs::Fields::ranged_at))]
 fn until_at(bytes: &[u8]) -> Result<(Option<Moment>, &[u8]), CodecFault>
     ensures read { Gives (λ x. (x.0, x.1.now)) result (until_at bytes.now) }
     ensures memory { IfErr result (MemoryOnly false) }
@@ -48,7 +48,7 @@ fn until_at(bytes: &[u8]) -> Result<(Option<Moment>, &[u8]), CodecFault>
     }
 }
 
-#[tactic(auto, unfolding(crate::specs::Reading::exit_at, crate::specs::Reading::kind_of_exit, crate::specs::Reading::status_at))]
+#[tactic(auto, unfolding(crate::specs::EventReading::exit_at, crate::specs::EventReading::kind_of_exit, crate::specs::EventReading::status_at))]
 fn exit_at(bytes: &[u8]) -> Result<(Exit, &[u8]), CodecFault>
     ensures read { Gives (λ x. (x.0, x.1.now)) result (exit_at bytes.now) }
     ensures memory { IfErr result (MemoryOnly false) }
@@ -66,7 +66,7 @@ fn exit_at(bytes: &[u8]) -> Result<(Exit, &[u8]), CodecFault>
     }
 }
 
-#[tactic(auto, unfolding(crate::specs::Reading::policy_at, crate::specs::Reading::policy_of))]
+#[tactic(auto, unfolding(crate::specs::EventReading::policy_at, crate::specs::EventReading::policy_of))]
 fn policy_at(bytes: &[u8]) -> Result<(Policy, &[u8]), CodecFault>
     ensures read { Gives (λ x. (x.0, x.1.now)) result (policy_at bytes.now) }
     ensures memory { IfErr result (MemoryOnly false) }
@@ -91,7 +91,7 @@ pub(crate) fn media_at(alloc: Global, bytes: &[u8]) -> Result<(MediaType, &[u8])
 }
 
 /// How many filters there are, and each of them.
-#[tactic(auto, unfolding(crate::specs::Reading::filters_at, field_codec::specs::Fields::ranged_at, field_codec::specs::Fields::ranged, field_codec::specs::Fields::checked))]
+#[tactic(auto, unfolding(crate::specs::EventReading::filters_at, field_codec::specs::Fields::ranged_at, field_codec::specs::Fields::ranged, field_codec::specs::Fields::checked))]
 pub(crate) fn filters_at(alloc: Global, bytes: &[u8]) -> Result<(Filters, &[u8]), CodecFault>
     ensures read { Gives (λ x. (x.0, x.1.now)) result (filters_at bytes.now) }
     ensures few { IfOk result (λ x. length x.0 ≤ 15) }
@@ -107,7 +107,7 @@ pub(crate) fn filters_at(alloc: Global, bytes: &[u8]) -> Result<(Filters, &[u8])
     }
 }
 
-#[tactic(auto, unfolding(crate::specs::Reading::maybe_filters_at, crate::specs::Reading::flagged_filters_at, crate::specs::Reading::some_filters_at))]
+#[tactic(auto, unfolding(crate::specs::EventReading::maybe_filters_at, crate::specs::EventReading::flagged_filters_at, crate::specs::EventReading::some_filters_at))]
 fn maybe_filters_at(alloc: Global, bytes: &[u8]) -> Result<(Option<Filters>, &[u8]), CodecFault>
     ensures read { Gives (λ x. (x.0, x.1.now)) result (maybe_filters_at bytes.now) }
 {
@@ -123,7 +123,7 @@ fn maybe_filters_at(alloc: Global, bytes: &[u8]) -> Result<(Option<Filters>, &[u
 }
 
 /// The bytes of a send: so many at least.
-#[tactic(auto, unfolding(crate::specs::Reading::piece_at, field_codec::specs::Fields::ranged_at, field_codec::specs::Fields::ranged, field_codec::specs::Fields::checked))]
+#[tactic(auto, unfolding(crate::specs::EventReading::piece_at, field_codec::specs::Fields::ranged_at, field_codec::specs::Fields::ranged, field_codec::specs::Fields::checked))]
 pub(crate) fn piece_at(
     alloc: Global,
     least: u32,
@@ -144,7 +144,7 @@ pub(crate) fn piece_at(
 }
 
 /// A queue as it is added.
-#[tactic(auto, unfolding(crate::specs::Reading::new_queue_at, field_codec::specs::Fields::ranged_at))]
+#[tactic(auto, unfolding(crate::specs::EventReading::new_queue_at, field_codec::specs::Fields::ranged_at))]
 pub(crate) fn new_queue_at(alloc: Global, bytes: &[u8]) -> Result<(NewQueue, &[u8]), CodecFault>
     ensures read { Gives (λ x. (x.0, x.1.now)) result (new_queue_at bytes.now) }
     ensures copied { OnOk result (IsTrue (is_ok (text_at is_queue_name bytes.now))) }
@@ -168,7 +168,7 @@ pub(crate) fn new_queue_at(alloc: Global, bytes: &[u8]) -> Result<(NewQueue, &[u
     Ok((queue, rest))
 }
 
-#[tactic(auto, unfolding(crate::specs::Reading::queue_at, field_codec::specs::Fields::whole))]
+#[tactic(auto, unfolding(crate::specs::EventReading::queue_at, field_codec::specs::Fields::whole))]
 fn new_queue_of(alloc: Global, fields: &[u8]) -> Result<Event, CodecFault>
     ensures read { Gives (λ e. e) result (whole (queue_at fields.now)) }
     ensures memory { IfErr result (MemoryOnly (is_ok (text_at is_queue_name fields.now))) }
@@ -178,7 +178,7 @@ fn new_queue_of(alloc: Global, fields: &[u8]) -> Result<Event, CodecFault>
     Ok(Event::AddQueue(queue))
 }
 
-#[tactic(auto, unfolding(crate::specs::Reading::notes_at, field_codec::specs::Fields::whole))]
+#[tactic(auto, unfolding(crate::specs::EventReading::notes_at, field_codec::specs::Fields::whole))]
 fn notes_of(alloc: Global, fields: &[u8]) -> Result<Event, CodecFault>
     ensures read { Gives (λ e. e) result (whole (notes_at fields.now)) }
     ensures memory { IfErr result (MemoryOnly (is_ok (text_at is_queue_name fields.now))) }
@@ -194,7 +194,7 @@ fn notes_of(alloc: Global, fields: &[u8]) -> Result<Event, CodecFault>
     }))
 }
 
-#[tactic(auto, unfolding(crate::specs::Reading::accept_at, field_codec::specs::Fields::whole))]
+#[tactic(auto, unfolding(crate::specs::EventReading::accept_at, field_codec::specs::Fields::whole))]
 fn accept_of(alloc: Global, fields: &[u8]) -> Result<Event, CodecFault>
     ensures read { Gives (λ e. e) result (whole (accept_at fields.now)) }
     ensures memory { IfErr result (MemoryOnly (is_ok (text_at is_queue_name fields.now))) }
@@ -205,7 +205,7 @@ fn accept_of(alloc: Global, fields: &[u8]) -> Result<Event, CodecFault>
     Ok(Event::SetAccept { queue, accepting })
 }
 
-#[tactic(auto, unfolding(crate::specs::Reading::stop_at, field_codec::specs::Fields::whole))]
+#[tactic(auto, unfolding(crate::specs::EventReading::stop_at, field_codec::specs::Fields::whole))]
 fn stop_of(alloc: Global, fields: &[u8]) -> Result<Event, CodecFault>
     ensures read { Gives (λ e. e) result (whole (stop_at fields.now)) }
     ensures memory { IfErr result (MemoryOnly (is_ok (text_at is_queue_name fields.now))) }
@@ -217,7 +217,7 @@ fn stop_of(alloc: Global, fields: &[u8]) -> Result<Event, CodecFault>
 }
 
 /// What a job of this queue and this number is asked with.
-#[tactic(auto, unfolding(crate::specs::Reading::ticket_at, field_codec::specs::Fields::ranged_at))]
+#[tactic(auto, unfolding(crate::specs::EventReading::ticket_at, field_codec::specs::Fields::ranged_at))]
 pub(crate) fn ticket_at(
     alloc: Global,
     queue: QueueName,
@@ -245,7 +245,7 @@ pub(crate) fn ticket_at(
     Ok((ticket, rest))
 }
 
-#[tactic(auto, unfolding(crate::specs::Reading::new_job_at, field_codec::specs::Fields::ranged_at))]
+#[tactic(auto, unfolding(crate::specs::EventReading::new_job_at, field_codec::specs::Fields::ranged_at))]
 fn new_job_at(alloc: Global, bytes: &[u8]) -> Result<(NewJob, &[u8]), CodecFault>
     ensures read { Gives (λ x. (x.0, x.1.now)) result (new_job_at bytes.now) }
     ensures copied { OnOk result (IsTrue (is_ok (text_at is_queue_name bytes.now))) }
@@ -257,7 +257,7 @@ fn new_job_at(alloc: Global, bytes: &[u8]) -> Result<(NewJob, &[u8]), CodecFault
     ticket_at(alloc, queue, job, rest)
 }
 
-#[tactic(auto, unfolding(crate::specs::Reading::job_at, field_codec::specs::Fields::whole))]
+#[tactic(auto, unfolding(crate::specs::EventReading::job_at, field_codec::specs::Fields::whole))]
 fn job_of(alloc: Global, fields: &[u8]) -> Result<Event, CodecFault>
     ensures read { Gives (λ e. e) result (whole (job_at fields.now)) }
     ensures memory { IfErr result (MemoryOnly (is_ok (text_at is_queue_name fields.now))) }
@@ -267,7 +267,7 @@ fn job_of(alloc: Global, fields: &[u8]) -> Result<Event, CodecFault>
     Ok(Event::Create(job))
 }
 
-#[tactic(auto, unfolding(crate::specs::Reading::job_by_at, field_codec::specs::Fields::ranged_at, field_codec::specs::Fields::whole))]
+#[tactic(auto, unfolding(crate::specs::EventReading::job_by_at, field_codec::specs::Fields::ranged_at, field_codec::specs::Fields::whole))]
 fn job_by_of(alloc: Global, fields: &[u8]) -> Result<Event, CodecFault>
     ensures read { Gives (λ e. e) result (whole (job_by_at fields.now)) }
     ensures memory { IfErr result (MemoryOnly (is_ok (text_at is_queue_name fields.now))) }
@@ -279,7 +279,7 @@ fn job_by_of(alloc: Global, fields: &[u8]) -> Result<Event, CodecFault>
     Ok(Event::CreateBy { job, by })
 }
 
-#[tactic(auto, unfolding(crate::specs::Reading::send_at, field_codec::specs::Fields::ranged_at, field_codec::specs::Fields::whole))]
+#[tactic(auto, unfolding(crate::specs::EventReading::send_at, field_codec::specs::Fields::ranged_at, field_codec::specs::Fields::whole))]
 fn send_of(alloc: Global, fields: &[u8]) -> Result<Event, CodecFault>
     ensures read { Gives (λ e. e) result (whole (send_at fields.now)) }
     ensures memory { IfErr result (MemoryOnly (is_ok (send_at fields.now))) }
@@ -291,7 +291,7 @@ fn send_of(alloc: Global, fields: &[u8]) -> Result<Event, CodecFault>
     Ok(Event::Send { job, bytes })
 }
 
-#[tactic(auto, unfolding(crate::specs::Reading::closing_at, crate::specs::Reading::closing_copies, field_codec::specs::Fields::ranged_at, field_codec::specs::Fields::whole))]
+#[tactic(auto, unfolding(crate::specs::EventReading::closing_at, crate::specs::EventReading::closing_copies, field_codec::specs::Fields::ranged_at, field_codec::specs::Fields::whole))]
 fn closing_of(alloc: Global, fields: &[u8]) -> Result<Event, CodecFault>
     ensures read { Gives (λ e. e) result (whole (closing_at fields.now)) }
     ensures memory { IfErr result (MemoryOnly (closing_copies fields.now)) }
@@ -308,7 +308,7 @@ fn closing_of(alloc: Global, fields: &[u8]) -> Result<Event, CodecFault>
     }))
 }
 
-#[tactic(auto, unfolding(crate::specs::Reading::hold_at, field_codec::specs::Fields::ranged_at, field_codec::specs::Fields::whole))]
+#[tactic(auto, unfolding(crate::specs::EventReading::hold_at, field_codec::specs::Fields::ranged_at, field_codec::specs::Fields::whole))]
 fn hold_of(fields: &[u8]) -> Result<Event, CodecFault>
     ensures read { Gives (λ e. e) result (whole (hold_at fields.now)) }
     ensures memory { IfErr result (MemoryOnly false) }
@@ -326,7 +326,7 @@ fn hold_of(fields: &[u8]) -> Result<Event, CodecFault>
 }
 
 // A job's number, and nothing after it.
-#[tactic(auto, unfolding(crate::specs::Reading::numbered_at, field_codec::specs::Fields::ranged_at, field_codec::specs::Fields::whole))]
+#[tactic(auto, unfolding(crate::specs::EventReading::numbered_at, field_codec::specs::Fields::ranged_at, field_codec::specs::Fields::whole))]
 fn only_job(fields: &[u8]) -> Result<JobId, CodecFault>
     ensures read { (event : ℕ → Event) → Gives event result (whole (numbered_at event fields.now)) }
     ensures memory { IfErr result (MemoryOnly false) }
@@ -337,7 +337,7 @@ fn only_job(fields: &[u8]) -> Result<JobId, CodecFault>
     Ok(job)
 }
 
-#[tactic(auto, unfolding(crate::specs::Reading::clock_at, field_codec::specs::Fields::ranged_at, field_codec::specs::Fields::whole))]
+#[tactic(auto, unfolding(crate::specs::EventReading::clock_at, field_codec::specs::Fields::ranged_at, field_codec::specs::Fields::whole))]
 fn clock_of(fields: &[u8]) -> Result<Event, CodecFault>
     ensures read { Gives (λ e. e) result (whole (clock_at fields.now)) }
     ensures memory { IfErr result (MemoryOnly false) }
@@ -348,7 +348,7 @@ fn clock_of(fields: &[u8]) -> Result<Event, CodecFault>
     Ok(Event::Clock(moment))
 }
 
-#[tactic(auto, unfolding(crate::specs::Reading::stage_at, crate::specs::Reading::stage_copies, crate::specs::Reading::effects_copy, field_codec::specs::Fields::ranged_at, field_codec::specs::Fields::whole))]
+#[tactic(auto, unfolding(crate::specs::EventReading::stage_at, crate::specs::EventReading::stage_copies, crate::specs::EventReading::effects_copy, field_codec::specs::Fields::ranged_at, field_codec::specs::Fields::whole))]
 fn stage_of(alloc: Global, fields: &[u8]) -> Result<Event, CodecFault>
     ensures read { Gives (λ e. e) result (whole (stage_at fields.now)) }
     ensures memory { IfErr result (MemoryOnly (stage_copies fields.now)) }
@@ -383,7 +383,7 @@ fn reopen_of(fields: &[u8]) -> Result<Event, CodecFault>
 }
 
 // The event of this kind that its fields tell.
-#[tactic(auto, unfolding(crate::specs::Reading::fields_at, field_codec::specs::Fields::whole, crate::specs::Reading::fields_copy))]
+#[tactic(auto, unfolding(crate::specs::EventReading::fields_at, field_codec::specs::Fields::whole, crate::specs::EventReading::fields_copy))]
 fn event_of_kind(alloc: Global, kind: u8, fields: &[u8]) -> Result<Event, CodecFault>
     ensures read { Gives (λ e. e) result (whole (fields_at kind fields.now)) }
     ensures memory { IfErr result (MemoryOnly (fields_copy kind fields.now)) }
@@ -410,7 +410,7 @@ fn event_of_kind(alloc: Global, kind: u8, fields: &[u8]) -> Result<Event, CodecF
     }
 }
 
-#[tactic(auto, unfolding(crate::specs::Reading::event_at, crate::specs::Reading::reaches_copy, field_codec::specs::Fields::whole))]
+#[tactic(auto, unfolding(crate::specs::EventReading::event_at, crate::specs::EventReading::reaches_copy, field_codec::specs::Fields::whole))]
 fn event_of(alloc: Global, payload: &[u8]) -> Result<Event, CodecFault>
     ensures read { Gives (λ e. e) result (reading payload.now) }
     ensures memory { IfErr result (MemoryOnly (reaches_copy payload.now)) }

@@ -2,7 +2,7 @@
 ghost use Rattle.std.specs.Prelude.{◌≡◌, ◌+◌, ◌≤◌, length, map, is_ok, false, None, Some, IsTrue, IfOk, IfErr, OnOk, Ok};
 ghost use Rattle.spool_types.specs.declared.listing.Row.{Row};
 ghost use Rattle.spool_types.specs.Values.{is_queue_name};
-ghost use Rattle.event_codec.specs.Reading.{Gives, MemoryOnly, text_at, list_at, ticket_at, whole};
+ghost use Rattle.event_codec.specs.EventReading.{Gives, MemoryOnly, text_at, list_at, ticket_at, whole};
 ghost use Rattle.event_codec.specs.RowSpelling.{name_of, row_spelling, IsRowSpellable};
 ghost use Rattle.event_codec.specs.RowReading.{is_above, typed_at, reason_after, attribute_after, reasons_at, attributes_at, head_at, queue_state_at, queue_row, listed_queue_at, queue_row_at, created_at, job_state_at, by_at, job_row, listed_job_at, job_row_at, piece_row_at, job_row_copies, row_reading, reaches_row_copy, last_of};
 

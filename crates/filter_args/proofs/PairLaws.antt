@@ -13,8 +13,8 @@ use Rattle.spool_types.specs.Values.{is_word_byte}
 use Rattle.filter_args.specs.declared.fault.OptionFault.{OptionFault}
 use Rattle.filter_args.specs.declared.fault.OptionFault.TheVariants.{BadName}
 use Rattle.filter_args.specs.Pairs.{Pair, is_option_name, put, put_all, value_of, is_among, are_options}
-use Rattle.filter_args.specs.Reading.{is_some_bytes, is_equals, bare_pair, value_in, named, named_pair, pair_in, put_read, with_word}
-use Rattle.filter_args.specs.Seen.{pair_of, pairs_of}
+use Rattle.filter_args.specs.OptionTexts.{is_some_bytes, is_equals, bare_pair, value_in, named, named_pair, pair_in, put_read, with_word}
+use Rattle.filter_args.specs.OptionFields.{pair_of, pairs_of}
 
 other_way : (n m : List ℕ) → bytes_eq n m ≡ false → bytes_eq m n ≡ false
 other_way n m h = false_from_ne_true (bytes_eq m n) (λ e. true≢false (sym ((bytes_eq-Decides n m).1 (sym ((bytes_eq-Decides m n).0 e))) ∙ h))

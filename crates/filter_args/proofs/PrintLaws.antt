@@ -10,7 +10,7 @@ use Rattle.line_words.specs.declared.quoting.Quoting.TheVariants.{Bare}
 use Rattle.filter_args.specs.Pairs.{Pair, is_option_name, is_among, are_options}
 use Rattle.std.specs.List.{onto_first}
 use Rattle.line_words.specs.Quoting.{pieces, is_quoting, next, is_bare, is_cut, said, place_after}
-use Rattle.filter_args.specs.Reading.{is_some_bytes, words_of, is_equals, is_collection, bare_pair, value_without_quotes, value_in, named, named_pair, pair_in, then_pairs, pairs_in, joined, reading}
+use Rattle.filter_args.specs.OptionTexts.{is_some_bytes, words_of, is_equals, is_collection, bare_pair, value_without_quotes, value_in, named, named_pair, pair_in, then_pairs, pairs_in, joined, reading}
 use Rattle.filter_args.specs.Printing.{is_special, escaped, printed_value, printed_pair, printed}
 use Rattle.filter_args.proofs.CharLaws.{next_plain}
 use Rattle.filter_args.proofs.PairLaws.{put_all-options}

@@ -8,13 +8,13 @@ use Rattle.std.specs.List.{list_any, position_or_len, before_first, after_first}
 use Rattle.line_words.specs.Blanks.{is_blank}
 use Rattle.filter_args.specs.declared.fault.OptionFault.{OptionFault}
 use Rattle.filter_args.specs.declared.fault.OptionFault.TheVariants.{BadName, Unclosed, Collection, Memory}
-use Rattle.filter_args.specs.Seen.{IsFault}
+use Rattle.filter_args.specs.OptionFields.{IsFault}
 use Rattle.line_words.specs.declared.quoting.Quoting.{Quoting}
 use Rattle.line_words.specs.declared.quoting.Quoting.TheVariants.{Bare}
 use Rattle.filter_args.specs.Pairs.{Pair, is_option_name, put}
 use Rattle.std.specs.List.{onto_first}
 use Rattle.line_words.specs.Quoting.{pieces, next, is_bare, is_cut, said, place_after}
-use Rattle.filter_args.specs.Reading.{word_here, after_word, is_some_bytes, words_of, is_equals, is_collection, bare_pair, value_in, named, bare_in, named_pair, pair_in, then_pairs, pairs_in, put_read, with_word, joined, reading}
+use Rattle.filter_args.specs.OptionTexts.{word_here, after_word, is_some_bytes, words_of, is_equals, is_collection, bare_pair, value_in, named, bare_in, named_pair, pair_in, then_pairs, pairs_in, put_read, with_word, joined, reading}
 
 -- the pieces after the first
 later : Quoting → List ℕ → List (List ℕ)

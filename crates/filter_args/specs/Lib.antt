@@ -1,7 +1,7 @@
 pub mod Pairs
-pub mod Reading
+pub mod OptionTexts
 pub mod Printing
-pub mod Seen
+pub mod OptionFields
 pub mod Files
-pub mod Arguments
+pub mod FilterArguments
 pub mod Environment

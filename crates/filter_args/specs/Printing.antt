@@ -4,7 +4,7 @@ use Rattle.std.specs.List.{flat_map}
 use Rattle.line_words.specs.Blanks.{is_blank}
 use Rattle.filter_args.specs.Pairs.{Pair}
 use Rattle.line_words.specs.Quoting.{is_quoting}
-use Rattle.filter_args.specs.Reading.{is_collection}
+use Rattle.filter_args.specs.OptionTexts.{is_collection}
 
 -- a blank, a quote or a backslash
 abbrev pub is_special : ℕ → Bool

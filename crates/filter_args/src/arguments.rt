@@ -1,8 +1,8 @@
 //! The arguments of a child.
 ghost use Rattle.std.specs.Prelude.{◌≡◌, IfOk};
 ghost use Rattle.std.specs.Option.{option_map};
-ghost use Rattle.filter_args.specs.Arguments.{arguments};
-ghost use Rattle.filter_args.specs.Seen.{texts};
+ghost use Rattle.filter_args.specs.FilterArguments.{arguments};
+ghost use Rattle.filter_args.specs.OptionFields.{texts};
 
 use spool_types::Job;
 use std::alloc::{AllocError, Global};

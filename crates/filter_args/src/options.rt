@@ -4,9 +4,9 @@ ghost use Rattle.std.specs.Option.{option_map};
 ghost use Rattle.std.specs.Result.{IsOk, result_err};
 ghost use Rattle.std.specs.String.{string_bytes};
 ghost use Rattle.filter_args.specs.Pairs.{Pair, value_of};
-ghost use Rattle.filter_args.specs.Reading.{reading, with_word};
+ghost use Rattle.filter_args.specs.OptionTexts.{reading, with_word};
 ghost use Rattle.filter_args.specs.Printing.{printed};
-ghost use Rattle.filter_args.specs.Seen.{Gives, pairs_of};
+ghost use Rattle.filter_args.specs.OptionFields.{Gives, pairs_of};
 
 use crate::fault::OptionFault;
 use crate::printing::push_pair;
@@ -25,7 +25,7 @@ pub struct Options<'a> {
 impl<'a> Model for Options<'a> {
     ghost use Rattle.std.specs.Prelude.{◌≡◌, true, List, ℕ};
     ghost use Rattle.filter_args.specs.Pairs.{are_options};
-    ghost use Rattle.filter_args.specs.Seen.{pairs_of};
+    ghost use Rattle.filter_args.specs.OptionFields.{pairs_of};
 
     ghost Value = { List (List ℕ × List ℕ) };
 

@@ -7,8 +7,8 @@ ghost use Rattle.std.specs.Result.{result_err};
 ghost use Rattle.spool_types.specs.Values.{is_word_byte};
 ghost use Rattle.filter_args.specs.Pairs.{is_option_name};
 ghost use Rattle.line_words.specs.Quoting.{keeps, is_quoting, is_bare, said, place_after};
-ghost use Rattle.filter_args.specs.Reading.{is_collection, pair_in, value_in, bare_pair, word_here, after_word};
-ghost use Rattle.filter_args.specs.Seen.{pair_of};
+ghost use Rattle.filter_args.specs.OptionTexts.{is_collection, pair_in, value_in, bare_pair, word_here, after_word};
+ghost use Rattle.filter_args.specs.OptionFields.{pair_of};
 
 use crate::fault::OptionFault;
 use line_words::Quoting;

@@ -4,7 +4,7 @@ ghost use Rattle.std.specs.Fmt.{decimal};
 ghost use Rattle.std.specs.String.{string_bytes};
 ghost use Rattle.spool_types.specs.Phases.{is_processing};
 ghost use Rattle.filter_args.specs.Environment.{environment_of, environment_at, document_variables, device_variables, place_variables, printer_variables, stage_variables, side_name, variable};
-ghost use Rattle.filter_args.specs.Seen.{texts};
+ghost use Rattle.filter_args.specs.OptionFields.{texts};
 
 use crate::files::ChildFile;
 use crate::place::Place;

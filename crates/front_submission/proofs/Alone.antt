@@ -8,13 +8,13 @@ use Rattle.front_submission.specs.declared.step.End.{End}
 use Rattle.front_submission.specs.declared.step.End.TheVariants.{Accepted, Unprintable, Refused, Unknown}
 use Rattle.front_submission.specs.declared.reply.Own.{Own}
 use Rattle.front_submission.specs.declared.reply.Reply.TheVariants.{Later, Denied}
-use Rattle.front_submission.specs.Moves.{status, request, heard, lost, unread, deserted, own_found, after_send, after_measure, after_hold, after_close, after_check, after_cancel, accepted}
-use Rattle.front_submission.specs.Service.{Standing, NotOwn, Arrives, Stopped, StoppedGone, Stands, StandsGone, Service, changed, grown, closed, stopped, purged, with_standing, served, arriving_at, arriving, found, sent_reply, shown_reply, held_reply, closed_reply, canceled_reply, reply_to, Other, Makes, Cancels, Purges, after_other}
-use Rattle.front_submission.specs.Runs.{World, Event, Served, ServedUnheard, ServedUnclear, Lost, LeftUnclear, PutOff, TurnedDown, Reads, CannotRead, GivesUp, Meanwhile, read_at, happens, run, start, end_of}
+use Rattle.front_submission.specs.SubmissionSteps.{status, request, heard, lost, unread, deserted, own_found, after_send, after_measure, after_hold, after_close, after_check, after_cancel, accepted}
+use Rattle.front_submission.specs.Service.{JobFate, NotOwn, Arrives, Stopped, StoppedGone, Stands, StandsGone, Service, changed, grown, closed, stopped, purged, with_fate, served, arriving_at, arriving, found, sent_reply, shown_reply, held_reply, closed_reply, canceled_reply, reply_to, Other, Makes, Cancels, Purges, after_other}
+use Rattle.front_submission.specs.SubmissionRuns.{SubmissionRun, Event, Served, ServedUnheard, ServedUnclear, Lost, LeftUnclear, PutOff, TurnedDown, Reads, CannotRead, GivesUp, Meanwhile, read_at, happens, run, start, end_of}
 use Rattle.front_submission.proofs.Keeping.{by_test, unclear_lost}
 
 -- it doesn't arrive
-abbrev pub IsStill : Standing → Type 0
+abbrev pub IsStill : JobFate → Type 0
 IsStill NotOwn = Unit {0}
 IsStill (Arrives bytes) = ⊥
 IsStill Stopped = Unit {0}
@@ -23,8 +23,8 @@ IsStill Stands = Unit {0}
 IsStill StandsGone = Unit {0}
 
 -- what doesn't arrive doesn't arrive afterwards
-abbrev pub KeepsStill : (Standing → Standing) → Type 0
-KeepsStill change = (s : Standing) → IsStill s → IsStill (change s)
+abbrev pub KeepsStill : (JobFate → JobFate) → Type 0
+KeepsStill change = (s : JobFate) → IsStill s → IsStill (change s)
 
 grown_still : (piece : List ℕ) → KeepsStill (grown piece)
 grown_still piece NotOwn h = tt
@@ -58,39 +58,39 @@ purged_still StoppedGone h = tt
 purged_still Stands h = tt
 purged_still StandsGone h = tt
 
-changed_still : (standing : ℕ → Standing) (job : ℕ) (change : Standing → Standing) → KeepsStill change → (k : ℕ) → IsStill (standing k) → IsStill (changed standing job change k)
-changed_still standing job change kept k h =
-    elim (k == job) as (λ v. IsStill (cond v (change (standing k)) (standing k))) [ true ↦ kept (standing k) h | false ↦ h ]
+changed_still : (fate : ℕ → JobFate) (job : ℕ) (change : JobFate → JobFate) → KeepsStill change → (k : ℕ) → IsStill (fate k) → IsStill (changed fate job change k)
+changed_still fate job change kept k h =
+    elim (k == job) as (λ v. IsStill (cond v (change (fate k)) (fate k))) [ true ↦ kept (fate k) h | false ↦ h ]
 
 -- ## What is known at each step
 
 -- none arrives but this one
-pub record IsAlone (standing : ℕ → Standing) (job : ℕ) : Type 0 where
-  pub others : (k : ℕ) → (k ≡ job → ⊥) → IsStill (standing k)
+pub record IsAlone (fate : ℕ → JobFate) (job : ℕ) : Type 0 where
+  pub others : (k : ℕ) → (k ≡ job → ⊥) → IsStill (fate k)
 
-pub record NoneArrives (standing : ℕ → Standing) : Type 0 where
-  pub all : (k : ℕ) → IsStill (standing k)
+pub record NoneArrives (fate : ℕ → JobFate) : Type 0 where
+  pub all : (k : ℕ) → IsStill (fate k)
 
 -- no number is given twice
 pub record IsFresh (z : Service) : Type 0 where
-  pub beyond : (k : ℕ) → z.given ≤ k → IsStill (z.standing k)
+  pub beyond : (k : ℕ) → z.given ≤ k → IsStill (z.fate k)
 
 abbrev pub OwnsEnd : Service → End → Type 0
-OwnsEnd z (Accepted job) = NoneArrives z.standing
-OwnsEnd z (Unprintable job) = NoneArrives z.standing
+OwnsEnd z (Accepted job) = NoneArrives z.fate
+OwnsEnd z (Unprintable job) = NoneArrives z.fate
 OwnsEnd z (Refused job cause canceled) = Unit {0}
 OwnsEnd z (Unknown job) = Unit {0}
 
 abbrev pub Owns : Service → Step → Type 0
-Owns z (Creating tries) = NoneArrives z.standing
+Owns z (Creating tries) = NoneArrives z.fate
 Owns z Finding = Unit {0}
 Owns z (Clearing job) = Unit {0}
-Owns z (Reading job size) = IsAlone z.standing job
-Owns z (Sending job size count tries) = IsAlone z.standing job
-Owns z (Measuring job size count) = IsAlone z.standing job
-Owns z (Holding job size tries) = IsAlone z.standing job
-Owns z (Closing job size tries again) = IsAlone z.standing job
-Owns z (Checking job size) = IsAlone z.standing job
+Owns z (Reading job size) = IsAlone z.fate job
+Owns z (Sending job size count tries) = IsAlone z.fate job
+Owns z (Measuring job size count) = IsAlone z.fate job
+Owns z (Holding job size tries) = IsAlone z.fate job
+Owns z (Closing job size tries again) = IsAlone z.fate job
+Owns z (Checking job size) = IsAlone z.fate job
 Owns z (Canceling job cause) = Unit {0}
 Owns z (Ended end) = OwnsEnd z end
 
@@ -100,40 +100,40 @@ pub record Keeps (z : Service) (step : Step) : Type 0 where
 
 -- ## Changes of one job
 
-alone_changed : (standing : ℕ → Standing) (own job : ℕ) (change : Standing → Standing) → KeepsStill change → IsAlone standing own → IsAlone (changed standing job change) own
-alone_changed standing own job change kept h = record { others = λ k ne. changed_still standing job change kept k (h.others k ne) }
+alone_changed : (fate : ℕ → JobFate) (own job : ℕ) (change : JobFate → JobFate) → KeepsStill change → IsAlone fate own → IsAlone (changed fate job change) own
+alone_changed fate own job change kept h = record { others = λ k ne. changed_still fate job change kept k (h.others k ne) }
 
-none_changed : (standing : ℕ → Standing) (job : ℕ) (change : Standing → Standing) → KeepsStill change → NoneArrives standing → NoneArrives (changed standing job change)
-none_changed standing job change kept h = record { all = λ k. changed_still standing job change kept k (h.all k) }
+none_changed : (fate : ℕ → JobFate) (job : ℕ) (change : JobFate → JobFate) → KeepsStill change → NoneArrives fate → NoneArrives (changed fate job change)
+none_changed fate job change kept h = record { all = λ k. changed_still fate job change kept k (h.all k) }
 
 -- a job that is changed in any way is alone where none arrives
-alone_made : (standing : ℕ → Standing) (job : ℕ) (change : Standing → Standing) → NoneArrives standing → IsAlone (changed standing job change) job
-alone_made standing job change h =
-    record { others = λ k ne. subst (λ (v : Bool). IsStill (cond v (change (standing k)) (standing k))) (sym (ne_eqb k job ne)) (h.all k) }
+alone_made : (fate : ℕ → JobFate) (job : ℕ) (change : JobFate → JobFate) → NoneArrives fate → IsAlone (changed fate job change) job
+alone_made fate job change h =
+    record { others = λ k ne. subst (λ (v : Bool). IsStill (cond v (change (fate k)) (fate k))) (sym (ne_eqb k job ne)) (h.all k) }
 
 -- where the own job doesn't arrive any more none does
-none_left : (standing : ℕ → Standing) (job : ℕ) → IsAlone standing job → IsStill (standing job) → NoneArrives standing
-none_left standing job h still = record { all = λ k. by_case k (cases_eq k job) }
+none_left : (fate : ℕ → JobFate) (job : ℕ) → IsAlone fate job → IsStill (fate job) → NoneArrives fate
+none_left fate job h still = record { all = λ k. by_case k (cases_eq k job) }
   where
-    by_case : (k : ℕ) → (k ≡ job) ⊎ (k ≡ job → ⊥) → IsStill (standing k)
-    by_case k (inl e) = subst (λ (n : ℕ). IsStill (standing n)) (sym e) still
+    by_case : (k : ℕ) → (k ≡ job) ⊎ (k ≡ job → ⊥) → IsStill (fate k)
+    by_case k (inl e) = subst (λ (n : ℕ). IsStill (fate n)) (sym e) still
     by_case k (inr ne) = h.others k ne
 
-fresh_changed : (z : Service) (job : ℕ) (change : Standing → Standing) → KeepsStill change → IsFresh z → IsFresh (with_standing z (changed z.standing job change))
-fresh_changed z job change kept h = record { beyond = λ k le. changed_still z.standing job change kept k (h.beyond k le) }
+fresh_changed : (z : Service) (job : ℕ) (change : JobFate → JobFate) → KeepsStill change → IsFresh z → IsFresh (with_fate z (changed z.fate job change))
+fresh_changed z job change kept h = record { beyond = λ k le. changed_still z.fate job change kept k (h.beyond k le) }
 
 fresh_made : (z : Service) → IsFresh z → IsFresh (served z [] (request (Creating 0)))
 fresh_made z h = record { beyond = λ k le. by_number k le }
   where
-    by_number : (k : ℕ) → suc z.given ≤ k → IsStill (changed z.standing z.given (λ standing. Arrives []) k)
+    by_number : (k : ℕ) → suc z.given ≤ k → IsStill (changed z.fate z.given (λ fate. Arrives []) k)
     by_number k le =
         let ne : k ≡ z.given → ⊥ = λ e. absurd (omega arith) in
         let below : z.given ≤ k = omega arith in
-        subst (λ (v : Bool). IsStill (cond v (Arrives []) (z.standing k))) (sym (ne_eqb k z.given ne)) (h.beyond k below)
+        subst (λ (v : Bool). IsStill (cond v (Arrives []) (z.fate k))) (sym (ne_eqb k z.given ne)) (h.beyond k below)
 
 -- ## The search
 
-found_none : (job : ℕ) (s : Standing) (others : List Own) → arriving_at job s others ≡ [] → IsStill s × (others ≡ [])
+found_none : (job : ℕ) (s : JobFate) (others : List Own) → arriving_at job s others ≡ [] → IsStill s × (others ≡ [])
 found_none job NotOwn others e = (tt, e)
 found_none job (Arrives bytes) others e = absurd (cc)
 found_none job Stopped others e = (tt, e)
@@ -147,7 +147,7 @@ first_same a b xs ys e = cc
 others_same : (a b : Own) (xs ys : List Own) → a ∷ xs ≡ b ∷ ys → xs ≡ ys
 others_same a b xs ys e = cc
 
-found_one : (job : ℕ) (s : Standing) (others : List Own) (own : Own) → arriving_at job s others ≡ own ∷ [] →
+found_one : (job : ℕ) (s : JobFate) (others : List Own) (own : Own) → arriving_at job s others ≡ own ∷ [] →
     (IsStill s × (others ≡ own ∷ [])) ⊎ ((job ≡ own.job) × (others ≡ []))
 found_one job NotOwn others own e = inl (tt, e)
 found_one job (Arrives bytes) others own e =
@@ -158,57 +158,57 @@ found_one job Stands others own e = inl (tt, e)
 found_one job StandsGone others own e = inl (tt, e)
 
 -- one number more
-still_step : (standing : ℕ → Standing) (job k : ℕ) → IsStill (standing job) → (k < job → IsStill (standing k)) → k < suc job → IsStill (standing k)
-still_step standing job k here below lt = by_case (cases_eq k job)
+still_step : (fate : ℕ → JobFate) (job k : ℕ) → IsStill (fate job) → (k < job → IsStill (fate k)) → k < suc job → IsStill (fate k)
+still_step fate job k here below lt = by_case (cases_eq k job)
   where
-    by_case : (k ≡ job) ⊎ (k ≡ job → ⊥) → IsStill (standing k)
-    by_case (inl same) = subst (λ (n : ℕ). IsStill (standing n)) (sym same) here
+    by_case : (k ≡ job) ⊎ (k ≡ job → ⊥) → IsStill (fate k)
+    by_case (inl same) = subst (λ (n : ℕ). IsStill (fate n)) (sym same) here
     by_case (inr ne) = let less : k < job = omega arith in below less
 
-still_below : (standing : ℕ → Standing) (given : ℕ) → arriving standing given ≡ [] → (k : ℕ) → k < given → IsStill (standing k)
-still_below standing zero e k lt = absurd (omega arith)
-still_below standing (suc job) e k lt =
-    still_step standing job k (found_none job (standing job) (arriving standing job) e).0
-    (λ less. still_below standing job (found_none job (standing job) (arriving standing job) e).1 k less) lt
+still_below : (fate : ℕ → JobFate) (given : ℕ) → arriving fate given ≡ [] → (k : ℕ) → k < given → IsStill (fate k)
+still_below fate zero e k lt = absurd (omega arith)
+still_below fate (suc job) e k lt =
+    still_step fate job k (found_none job (fate job) (arriving fate job) e).0
+    (λ less. still_below fate job (found_none job (fate job) (arriving fate job) e).1 k less) lt
 
-alone_step : (standing : ℕ → Standing) (job : ℕ) (own : Own) (k : ℕ) →
-    (IsStill (standing job) × (arriving standing job ≡ own ∷ [])) ⊎ ((job ≡ own.job) × (arriving standing job ≡ [])) →
-    (arriving standing job ≡ own ∷ [] → k < job → IsStill (standing k)) → k < suc job → (k ≡ own.job → ⊥) → IsStill (standing k)
-alone_step standing job own k (inl h) below lt ne = still_step standing job k h.0 (below h.1) lt
-alone_step standing job own k (inr h) below lt ne = by_case (cases_eq k job)
+alone_step : (fate : ℕ → JobFate) (job : ℕ) (own : Own) (k : ℕ) →
+    (IsStill (fate job) × (arriving fate job ≡ own ∷ [])) ⊎ ((job ≡ own.job) × (arriving fate job ≡ [])) →
+    (arriving fate job ≡ own ∷ [] → k < job → IsStill (fate k)) → k < suc job → (k ≡ own.job → ⊥) → IsStill (fate k)
+alone_step fate job own k (inl h) below lt ne = still_step fate job k h.0 (below h.1) lt
+alone_step fate job own k (inr h) below lt ne = by_case (cases_eq k job)
   where
-    by_case : (k ≡ job) ⊎ (k ≡ job → ⊥) → IsStill (standing k)
+    by_case : (k ≡ job) ⊎ (k ≡ job → ⊥) → IsStill (fate k)
     by_case (inl same) = absurd (ne (same ∙ h.0))
-    by_case (inr other) = let less : k < job = omega arith in still_below standing job h.1 k less
+    by_case (inr other) = let less : k < job = omega arith in still_below fate job h.1 k less
 
-alone_below : (standing : ℕ → Standing) (given : ℕ) (own : Own) → arriving standing given ≡ own ∷ [] → (k : ℕ) → k < given → (k ≡ own.job → ⊥) → IsStill (standing k)
-alone_below standing zero own e k lt ne = absurd (omega arith)
-alone_below standing (suc job) own e k lt ne =
-    alone_step standing job own k (found_one job (standing job) (arriving standing job) own e)
-    (λ one less. alone_below standing job own one k less ne) lt ne
+alone_below : (fate : ℕ → JobFate) (given : ℕ) (own : Own) → arriving fate given ≡ own ∷ [] → (k : ℕ) → k < given → (k ≡ own.job → ⊥) → IsStill (fate k)
+alone_below fate zero own e k lt ne = absurd (omega arith)
+alone_below fate (suc job) own e k lt ne =
+    alone_step fate job own k (found_one job (fate job) (arriving fate job) own e)
+    (λ one less. alone_below fate job own one k less ne) lt ne
 
-none_found : (z : Service) → IsFresh z → arriving z.standing z.given ≡ [] → NoneArrives z.standing
+none_found : (z : Service) → IsFresh z → arriving z.fate z.given ≡ [] → NoneArrives z.fate
 none_found z fresh e = record { all = λ k. by_case k (cases_lt k z.given) }
   where
-    by_case : (k : ℕ) → (k < z.given) ⊎ (z.given ≤ k) → IsStill (z.standing k)
-    by_case k (inl lt) = still_below z.standing z.given e k lt
+    by_case : (k : ℕ) → (k < z.given) ⊎ (z.given ≤ k) → IsStill (z.fate k)
+    by_case k (inl lt) = still_below z.fate z.given e k lt
     by_case k (inr le) = fresh.beyond k le
 
-one_found : (z : Service) (own : Own) → IsFresh z → arriving z.standing z.given ≡ own ∷ [] → IsAlone z.standing own.job
+one_found : (z : Service) (own : Own) → IsFresh z → arriving z.fate z.given ≡ own ∷ [] → IsAlone z.fate own.job
 one_found z own fresh e = record { others = λ k ne. by_case k ne (cases_lt k z.given) }
   where
-    by_case : (k : ℕ) → (k ≡ own.job → ⊥) → (k < z.given) ⊎ (z.given ≤ k) → IsStill (z.standing k)
-    by_case k ne (inl lt) = alone_below z.standing z.given own e k lt ne
+    by_case : (k : ℕ) → (k ≡ own.job → ⊥) → (k < z.given) ⊎ (z.given ≤ k) → IsStill (z.fate k)
+    by_case k ne (inl lt) = alone_below z.fate z.given own e k lt ne
     by_case k ne (inr le) = fresh.beyond k le
 
-found_owns : (z : Service) (owns : List Own) → IsFresh z → arriving z.standing z.given ≡ owns → Owns z (own_found (found owns))
+found_owns : (z : Service) (owns : List Own) → IsFresh z → arriving z.fate z.given ≡ owns → Owns z (own_found (found owns))
 found_owns z [] fresh e = none_found z fresh e
 found_owns z (one ∷ []) fresh e = by_test (Owns z) (one.size == 0) _ _ (λ _. one_found z one fresh e) (λ _. tt)
 found_owns z (one ∷ (two ∷ others)) fresh e = tt
 
 -- ## A request that is served
 
-sent_owns : (z : Service) (job size count tries : ℕ) (piece : List ℕ) (s : Standing) → IsAlone z.standing job → Owns z (after_send job size count tries (sent_reply piece s))
+sent_owns : (z : Service) (job size count tries : ℕ) (piece : List ℕ) (s : JobFate) → IsAlone z.fate job → Owns z (after_send job size count tries (sent_reply piece s))
 sent_owns z job size count tries piece NotOwn h = tt
 sent_owns z job size count tries piece (Arrives bytes) h = by_test (Owns z) (length (bytes ++ piece) == size + count) _ _ (λ _. h) (λ _. tt)
 sent_owns z job size count tries piece Stopped h = tt
@@ -216,7 +216,7 @@ sent_owns z job size count tries piece StoppedGone h = tt
 sent_owns z job size count tries piece Stands h = tt
 sent_owns z job size count tries piece StandsGone h = tt
 
-measure_owns : (z : Service) (job size count : ℕ) (prints : Bool) (s : Standing) → IsAlone z.standing job → Owns z (after_measure job size count (shown_reply prints s))
+measure_owns : (z : Service) (job size count : ℕ) (prints : Bool) (s : JobFate) → IsAlone z.fate job → Owns z (after_measure job size count (shown_reply prints s))
 measure_owns z job size count prints NotOwn h = tt
 measure_owns z job size count prints (Arrives bytes) h =
     by_test (Owns z) (length bytes == size) _ _ (λ _. h) (λ _. by_test (Owns z) (length bytes == size + count) _ _ (λ _. h) (λ _. tt))
@@ -226,7 +226,7 @@ measure_owns z job size count true Stands h = tt
 measure_owns z job size count false Stands h = tt
 measure_owns z job size count prints StandsGone h = tt
 
-held_owns : (z : Service) (job size tries : ℕ) (s : Standing) → IsAlone z.standing job → Owns z (after_hold job size tries (held_reply s))
+held_owns : (z : Service) (job size tries : ℕ) (s : JobFate) → IsAlone z.fate job → Owns z (after_hold job size tries (held_reply s))
 held_owns z job size tries NotOwn h = tt
 held_owns z job size tries (Arrives bytes) h = h
 held_owns z job size tries Stopped h = tt
@@ -234,16 +234,16 @@ held_owns z job size tries StoppedGone h = tt
 held_owns z job size tries Stands h = tt
 held_owns z job size tries StandsGone h = tt
 
-accepted_owns : (z : Service) (job : ℕ) (printable : Bool) → NoneArrives z.standing → Owns z (accepted job printable)
+accepted_owns : (z : Service) (job : ℕ) (printable : Bool) → NoneArrives z.fate → Owns z (accepted job printable)
 accepted_owns z job true h = h
 accepted_owns z job false h = h
 
 -- a job that is closed doesn't arrive any more
-closed_here_still : (standing : ℕ → Standing) (job : ℕ) → IsStill (changed standing job closed job)
-closed_here_still standing job =
-    subst (λ (v : Bool). IsStill (cond v (closed (standing job)) (standing job))) (sym (eq-eqb job job refl)) (closed_any (standing job))
+closed_here_still : (fate : ℕ → JobFate) (job : ℕ) → IsStill (changed fate job closed job)
+closed_here_still fate job =
+    subst (λ (v : Bool). IsStill (cond v (closed (fate job)) (fate job))) (sym (eq-eqb job job refl)) (closed_any (fate job))
   where
-    closed_any : (s : Standing) → IsStill (closed s)
+    closed_any : (s : JobFate) → IsStill (closed s)
     closed_any NotOwn = tt
     closed_any (Arrives bytes) = tt
     closed_any Stopped = tt
@@ -251,27 +251,27 @@ closed_here_still standing job =
     closed_any Stands = tt
     closed_any StandsGone = tt
 
-close_owns : (z : Service) (piece : List ℕ) (job size tries : ℕ) (again : Bool) (s : Standing) → IsAlone z.standing job →
+close_owns : (z : Service) (piece : List ℕ) (job size tries : ℕ) (again : Bool) (s : JobFate) → IsAlone z.fate job →
     Owns (served z piece (request (Closing job size tries again))) (after_close job size tries again (closed_reply z.prints s))
-close_owns z piece job size tries again NotOwn h = alone_changed z.standing job job closed closed_still h
+close_owns z piece job size tries again NotOwn h = alone_changed z.fate job job closed closed_still h
 close_owns z piece job size tries again (Arrives bytes) h =
     accepted_owns (served z piece (request (Closing job size tries again))) job z.prints
-    (none_left (changed z.standing job closed) job (alone_changed z.standing job job closed closed_still h) (closed_here_still z.standing job))
-close_owns z piece job size tries again Stopped h = alone_changed z.standing job job closed closed_still h
-close_owns z piece job size tries again StoppedGone h = alone_changed z.standing job job closed closed_still h
-close_owns z piece job size tries again Stands h = alone_changed z.standing job job closed closed_still h
-close_owns z piece job size tries again StandsGone h = alone_changed z.standing job job closed closed_still h
+    (none_left (changed z.fate job closed) job (alone_changed z.fate job job closed closed_still h) (closed_here_still z.fate job))
+close_owns z piece job size tries again Stopped h = alone_changed z.fate job job closed closed_still h
+close_owns z piece job size tries again StoppedGone h = alone_changed z.fate job job closed closed_still h
+close_owns z piece job size tries again Stands h = alone_changed z.fate job job closed closed_still h
+close_owns z piece job size tries again StandsGone h = alone_changed z.fate job job closed closed_still h
 
-check_owns : (z : Service) (job size : ℕ) (prints : Bool) (s : Standing) → z.standing job ≡ s → IsAlone z.standing job → Owns z (after_check job size (shown_reply prints s))
+check_owns : (z : Service) (job size : ℕ) (prints : Bool) (s : JobFate) → z.fate job ≡ s → IsAlone z.fate job → Owns z (after_check job size (shown_reply prints s))
 check_owns z job size prints NotOwn is h = tt
 check_owns z job size prints (Arrives bytes) is h = by_test (Owns z) (length bytes == size) _ _ (λ _. h) (λ _. tt)
 check_owns z job size prints Stopped is h = tt
 check_owns z job size prints StoppedGone is h = tt
-check_owns z job size true Stands is h = none_left z.standing job h (subst IsStill (sym is) tt)
-check_owns z job size false Stands is h = none_left z.standing job h (subst IsStill (sym is) tt)
+check_owns z job size true Stands is h = none_left z.fate job h (subst IsStill (sym is) tt)
+check_owns z job size false Stands is h = none_left z.fate job h (subst IsStill (sym is) tt)
 check_owns z job size prints StandsGone is h = tt
 
-cancel_owns : (z : Service) (job : ℕ) (cause : Cause) (s : Standing) → Owns z (after_cancel job cause (canceled_reply s))
+cancel_owns : (z : Service) (job : ℕ) (cause : Cause) (s : JobFate) → Owns z (after_cancel job cause (canceled_reply s))
 cancel_owns z job cause NotOwn = tt
 cancel_owns z job cause (Arrives bytes) = tt
 cancel_owns z job cause Stopped = tt
@@ -293,18 +293,18 @@ served_fresh z piece (Canceling job cause) h = fresh_changed z job stopped stopp
 served_fresh z piece (Ended end) h = h
 
 heard_owns : (z : Service) (piece : List ℕ) (step : Step) → Keeps z step → Owns (served z piece (request step)) (heard step (reply_to z piece (request step)))
-heard_owns z piece (Creating tries) h = alone_made z.standing z.given (λ standing. Arrives []) h.owns
-heard_owns z piece Finding h = found_owns z (arriving z.standing z.given) h.fresh refl
+heard_owns z piece (Creating tries) h = alone_made z.fate z.given (λ fate. Arrives []) h.owns
+heard_owns z piece Finding h = found_owns z (arriving z.fate z.given) h.fresh refl
 heard_owns z piece (Clearing job) h = tt
 heard_owns z piece (Reading job size) h = h.owns
 heard_owns z piece (Sending job size count tries) h =
-    sent_owns (with_standing z (changed z.standing job (grown piece))) job size count tries piece (z.standing job)
-    (alone_changed z.standing job job (grown piece) (grown_still piece) h.owns)
-heard_owns z piece (Measuring job size count) h = measure_owns z job size count z.prints (z.standing job) h.owns
-heard_owns z piece (Holding job size tries) h = held_owns z job size tries (z.standing job) h.owns
-heard_owns z piece (Closing job size tries again) h = close_owns z piece job size tries again (z.standing job) h.owns
-heard_owns z piece (Checking job size) h = check_owns z job size z.prints (z.standing job) refl h.owns
-heard_owns z piece (Canceling job cause) h = cancel_owns (with_standing z (changed z.standing job stopped)) job cause (z.standing job)
+    sent_owns (with_fate z (changed z.fate job (grown piece))) job size count tries piece (z.fate job)
+    (alone_changed z.fate job job (grown piece) (grown_still piece) h.owns)
+heard_owns z piece (Measuring job size count) h = measure_owns z job size count z.prints (z.fate job) h.owns
+heard_owns z piece (Holding job size tries) h = held_owns z job size tries (z.fate job) h.owns
+heard_owns z piece (Closing job size tries again) h = close_owns z piece job size tries again (z.fate job) h.owns
+heard_owns z piece (Checking job size) h = check_owns z job size z.prints (z.fate job) refl h.owns
+heard_owns z piece (Canceling job cause) h = cancel_owns (with_fate z (changed z.fate job stopped)) job cause (z.fate job)
 heard_owns z piece (Ended end) h = h.owns
 
 lost_owns : (z : Service) (piece : List ℕ) (step : Step) → Keeps z step → Owns (served z piece (request step)) (lost step)
@@ -312,10 +312,10 @@ lost_owns z piece (Creating tries) h = tt
 lost_owns z piece Finding h = tt
 lost_owns z piece (Clearing job) h = tt
 lost_owns z piece (Reading job size) h = h.owns
-lost_owns z piece (Sending job size count tries) h = alone_changed z.standing job job (grown piece) (grown_still piece) h.owns
+lost_owns z piece (Sending job size count tries) h = alone_changed z.fate job job (grown piece) (grown_still piece) h.owns
 lost_owns z piece (Measuring job size count) h = h.owns
 lost_owns z piece (Holding job size tries) h = h.owns
-lost_owns z piece (Closing job size tries again) h = alone_changed z.standing job job closed closed_still h.owns
+lost_owns z piece (Closing job size tries again) h = alone_changed z.fate job job closed closed_still h.owns
 lost_owns z piece (Checking job size) h = h.owns
 lost_owns z piece (Canceling job cause) h = tt
 lost_owns z piece (Ended end) h = h.owns
@@ -390,19 +390,19 @@ deserted_owns z (Ended end) h = h
 
 -- ## What others do
 
-gentle_owns : (z : Service) (job : ℕ) (change : Standing → Standing) → KeepsStill change → (step : Step) → Owns z step → Owns (with_standing z (changed z.standing job change)) step
-gentle_owns z job change kept (Creating tries) h = none_changed z.standing job change kept h
+gentle_owns : (z : Service) (job : ℕ) (change : JobFate → JobFate) → KeepsStill change → (step : Step) → Owns z step → Owns (with_fate z (changed z.fate job change)) step
+gentle_owns z job change kept (Creating tries) h = none_changed z.fate job change kept h
 gentle_owns z job change kept Finding h = tt
 gentle_owns z job change kept (Clearing own) h = tt
-gentle_owns z job change kept (Reading own size) h = alone_changed z.standing own job change kept h
-gentle_owns z job change kept (Sending own size count tries) h = alone_changed z.standing own job change kept h
-gentle_owns z job change kept (Measuring own size count) h = alone_changed z.standing own job change kept h
-gentle_owns z job change kept (Holding own size tries) h = alone_changed z.standing own job change kept h
-gentle_owns z job change kept (Closing own size tries again) h = alone_changed z.standing own job change kept h
-gentle_owns z job change kept (Checking own size) h = alone_changed z.standing own job change kept h
+gentle_owns z job change kept (Reading own size) h = alone_changed z.fate own job change kept h
+gentle_owns z job change kept (Sending own size count tries) h = alone_changed z.fate own job change kept h
+gentle_owns z job change kept (Measuring own size count) h = alone_changed z.fate own job change kept h
+gentle_owns z job change kept (Holding own size tries) h = alone_changed z.fate own job change kept h
+gentle_owns z job change kept (Closing own size tries again) h = alone_changed z.fate own job change kept h
+gentle_owns z job change kept (Checking own size) h = alone_changed z.fate own job change kept h
 gentle_owns z job change kept (Canceling own cause) h = tt
-gentle_owns z job change kept (Ended (Accepted own)) h = none_changed z.standing job change kept h
-gentle_owns z job change kept (Ended (Unprintable own)) h = none_changed z.standing job change kept h
+gentle_owns z job change kept (Ended (Accepted own)) h = none_changed z.fate job change kept h
+gentle_owns z job change kept (Ended (Unprintable own)) h = none_changed z.fate job change kept h
 gentle_owns z job change kept (Ended (Refused own cause canceled)) h = tt
 gentle_owns z job change kept (Ended (Unknown own)) h = tt
 
@@ -429,7 +429,7 @@ others_own z step (Purges job) h = record { fresh = fresh_changed z job purged p
 
 -- ## Whole runs
 
-reads_own : (w : World) (step : Step) (rest : List (List ℕ)) → Keeps w.service step → Keeps (read_at w step rest).service (read_at w step rest).step
+reads_own : (w : SubmissionRun) (step : Step) (rest : List (List ℕ)) → Keeps w.service step → Keeps (read_at w step rest).service (read_at w step rest).step
 reads_own w (Creating tries) rest h = h
 reads_own w Finding rest h = h
 reads_own w (Clearing job) rest h = h
@@ -444,7 +444,7 @@ reads_own w (Checking job size) rest h = h
 reads_own w (Canceling job cause) rest h = h
 reads_own w (Ended end) rest h = h
 
-happens_owns : (w : World) (event : Event) → Keeps w.service w.step → Keeps (happens w event).service (happens w event).step
+happens_owns : (w : SubmissionRun) (event : Event) → Keeps w.service w.step → Keeps (happens w event).service (happens w event).step
 happens_owns w Served h = record { fresh = served_fresh w.service w.piece w.step h.fresh; owns = heard_owns w.service w.piece w.step h }
 happens_owns w ServedUnheard h = record { fresh = served_fresh w.service w.piece w.step h.fresh; owns = lost_owns w.service w.piece w.step h }
 happens_owns w ServedUnclear h =
@@ -461,7 +461,7 @@ happens_owns w CannotRead h = record { fresh = h.fresh; owns = unread_owns w.ser
 happens_owns w GivesUp h = record { fresh = h.fresh; owns = deserted_owns w.service w.step h.owns }
 happens_owns w (Meanwhile other) h = others_own w.service w.step other h
 
-run_owns : (events : List Event) (w : World) → Keeps w.service w.step → Keeps (run events w).service (run events w).step
+run_owns : (events : List Event) (w : SubmissionRun) → Keeps w.service w.step → Keeps (run events w).service (run events w).step
 run_owns [] w h = h
 run_owns (event ∷ events) w h = run_owns events (happens w event) (happens_owns w event h)
 
@@ -471,7 +471,7 @@ end_owns pieces holds given prints events =
     run_owns events (start pieces holds given prints) (record { fresh = record { beyond = λ k le. tt }; owns = record { all = λ k. tt } })
 
 -- what arrives is listed, so nothing is where none arrives
-not_listed : (job : ℕ) (s : Standing) (others : List Own) → IsStill s → others ≡ [] → arriving_at job s others ≡ []
+not_listed : (job : ℕ) (s : JobFate) (others : List Own) → IsStill s → others ≡ [] → arriving_at job s others ≡ []
 not_listed job NotOwn others still e = e
 not_listed job (Arrives bytes) others still e = absurd still
 not_listed job Stopped others still e = e
@@ -479,19 +479,19 @@ not_listed job StoppedGone others still e = e
 not_listed job Stands others still e = e
 not_listed job StandsGone others still e = e
 
-nothing_listed : (standing : ℕ → Standing) → NoneArrives standing → (given : ℕ) → arriving standing given ≡ []
-nothing_listed standing h zero = refl
-nothing_listed standing h (suc job) = not_listed job (standing job) (arriving standing job) (h.all job) (nothing_listed standing h job)
+nothing_listed : (fate : ℕ → JobFate) → NoneArrives fate → (given : ℕ) → arriving fate given ≡ []
+nothing_listed fate h zero = refl
+nothing_listed fate h (suc job) = not_listed job (fate job) (arriving fate job) (h.all job) (nothing_listed fate h job)
 
 -- none arrives behind a job that was accepted
 pub none_behind : (pieces : List (List ℕ)) (holds : Bool) (given : ℕ) (prints : Bool) (events : List Event) (end : End) →
     (end_of pieces holds given prints events).step ≡ Ended end → (status end ≡ 0) ⊎ (status end ≡ 4) →
-    arriving (end_of pieces holds given prints events).service.standing (end_of pieces holds given prints events).service.given ≡ []
+    arriving (end_of pieces holds given prints events).service.fate (end_of pieces holds given prints events).service.given ≡ []
 none_behind pieces holds given prints events end ended either =
-    nothing_listed (end_of pieces holds given prints events).service.standing (by_end end (subst (Owns (end_of pieces holds given prints events).service) ended (end_owns pieces holds given prints events).owns) either)
+    nothing_listed (end_of pieces holds given prints events).service.fate (by_end end (subst (Owns (end_of pieces holds given prints events).service) ended (end_owns pieces holds given prints events).owns) either)
     (end_of pieces holds given prints events).service.given
   where
-    by_end : (end : End) → OwnsEnd (end_of pieces holds given prints events).service end → (status end ≡ 0) ⊎ (status end ≡ 4) → NoneArrives (end_of pieces holds given prints events).service.standing
+    by_end : (end : End) → OwnsEnd (end_of pieces holds given prints events).service end → (status end ≡ 0) ⊎ (status end ≡ 4) → NoneArrives (end_of pieces holds given prints events).service.fate
     by_end (Accepted job) h either = h
     by_end (Unprintable job) h either = h
     by_end (Refused job cause canceled) h (inl e) = absurd (omega arith)

@@ -7,14 +7,14 @@ use Rattle.front_submission.specs.declared.step.End.{End}
 use Rattle.front_submission.specs.declared.step.End.TheVariants.{Accepted, Unprintable, Refused, Unknown}
 use Rattle.front_submission.specs.declared.reply.Own.{Own}
 use Rattle.front_submission.specs.declared.reply.Reply.TheVariants.{Later, Denied, Unclear}
-use Rattle.front_submission.specs.Moves.{status, request, heard, lost, unread, deserted, taken, own_found, measured, after_send, after_measure, after_hold, after_close, after_check, after_cancel, accepted}
-use Rattle.front_submission.specs.Service.{Standing, NotOwn, Arrives, Stopped, StoppedGone, Stands, StandsGone, Service, changed, grown, closed, stopped, purged, with_close, with_standing, served, arriving_at, arriving, found, sent_reply, shown_reply, held_reply, closed_reply, canceled_reply, reply_to, Other, Makes, Cancels, Purges, after_other}
-use Rattle.front_submission.specs.Runs.{World, Event, Served, ServedUnheard, ServedUnclear, Lost, LeftUnclear, PutOff, TurnedDown, Reads, CannotRead, GivesUp, Meanwhile, read_at, happens, run, ArePieces, joined, start, end_of}
+use Rattle.front_submission.specs.SubmissionSteps.{status, request, heard, lost, unread, deserted, taken, own_found, measured, after_send, after_measure, after_hold, after_close, after_check, after_cancel, accepted}
+use Rattle.front_submission.specs.Service.{JobFate, NotOwn, Arrives, Stopped, StoppedGone, Stands, StandsGone, Service, changed, grown, closed, stopped, purged, with_close, with_fate, served, arriving_at, arriving, found, sent_reply, shown_reply, held_reply, closed_reply, canceled_reply, reply_to, Other, Makes, Cancels, Purges, after_other}
+use Rattle.front_submission.specs.SubmissionRuns.{SubmissionRun, Event, Served, ServedUnheard, ServedUnclear, Lost, LeftUnclear, PutOff, TurnedDown, Reads, CannotRead, GivesUp, Meanwhile, read_at, happens, run, ArePieces, joined, start, end_of}
 
 -- ## What may be known of a job
 
 -- if it arrives it has these bytes, and it wasn't closed
-abbrev pub Opens : List ℕ → Standing → Type 0
+abbrev pub Opens : List ℕ → JobFate → Type 0
 Opens sent NotOwn = Unit {0}
 Opens sent (Arrives bytes) = bytes ≡ sent
 Opens sent Stopped = Unit {0}
@@ -23,7 +23,7 @@ Opens sent Stands = ⊥
 Opens sent StandsGone = ⊥
 
 -- if it arrives it has the one or the other, and it wasn't closed
-abbrev pub OpensEither : List ℕ → List ℕ → Standing → Type 0
+abbrev pub OpensEither : List ℕ → List ℕ → JobFate → Type 0
 OpensEither sent more NotOwn = Unit {0}
 OpensEither sent more (Arrives bytes) = (bytes ≡ sent) ⊎ (bytes ≡ more)
 OpensEither sent more Stopped = Unit {0}
@@ -32,7 +32,7 @@ OpensEither sent more Stands = ⊥
 OpensEither sent more StandsGone = ⊥
 
 -- it was closed
-abbrev pub IsClosed : Standing → Type 0
+abbrev pub IsClosed : JobFate → Type 0
 IsClosed NotOwn = ⊥
 IsClosed (Arrives n) = ⊥
 IsClosed Stopped = ⊥
@@ -40,7 +40,7 @@ IsClosed StoppedGone = ⊥
 IsClosed Stands = Unit {0}
 IsClosed StandsGone = Unit {0}
 
-opens_either : (sent more : List ℕ) (s : Standing) → Opens sent s → OpensEither sent more s
+opens_either : (sent more : List ℕ) (s : JobFate) → Opens sent s → OpensEither sent more s
 opens_either sent more NotOwn h = tt
 opens_either sent more (Arrives bytes) h = inl h
 opens_either sent more Stopped h = tt
@@ -51,12 +51,12 @@ opens_either sent more StandsGone h = h
 -- ## What changes of a job leave
 
 -- a change that neither closes a job nor lets it grow
-record IsGentle (change : Standing → Standing) : Type 0 where
-  pub opens : (sent : List ℕ) (s : Standing) → Opens sent s → Opens sent (change s)
-  pub either : (sent more : List ℕ) (s : Standing) → OpensEither sent more s → OpensEither sent more (change s)
-  pub closed : (s : Standing) → IsClosed s → IsClosed (change s)
+record IsGentle (change : JobFate → JobFate) : Type 0 where
+  pub opens : (sent : List ℕ) (s : JobFate) → Opens sent s → Opens sent (change s)
+  pub either : (sent more : List ℕ) (s : JobFate) → OpensEither sent more s → OpensEither sent more (change s)
+  pub closed : (s : JobFate) → IsClosed s → IsClosed (change s)
 
-stopped_opens : (sent : List ℕ) (s : Standing) → Opens sent s → Opens sent (stopped s)
+stopped_opens : (sent : List ℕ) (s : JobFate) → Opens sent s → Opens sent (stopped s)
 stopped_opens sent NotOwn h = tt
 stopped_opens sent (Arrives n) h = tt
 stopped_opens sent Stopped h = tt
@@ -64,7 +64,7 @@ stopped_opens sent StoppedGone h = tt
 stopped_opens sent Stands h = h
 stopped_opens sent StandsGone h = h
 
-stopped_either : (sent more : List ℕ) (s : Standing) → OpensEither sent more s → OpensEither sent more (stopped s)
+stopped_either : (sent more : List ℕ) (s : JobFate) → OpensEither sent more s → OpensEither sent more (stopped s)
 stopped_either sent more NotOwn h = tt
 stopped_either sent more (Arrives bytes) h = tt
 stopped_either sent more Stopped h = tt
@@ -72,7 +72,7 @@ stopped_either sent more StoppedGone h = tt
 stopped_either sent more Stands h = h
 stopped_either sent more StandsGone h = h
 
-stopped_closed : (s : Standing) → IsClosed s → IsClosed (stopped s)
+stopped_closed : (s : JobFate) → IsClosed s → IsClosed (stopped s)
 stopped_closed NotOwn h = h
 stopped_closed (Arrives n) h = absurd h
 stopped_closed Stopped h = h
@@ -83,7 +83,7 @@ stopped_closed StandsGone h = tt
 stopped_gently : IsGentle stopped
 stopped_gently = record { opens = stopped_opens; either = stopped_either; closed = stopped_closed }
 
-purged_opens : (sent : List ℕ) (s : Standing) → Opens sent s → Opens sent (purged s)
+purged_opens : (sent : List ℕ) (s : JobFate) → Opens sent s → Opens sent (purged s)
 purged_opens sent NotOwn h = tt
 purged_opens sent (Arrives n) h = h
 purged_opens sent Stopped h = tt
@@ -91,7 +91,7 @@ purged_opens sent StoppedGone h = tt
 purged_opens sent Stands h = h
 purged_opens sent StandsGone h = h
 
-purged_either : (sent more : List ℕ) (s : Standing) → OpensEither sent more s → OpensEither sent more (purged s)
+purged_either : (sent more : List ℕ) (s : JobFate) → OpensEither sent more s → OpensEither sent more (purged s)
 purged_either sent more NotOwn h = tt
 purged_either sent more (Arrives bytes) h = h
 purged_either sent more Stopped h = tt
@@ -99,7 +99,7 @@ purged_either sent more StoppedGone h = tt
 purged_either sent more Stands h = h
 purged_either sent more StandsGone h = h
 
-purged_closed : (s : Standing) → IsClosed s → IsClosed (purged s)
+purged_closed : (s : JobFate) → IsClosed s → IsClosed (purged s)
 purged_closed NotOwn h = h
 purged_closed (Arrives n) h = h
 purged_closed Stopped h = absurd h
@@ -110,7 +110,7 @@ purged_closed StandsGone h = tt
 purged_gently : IsGentle purged
 purged_gently = record { opens = purged_opens; either = purged_either; closed = purged_closed }
 
-grown_either : (sent piece : List ℕ) (s : Standing) → Opens sent s → OpensEither sent (sent ++ piece) (grown piece s)
+grown_either : (sent piece : List ℕ) (s : JobFate) → Opens sent s → OpensEither sent (sent ++ piece) (grown piece s)
 grown_either sent piece NotOwn h = tt
 grown_either sent piece (Arrives bytes) h = inr (ap (λ (b : List ℕ). b ++ piece) h)
 grown_either sent piece Stopped h = tt
@@ -119,17 +119,17 @@ grown_either sent piece Stands h = h
 grown_either sent piece StandsGone h = h
 
 -- what a change keeps of each job is kept where one job is changed
-changed_keeps : (P : Standing → Type 0) (standing : ℕ → Standing) (job : ℕ) (change : Standing → Standing) (k : ℕ) →
-    ((s : Standing) → P s → P (change s)) → P (standing k) → P (changed standing job change k)
-changed_keeps P standing job change k kept h =
-    elim (k == job) as (λ v. P (cond v (change (standing k)) (standing k))) [ true ↦ kept (standing k) h | false ↦ h ]
+changed_keeps : (P : JobFate → Type 0) (fate : ℕ → JobFate) (job : ℕ) (change : JobFate → JobFate) (k : ℕ) →
+    ((s : JobFate) → P s → P (change s)) → P (fate k) → P (changed fate job change k)
+changed_keeps P fate job change k kept h =
+    elim (k == job) as (λ v. P (cond v (change (fate k)) (fate k))) [ true ↦ kept (fate k) h | false ↦ h ]
 
-changed_here : (standing : ℕ → Standing) (job : ℕ) (change : Standing → Standing) → changed standing job change job ≡ change (standing job)
-changed_here standing job change = ap (λ v. cond v (change (standing job)) (standing job)) (eq-eqb job job refl)
+changed_here : (fate : ℕ → JobFate) (job : ℕ) (change : JobFate → JobFate) → changed fate job change job ≡ change (fate job)
+changed_here fate job change = ap (λ v. cond v (change (fate job)) (fate job)) (eq-eqb job job refl)
 
 -- where the job itself is changed, what is known of it becomes something else
-changed_own : (Q : Standing → Type 0) (standing : ℕ → Standing) (job : ℕ) (change : Standing → Standing) → Q (change (standing job)) → Q (changed standing job change job)
-changed_own Q standing job change h = subst Q (sym (changed_here standing job change)) h
+changed_own : (Q : JobFate → Type 0) (fate : ℕ → JobFate) (job : ℕ) (change : JobFate → JobFate) → Q (change (fate job)) → Q (changed fate job change job)
+changed_own Q fate job change h = subst Q (sym (changed_here fate job change)) h
 
 -- ## What is known at each step
 
@@ -149,7 +149,7 @@ pub record IsSending (document sent : List ℕ) (size : ℕ) (piece : List ℕ) 
 
 -- nothing was closed, or this job was, with the whole document
 abbrev pub MayBeClosed : List ℕ → Service → ℕ → Type 0
-MayBeClosed document z job = ((z.closes ≡ []) × Opens document (z.standing job)) ⊎ ((z.closes ≡ document ∷ []) × IsClosed (z.standing job))
+MayBeClosed document z job = ((z.closes ≡ []) × Opens document (z.fate job)) ⊎ ((z.closes ≡ document ∷ []) × IsClosed (z.fate job))
 
 abbrev pub KeepsEnd : List ℕ → Service → End → Type 0
 KeepsEnd document z (Accepted job) = (z.closes ≡ document ∷ []) × (z.prints ≡ true)
@@ -161,19 +161,19 @@ abbrev pub Keeps : List ℕ → List ℕ → List (List ℕ) → Service → Ste
 Keeps document piece rest z (Creating tries) = (z.closes ≡ []) × IsLeft document [] 0 rest
 Keeps document piece rest z Finding = (z.closes ≡ []) × IsLeft document [] 0 rest
 Keeps document piece rest z (Clearing job) = (z.closes ≡ []) × IsLeft document [] 0 rest
-Keeps document piece rest z (Reading job size) = (sent : List ℕ) × ((z.closes ≡ []) × Opens sent (z.standing job) × IsLeft document sent size rest)
+Keeps document piece rest z (Reading job size) = (sent : List ℕ) × ((z.closes ≡ []) × Opens sent (z.fate job) × IsLeft document sent size rest)
 Keeps document piece rest z (Sending job size count tries) =
-    (sent : List ℕ) × ((z.closes ≡ []) × Opens sent (z.standing job) × IsSending document sent size piece count rest)
+    (sent : List ℕ) × ((z.closes ≡ []) × Opens sent (z.fate job) × IsSending document sent size piece count rest)
 Keeps document piece rest z (Measuring job size count) =
-    (sent : List ℕ) × ((z.closes ≡ []) × OpensEither sent (sent ++ piece) (z.standing job) × IsSending document sent size piece count rest)
-Keeps document piece rest z (Holding job size tries) = (z.closes ≡ []) × Opens document (z.standing job)
-Keeps document piece rest z (Closing job size tries again) = (z.closes ≡ []) × Opens document (z.standing job)
+    (sent : List ℕ) × ((z.closes ≡ []) × OpensEither sent (sent ++ piece) (z.fate job) × IsSending document sent size piece count rest)
+Keeps document piece rest z (Holding job size tries) = (z.closes ≡ []) × Opens document (z.fate job)
+Keeps document piece rest z (Closing job size tries again) = (z.closes ≡ []) × Opens document (z.fate job)
 Keeps document piece rest z (Checking job size) = MayBeClosed document z job
 Keeps document piece rest z (Canceling job cause) = z.closes ≡ []
 Keeps document piece rest z (Ended end) = KeepsEnd document z end
 
-abbrev pub KeepsWorld : List ℕ → World → Type 0
-KeepsWorld document w = Keeps document w.piece w.rest w.service w.step
+abbrev pub KeepsHistory : List ℕ → SubmissionRun → Type 0
+KeepsHistory document w = Keeps document w.piece w.rest w.service w.step
 
 -- one of two steps, by a test
 pub by_test : (P : Step → Type 0) (b : Bool) (x y : Step) → (b ≡ true → P x) → (b ≡ false → P y) → P (cond b x y)
@@ -183,23 +183,23 @@ by_test P false x y f g = g refl
 -- ## A request that is served
 
 -- jobs that arrive with these sizes
-AllArrive : (ℕ → Standing) → List Own → Type 0
-AllArrive standing [] = Unit {0}
-AllArrive standing (one ∷ others) = (bytes : List ℕ) × (standing one.job ≡ Arrives bytes) × (length bytes ≡ one.size) × AllArrive standing others
+AllArrive : (ℕ → JobFate) → List Own → Type 0
+AllArrive fate [] = Unit {0}
+AllArrive fate (one ∷ others) = (bytes : List ℕ) × (fate one.job ≡ Arrives bytes) × (length bytes ≡ one.size) × AllArrive fate others
 
-arriving_one : (standing : ℕ → Standing) (job : ℕ) (s : Standing) → standing job ≡ s → (others : List Own) → AllArrive standing others → AllArrive standing (arriving_at job s others)
+arriving_one : (fate : ℕ → JobFate) (job : ℕ) (s : JobFate) → fate job ≡ s → (others : List Own) → AllArrive fate others → AllArrive fate (arriving_at job s others)
 unfolding AllArrive
-arriving_one standing job NotOwn is others h = h
-arriving_one standing job (Arrives bytes) is others h = (bytes, is, refl, h)
-arriving_one standing job Stopped is others h = h
-arriving_one standing job StoppedGone is others h = h
-arriving_one standing job Stands is others h = h
-arriving_one standing job StandsGone is others h = h
+arriving_one fate job NotOwn is others h = h
+arriving_one fate job (Arrives bytes) is others h = (bytes, is, refl, h)
+arriving_one fate job Stopped is others h = h
+arriving_one fate job StoppedGone is others h = h
+arriving_one fate job Stands is others h = h
+arriving_one fate job StandsGone is others h = h
 
-arriving_all : (standing : ℕ → Standing) (given : ℕ) → AllArrive standing (arriving standing given)
+arriving_all : (fate : ℕ → JobFate) (given : ℕ) → AllArrive fate (arriving fate given)
 unfolding AllArrive
-arriving_all standing zero = tt
-arriving_all standing (suc job) = arriving_one standing job (standing job) refl (arriving standing job) (arriving_all standing job)
+arriving_all fate zero = tt
+arriving_all fate (suc job) = arriving_one fate job (fate job) refl (arriving fate job) (arriving_all fate job)
 
 -- a piece was sent: what is left is behind it
 sent_left : (document sent : List ℕ) (size : ℕ) (piece : List ℕ) (count : ℕ) (rest : List (List ℕ)) (new : ℕ) → length (sent ++ piece) ≡ new →
@@ -219,30 +219,30 @@ no_bytes (b ∷ bs) e = absurd (omega arith)
 
 module _ (document piece : List ℕ) (rest : List (List ℕ)) (z : Service) where
   -- the job that was found
-  taken_keeps : (own : Own) → (bytes : List ℕ) → z.standing own.job ≡ Arrives bytes → length bytes ≡ own.size → Keeps document piece rest z Finding → Keeps document piece rest z (taken own)
+  taken_keeps : (own : Own) → (bytes : List ℕ) → z.fate own.job ≡ Arrives bytes → length bytes ≡ own.size → Keeps document piece rest z Finding → Keeps document piece rest z (taken own)
   taken_keeps own bytes is size h =
       by_test (Keeps document piece rest z) (own.size == 0) _ _
       (λ e. ([], (h.0, subst (Opens []) (sym is) (no_bytes bytes (size ∙ eqb-true own.size 0 e)), h.1)))
       (λ e. h.0)
 
-  found_keeps : (owns : List Own) → AllArrive z.standing owns → Keeps document piece rest z Finding → Keeps document piece rest z (own_found (found owns))
+  found_keeps : (owns : List Own) → AllArrive z.fate owns → Keeps document piece rest z Finding → Keeps document piece rest z (own_found (found owns))
   unfolding AllArrive
   found_keeps [] all h = h
   found_keeps (one ∷ []) all h = taken_keeps one all.0 all.1 all.2 h
   found_keeps (one ∷ (two ∷ others)) all h = h
 
   -- a piece that is sent
-  sent_keeps : (job size count tries : ℕ) (s : Standing) → z.standing job ≡ s → (sent : List ℕ) → z.closes ≡ [] → Opens sent s →
+  sent_keeps : (job size count tries : ℕ) (s : JobFate) → z.fate job ≡ s → (sent : List ℕ) → z.closes ≡ [] → Opens sent s →
       IsSending document sent size piece count rest →
-      Keeps document piece rest (with_standing z (changed z.standing job (grown piece))) (after_send job size count tries (sent_reply piece s))
+      Keeps document piece rest (with_fate z (changed z.fate job (grown piece))) (after_send job size count tries (sent_reply piece s))
   sent_keeps job size count tries NotOwn is sent none o g = none
   sent_keeps job size count tries (Arrives bytes) is sent none o g =
-      by_test (Keeps document piece rest (with_standing z (changed z.standing job (grown piece)))) (length (bytes ++ piece) == size + count) _ _
+      by_test (Keeps document piece rest (with_fate z (changed z.fate job (grown piece)))) (length (bytes ++ piece) == size + count) _ _
       (λ e. (
         sent ++ piece,
         (
           none,
-          changed_own (Opens (sent ++ piece)) z.standing job (grown piece) (subst (λ (s : Standing). Opens (sent ++ piece) (grown piece s)) (sym is) (ap (λ (b : List ℕ). b ++ piece) o)),
+          changed_own (Opens (sent ++ piece)) z.fate job (grown piece) (subst (λ (s : JobFate). Opens (sent ++ piece) (grown piece s)) (sym is) (ap (λ (b : List ℕ). b ++ piece) o)),
           sent_left document sent size piece count rest (length (bytes ++ piece)) (ap (λ (b : List ℕ). length (b ++ piece)) (sym o)) g,
         ),
       ))
@@ -253,7 +253,7 @@ module _ (document piece : List ℕ) (rest : List (List ℕ)) (z : Service) wher
   sent_keeps job size count tries StandsGone is sent none o g = none
 
   -- what is shown where a piece may have been sent
-  measured_keeps : (job size count : ℕ) (bytes : List ℕ) → z.standing job ≡ Arrives bytes → (sent : List ℕ) → z.closes ≡ [] →
+  measured_keeps : (job size count : ℕ) (bytes : List ℕ) → z.fate job ≡ Arrives bytes → (sent : List ℕ) → z.closes ≡ [] →
       (bytes ≡ sent) ⊎ (bytes ≡ sent ++ piece) → IsSending document sent size piece count rest →
       Keeps document piece rest z (measured job size count (length bytes))
   measured_keeps job size count bytes is sent none (inl o) g =
@@ -269,7 +269,7 @@ module _ (document piece : List ℕ) (rest : List (List ℕ)) (z : Service) wher
       (λ e. (sent ++ piece, (none, subst (Opens (sent ++ piece)) (sym is) o, sent_left document sent size piece count rest (length bytes) (ap length (sym o)) g)))
       (λ _. none))
 
-  measure_keeps : (job size count : ℕ) (s : Standing) → z.standing job ≡ s → (sent : List ℕ) → z.closes ≡ [] → OpensEither sent (sent ++ piece) s →
+  measure_keeps : (job size count : ℕ) (s : JobFate) → z.fate job ≡ s → (sent : List ℕ) → z.closes ≡ [] → OpensEither sent (sent ++ piece) s →
       IsSending document sent size piece count rest → Keeps document piece rest z (after_measure job size count (shown_reply z.prints s))
   measure_keeps job size count NotOwn is sent none o g = none
   measure_keeps job size count (Arrives bytes) is sent none o g = measured_keeps job size count bytes is sent none o g
@@ -278,7 +278,7 @@ module _ (document piece : List ℕ) (rest : List (List ℕ)) (z : Service) wher
   measure_keeps job size count Stands is sent none o g = absurd o
   measure_keeps job size count StandsGone is sent none o g = none
 
-  held_keeps : (job size tries : ℕ) (s : Standing) → Keeps document piece rest z (Holding job size tries) → Keeps document piece rest z (after_hold job size tries (held_reply s))
+  held_keeps : (job size tries : ℕ) (s : JobFate) → Keeps document piece rest z (Holding job size tries) → Keeps document piece rest z (after_hold job size tries (held_reply s))
   held_keeps job size tries NotOwn h = h.0
   held_keeps job size tries (Arrives n) h = h
   held_keeps job size tries Stopped h = h.0
@@ -286,7 +286,7 @@ module _ (document piece : List ℕ) (rest : List (List ℕ)) (z : Service) wher
   held_keeps job size tries Stands h = h.0
   held_keeps job size tries StandsGone h = h.0
 
-  canceled_keeps : (job : ℕ) (cause : _) (s : Standing) → z.closes ≡ [] → Keeps document piece rest z (after_cancel job cause (canceled_reply s))
+  canceled_keeps : (job : ℕ) (cause : _) (s : JobFate) → z.closes ≡ [] → Keeps document piece rest z (after_cancel job cause (canceled_reply s))
   canceled_keeps job cause NotOwn h = h
   canceled_keeps job cause (Arrives n) h = h
   canceled_keeps job cause Stopped h = h
@@ -303,7 +303,7 @@ module _ (document piece : List ℕ) (rest : List (List ℕ)) (z : Service) wher
   stands_keeps job size false is c = (c, is)
 
   -- what is shown where the job may have been closed
-  check_keeps : (job size : ℕ) (s : Standing) → z.standing job ≡ s →
+  check_keeps : (job size : ℕ) (s : JobFate) → z.fate job ≡ s →
       ((z.closes ≡ []) × Opens document s) ⊎ ((z.closes ≡ document ∷ []) × IsClosed s) → Keeps document piece rest z (after_check job size (shown_reply z.prints s))
   check_keeps job size NotOwn is (inl h) = inl h.0
   check_keeps job size NotOwn is (inr h) = absurd h.1
@@ -321,19 +321,19 @@ module _ (document piece : List ℕ) (rest : List (List ℕ)) (z : Service) wher
 
   -- ## A close
 
-  closes_as : (job : ℕ) (s : Standing) → z.standing job ≡ s → with_close (z.standing job) z.closes ≡ with_close s z.closes
+  closes_as : (job : ℕ) (s : JobFate) → z.fate job ≡ s → with_close (z.fate job) z.closes ≡ with_close s z.closes
   closes_as job s is = ap (λ v. with_close v z.closes) is
 
-  closed_here : (job : ℕ) (s : Standing) → z.standing job ≡ s → changed z.standing job closed job ≡ closed s
-  closed_here job s is = changed_here z.standing job closed ∙ ap closed is
+  closed_here : (job : ℕ) (s : JobFate) → z.fate job ≡ s → changed z.fate job closed job ≡ closed s
+  closed_here job s is = changed_here z.fate job closed ∙ ap closed is
 
   -- the job is closed with the whole document
-  closes_all : (job : ℕ) (bytes : List ℕ) → z.standing job ≡ Arrives bytes → bytes ≡ document → z.closes ≡ [] → with_close (z.standing job) z.closes ≡ document ∷ []
+  closes_all : (job : ℕ) (bytes : List ℕ) → z.fate job ≡ Arrives bytes → bytes ≡ document → z.closes ≡ [] → with_close (z.fate job) z.closes ≡ document ∷ []
   closes_all job bytes is o none =
       closes_as job (Arrives bytes) is ∙ ap (λ (c : List (List ℕ)). c ++ bytes ∷ []) none ∙ ap (λ (m : List ℕ). m ∷ []) o
 
   -- where it isn't known whether the close was served
-  unheard_keeps : (job size tries : ℕ) (again : Bool) (s : Standing) → z.standing job ≡ s → Opens document s → z.closes ≡ [] →
+  unheard_keeps : (job size tries : ℕ) (again : Bool) (s : JobFate) → z.fate job ≡ s → Opens document s → z.closes ≡ [] →
       Keeps document piece rest (served z piece (request (Closing job size tries again))) (Checking job size)
   unheard_keeps job size tries again NotOwn is o none = inl (closes_as job NotOwn is ∙ none, subst (Opens document) (sym (closed_here job NotOwn is)) tt)
   unheard_keeps job size tries again (Arrives bytes) is o none =
@@ -345,7 +345,7 @@ module _ (document piece : List ℕ) (rest : List (List ℕ)) (z : Service) wher
   unheard_keeps job size tries again StandsGone is o none = absurd o
 
 module _ (document piece : List ℕ) (rest : List (List ℕ)) where
-  closing_keeps : (z : Service) (job size tries : ℕ) (again : Bool) (s : Standing) → z.standing job ≡ s → Opens document s → z.closes ≡ [] →
+  closing_keeps : (z : Service) (job size tries : ℕ) (again : Bool) (s : JobFate) → z.fate job ≡ s → Opens document s → z.closes ≡ [] →
       Keeps document piece rest (served z piece (request (Closing job size tries again))) (after_close job size tries again (closed_reply z.prints s))
   closing_keeps z job size tries again NotOwn is o none = unheard_keeps document piece rest z job size tries again NotOwn is o none
   closing_keeps z job size tries again (Arrives bytes) is o none =
@@ -357,16 +357,16 @@ module _ (document piece : List ℕ) (rest : List (List ℕ)) where
 
   -- the request is served, and its reply heard
   heard_keeps : (z : Service) (step : Step) → Keeps document piece rest z step → Keeps document piece rest (served z piece (request step)) (heard step (reply_to z piece (request step)))
-  heard_keeps z (Creating tries) h = ([], (h.0, subst (Opens []) (sym (changed_here z.standing z.given (λ standing. Arrives []))) refl, h.1))
-  heard_keeps z Finding h = found_keeps document piece rest z (arriving z.standing z.given) (arriving_all z.standing z.given) h
+  heard_keeps z (Creating tries) h = ([], (h.0, subst (Opens []) (sym (changed_here z.fate z.given (λ fate. Arrives []))) refl, h.1))
+  heard_keeps z Finding h = found_keeps document piece rest z (arriving z.fate z.given) (arriving_all z.fate z.given) h
   heard_keeps z (Clearing job) h = h
   heard_keeps z (Reading job size) h = h
-  heard_keeps z (Sending job size count tries) h = sent_keeps document piece rest z job size count tries (z.standing job) refl h.0 h.1.0 h.1.1 h.1.2
-  heard_keeps z (Measuring job size count) h = measure_keeps document piece rest z job size count (z.standing job) refl h.0 h.1.0 h.1.1 h.1.2
-  heard_keeps z (Holding job size tries) h = held_keeps document piece rest z job size tries (z.standing job) h
-  heard_keeps z (Closing job size tries again) h = closing_keeps z job size tries again (z.standing job) refl h.1 h.0
-  heard_keeps z (Checking job size) h = check_keeps document piece rest z job size (z.standing job) refl h
-  heard_keeps z (Canceling job cause) h = canceled_keeps document piece rest (with_standing z (changed z.standing job stopped)) job cause (z.standing job) h
+  heard_keeps z (Sending job size count tries) h = sent_keeps document piece rest z job size count tries (z.fate job) refl h.0 h.1.0 h.1.1 h.1.2
+  heard_keeps z (Measuring job size count) h = measure_keeps document piece rest z job size count (z.fate job) refl h.0 h.1.0 h.1.1 h.1.2
+  heard_keeps z (Holding job size tries) h = held_keeps document piece rest z job size tries (z.fate job) h
+  heard_keeps z (Closing job size tries again) h = closing_keeps z job size tries again (z.fate job) refl h.1 h.0
+  heard_keeps z (Checking job size) h = check_keeps document piece rest z job size (z.fate job) refl h
+  heard_keeps z (Canceling job cause) h = canceled_keeps document piece rest (with_fate z (changed z.fate job stopped)) job cause (z.fate job) h
   heard_keeps z (Ended end) h = h
 
   -- it is served, and its reply is lost
@@ -376,10 +376,10 @@ module _ (document piece : List ℕ) (rest : List (List ℕ)) where
   lost_keeps z (Clearing job) h = h
   lost_keeps z (Reading job size) h = h
   lost_keeps z (Sending job size count tries) h =
-      (h.0, (h.1.0, changed_own (OpensEither h.0 (h.0 ++ piece)) z.standing job (grown piece) (grown_either h.0 piece (z.standing job) h.1.1), h.1.2))
+      (h.0, (h.1.0, changed_own (OpensEither h.0 (h.0 ++ piece)) z.fate job (grown piece) (grown_either h.0 piece (z.fate job) h.1.1), h.1.2))
   lost_keeps z (Measuring job size count) h = h
   lost_keeps z (Holding job size tries) h = h
-  lost_keeps z (Closing job size tries again) h = unheard_keeps document piece rest z job size tries again (z.standing job) refl h.1 h.0
+  lost_keeps z (Closing job size tries again) h = unheard_keeps document piece rest z job size tries again (z.fate job) refl h.1 h.0
   lost_keeps z (Checking job size) h = h
   lost_keeps z (Canceling job cause) h = h
   lost_keeps z (Ended end) h = h
@@ -391,7 +391,7 @@ module _ (document piece : List ℕ) (rest : List (List ℕ)) where
   unserved_keeps z Finding h = h
   unserved_keeps z (Clearing job) h = h
   unserved_keeps z (Reading job size) h = h
-  unserved_keeps z (Sending job size count tries) h = (h.0, (h.1.0, opens_either h.0 (h.0 ++ piece) (z.standing job) h.1.1, h.1.2))
+  unserved_keeps z (Sending job size count tries) h = (h.0, (h.1.0, opens_either h.0 (h.0 ++ piece) (z.fate job) h.1.1, h.1.2))
   unserved_keeps z (Measuring job size count) h = h
   unserved_keeps z (Holding job size tries) h = h
   unserved_keeps z (Closing job size tries again) h = inl h
@@ -459,27 +459,27 @@ module _ (document piece : List ℕ) (rest : List (List ℕ)) where
 
   -- ## What others do
 
-  gentle_keeps : (z : Service) (job : ℕ) (change : Standing → Standing) → IsGentle change → (step : Step) → Keeps document piece rest z step →
-      Keeps document piece rest (with_standing z (changed z.standing job change)) step
+  gentle_keeps : (z : Service) (job : ℕ) (change : JobFate → JobFate) → IsGentle change → (step : Step) → Keeps document piece rest z step →
+      Keeps document piece rest (with_fate z (changed z.fate job change)) step
   gentle_keeps z job change gentle (Creating tries) h = h
   gentle_keeps z job change gentle Finding h = h
   gentle_keeps z job change gentle (Clearing other) h = h
-  gentle_keeps z job change gentle (Reading own size) h = (h.0, (h.1.0, changed_keeps (Opens h.0) z.standing job change own (gentle.opens h.0) h.1.1, h.1.2))
+  gentle_keeps z job change gentle (Reading own size) h = (h.0, (h.1.0, changed_keeps (Opens h.0) z.fate job change own (gentle.opens h.0) h.1.1, h.1.2))
   gentle_keeps z job change gentle (Sending own size count tries) h =
-      (h.0, (h.1.0, changed_keeps (Opens h.0) z.standing job change own (gentle.opens h.0) h.1.1, h.1.2))
+      (h.0, (h.1.0, changed_keeps (Opens h.0) z.fate job change own (gentle.opens h.0) h.1.1, h.1.2))
   gentle_keeps z job change gentle (Measuring own size count) h =
-      (h.0, (h.1.0, changed_keeps (OpensEither h.0 (h.0 ++ piece)) z.standing job change own (gentle.either h.0 (h.0 ++ piece)) h.1.1, h.1.2))
-  gentle_keeps z job change gentle (Holding own size tries) h = (h.0, changed_keeps (Opens document) z.standing job change own (gentle.opens document) h.1)
-  gentle_keeps z job change gentle (Closing own size tries again) h = (h.0, changed_keeps (Opens document) z.standing job change own (gentle.opens document) h.1)
+      (h.0, (h.1.0, changed_keeps (OpensEither h.0 (h.0 ++ piece)) z.fate job change own (gentle.either h.0 (h.0 ++ piece)) h.1.1, h.1.2))
+  gentle_keeps z job change gentle (Holding own size tries) h = (h.0, changed_keeps (Opens document) z.fate job change own (gentle.opens document) h.1)
+  gentle_keeps z job change gentle (Closing own size tries again) h = (h.0, changed_keeps (Opens document) z.fate job change own (gentle.opens document) h.1)
   gentle_keeps z job change gentle (Checking own size) h = may_be_closed h
     where
-      may_be_closed : MayBeClosed document z own → MayBeClosed document (with_standing z (changed z.standing job change)) own
-      may_be_closed (inl m) = inl (m.0, changed_keeps (Opens document) z.standing job change own (gentle.opens document) m.1)
-      may_be_closed (inr m) = inr (m.0, changed_keeps IsClosed z.standing job change own gentle.closed m.1)
+      may_be_closed : MayBeClosed document z own → MayBeClosed document (with_fate z (changed z.fate job change)) own
+      may_be_closed (inl m) = inl (m.0, changed_keeps (Opens document) z.fate job change own (gentle.opens document) m.1)
+      may_be_closed (inr m) = inr (m.0, changed_keeps IsClosed z.fate job change own gentle.closed m.1)
   gentle_keeps z job change gentle (Canceling own cause) h = h
   gentle_keeps z job change gentle (Ended end) h = ended_keeps end h
     where
-      ended_keeps : (end : End) → KeepsEnd document z end → KeepsEnd document (with_standing z (changed z.standing job change)) end
+      ended_keeps : (end : End) → KeepsEnd document z end → KeepsEnd document (with_fate z (changed z.fate job change)) end
       ended_keeps (Accepted own) k = k
       ended_keeps (Unprintable own) k = k
       ended_keeps (Refused own cause canceled) k = k
@@ -533,12 +533,12 @@ all_sent document sent size left = sym (append-nil sent) ∙ left.all
 no_empty_piece : (document sent : List ℕ) (size : ℕ) (piece : List ℕ) (rest : List (List ℕ)) → IsLeft document sent size (piece ∷ rest) → length piece ≡ 0 → ⊥
 no_empty_piece document sent size piece rest left e = let more : 0 < length piece = left.pieces.0 in absurd (omega arith)
 
-reads_keep : (document : List ℕ) (w : World) (step : Step) (rest : List (List ℕ)) → Keeps document w.piece rest w.service step → KeepsWorld document (read_at w step rest)
+reads_keep : (document : List ℕ) (w : SubmissionRun) (step : Step) (rest : List (List ℕ)) → Keeps document w.piece rest w.service step → KeepsHistory document (read_at w step rest)
 reads_keep document w (Creating tries) rest h = h
 reads_keep document w Finding rest h = h
 reads_keep document w (Clearing job) rest h = h
 reads_keep document w (Reading job size) [] h =
-    let whole : Opens document (w.service.standing job) = subst (λ (b : List ℕ). Opens b (w.service.standing job)) (all_sent document h.0 size h.1.2) h.1.1 in
+    let whole : Opens document (w.service.fate job) = subst (λ (b : List ℕ). Opens b (w.service.fate job)) (all_sent document h.0 size h.1.2) h.1.1 in
     by_test (Keeps document [] [] w.service) w.holds _ _ (λ _. (h.1.0, whole)) (λ _. (h.1.0, whole))
 reads_keep document w (Reading job size) (piece ∷ rest) h =
     by_test (Keeps document piece rest w.service) (length piece == 0) _ _
@@ -554,7 +554,7 @@ reads_keep document w (Ended end) rest h = h
 
 -- ## Whole runs
 
-happens_keeps : (document : List ℕ) (w : World) (event : Event) → KeepsWorld document w → KeepsWorld document (happens w event)
+happens_keeps : (document : List ℕ) (w : SubmissionRun) (event : Event) → KeepsHistory document w → KeepsHistory document (happens w event)
 happens_keeps document w Served h = heard_keeps document w.piece w.rest w.service w.step h
 happens_keeps document w ServedUnheard h = lost_keeps document w.piece w.rest w.service w.step h
 happens_keeps document w ServedUnclear h =
@@ -569,12 +569,12 @@ happens_keeps document w CannotRead h = unread_keeps document w.piece w.rest w.s
 happens_keeps document w GivesUp h = deserted_keeps document w.piece w.rest w.service w.step h
 happens_keeps document w (Meanwhile other) h = others_keep document w.piece w.rest w.service w.step other h
 
-run_keeps : (document : List ℕ) (events : List Event) (w : World) → KeepsWorld document w → KeepsWorld document (run events w)
+run_keeps : (document : List ℕ) (events : List Event) (w : SubmissionRun) → KeepsHistory document w → KeepsHistory document (run events w)
 run_keeps document [] w h = h
 run_keeps document (event ∷ events) w h = run_keeps document events (happens w event) (happens_keeps document w event h)
 
 pub end_keeps : (pieces : List (List ℕ)) (holds : Bool) (given : ℕ) (prints : Bool) (events : List Event) → ArePieces pieces →
-    KeepsWorld (joined pieces) (end_of pieces holds given prints events)
+    KeepsHistory (joined pieces) (end_of pieces holds given prints events)
 end_keeps pieces holds given prints events are =
     run_keeps (joined pieces) events (start pieces holds given prints) (refl, record { all = refl; sent_is = refl; pieces = are })
 

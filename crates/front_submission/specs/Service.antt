@@ -10,20 +10,20 @@ use Rattle.front_submission.specs.declared.reply.Reply.{Reply}
 use Rattle.front_submission.specs.declared.reply.Reply.TheVariants.{Created, Sent, Closed, Done, Jobs, Job, Gone, NotIncoming, Denied, Unclear}
 
 -- what has become of the job of a number, if it is one of this submission
-pub data Standing : Type 0 where
+pub data JobFate : Type 0 where
   -- it is none
-  NotOwn : Standing
+  NotOwn : JobFate
   -- it has these bytes
-  Arrives : List ℕ → Standing
+  Arrives : List ℕ → JobFate
   -- it was canceled before it was closed, and may then be purged
-  Stopped : Standing
-  StoppedGone : Standing
+  Stopped : JobFate
+  StoppedGone : JobFate
   -- it was closed, and may be purged once it has ended
-  Stands : Standing
-  StandsGone : Standing
+  Stands : JobFate
+  StandsGone : JobFate
 
 pub record Service : Type 0 where
-  pub standing : ℕ → Standing
+  pub fate : ℕ → JobFate
   -- the number that the next job gets
   pub given : ℕ
   -- the documents of the jobs of this submission that were ever closed
@@ -34,42 +34,42 @@ pub record Service : Type 0 where
 -- ## What it makes of a request
 
 -- the job of this number alone is changed
-abbrev pub changed : (ℕ → Standing) → ℕ → (Standing → Standing) → ℕ → Standing
-changed standing job change k = cond (k == job) (change (standing k)) (standing k)
+abbrev pub changed : (ℕ → JobFate) → ℕ → (JobFate → JobFate) → ℕ → JobFate
+changed fate job change k = cond (k == job) (change (fate k)) (fate k)
 
-abbrev pub grown : List ℕ → Standing → Standing
+abbrev pub grown : List ℕ → JobFate → JobFate
 grown piece (Arrives bytes) = Arrives (bytes ++ piece)
-grown piece standing = standing
+grown piece fate = fate
 
-abbrev pub closed : Standing → Standing
+abbrev pub closed : JobFate → JobFate
 closed (Arrives bytes) = Stands
-closed standing = standing
+closed fate = fate
 
-abbrev pub stopped : Standing → Standing
+abbrev pub stopped : JobFate → JobFate
 stopped (Arrives bytes) = Stopped
-stopped standing = standing
+stopped fate = fate
 
-abbrev pub purged : Standing → Standing
+abbrev pub purged : JobFate → JobFate
 purged Stopped = StoppedGone
 purged Stands = StandsGone
-purged standing = standing
+purged fate = fate
 
 -- the documents, and that of this job where it is closed now
-abbrev pub with_close : Standing → List (List ℕ) → List (List ℕ)
+abbrev pub with_close : JobFate → List (List ℕ) → List (List ℕ)
 with_close (Arrives bytes) closes = closes ++ bytes ∷ []
-with_close standing closes = closes
+with_close fate closes = closes
 
-abbrev pub with_standing : Service → (ℕ → Standing) → Service
-with_standing z standing = record { standing = standing; given = z.given; closes = z.closes; prints = z.prints }
+abbrev pub with_fate : Service → (ℕ → JobFate) → Service
+with_fate z fate = record { fate = fate; given = z.given; closes = z.closes; prints = z.prints }
 
 -- the piece is that which a `send` has
 abbrev pub served : Service → List ℕ → Request → Service
 served z piece Create =
-    record { standing = changed z.standing z.given (λ standing. Arrives []); given = suc z.given; closes = z.closes; prints = z.prints }
-served z piece (Send job size count) = with_standing z (changed z.standing job (grown piece))
+    record { fate = changed z.fate z.given (λ fate. Arrives []); given = suc z.given; closes = z.closes; prints = z.prints }
+served z piece (Send job size count) = with_fate z (changed z.fate job (grown piece))
 served z piece (Close job) =
-    record { standing = changed z.standing job closed; given = z.given; closes = with_close (z.standing job) z.closes; prints = z.prints }
-served z piece (Cancel job) = with_standing z (changed z.standing job stopped)
+    record { fate = changed z.fate job closed; given = z.given; closes = with_close (z.fate job) z.closes; prints = z.prints }
+served z piece (Cancel job) = with_fate z (changed z.fate job stopped)
 served z piece Find = z
 served z piece (Read size) = z
 served z piece (Show job) = z
@@ -78,25 +78,25 @@ served z piece Nothing = z
 
 -- ## What it replies
 
-abbrev pub arriving_at : ℕ → Standing → List Own → List Own
+abbrev pub arriving_at : ℕ → JobFate → List Own → List Own
 arriving_at job (Arrives bytes) others = record { job = job; size = length bytes } ∷ others
-arriving_at job standing others = others
+arriving_at job fate others = others
 
 -- the jobs that arrive, of the numbers below this one
-abbrev pub arriving : (ℕ → Standing) → ℕ → List Own
-arriving standing zero = []
-arriving standing (suc job) = arriving_at job (standing job) (arriving standing job)
+abbrev pub arriving : (ℕ → JobFate) → ℕ → List Own
+arriving fate zero = []
+arriving fate (suc job) = arriving_at job (fate job) (arriving fate job)
 
 abbrev pub found : List Own → Found
 found [] = record { own = None; another = None }
 found (one ∷ []) = record { own = Some one; another = None }
 found (one ∷ (two ∷ others)) = record { own = Some one; another = Some two.job }
 
-abbrev pub sent_reply : List ℕ → Standing → Reply
+abbrev pub sent_reply : List ℕ → JobFate → Reply
 sent_reply piece (Arrives bytes) = Sent (length (bytes ++ piece))
-sent_reply piece standing = NotIncoming
+sent_reply piece fate = NotIncoming
 
-abbrev pub shown_reply : Bool → Standing → Reply
+abbrev pub shown_reply : Bool → JobFate → Reply
 shown_reply prints NotOwn = Gone
 shown_reply prints (Arrives bytes) = Job (Arriving (length bytes))
 shown_reply prints Stopped = Job NeverClosed
@@ -104,27 +104,27 @@ shown_reply prints StoppedGone = Gone
 shown_reply prints Stands = Job (cond prints WasClosed NoFilters)
 shown_reply prints StandsGone = Gone
 
-abbrev pub held_reply : Standing → Reply
+abbrev pub held_reply : JobFate → Reply
 held_reply (Arrives bytes) = Done
-held_reply standing = Denied
+held_reply fate = Denied
 
-abbrev pub closed_reply : Bool → Standing → Reply
+abbrev pub closed_reply : Bool → JobFate → Reply
 closed_reply prints (Arrives bytes) = Closed prints
-closed_reply prints standing = NotIncoming
+closed_reply prints fate = NotIncoming
 
-abbrev pub canceled_reply : Standing → Reply
+abbrev pub canceled_reply : JobFate → Reply
 canceled_reply (Arrives bytes) = Done
-canceled_reply standing = Denied
+canceled_reply fate = Denied
 
 abbrev pub reply_to : Service → List ℕ → Request → Reply
 reply_to z piece Create = Created z.given
-reply_to z piece Find = Jobs (found (arriving z.standing z.given))
+reply_to z piece Find = Jobs (found (arriving z.fate z.given))
 reply_to z piece (Read size) = Unclear
-reply_to z piece (Send job size count) = sent_reply piece (z.standing job)
-reply_to z piece (Show job) = shown_reply z.prints (z.standing job)
-reply_to z piece (Hold job) = held_reply (z.standing job)
-reply_to z piece (Close job) = closed_reply z.prints (z.standing job)
-reply_to z piece (Cancel job) = canceled_reply (z.standing job)
+reply_to z piece (Send job size count) = sent_reply piece (z.fate job)
+reply_to z piece (Show job) = shown_reply z.prints (z.fate job)
+reply_to z piece (Hold job) = held_reply (z.fate job)
+reply_to z piece (Close job) = closed_reply z.prints (z.fate job)
+reply_to z piece (Cancel job) = canceled_reply (z.fate job)
 reply_to z piece Nothing = Unclear
 
 -- ## What others do meanwhile
@@ -136,6 +136,6 @@ pub data Other : Type 0 where
   Purges : ℕ → Other
 
 abbrev pub after_other : Service → Other → Service
-after_other z Makes = record { standing = z.standing; given = suc z.given; closes = z.closes; prints = z.prints }
-after_other z (Cancels job) = with_standing z (changed z.standing job stopped)
-after_other z (Purges job) = with_standing z (changed z.standing job purged)
+after_other z Makes = record { fate = z.fate; given = suc z.given; closes = z.closes; prints = z.prints }
+after_other z (Cancels job) = with_fate z (changed z.fate job stopped)
+after_other z (Purges job) = with_fate z (changed z.fate job purged)

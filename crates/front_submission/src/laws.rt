@@ -1,8 +1,8 @@
 //! What is so of every run of a submission. The function does nothing: its clauses are the law.
 ghost use Rattle.std.specs.Prelude.{◌≡◌, ℕ, ◌≤◌, ◌⊎◌, Bool, true, false, List, [], ◌∷◌, length};
-ghost use Rattle.front_submission.specs.Moves.{status};
+ghost use Rattle.front_submission.specs.SubmissionSteps.{status};
 ghost use Rattle.front_submission.specs.Service.{arriving};
-ghost use Rattle.front_submission.specs.Runs.{Event, ArePieces, end_of, joined};
+ghost use Rattle.front_submission.specs.SubmissionRuns.{Event, ArePieces, end_of, joined};
 ghost use Rattle.front_submission.specs.declared.step.End.{End};
 ghost use Rattle.front_submission.specs.declared.step.Step.{Step};
 
@@ -25,7 +25,7 @@ pub fn acts_once()
     // With either of these none is left that arrives.
     ensures alone { (pieces : List (List ℕ)) (holds : Bool) (given : ℕ) (prints : Bool) (events : List Event) (end : End) →
         (end_of pieces holds given prints events).step ≡ Step.Ended end → (status end ≡ 0) ⊎ (status end ≡ 4) →
-        arriving (end_of pieces holds given prints events).service.standing (end_of pieces holds given prints events).service.given ≡ [] }
+        arriving (end_of pieces holds given prints events).service.fate (end_of pieces holds given prints events).service.given ≡ [] }
 
     // With status 1 none was ever closed.
     ensures refused { (pieces : List (List ℕ)) (holds : Bool) (given : ℕ) (prints : Bool) (events : List Event) (end : End) → ArePieces pieces →

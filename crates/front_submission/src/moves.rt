@@ -1,6 +1,6 @@
 //! What is said next, and what becomes of a submission.
 ghost use Rattle.std.specs.Prelude.{◌≡◌, ◌+◌, Some, None, false, IsTrue, ◌↔◌};
-ghost use Rattle.front_submission.specs.Moves.{most_tries, status, refused, unknown, accepted, request, heard, lost, supplied, unread, deserted, own_found, after_create, after_find, after_send, measured, after_measure, after_hold, after_close, shown_closed, after_check, after_cancel};
+ghost use Rattle.front_submission.specs.SubmissionSteps.{most_tries, status, refused, unknown, accepted, request, heard, lost, supplied, unread, deserted, own_found, after_create, after_find, after_send, measured, after_measure, after_hold, after_close, shown_closed, after_check, after_cancel};
 
 use crate::reply::{Found, Own, Reply, Shown};
 use crate::step::{Cause, End, Request, Step};

@@ -10,7 +10,7 @@ use Rattle.std.specs.Option.{option_and_then}
 use Rattle.std.specs.Str.{is_utf8, chars}
 use Rattle.std.specs.Char.{encode_utf8}
 use Rattle.line_words.specs.Blanks.{first_word, after_word}
-use Rattle.line_words.specs.Numbers.{decimal as number_in}
+use Rattle.line_words.specs.DecimalNumbers.{decimal as number_in}
 use Rattle.spool_types.specs.Limits.{greatest_number}
 use Rattle.spool_types.specs.Phases.{is_in_force, hold_word, hold_reason_word, waiting_word, abort_reason_word, job_state, job_reason}
 use Rattle.spool_types.specs.Values.{is_queue_byte, is_queue_name, is_user_name, is_title, text_in}
@@ -22,14 +22,14 @@ use Rattle.spool_types.specs.declared.phase.HoldReason.{HoldReason}
 use Rattle.spool_types.specs.declared.phase.HoldReason.TheVariants.{Unspecified, Authentication, Backend}
 use Rattle.spool_types.specs.declared.phase.AbortReason.{AbortReason}
 use Rattle.spool_types.specs.declared.phase.AbortReason.TheVariants.{FilterFailed, BackendFailed, RetryLimit, AttemptLost, NoFilter}
-use Rattle.command_lines.specs.Grammar.{job_in}
-use Rattle.command_lines.specs.Numbers.{number_of}
-use Rattle.front_texts.specs.Fields.{quoted_text, after_quoted, text_of, rest_of, is_end, count_in, job_state_of, reason_in}
+use Rattle.command_lines.specs.CommandGrammar.{job_in}
+use Rattle.command_lines.specs.CommandNumbers.{number_of}
+use Rattle.front_texts.specs.ReplyFields.{quoted_text, after_quoted, text_of, rest_of, is_end, count_in, job_state_of, reason_in}
 use Rattle.front_texts.specs.JobRows.{head_of, head_row, tail_of, tail_from, tail_row, joined, job_words, job_row}
 use Rattle.front_texts.specs.ReadBack.{state_of, reason_of, JobRowsReadBack}
 use Rattle.front_texts.specs.declared.states.JobState.{JobState}
 use Rattle.front_texts.specs.declared.states.JobState.TheVariants as states
-use Rattle.front_texts.specs.States.{job_state_in}
+use Rattle.front_texts.specs.StateWords.{job_state_in}
 use Rattle.front_texts.specs.declared.job_line.JobHead.{JobHead}
 use Rattle.front_texts.specs.declared.job_line.JobTail.{JobTail}
 use Rattle.front_texts.proofs.WordLaws.{is_solid, IsWhole, first_word-front, after_word-front, whole_from, decimal_whole, number_back, escaped_text, quoted_back}

@@ -8,7 +8,7 @@ use Rattle.std.specs.Char.{is_ascii_digit}
 use Rattle.std.specs.Fmt.{decimal}
 use Rattle.std.specs.List.{list_all, flat_map}
 use Rattle.line_words.specs.Blanks.{is_blank, after_blanks, word_here, behind_word, first_word, after_word}
-use Rattle.line_words.specs.Numbers.{read_on, is_decimal, decimal as number_in}
+use Rattle.line_words.specs.DecimalNumbers.{read_on, is_decimal, decimal as number_in}
 use Rattle.line_words.specs.Quotes.{is_quote, is_backslash, with_bytes, quoted}
 use Rattle.command_lines.specs.Replies.{escaped_byte}
 

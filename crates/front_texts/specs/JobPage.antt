@@ -2,19 +2,19 @@
 use Rattle.std.specs.Prelude.{ℕ, Bool, ◌&&◌, cond, nat_le, ◌==◌, List, [], ◌∷◌, codes, Option, None, Some}
 use Rattle.std.specs.Option.{option_map, option_and_then}
 use Rattle.line_words.specs.Blanks.{after_blanks, first_word, after_word}
-use Rattle.command_lines.specs.Grammar.{job_in}
+use Rattle.command_lines.specs.CommandGrammar.{job_in}
 use Rattle.spool_types.specs.Values.{is_queue_name, is_user_name, is_title, is_options, text_in, media_in}
-use Rattle.front_texts.specs.Fields.{is_word, is_empty, is_end, quoted_text, after_quoted, count_in, moment_in, job_state_of, reason_in}
+use Rattle.front_texts.specs.ReplyFields.{is_word, is_empty, is_end, quoted_text, after_quoted, count_in, moment_in, job_state_of, reason_in}
 use Rattle.front_texts.specs.declared.states.JobState.{JobState}
 use Rattle.front_texts.specs.declared.job_shown.JobShown.{JobShown}
 use Rattle.front_texts.specs.declared.job_shown.JobAsked.{JobAsked}
-use Rattle.front_texts.specs.declared.job_shown.JobCourse.{JobCourse}
+use Rattle.front_texts.specs.declared.job_shown.JobStatus.{JobStatus}
 use Rattle.front_texts.specs.declared.job_shown.StageShown.{StageShown}
 use Rattle.front_texts.specs.declared.job_shown.JobNames.{JobNames}
 use Rattle.front_texts.specs.declared.job_shown.JobWishes.{JobWishes}
 use Rattle.front_texts.specs.declared.job_shown.JobCounts.{JobCounts}
 use Rattle.front_texts.specs.declared.job_shown.JobMarks.{JobMarks}
-use Rattle.front_texts.specs.declared.job_shown.JobStanding.{JobStanding}
+use Rattle.front_texts.specs.declared.job_shown.StateAndReason.{StateAndReason}
 use Rattle.front_texts.specs.declared.job_shown.JobMoments.{JobMoments}
 
 -- ## Lines
@@ -142,13 +142,13 @@ marks_of media by = None
 abbrev pub marks_in : Option (List ℕ) → Option (List ℕ) → Option JobMarks
 marks_in media by = marks_of (media_of media) (moment_of by)
 
-abbrev pub standing_of : Option JobState → Option (Option (List ℕ)) → Option JobStanding
-standing_of (Some state) (Some reason) = Some (record { state = state; reason = reason })
-standing_of state reason = None
+abbrev pub state_and_reason_of : Option JobState → Option (Option (List ℕ)) → Option StateAndReason
+state_and_reason_of (Some state) (Some reason) = Some (record { state = state; reason = reason })
+state_and_reason_of state reason = None
 
-abbrev pub standing_in : Option (List ℕ) → Option (List ℕ) → Option JobStanding
-standing_in (Some state) (Some reason) = standing_of (job_state_of state) (reason_in reason)
-standing_in state reason = None
+abbrev pub state_and_reason_in : Option (List ℕ) → Option (List ℕ) → Option StateAndReason
+state_and_reason_in (Some state) (Some reason) = state_and_reason_of (job_state_of state) (reason_in reason)
+state_and_reason_in state reason = None
 
 abbrev pub stage_in : Option ℕ → Option ℕ → Option ℕ → Option (Option StageShown)
 stage_in (Some stage) (Some stages) (Some attempt) = Some (Some (record { stage = stage; stages = stages; attempt = attempt }))
@@ -183,40 +183,40 @@ moments_in text =
     (moments_of (moment_of (field text (codes "hold-until"))) (moment_of (field before (codes "not-before"))) (stage_of (field stage (codes "stage"))))
     None
 
-abbrev pub course_of : Option JobCounts → Option JobMarks → Option JobStanding → Option JobMoments → Option JobCourse
-course_of (Some counts) (Some marks) (Some standing) (Some moments) = Some (record {
+abbrev pub job_status_of : Option JobCounts → Option JobMarks → Option StateAndReason → Option JobMoments → Option JobStatus
+job_status_of (Some counts) (Some marks) (Some state_and_reason) (Some moments) = Some (record {
   size = counts.size;
   pages = counts.pages;
   attempts = counts.attempts;
   media = marks.media;
   by = marks.by;
-  state = standing.state;
-  reason = standing.reason;
+  state = state_and_reason.state;
+  reason = state_and_reason.reason;
   hold_until = moments.hold_until;
   not_before = moments.not_before;
   stage = moments.stage;
 })
-course_of counts marks standing moments = None
+job_status_of counts marks state_and_reason moments = None
 
-abbrev pub course_in : List ℕ → Option JobCourse
-course_in text =
+abbrev pub job_status_in : List ℕ → Option JobStatus
+job_status_in text =
     let pages = after_field text (codes "size") in
     let attempts = after_field pages (codes "pages") in
     let media = after_field attempts (codes "attempts") in
     let by = after_field media (codes "type") in
     let state = after_field by (codes "by") in
     let reason = after_field state (codes "state") in
-    course_of
+    job_status_of
     (counts_in (field text (codes "size")) (field pages (codes "pages")) (field attempts (codes "attempts")))
     (marks_in (field media (codes "type")) (field by (codes "by")))
-    (standing_in (field state (codes "state")) (field reason (codes "reason")))
+    (state_and_reason_in (field state (codes "state")) (field reason (codes "reason")))
     (moments_in (after_field reason (codes "reason")))
 
 -- ## The job
 
-abbrev pub shown_of : Option JobAsked → Option JobCourse → Option JobShown
-shown_of (Some asked) (Some course) = Some (record { asked = asked; course = course })
-shown_of asked course = None
+abbrev pub shown_of : Option JobAsked → Option JobStatus → Option JobShown
+shown_of (Some asked) (Some job_status) = Some (record { asked = asked; job_status = job_status })
+shown_of asked job_status = None
 
 abbrev pub shown_job : List ℕ → Option JobShown
-shown_job text = shown_of (asked_in text) (course_in (after_asked text))
+shown_job text = shown_of (asked_in text) (job_status_in (after_asked text))

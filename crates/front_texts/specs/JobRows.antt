@@ -2,9 +2,9 @@
 use Rattle.std.specs.Prelude.{ℕ, cond, List, codes, Option, None, Some}
 use Rattle.std.specs.Option.{option_and_then}
 use Rattle.line_words.specs.Blanks.{first_word, after_word}
-use Rattle.command_lines.specs.Grammar.{job_in}
+use Rattle.command_lines.specs.CommandGrammar.{job_in}
 use Rattle.spool_types.specs.Values.{is_queue_name, is_user_name, is_title, text_in}
-use Rattle.front_texts.specs.Fields.{is_word, quoted_text, after_quoted, is_end, count_in, job_state_of, reason_in}
+use Rattle.front_texts.specs.ReplyFields.{is_word, quoted_text, after_quoted, is_end, count_in, job_state_of, reason_in}
 use Rattle.front_texts.specs.declared.job_line.JobLine.{JobLine}
 use Rattle.front_texts.specs.declared.job_line.JobHead.{JobHead}
 use Rattle.front_texts.specs.declared.job_line.JobTail.{JobTail}

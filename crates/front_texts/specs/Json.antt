@@ -3,10 +3,10 @@ use Rattle.std.specs.Prelude.{ℕ, List, codes, map, Option, None, Some}
 use Rattle.serde_json.specs.View.{items_of}
 use Rattle.serde_json.specs.Data.{Data, null, boolean, number, unsigned, string, array, object, put, Members, member, no_members}
 use Rattle.spool_types.specs.Phases.{policy_word}
-use Rattle.front_texts.specs.States.{job_state_word, printer_state_word}
+use Rattle.front_texts.specs.StateWords.{job_state_word, printer_state_word}
 use Rattle.front_texts.specs.declared.job_line.JobLine.{JobLine}
 use Rattle.front_texts.specs.declared.job_shown.JobAsked.{JobAsked}
-use Rattle.front_texts.specs.declared.job_shown.JobCourse.{JobCourse}
+use Rattle.front_texts.specs.declared.job_shown.JobStatus.{JobStatus}
 use Rattle.front_texts.specs.declared.job_shown.JobShown.{JobShown}
 use Rattle.front_texts.specs.declared.job_shown.StageShown.{StageShown}
 use Rattle.front_texts.specs.declared.queue_line.QueueLine.{QueueLine}
@@ -56,7 +56,7 @@ stage_data (Some s) =
     (member (codes "stages") (number (unsigned s.stages))
     no_members)))
 
-abbrev pub moments_data : JobCourse → Data
+abbrev pub moments_data : JobStatus → Data
 moments_data c =
     object
     (member (codes "by") (moment_data c.by)
@@ -65,22 +65,22 @@ moments_data c =
     no_members)))
 
 -- members, each put in at its key
-abbrev pub with_counts : JobCourse → Members → Members
+abbrev pub with_counts : JobStatus → Members → Members
 with_counts c ms =
     put (codes "attempts") (number (unsigned c.attempts)) (put (codes "pages") (number (unsigned c.pages)) (put (codes "size") (number (unsigned c.size)) ms))
 
-abbrev pub with_standing : JobCourse → Members → Members
-with_standing c ms =
+abbrev pub with_state_and_reason : JobStatus → Members → Members
+with_state_and_reason c ms =
     put (codes "reason") (text_data c.reason) (put (codes "state") (string (job_state_word c.state)) (put (codes "type") (text_data c.media) ms))
 
-abbrev pub with_waits : JobCourse → Members → Members
+abbrev pub with_waits : JobStatus → Members → Members
 with_waits c ms = put (codes "stage") (stage_data c.stage) (put (codes "moments") (moments_data c) ms)
 
-abbrev pub course_data : JobCourse → Data
-course_data c = object (with_waits c (with_standing c (with_counts c no_members)))
+abbrev pub job_status_data : JobStatus → Data
+job_status_data c = object (with_waits c (with_state_and_reason c (with_counts c no_members)))
 
 abbrev pub shown_data : JobShown → Data
-shown_data j = object (member (codes "asked") (asked_data j.asked) (member (codes "course") (course_data j.course) no_members))
+shown_data j = object (member (codes "asked") (asked_data j.asked) (member (codes "course") (job_status_data j.job_status) no_members))
 
 abbrev pub jobs_data : List JobLine → Data
 jobs_data jobs = array (items_of (map job_data jobs))

@@ -1,5 +1,5 @@
-pub mod States
-pub mod Fields
+pub mod StateWords
+pub mod ReplyFields
 pub mod JobRows
 pub mod QueueRows
 pub mod ReplyLines

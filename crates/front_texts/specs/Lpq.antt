@@ -5,7 +5,7 @@ use Rattle.std.specs.Fmt.{decimal}
 use Rattle.std.specs.List.{list_any}
 use Rattle.front_texts.specs.Cells.{safe_text}
 use Rattle.front_texts.specs.Lpstat.{padded, is_processing}
-use Rattle.front_texts.specs.States.{is_ended}
+use Rattle.front_texts.specs.StateWords.{is_ended}
 use Rattle.front_texts.specs.declared.job_line.JobLine.{JobLine}
 use Rattle.front_texts.specs.declared.lpq_form.TheConstants.{HEADING}
 use Rattle.front_texts.specs.declared.queue_line.QueueLine.{QueueLine}

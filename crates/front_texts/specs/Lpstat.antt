@@ -5,7 +5,7 @@ use Rattle.std.specs.Fmt.{decimal}
 use Rattle.std.specs.List.{flat_map}
 use Rattle.unicode_width.specs.Width.{str_width}
 use Rattle.front_texts.specs.Cells.{safe_text}
-use Rattle.front_texts.specs.States.{is_ended}
+use Rattle.front_texts.specs.StateWords.{is_ended}
 use Rattle.front_texts.specs.declared.job_line.JobLine.{JobLine}
 use Rattle.front_texts.specs.declared.queue_line.QueueLine.{QueueLine}
 use Rattle.front_texts.specs.declared.states.JobState.{JobState}

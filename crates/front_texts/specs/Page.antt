@@ -3,7 +3,7 @@ use Rattle.std.specs.Prelude.{ℕ, Bool, cond, List, [], ◌++◌, codes, Option
 use Rattle.std.specs.Fmt.{decimal}
 use Rattle.std.specs.List.{flat_map}
 use Rattle.front_texts.specs.Escape.{escaped}
-use Rattle.front_texts.specs.States.{printer_state_word, shown_word, yes_or_no}
+use Rattle.front_texts.specs.StateWords.{printer_state_word, shown_word, yes_or_no}
 use Rattle.front_texts.specs.declared.job_line.JobLine.{JobLine}
 use Rattle.front_texts.specs.declared.queue_line.QueueLine.{QueueLine}
 use Rattle.front_texts.specs.declared.web_page.TheConstants.{OPENING, REFRESH, STYLE, QUEUES, JOBS, CLOSING}

@@ -6,7 +6,7 @@ use Rattle.std.specs.Option.{option_and_then}
 use Rattle.line_words.specs.Blanks.{first_word, after_word}
 use Rattle.spool_types.specs.Values.{is_queue_name, is_reason, is_message, text_in, media_in}
 use Rattle.spool_types.specs.declared.phase.Policy.{Policy}
-use Rattle.front_texts.specs.Fields.{is_word, quoted_text, after_quoted, is_end, limit_in, interval_in, printer_state_of, policy_in, accepting_in}
+use Rattle.front_texts.specs.ReplyFields.{is_word, quoted_text, after_quoted, is_end, limit_in, interval_in, printer_state_of, policy_in, accepting_in}
 use Rattle.front_texts.specs.declared.queue_line.QueueLine.{QueueLine}
 use Rattle.front_texts.specs.declared.queue_line.QueueHead.{QueueHead}
 use Rattle.front_texts.specs.declared.queue_line.QueueRules.{QueueRules}

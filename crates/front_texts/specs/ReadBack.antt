@@ -8,7 +8,7 @@ use Rattle.spool_types.specs.Values.{is_queue_name, is_user_name, is_title}
 use Rattle.spool_types.specs.declared.phase.Phase.{Phase}
 use Rattle.spool_types.specs.declared.phase.Phase.TheVariants.{Incoming, Waiting, Processing, Completed, Canceled, Aborted}
 use Rattle.command_lines.specs.Replies.{job_line}
-use Rattle.front_texts.specs.Fields.{is_word}
+use Rattle.front_texts.specs.ReplyFields.{is_word}
 use Rattle.front_texts.specs.JobRows.{job_row}
 use Rattle.front_texts.specs.declared.job_line.JobLine.{JobLine}
 use Rattle.front_texts.specs.declared.states.JobState.{JobState}

@@ -3,8 +3,8 @@ use Rattle.std.specs.Prelude.{ℕ, Bool, ◌&&◌, cond, ◌==◌, List, codes, 
 use Rattle.std.specs.List.{before_first, after_first}
 use Rattle.std.specs.Option.{option_map}
 use Rattle.line_words.specs.Blanks.{first_word, after_word}
-use Rattle.command_lines.specs.Grammar.{job_in, queue_in}
-use Rattle.front_texts.specs.Fields.{is_word, is_end, count_in}
+use Rattle.command_lines.specs.CommandGrammar.{job_in, queue_in}
+use Rattle.front_texts.specs.ReplyFields.{is_word, is_end, count_in}
 use Rattle.front_texts.specs.JobRows.{job_row}
 use Rattle.front_texts.specs.QueueRows.{queue_row}
 use Rattle.front_texts.specs.declared.job_line.JobLine.{JobLine}

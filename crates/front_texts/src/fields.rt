@@ -2,9 +2,9 @@
 ghost use Rattle.std.specs.Prelude.{◌≡◌, IfOk};
 ghost use Rattle.std.specs.Option.{option_map, option_and_then};
 ghost use Rattle.spool_types.specs.Values.{text_in};
-ghost use Rattle.line_words.specs.Seen.{bytes_of};
-ghost use Rattle.line_words.specs.Numbers.{decimal};
-ghost use Rattle.front_texts.specs.Fields.{is_word, quoted_text, after_quoted, is_end, count_in, limit_in, interval_in, moment_in, job_state_of, printer_state_of, reason_in, policy_in, accepting_in};
+ghost use Rattle.line_words.specs.WordFields.{bytes_of};
+ghost use Rattle.line_words.specs.DecimalNumbers.{decimal};
+ghost use Rattle.front_texts.specs.ReplyFields.{is_word, quoted_text, after_quoted, is_end, count_in, limit_in, interval_in, moment_in, job_state_of, printer_state_of, reason_in, policy_in, accepting_in};
 
 use crate::states::{JobState, PrinterState};
 use line_words::{Word, after_blanks, decimal, is_quote, read_quoted};

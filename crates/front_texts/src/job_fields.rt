@@ -3,7 +3,7 @@ ghost use Rattle.std.specs.Prelude.{◌≤◌, IfOk, OnOk};
 ghost use Rattle.front_texts.specs.Cells.{AllFit};
 
 use crate::cells::{fitted, push_cell, safe_text};
-use crate::job_shown::{JobAsked, JobCourse, JobShown, StageShown};
+use crate::job_shown::{JobAsked, JobShown, JobStatus, StageShown};
 use crate::sizes::{moment_text, size_text};
 use spool_types::Moment;
 use std::alloc::{AllocError, Global};
@@ -18,8 +18,8 @@ pub fn job_page(alloc: Global, job: &JobShown, width: usize) -> Result<Vec<Strin
 {
     let mut lines = Vec::new(alloc);
     push_asked(alloc, &mut lines, &job.asked, width)?;
-    push_course(alloc, &mut lines, &job.course, width)?;
-    push_moments(alloc, &mut lines, &job.course, width)?;
+    push_job_status(alloc, &mut lines, &job.job_status, width)?;
+    push_moments(alloc, &mut lines, &job.job_status, width)?;
     Ok(lines)
 }
 
@@ -77,25 +77,25 @@ fn push_asked(
     push_number(alloc, lines, "priority", asked.priority.get(), width)
 }
 
-fn push_course(
+fn push_job_status(
     alloc: Global,
     lines: &mut Vec<String>,
-    course: &JobCourse,
+    job_status: &JobStatus,
     width: usize,
 ) -> Result<(), AllocError>
     requires there { 1 ≤ width }
     requires fit { AllFit width lines.old.items }
     ensures { OnOk result (AllFit width lines.new.items) }
 {
-    let size = size_text(alloc, course.size)?;
+    let size = size_text(alloc, job_status.size)?;
     push_line(alloc, lines, "size", size.as_str(), width)?;
-    push_number(alloc, lines, "pages", course.pages, width)?;
-    push_number(alloc, lines, "attempts", course.attempts, width)?;
-    if let Some(media) = &course.media {
+    push_number(alloc, lines, "pages", job_status.pages, width)?;
+    push_number(alloc, lines, "attempts", job_status.attempts, width)?;
+    if let Some(media) = &job_status.media {
         push_line(alloc, lines, "type", media.as_str(), width)?;
     }
-    push_line(alloc, lines, "state", course.state_word(), width)?;
-    if let Some(reason) = &course.reason {
+    push_line(alloc, lines, "state", job_status.state_word(), width)?;
+    if let Some(reason) = &job_status.reason {
         push_line(alloc, lines, "reason", reason.as_str(), width)?;
     }
     Ok(())
@@ -104,23 +104,23 @@ fn push_course(
 fn push_moments(
     alloc: Global,
     lines: &mut Vec<String>,
-    course: &JobCourse,
+    job_status: &JobStatus,
     width: usize,
 ) -> Result<(), AllocError>
     requires there { 1 ≤ width }
     requires fit { AllFit width lines.old.items }
     ensures { OnOk result (AllFit width lines.new.items) }
 {
-    push_moment(alloc, lines, "start by", course.by, width)?;
-    push_moment(alloc, lines, "held until", course.hold_until, width)?;
+    push_moment(alloc, lines, "start by", job_status.by, width)?;
+    push_moment(alloc, lines, "held until", job_status.hold_until, width)?;
     push_moment(
         alloc,
         lines,
         "not before",
-        shown_moment(course.not_before),
+        shown_moment(job_status.not_before),
         width,
     )?;
-    push_stage(alloc, lines, course.stage, width)
+    push_stage(alloc, lines, job_status.stage, width)
 }
 
 // A job that waits for no moment has the beginning there.

@@ -2,7 +2,7 @@
 ghost use Rattle.std.specs.Prelude.{◌≡◌, IfOk, option_copied};
 ghost use Rattle.line_words.specs.Blanks.{first_word, after_word};
 ghost use Rattle.front_texts.specs.JobRows.{job_row, job_words, head_row, tail_row, joined};
-ghost use Rattle.front_texts.specs.States.{is_arriving, is_ended, shown_word};
+ghost use Rattle.front_texts.specs.StateWords.{is_arriving, is_ended, shown_word};
 
 use crate::fields::{count, is_end, is_word, job_state, quoted_text, reason, text_of_word};
 use crate::states::JobState;

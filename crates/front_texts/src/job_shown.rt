@@ -1,7 +1,7 @@
 //! One job with all its fields, as `job N` shows it.
 ghost use Rattle.std.specs.Prelude.{◌≡◌, IfOk, option_copied};
-ghost use Rattle.front_texts.specs.States.{shown_word};
-ghost use Rattle.front_texts.specs.JobPage.{copies_in, priority_in, line_here, behind_line, field, after_field, whole_text, names_in, wishes_in, asked_of, asked_in, after_asked, counts_in, media_of, moment_of, marks_in, standing_in, stage_of, moments_in, course_of, course_in, shown_job};
+ghost use Rattle.front_texts.specs.StateWords.{shown_word};
+ghost use Rattle.front_texts.specs.JobPage.{copies_in, priority_in, line_here, behind_line, field, after_field, whole_text, names_in, wishes_in, asked_of, asked_in, after_asked, counts_in, media_of, moment_of, marks_in, state_and_reason_in, stage_of, moments_in, job_status_of, job_status_in, shown_job};
 
 use crate::fields::{count, is_end, is_word, job_state, moment, quoted_text, reason, text_of_word};
 use crate::job_line::is_arriving;
@@ -18,7 +18,7 @@ use std::alloc::{AllocError, Global};
 #[derive(Drop)]
 pub struct JobShown {
     pub asked: JobAsked,
-    pub course: JobCourse,
+    pub job_status: JobStatus,
 }
 
 /// What was asked for.
@@ -35,7 +35,7 @@ pub struct JobAsked {
 
 /// What became of it.
 #[derive(Drop)]
-pub struct JobCourse {
+pub struct JobStatus {
     pub size: u32,
     pub pages: u32,
     pub attempts: u32,
@@ -91,7 +91,7 @@ pub(crate) struct JobMarks {
 }
 
 #[derive(Drop)]
-pub(crate) struct JobStanding {
+pub(crate) struct StateAndReason {
     pub state: JobState,
     pub reason: Option<Reason>,
 }
@@ -109,9 +109,9 @@ pub fn read_job_shown(alloc: Global, text: &[u8]) -> Result<Option<JobShown>, Al
     ensures value { IfOk result (λ job. job ≡ shown_job text.now) }
 {
     let (asked, rest) = asked(alloc, text)?;
-    let course = course(alloc, rest)?;
-    match (asked, course) {
-        (Some(asked), Some(course)) => Ok(Some(JobShown { asked, course })),
+    let job_status = job_status(alloc, rest)?;
+    match (asked, job_status) {
+        (Some(asked), Some(job_status)) => Ok(Some(JobShown { asked, job_status })),
         _ => Ok(None),
     }
 }
@@ -201,8 +201,8 @@ fn wishes(
 }
 
 // What became of it.
-fn course(alloc: Global, text: &[u8]) -> Result<Option<JobCourse>, AllocError>
-    ensures { IfOk result (λ course. course ≡ course_in text.now) }
+fn job_status(alloc: Global, text: &[u8]) -> Result<Option<JobStatus>, AllocError>
+    ensures { IfOk result (λ job_status. job_status ≡ job_status_in text.now) }
 {
     let (size, rest) = field(text, b"size");
     let (pages, rest) = field(rest, b"pages");
@@ -213,8 +213,8 @@ fn course(alloc: Global, text: &[u8]) -> Result<Option<JobCourse>, AllocError>
     let (reason, rest) = field(rest, b"reason");
     let counts = counts(size, pages, attempts);
     let marks = marks(alloc, media, by)?;
-    let standing = standing(alloc, state, reason)?;
-    Ok(course_of(counts, marks, standing, moments(rest)))
+    let state_and_reason = state_and_reason(alloc, state, reason)?;
+    Ok(job_status_of(counts, marks, state_and_reason, moments(rest)))
 }
 
 fn counts(size: Option<&[u8]>, pages: Option<&[u8]>, attempts: Option<&[u8]>) -> Option<JobCounts>
@@ -264,18 +264,18 @@ fn moment_of(word: Option<&[u8]>) -> Option<Option<Moment>>
     Some(Some(moment(word)?))
 }
 
-fn standing(
+fn state_and_reason(
     alloc: Global,
     state: Option<&[u8]>,
     word: Option<&[u8]>,
-) -> Result<Option<JobStanding>, AllocError>
-    ensures { IfOk result (λ standing. standing ≡ standing_in (option_copied state.entry) (option_copied word.entry)) }
+) -> Result<Option<StateAndReason>, AllocError>
+    ensures { IfOk result (λ state_and_reason. state_and_reason ≡ state_and_reason_in (option_copied state.entry) (option_copied word.entry)) }
 {
     let (Some(state), Some(word)) = (state, word) else {
         return Ok(None);
     };
     match (job_state(state), reason(alloc, word)?) {
-        (Some(state), Some(reason)) => Ok(Some(JobStanding { state, reason })),
+        (Some(state), Some(reason)) => Ok(Some(StateAndReason { state, reason })),
         _ => Ok(None),
     }
 }
@@ -322,23 +322,23 @@ fn stage_of(words: Option<&[u8]>) -> Option<Option<StageShown>>
     }))
 }
 
-fn course_of(
+fn job_status_of(
     counts: Option<JobCounts>,
     marks: Option<JobMarks>,
-    standing: Option<JobStanding>,
+    state_and_reason: Option<StateAndReason>,
     moments: Option<JobMoments>,
-) -> Option<JobCourse>
-    ensures { result ≡ course_of counts marks standing moments }
+) -> Option<JobStatus>
+    ensures { result ≡ job_status_of counts marks state_and_reason moments }
 {
-    match (counts, marks, standing, moments) {
-        (Some(counts), Some(marks), Some(standing), Some(moments)) => Some(JobCourse {
+    match (counts, marks, state_and_reason, moments) {
+        (Some(counts), Some(marks), Some(state_and_reason), Some(moments)) => Some(JobStatus {
             size: counts.size,
             pages: counts.pages,
             attempts: counts.attempts,
             media: marks.media,
             by: marks.by,
-            state: standing.state,
-            reason: standing.reason,
+            state: state_and_reason.state,
+            reason: state_and_reason.reason,
             hold_until: moments.hold_until,
             not_before: moments.not_before,
             stage: moments.stage,
@@ -398,7 +398,7 @@ fn first_line(text: &[u8]) -> (&[u8], &[u8])
     (text, &[])
 }
 
-impl JobCourse {
+impl JobStatus {
     /// Its state for a person.
     pub fn state_word(&self) -> &'static str
         ensures { result.now ≡ shown_word self.now.state self.now.reason }

@@ -1,10 +1,10 @@
 //! Jobs and queues as JSON.
 ghost use Rattle.std.specs.Prelude.{◌≡◌, IfOk, OnOk, option_copied};
 ghost use Rattle.serde_json.specs.View.{view, members_view};
-ghost use Rattle.front_texts.specs.Json.{text_data, text_item, texts_data, job_data, jobs_data, queue_data, queues_data, with_queue_state, with_queue_rules, with_queue_notes, with_counts, with_standing, with_waits, asked_data, course_data, shown_data, moment_data, moments_data, stage_data};
+ghost use Rattle.front_texts.specs.Json.{text_data, text_item, texts_data, job_data, jobs_data, queue_data, queues_data, with_queue_state, with_queue_rules, with_queue_notes, with_counts, with_state_and_reason, with_waits, asked_data, job_status_data, shown_data, moment_data, moments_data, stage_data};
 
 use crate::job_line::JobLine;
-use crate::job_shown::{JobAsked, JobCourse, JobShown, StageShown};
+use crate::job_shown::{JobAsked, JobShown, JobStatus, StageShown};
 use crate::queue_line::QueueLine;
 use serde_json::{Map, Value, json, put};
 use spool_types::{MediaType, Moment, Reason};
@@ -165,8 +165,8 @@ pub fn job_shown_json(alloc: Global, job: &JobShown) -> Result<Value, AllocError
     ensures value { IfOk result (λ object. view object ≡ shown_data job.now) }
 {
     let asked = asked_json(alloc, &job.asked)?;
-    let course = course_json(alloc, &job.course)?;
-    json!(in alloc; {"asked": &asked, "course": &course})
+    let job_status = job_status_json(alloc, &job.job_status)?;
+    json!(in alloc; {"asked": &asked, "course": &job_status})
 }
 
 fn asked_json(alloc: Global, asked: &JobAsked) -> Result<Value, AllocError>
@@ -183,68 +183,77 @@ fn asked_json(alloc: Global, asked: &JobAsked) -> Result<Value, AllocError>
     })
 }
 
-fn course_json(alloc: Global, course: &JobCourse) -> Result<Value, AllocError>
-    ensures { IfOk result (λ object. view object ≡ course_data course.now) }
+fn job_status_json(alloc: Global, job_status: &JobStatus) -> Result<Value, AllocError>
+    ensures { IfOk result (λ object. view object ≡ job_status_data job_status.now) }
 {
     let mut members = Map::new(alloc);
-    put_counts(alloc, &mut members, course)?;
-    put_standing(alloc, &mut members, course)?;
-    put_waits(alloc, &mut members, course)?;
+    put_counts(alloc, &mut members, job_status)?;
+    put_state_and_reason(alloc, &mut members, job_status)?;
+    put_waits(alloc, &mut members, job_status)?;
     Ok(Value::Object(members))
 }
 
 fn put_counts(
     alloc: Global,
     members: &mut JsonMembers,
-    course: &JobCourse,
+    job_status: &JobStatus,
 ) -> Result<(), AllocError>
-    ensures { OnOk result (members_view members.new.entries ≡ with_counts course.now (members_view members.old.entries)) }
+    ensures { OnOk result (members_view members.new.entries ≡ with_counts job_status.now (members_view members.old.entries)) }
 {
-    put(members, alloc, "size", Value::from(course.size))?;
-    put(members, alloc, "pages", Value::from(course.pages))?;
-    put(members, alloc, "attempts", Value::from(course.attempts))
+    put(members, alloc, "size", Value::from(job_status.size))?;
+    put(members, alloc, "pages", Value::from(job_status.pages))?;
+    put(members, alloc, "attempts", Value::from(job_status.attempts))
 }
 
-fn put_standing(
+fn put_state_and_reason(
     alloc: Global,
     members: &mut JsonMembers,
-    course: &JobCourse,
+    job_status: &JobStatus,
 ) -> Result<(), AllocError>
-    ensures { OnOk result (members_view members.new.entries ≡ with_standing course.now (members_view members.old.entries)) }
+    ensures { OnOk result (members_view members.new.entries ≡ with_state_and_reason job_status.now (members_view members.old.entries)) }
 {
     put(
         members,
         alloc,
         "type",
-        media_json(alloc, course.media.as_ref())?,
+        media_json(alloc, job_status.media.as_ref())?,
     )?;
     put(
         members,
         alloc,
         "state",
-        text_json(alloc, course.state.word())?,
+        text_json(alloc, job_status.state.word())?,
     )?;
     put(
         members,
         alloc,
         "reason",
-        reason_json(alloc, course.reason.as_ref())?,
+        reason_json(alloc, job_status.reason.as_ref())?,
     )
 }
 
-fn put_waits(alloc: Global, members: &mut JsonMembers, course: &JobCourse) -> Result<(), AllocError>
-    ensures { OnOk result (members_view members.new.entries ≡ with_waits course.now (members_view members.old.entries)) }
+fn put_waits(
+    alloc: Global,
+    members: &mut JsonMembers,
+    job_status: &JobStatus,
+) -> Result<(), AllocError>
+    ensures { OnOk result (members_view members.new.entries ≡ with_waits job_status.now (members_view members.old.entries)) }
 {
-    put(members, alloc, "moments", moments_json(alloc, course)?)?;
-    put(members, alloc, "stage", stage_json(alloc, course.stage)?)
+    put(members, alloc, "moments", moments_json(alloc, job_status)?)?;
+    put(
+        members,
+        alloc,
+        "stage",
+        stage_json(alloc, job_status.stage)?,
+    )
 }
 
-fn moments_json(alloc: Global, course: &JobCourse) -> Result<Value, AllocError>
-    ensures { IfOk result (λ object. view object ≡ moments_data course.now) }
+fn moments_json(alloc: Global, job_status: &JobStatus) -> Result<Value, AllocError>
+    ensures { IfOk result (λ object. view object ≡ moments_data job_status.now) }
 {
-    let by = moment_json(course.by);
-    let hold_until = moment_json(course.hold_until);
-    let not_before = moment_json(course.not_before);
+    let by = moment_json(job_status.by);
+    let hold_until = moment_json(job_status.hold_until);
+    let not_before = moment_json(job_status.not_before);
     json!(in alloc; {
         "by": &by,
         "hold_until": &hold_until,

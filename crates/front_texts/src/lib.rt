@@ -56,7 +56,7 @@ pub use cells::{fitted, safe_text};
 pub use escaping::{escape, push_escaped};
 pub use job_fields::job_page;
 pub use job_line::{JobLine, read_job_line};
-pub use job_shown::{JobAsked, JobCourse, JobShown, StageShown, read_job_shown};
+pub use job_shown::{JobAsked, JobShown, JobStatus, StageShown, read_job_shown};
 pub use json::{job_json, job_shown_json, jobs_json, queue_json, queues_json};
 pub use laws::{escaped_texts_have_no_markup, job_rows_read_back};
 pub use lpq_form::lpq;

@@ -4,7 +4,7 @@ ghost use Rattle.std.specs.Option.{option_map};
 ghost use Rattle.line_words.specs.Blanks.{first_word, after_word};
 ghost use Rattle.front_texts.specs.QueueRows.{queue_row, queue_words, head_row, rules_row, notes_row, joined, reasons_in, texts_in, now_of};
 ghost use Rattle.spool_types.specs.Values.{is_reason};
-ghost use Rattle.front_texts.specs.States.{yes_or_no};
+ghost use Rattle.front_texts.specs.StateWords.{yes_or_no};
 ghost use Rattle.std.specs.List.{slice_split};
 ghost use Rattle.front_texts.specs.QueueRows.{is_comma};
 

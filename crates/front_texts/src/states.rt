@@ -1,6 +1,6 @@
 //! States of jobs and of queues, and their words.
 ghost use Rattle.std.specs.Prelude.{◌≡◌};
-ghost use Rattle.front_texts.specs.States.{job_state_in, job_state_number, job_state_word, printer_state_in, printer_state_number, printer_state_word};
+ghost use Rattle.front_texts.specs.StateWords.{job_state_in, job_state_number, job_state_word, printer_state_in, printer_state_number, printer_state_word};
 
 /// The state of a job (job-state, RFC 8011).
 #[derive(Clone, Copy, Debug, PartialEq, Eq)]

@@ -1,6 +1,6 @@
 -- Why values and words are refused.
 use Rattle.std.specs.Prelude.{Ok, Err, Result, MatchResult}
-use Rattle.front_words.specs.Faults.{BlamesOnly, IsMistake, RefusesOnly}
+use Rattle.front_words.specs.WordFaults.{BlamesOnly, IsMistake, RefusesOnly}
 use Rattle.front_words.specs.declared.fault.WordsFault.{WordsFault}
 use Rattle.front_words.specs.declared.fault.WordsFault.TheVariants.{Refused, Memory}
 use Rattle.front_words.specs.declared.fault.Wrong.{Wrong}

@@ -1,7 +1,7 @@
 -- The command of each form, as clap reads it.
 use Rattle.std.specs.Prelude.{[], ◌∷◌, codes}
 use Rattle.clap.specs.Words.{App, Rule, Text, new_app, with_rule}
-use Rattle.front_words.specs.Options.{flag_rule, letter_flag_rule, letter_rule, listed, named_app, needed, several, task_app, text_rule, word_rule}
+use Rattle.front_words.specs.CommandOptions.{flag_rule, letter_flag_rule, letter_rule, listed, named_app, needed, several, task_app, text_rule, word_rule}
 use Rattle.front_words.specs.declared.forms.Form.{Form}
 use Rattle.front_words.specs.declared.forms.Form.TheVariants.{Submit, Status, Queues, Watch, Cancel, Hold, Release, Purge, End}
 use Rattle.front_words.specs.declared.forms.Form.TheVariants.{QueueAdd, QueueSet, QueueAccept, QueueReject, QueueEnable, QueueDisable}

@@ -1,6 +1,6 @@
 pub mod Forms
-pub mod Faults
-pub mod Options
+pub mod WordFaults
+pub mod CommandOptions
 pub mod Apps
-pub mod Values
-pub mod Asked
+pub mod ArgumentValues
+pub mod AskedTasks

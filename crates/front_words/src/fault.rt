@@ -3,7 +3,7 @@ ghost use Rattle.std.specs.Prelude.{◌≡◌};
 ghost use Rattle.clap.specs.Words.{kind_of};
 ghost use Rattle.clap.specs.declared.error.kind.ErrorKind.TheVariants.{OutOfMemory};
 ghost use Rattle.front_words.specs.declared.fault.Wrong.TheVariants.{Memory};
-ghost use Rattle.front_words.specs.Faults.{IsMistake, RefusesOnly};
+ghost use Rattle.front_words.specs.WordFaults.{IsMistake, RefusesOnly};
 
 use clap::error::ErrorKind;
 use clap::{Command, Error};

@@ -2,8 +2,8 @@
 ghost use Rattle.std.specs.Prelude.{◌≡◌, ◌<◌, ◌^◌, IfOk, IsSome, MatchResult, Some, map};
 ghost use Rattle.std.specs.Option.{option_map};
 ghost use Rattle.clap.specs.Words.{first_of, found_of, rows_of};
-ghost use Rattle.front_words.specs.Faults.{BlamesOnly};
-ghost use Rattle.front_words.specs.Values.{all_in, is_told, is_word, job_of, job_or_none, jobs_of, last_part, moment_of, moment_or_none, number_in, number_or};
+ghost use Rattle.front_words.specs.WordFaults.{BlamesOnly};
+ghost use Rattle.front_words.specs.ArgumentValues.{all_in, is_told, is_word, job_of, job_or_none, jobs_of, last_part, moment_of, moment_or_none, number_in, number_or};
 
 use crate::asked::Moment;
 use crate::fault::Wrong;

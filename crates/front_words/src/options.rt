@@ -1,8 +1,8 @@
 //! The options and the words of a command.
 ghost use Rattle.std.specs.Prelude.{◌≡◌, ◌++◌, ◌∷◌, [], IfOk, MatchResult, Some, false, map, true};
 ghost use Rattle.clap.specs.Words.{app_of, found_of, is_simple_and_free, matches_of, rows_of, rule_of};
-ghost use Rattle.front_words.specs.Faults.{RefusesOnly};
-ghost use Rattle.front_words.specs.Options.{AreFaultlessFor, flag_rule, help_rule, letter_flag_rule, letter_rule, listed, named_app, needed, several, socket_rule, task_app, text_rule, word_rule};
+ghost use Rattle.front_words.specs.WordFaults.{RefusesOnly};
+ghost use Rattle.front_words.specs.CommandOptions.{AreFaultlessFor, flag_rule, help_rule, letter_flag_rule, letter_rule, listed, named_app, needed, several, socket_rule, task_app, text_rule, word_rule};
 
 use crate::fault::{WordsFault, words_fault};
 use clap::builder::ValueParser;

@@ -1,10 +1,10 @@
 //! What the values that clap found ask for, form by form.
 ghost use Rattle.std.specs.Prelude.{◌≡◌, ◌∷◌, [], ⊤, IfOk, IsSome, MatchResult, Some, codes, map};
 ghost use Rattle.clap.specs.Words.{first_of, found_of, rows_of};
-ghost use Rattle.front_words.specs.Asked.{Fit, FitCancel, FitHold, FitJobs, FitNew, FitQueue, FitRemoval, FitStatus, FitSubmission};
-ghost use Rattle.front_words.specs.Asked.{IsAdd, IsAskedIn, IsCancel, IsJobs, IsLpqTask, IsLpstatTask, IsPage, IsQueue, IsRemoval, IsSet, IsStatusTask, IsSubmit, IsTask};
-ghost use Rattle.front_words.specs.Asked.{handling_of, hold_of, is_policy, until_of};
-ghost use Rattle.front_words.specs.Faults.{BlamesOnly};
+ghost use Rattle.front_words.specs.AskedTasks.{Fit, FitCancel, FitHold, FitJobs, FitNew, FitQueue, FitRemoval, FitStatus, FitSubmission};
+ghost use Rattle.front_words.specs.AskedTasks.{IsAdd, IsAskedIn, IsCancel, IsJobs, IsLpqTask, IsLpstatTask, IsPage, IsQueue, IsRemoval, IsSet, IsStatusTask, IsSubmit, IsTask};
+ghost use Rattle.front_words.specs.AskedTasks.{handling_of, hold_of, is_policy, until_of};
+ghost use Rattle.front_words.specs.WordFaults.{BlamesOnly};
 
 use crate::asked::{
     Asked, Hold, JobAct, Lpq, Lpstat, Moment, NewQueue, QueueAct, Status, Submission, Task,

@@ -1,8 +1,8 @@
 //! The words of the command line.
 ghost use Rattle.std.specs.Prelude.{IfOk, MatchResult, map};
 ghost use Rattle.clap.specs.Words.{found_of, rows_of};
-ghost use Rattle.front_words.specs.Asked.{AreTaken, Fit, IsAsked, IsAskedIn};
-ghost use Rattle.front_words.specs.Faults.{RefusesOnly};
+ghost use Rattle.front_words.specs.AskedTasks.{AreTaken, Fit, IsAsked, IsAskedIn};
+ghost use Rattle.front_words.specs.WordFaults.{RefusesOnly};
 
 use crate::asked::Asked;
 use crate::commands::command_for;

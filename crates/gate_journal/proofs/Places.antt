@@ -7,7 +7,7 @@ use Rattle.std.specs.Prelude.{if◌then◌else◌, ◌==◌, nat_lt}
 use Rattle.std.specs.Int.{w32, to_be_bytes, from_be_bytes}
 use Rattle.spool_disk.specs.Disk.{Reads}
 use Rattle.gate_journal.specs.Entries.{AreShort, record_of, records, HasEntries}
-use Rattle.gate_journal.specs.Found.{length_at, entry_at}
+use Rattle.gate_journal.specs.FoundEntries.{length_at, entry_at}
 use Rattle.gate_journal.specs.declared.entry.Found.{Found}
 use Rattle.gate_journal.specs.declared.entry.Found.TheVariants.{Entry, End, Damaged}
 

@@ -7,7 +7,7 @@ use Rattle.std.proofs.Common.{inl, inr, Result, Ok, Err, IfOk}
 use Rattle.std.specs.Prelude.{if◌then◌else◌, ◌==◌, nat_lt, slice_range}
 use Rattle.std.specs.Int.{w32, to_be_bytes}
 use Rattle.gate_journal.specs.Entries.{record_of, records, HasEntries, HasFirst}
-use Rattle.gate_journal.specs.Found.{length_at, entry_at, LiesBefore, GoesOn, IsSpelt}
+use Rattle.gate_journal.specs.FoundEntries.{length_at, entry_at, LiesBefore, GoesOn, IsSpelt}
 use Rattle.gate_journal.specs.declared.entry.Found.{Found}
 use Rattle.gate_journal.specs.declared.entry.Found.TheVariants.{Entry, End, Damaged}
 use Rattle.gate_journal.proofs.Steps.{records-push, length-records-push, short-push}

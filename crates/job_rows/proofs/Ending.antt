@@ -15,9 +15,9 @@ use Rattle.std.proofs.lemmas.Option.{slice_get-get_or, slice_get_within, get_or_
 use Rattle.spool_types.specs.declared.rows.JobRow.{JobRow}
 use Rattle.job_rows.specs.declared.slot.Slot.{Slot}
 use Rattle.job_rows.specs.declared.slot.Slot.TheVariants.{Held, Gone}
-use Rattle.job_rows.specs.Places.{IsGap}
-use Rattle.job_rows.specs.Rows.{first_above, place_in, HasNumber}
-use Rattle.job_rows.specs.Slots.{number_of, slot_entry, row_of, held, numbers, first_number, gone_count, EndsHeld, IsParted}
+use Rattle.job_rows.specs.RowPositions.{IsGap}
+use Rattle.job_rows.specs.NumberedRows.{first_above, position_in, HasNumber}
+use Rattle.job_rows.specs.RowSlots.{number_of, slot_entry, row_of, held, numbers, first_number, gone_count, EndsHeld, IsParted}
 use Rattle.job_rows.proofs.Rising.{t_from, true_from, first_of, second_of, both_from, less_from, sorted_insert}
 use Rattle.job_rows.proofs.Holding.{eq_yes, is_less, less_is, rising, held_at, number_at, seat, seat_below, length_held}
 
@@ -193,7 +193,7 @@ first_higher (m ∷ ns) number (Some n) is = by_test (nat_lt number m) refl is (
 place_later : (ns : List ℕ) (m n : ℕ) → HasNumber ns n → HasNumber (m ∷ ns) n
 place_later ns m n there = either (m == n)
   where
-    either : (b : Bool) → cond b 0 (suc (place_in ns n)) < suc (length ns)
+    either : (b : Bool) → cond b 0 (suc (position_in ns n)) < suc (length ns)
     either true = omega arith
     either false = omega arith
 
@@ -204,7 +204,7 @@ first_there [] number (Some n) is = absurd (cc)
 first_there (m ∷ ns) number (Some n) is = by_test (nat_lt number m) is (first_there ns number (Some n))
   where
     by_test : (b : Bool) → Some n ≡ cond b (Some m) (first_above number ns) → (Some n ≡ first_above number ns → HasNumber ns n) → HasNumber (m ∷ ns) n
-    by_test true found later = let same : m ≡ n = cc in subst (λ p. p < suc (length ns)) (sym (ap (λ b. cond b 0 (suc (place_in ns n))) (eq_yes m n same))) (omega arith)
+    by_test true found later = let same : m ≡ n = cc in subst (λ p. p < suc (length ns)) (sym (ap (λ b. cond b 0 (suc (position_in ns n))) (eq_yes m n same))) (omega arith)
     by_test false found later = place_later ns m n (later found)
 
 -- ## The numbers rise

@@ -18,9 +18,9 @@ use Rattle.std.specs.FinMap.Entries.{is_sorted}
 use Rattle.spool_types.specs.declared.rows.JobRow.{JobRow}
 use Rattle.job_rows.specs.declared.slot.Slot.{Slot}
 use Rattle.job_rows.specs.declared.slot.Slot.TheVariants.{Held, Gone}
-use Rattle.job_rows.specs.Places.{IsPlace, IsGap}
-use Rattle.job_rows.specs.Rows.{place_in, HasNumber, LacksNumber}
-use Rattle.job_rows.specs.Slots.{number_of, slot_entry, row_of, held, numbers, gone_count, EndsHeld, IsParted}
+use Rattle.job_rows.specs.RowPositions.{IsPosition, IsGap}
+use Rattle.job_rows.specs.NumberedRows.{position_in, HasNumber, LacksNumber}
+use Rattle.job_rows.specs.RowSlots.{number_of, slot_entry, row_of, held, numbers, gone_count, EndsHeld, IsParted}
 use Rattle.job_rows.proofs.Rising.{t_from, rise, sorted_set}
 
 -- ## Two numbers
@@ -149,13 +149,13 @@ module _ (n : ℕ) (r : JobRow) where
   count_gone (Gone m ∷ ss) (suc i) d k lt is = ap (λ c. c + 1) (count_gone ss i d k (omega arith) is)
 
   -- the slot of a number that is the first of its number gives the number's place
-  pub place_seat : (ss : List Slot) (i : ℕ) (d : Slot) → i < length ss → get_or ss i d ≡ Held n r → ((j : ℕ) (e : Slot) → j < i → number_of (get_or ss j e) < n) → place_in (numbers ss) n ≡ seat ss i
+  pub place_seat : (ss : List Slot) (i : ℕ) (d : Slot) → i < length ss → get_or ss i d ≡ Held n r → ((j : ℕ) (e : Slot) → j < i → number_of (get_or ss j e) < n) → position_in (numbers ss) n ≡ seat ss i
   place_seat [] i d lt is before = absurd (omega arith)
-  place_seat (Held m q ∷ ss) zero d lt is before = let same : n ≡ m = cc in subst (λ k. cond (m == k) 0 (suc (place_in (numbers ss) k)) ≡ 0) (sym same) (ap (λ b. cond b 0 (suc (place_in (numbers ss) m))) (eq_yes m m refl))
+  place_seat (Held m q ∷ ss) zero d lt is before = let same : n ≡ m = cc in subst (λ k. cond (m == k) 0 (suc (position_in (numbers ss) k)) ≡ 0) (sym same) (ap (λ b. cond b 0 (suc (position_in (numbers ss) m))) (eq_yes m m refl))
   place_seat (Gone m ∷ ss) zero d lt is before = absurd (cc)
   place_seat (Held m q ∷ ss) (suc i) d lt is before =
       let lower = before 0 (Held m q) (omega arith) in
-      ap (λ b. cond b 0 (suc (place_in (numbers ss) n))) (eq_no m n (λ (same : m ≡ n). omega arith))
+      ap (λ b. cond b 0 (suc (position_in (numbers ss) n))) (eq_no m n (λ (same : m ≡ n). omega arith))
       ∙ ap suc (place_seat ss i d (omega arith) is (λ j e l. before (suc j) e (omega arith)))
   place_seat (Gone m ∷ ss) (suc i) d lt is before = place_seat ss i d (omega arith) is (λ j e l. before (suc j) e (omega arith))
 
@@ -188,9 +188,9 @@ held_not_gone : (n : ℕ) (r : JobRow) (m : ℕ) → Held n r ≡ Gone m → ⊥
 held_not_gone n r m e = cc
 
 -- a number that has a gap has no place
-no_place : (ns : List ℕ) (k : ℕ) → ((j d : ℕ) → j < length ns → ¬ (get_or ns j d ≡ k)) → place_in ns k ≡ length ns
+no_place : (ns : List ℕ) (k : ℕ) → ((j d : ℕ) → j < length ns → ¬ (get_or ns j d ≡ k)) → position_in ns k ≡ length ns
 no_place [] k apart = refl
-no_place (n ∷ ns) k apart = ap (λ b. cond b 0 (suc (place_in ns k))) (eq_no n k (apart 0 n (omega arith))) ∙ ap suc (no_place ns k (λ j d lt. apart (suc j) d (omega arith)))
+no_place (n ∷ ns) k apart = ap (λ b. cond b 0 (suc (position_in ns k))) (eq_no n k (apart 0 n (omega arith))) ∙ ap suc (no_place ns k (λ j d lt. apart (suc j) d (omega arith)))
 
 pub lacking : (ns : List ℕ) (k : ℕ) → LacksNumber ns k → HasNumber ns k → ⊥
 lacking ns k lacks there =
@@ -218,7 +218,7 @@ module _ (ss : List Slot) (sorted : IsTrue (is_sorted nat_cmp (map slot_entry ss
     },
   )
 
-  module _ (at : IsPlace nat_cmp number_of ss k i) where
+  module _ (at : IsPosition nat_cmp number_of ss k i) where
     lower : (j : ℕ) (e : Slot) → j < i → number_of (get_or ss j e) < k
     lower j e lt = subst (λ n. number_of (get_or ss j e) < n) (is_equal _ _ (at.same e)) (is_less _ _ (rise nat_cmp nat_cmp_total number_of (λ s. s) ss (t_from _ sorted) j i e lt at.in_range))
 
@@ -247,19 +247,19 @@ module _ (ss : List Slot) (sorted : IsTrue (is_sorted nat_cmp (map slot_entry ss
       pub own_number : n ≡ k
       own_number = ap number_of (sym is) ∙ is_equal _ _ (at.same d)
 
-      pub place_is : place_in (numbers ss) k ≡ seat ss i
-      place_is = subst (λ m. place_in (numbers ss) m ≡ seat ss i) own_number (place_seat n r ss i d at.in_range is (λ j e lt. subst (λ m. number_of (get_or ss j e) < m) (sym own_number) (lower j e lt)))
+      pub place_is : position_in (numbers ss) k ≡ seat ss i
+      place_is = subst (λ m. position_in (numbers ss) m ≡ seat ss i) own_number (place_seat n r ss i d at.in_range is (λ j e lt. subst (λ m. number_of (get_or ss j e) < m) (sym own_number) (lower j e lt)))
 
       pub has_number : HasNumber (numbers ss) k
       has_number = let below = seat_below n r ss i d at.in_range is in subst (λ p. p < length (numbers ss)) (sym place_is) below
 
-      pub number_place : IsPlace nat_cmp (λ m. m) (numbers ss) k (place_in (numbers ss) k)
+      pub number_place : IsPosition nat_cmp (λ m. m) (numbers ss) k (position_in (numbers ss) k)
       number_place = record {
         in_range = has_number;
         same = λ e. equal_is _ _ (ap (λ p. get_or (numbers ss) p e) place_is ∙ number_at n r ss i d e at.in_range is ∙ own_number);
       }
 
-      pub row_place : (e : JobRow) → get_or (held ss) (place_in (numbers ss) k) e ≡ r
+      pub row_place : (e : JobRow) → get_or (held ss) (position_in (numbers ss) k) e ≡ r
       row_place e = ap (λ p. get_or (held ss) p e) place_is ∙ held_at n r ss i d e at.in_range is
 
 -- ## What a slot of a number that is there holds
@@ -273,7 +273,7 @@ module _ (ss : List Slot) (sorted : IsTrue (is_sorted nat_cmp (map slot_entry ss
   pub no_gap : HasNumber (numbers ss) k → IsGap nat_cmp number_of ss k i → ⊥
   no_gap there gap = lacking (numbers ss) k (row_gap ss sorted k i gap) there
 
-  pub has_row : HasNumber (numbers ss) k → (s : Slot) → s ≡ get_or ss i s → IsPlace nat_cmp number_of ss k i → IsSome (row_of s)
+  pub has_row : HasNumber (numbers ss) k → (s : Slot) → s ≡ get_or ss i s → IsPosition nat_cmp number_of ss k i → IsSome (row_of s)
   has_row there (Held n r) is at = refl
   has_row there (Gone n) is at = absurd (lacking (numbers ss) k (gone_gap ss sorted k i at n (Gone n) (sym is)) there)
 
@@ -293,7 +293,7 @@ ends_set ss i n w lt ends = λ some.
     ]))
 
 -- a slot of the same number keeps the order
-pub order_set : (ss : List Slot) → IsTrue (is_sorted nat_cmp (map slot_entry ss)) → (k i : ℕ) (d s : Slot) → IsPlace nat_cmp number_of ss k i → number_of (get_or ss i d) ≡ number_of s → IsTrue (is_sorted nat_cmp (map slot_entry (set ss i s)))
+pub order_set : (ss : List Slot) → IsTrue (is_sorted nat_cmp (map slot_entry ss)) → (k i : ℕ) (d s : Slot) → IsPosition nat_cmp number_of ss k i → number_of (get_or ss i d) ≡ number_of s → IsTrue (is_sorted nat_cmp (map slot_entry (set ss i s)))
 order_set ss sorted k i d s at same = sorted_set nat_cmp nat_cmp_total number_of (λ s. s) ss sorted s k i d at same
 
 -- ## Numbers up to a given one
@@ -318,13 +318,13 @@ parted_point ss number at in_range low high = record {
 -- ## What a look at the slot of a number finds
 
 module _ (ss : List Slot) (sorted : IsTrue (is_sorted nat_cmp (map slot_entry ss))) (k i : ℕ) where
-  pub looked_there : (s : Slot) → s ≡ get_or ss i s → IsPlace nat_cmp number_of ss k i → (o : Option (Bor JobRow)) → option_copied o ≡ row_of s → IsSome o ↔ HasNumber (numbers ss) k
+  pub looked_there : (s : Slot) → s ≡ get_or ss i s → IsPosition nat_cmp number_of ss k i → (o : Option (Bor JobRow)) → option_copied o ≡ row_of s → IsSome o ↔ HasNumber (numbers ss) k
   looked_there (Held n r) is at None read = absurd (cc)
   looked_there (Held n r) is at (Some b) read = (λ some. has_number ss sorted k i at n r (Held n r) (sym is), λ there. refl)
   looked_there (Gone n) is at None read = (λ some. absurd (true≢false (sym some)), λ there. absurd (lacking (numbers ss) k (gone_gap ss sorted k i at n (Gone n) (sym is)) there))
   looked_there (Gone n) is at (Some b) read = absurd (cc)
 
-  pub looked_absent : (s : Slot) → s ≡ get_or ss i s → IsPlace nat_cmp number_of ss k i → (o : Option (Bor JobRow)) → option_copied o ≡ row_of s → IfNone o (LacksNumber (numbers ss) k)
+  pub looked_absent : (s : Slot) → s ≡ get_or ss i s → IsPosition nat_cmp number_of ss k i → (o : Option (Bor JobRow)) → option_copied o ≡ row_of s → IfNone o (LacksNumber (numbers ss) k)
   looked_absent (Held n r) is at None read = absurd (cc)
   looked_absent (Gone n) is at None read = gone_gap ss sorted k i at n (Gone n) (sym is)
   looked_absent s is at (Some b) read = tt

@@ -10,7 +10,7 @@ use Rattle.std.specs.Cmp.{IsTotalOrder}
 use Rattle.std.specs.FinMap.Entries.{put, find, is_sorted, below_all, by_order, is_sorted-put}
 use Rattle.std.proofs.lemmas.List.Sorted.{searchable_from_sorted}
 use Rattle.std.proofs.lemmas.Bool.{cases_lt}
-use Rattle.job_rows.specs.Places.{IsPlace, IsGap}
+use Rattle.job_rows.specs.RowPositions.{IsPosition, IsGap}
 
 pub t_from : (b : Bool) → IsTrue b → T b
 t_from true h = tt
@@ -62,7 +62,7 @@ module _ {K Y X : Type 0} (R : K → K → Ordering) (o : IsTotalOrder R) (key :
   searchable ys h k = searchable_from_sorted o key ys k (λ i d low high. ap is_lt (turned _ _ Less (rise ys h i (i + 1) d (omega arith) high)))
 
   -- what it answers is the key's place, or the gap for it
-  pub searched : (ys : List Y) → IsTrue (is_sorted R (entries_of ys)) → (k : K) (r : Result ℕ ℕ) → IsSearchInRange r (length ys) → IsBinarySearchResult (λ y. R (key y) k) ys r → record { found : IfOk r (IsPlace R key ys k); absent : IfErr r (IsGap R key ys k) }
+  pub searched : (ys : List Y) → IsTrue (is_sorted R (entries_of ys)) → (k : K) (r : Result ℕ ℕ) → IsSearchInRange r (length ys) → IsBinarySearchResult (λ y. R (key y) k) ys r → record { found : IfOk r (IsPosition R key ys k); absent : IfErr r (IsGap R key ys k) }
   searched ys h k (Ok at) in_range equal = record { found = record { in_range = in_range; same = equal }; absent = tt }
   searched ys h k (Err at) in_range parted = record {
     found = tt;
@@ -72,7 +72,7 @@ module _ {K Y X : Type 0} (R : K → K → Ordering) (o : IsTotalOrder R) (key :
   }
 
   -- before its place the keys are smaller
-  before_place : (ys : List Y) → T (is_sorted R (entries_of ys)) → (k : K) (i : ℕ) → IsPlace R key ys k i → (j : ℕ) (d : Y) → j < i → R k (key (get_or ys j d)) ≡ Greater
+  before_place : (ys : List Y) → T (is_sorted R (entries_of ys)) → (k : K) (i : ℕ) → IsPosition R key ys k i → (j : ℕ) (d : Y) → j < i → R k (key (get_or ys j d)) ≡ Greater
   before_place ys h k i at j d lt = sym (o.congr _ _ _ (at.same d)) ∙ turned _ _ Less (rise ys h j i d lt at.in_range)
 
   find_from : (ys : List Y) (k : K) (i : ℕ) (d : Y) → i < length ys → R k (key (get_or ys i d)) ≡ Equal → ((j : ℕ) → j < i → R k (key (get_or ys j d)) ≡ Greater) → find R k (entries_of ys) ≡ Some (value (get_or ys i d))
@@ -81,7 +81,7 @@ module _ {K Y X : Type 0} (R : K → K → Ordering) (o : IsTotalOrder R) (key :
   find_from (y ∷ ys) k (suc i) d lt same before = ap (λ r. cond (is_eq r) (Some (value y)) (find R k (entries_of ys))) (before 0 (omega arith)) ∙ find_from ys k i d (omega arith) same (λ j l. before (suc j) (omega arith))
 
   -- the row at its place is found
-  pub find_place : (ys : List Y) → IsTrue (is_sorted R (entries_of ys)) → (k : K) (i : ℕ) (d : Y) → IsPlace R key ys k i → find R k (entries_of ys) ≡ Some (value (get_or ys i d))
+  pub find_place : (ys : List Y) → IsTrue (is_sorted R (entries_of ys)) → (k : K) (i : ℕ) (d : Y) → IsPosition R key ys k i → find R k (entries_of ys) ≡ Some (value (get_or ys i d))
   find_place ys h k i d at = find_from ys k i d at.in_range (turned _ _ Equal (at.same d)) (λ j lt. before_place ys (t_from _ h) k i at j d lt)
 
   find_none : (ys : List Y) (k : K) → ((j : ℕ) (d : Y) → j < length ys → is_eq (R k (key (get_or ys j d))) ≡ false) → find R k (entries_of ys) ≡ None
@@ -111,11 +111,11 @@ module _ {K Y X : Type 0} (R : K → K → Ordering) (o : IsTotalOrder R) (key :
   put_place_from (z ∷ ys) y k (suc i) d lt same is before = ap (λ r. by_order r ((k, value y) ∷ entries_of (z ∷ ys)) ((key z, value y) ∷ entries_of ys) ((key z, value z) ∷ put R k (value y) (entries_of ys))) (before 0 (omega arith)) ∙ ap (λ es. (key z, value z) ∷ es) (put_place_from ys y k i d (omega arith) same is (λ j l. before (suc j) (omega arith)))
 
   -- a row that is written over the one at its place
-  put_place : (ys : List Y) → T (is_sorted R (entries_of ys)) → (y : Y) (k : K) (i : ℕ) (d : Y) → IsPlace R key ys k i → key (get_or ys i d) ≡ key y → put R k (value y) (entries_of ys) ≡ entries_of (set ys i y)
+  put_place : (ys : List Y) → T (is_sorted R (entries_of ys)) → (y : Y) (k : K) (i : ℕ) (d : Y) → IsPosition R key ys k i → key (get_or ys i d) ≡ key y → put R k (value y) (entries_of ys) ≡ entries_of (set ys i y)
   put_place ys h y k i d at is = put_place_from ys y k i d at.in_range (turned _ _ Equal (at.same d)) is (λ j lt. before_place ys h k i at j d lt)
 
   pub sorted_insert : (ys : List Y) → IsTrue (is_sorted R (entries_of ys)) → (y : Y) (i : ℕ) → IsGap R key ys (key y) i → IsTrue (is_sorted R (entries_of (insert ys i y)))
   sorted_insert ys h y i gap = true_from _ (subst (λ es. T (is_sorted R es)) (put_gap ys y i gap) (is_sorted-put R o (key y) (value y) (entries_of ys) (t_from _ h)))
 
-  pub sorted_set : (ys : List Y) → IsTrue (is_sorted R (entries_of ys)) → (y : Y) (k : K) (i : ℕ) (d : Y) → IsPlace R key ys k i → key (get_or ys i d) ≡ key y → IsTrue (is_sorted R (entries_of (set ys i y)))
+  pub sorted_set : (ys : List Y) → IsTrue (is_sorted R (entries_of ys)) → (y : Y) (k : K) (i : ℕ) (d : Y) → IsPosition R key ys k i → key (get_or ys i d) ≡ key y → IsTrue (is_sorted R (entries_of (set ys i y)))
   sorted_set ys h y k i d at is = true_from _ (subst (λ es. T (is_sorted R es)) (put_place ys (t_from _ h) y k i d at is) (is_sorted-put R o k (value y) (entries_of ys) (t_from _ h)))

@@ -3,7 +3,7 @@ use Rattle.std.specs.Prelude.{ℕ}
 use Rattle.std.specs.Borrow.{Lends, MutBor, Fml}
 use Rattle.spool_types.specs.declared.rows.JobRow.{JobRow}
 use Rattle.spool_types.specs.contracts.rows.JobRow.{the_row as row_type}
-use Rattle.job_rows.specs.Rows.{Listed, with_row}
+use Rattle.job_rows.specs.NumberedRows.{Listed, with_row}
 use Rattle.job_rows.specs.contracts.rows.Rows.{the_row}
 
 -- the number has the row that was last written there

@@ -1,5 +1,5 @@
-pub mod Places
-pub mod Rows
-pub mod Slots
-pub mod Kept
+pub mod RowPositions
+pub mod NumberedRows
+pub mod RowSlots
+pub mod RowFields
 pub mod Lent

@@ -17,7 +17,7 @@ impl<'a> Model for Iter<'a> {
 
     ghost Value = { List JobRow };
 
-    ghost use Rattle.job_rows.specs.Slots.{held};
+    ghost use Rattle.job_rows.specs.RowSlots.{held};
 
     ghost view = { λ it. held it.slots.now };
 }

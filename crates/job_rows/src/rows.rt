@@ -3,11 +3,11 @@ ghost use Rattle.std.specs.Prelude.{◌≡◌, ◌↔◌, ℕ, ◌+◌, ◌-◌,
 ghost use Rattle.std.specs.Borrow.{sem};
 ghost use Rattle.std.specs.List.Sorted.{IsStrictlyIncreasing};
 ghost use Rattle.job_rows.specs.Lent.{LendsRow};
-ghost use Rattle.job_rows.specs.Slots.{first_number};
-ghost use Rattle.job_rows.specs.Rows.{first_above, without_row, HasNumber, HasRow, LacksNumber};
+ghost use Rattle.job_rows.specs.RowSlots.{first_number};
+ghost use Rattle.job_rows.specs.NumberedRows.{first_above, without_row, HasNumber, HasRow, LacksNumber};
 
 use crate::iter::Iter;
-use crate::slot::{Slot, count_up_to, let_go, place_of};
+use crate::slot::{Slot, count_up_to, let_go, position_of};
 use spool_types::{JobId, JobRow};
 use std::alloc::{AllocError, Global};
 use std::marker::Model;
@@ -22,11 +22,11 @@ pub struct Rows {
 }
 
 impl Model for Rows {
-    ghost use Rattle.job_rows.specs.Rows.{Listed};
+    ghost use Rattle.job_rows.specs.NumberedRows.{Listed};
 
     ghost Value = { Listed };
 
-    ghost use Rattle.job_rows.specs.Kept.{listed, IsKept};
+    ghost use Rattle.job_rows.specs.RowFields.{listed, IsKept};
 
     ghost view = { listed };
 
@@ -92,7 +92,7 @@ impl Rows {
         ensures found { IfSome result (λ row. HasRow self.now id row.now) }
         ensures absent { IfNone result (LacksNumber self.now.numbers id) }
     {
-        match place_of(&self.slots, id) {
+        match position_of(&self.slots, id) {
             Ok(at) => self.slots[at].row(),
             Err(_) => None,
         }
@@ -105,7 +105,7 @@ impl Rows {
         ensures* lends { sem 𝓛 (LendsRow self.entry id result) }
         ensures found { HasRow self.old id result.now }
     {
-        let Ok(at) = place_of(&self.slots, id) else {
+        let Ok(at) = position_of(&self.slots, id) else {
             unreachable!()
         };
         self.slots[at].row_mut()
@@ -119,7 +119,7 @@ impl Rows {
         ensures rows { self.new ≡ record (without_row self.old id) { room = self.new.room } }
         ensures room { self.old.room ≤ self.new.room }
     {
-        let Ok(at) = place_of(&self.slots, id) else {
+        let Ok(at) = position_of(&self.slots, id) else {
             unreachable!()
         };
         let row = self.slots[at].take();

@@ -3,8 +3,8 @@ ghost use Rattle.std.specs.Prelude.{◌≡◌, ◌+◌, ◌≤◌, length, map, 
 ghost use Rattle.std.specs.Borrow.{Lends, sem};
 ghost use Rattle.std.specs.FinMap as finite;
 ghost use Rattle.std.specs.Ordering.{nat_cmp};
-ghost use Rattle.job_rows.specs.Places.{IsPlace, IsGap};
-ghost use Rattle.job_rows.specs.Slots.{IsParted, number_of, row_of, slot_entry, held, numbers, gone_count, EndsHeld};
+ghost use Rattle.job_rows.specs.RowPositions.{IsPosition, IsGap};
+ghost use Rattle.job_rows.specs.RowSlots.{IsParted, number_of, row_of, slot_entry, held, numbers, gone_count, EndsHeld};
 
 use spool_types::{JobId, JobRow};
 use std::mem;
@@ -83,9 +83,9 @@ fn own_number(row: &JobRow) -> JobId
 }
 
 // Where the slot of this number stands, or would go.
-pub(crate) fn place_of(slots: &[Slot], id: JobId) -> Result<usize, usize>
+pub(crate) fn position_of(slots: &[Slot], id: JobId) -> Result<usize, usize>
     requires { IsTrue (finite.is_sorted nat_cmp (map slot_entry slots.now)) }
-    ensures found { IfOk result (IsPlace nat_cmp number_of slots.now id) }
+    ensures found { IfOk result (IsPosition nat_cmp number_of slots.now id) }
     ensures absent { IfErr result (IsGap nat_cmp number_of slots.now id) }
 {
     slots.binary_search_by_key(&id, |slot| slot.number())

@@ -8,7 +8,7 @@ use Rattle.std.specs.Ordering.{ordering_reverse, is_lt, is_eq, eq_by_cmp}
 use Rattle.std.specs.Cmp.{IsTotalOrder, tied_itself}
 use Rattle.std.specs.FinMap as finite
 use Rattle.std.specs.FinMap.Entries.{find, put, is_sorted, below_all, by_order}
-use Rattle.job_rows.specs.Places.{IsGap}
+use Rattle.job_rows.specs.RowPositions.{IsGap}
 use Rattle.job_table.specs.Loading.{IsAbove}
 use Rattle.job_table.proofs.Changes.{apart}
 use Rattle.job_table.proofs.Rows.{t_from, first_of, second_of, less_from}

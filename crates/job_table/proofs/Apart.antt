@@ -17,7 +17,7 @@ use Rattle.spool_types.specs.Sent.{sent, sent_by, sent_to}
 use Rattle.spool_types.specs.State.{State, Job, nothing_in, queue_at, job_at}
 use Rattle.job_table.specs.Apart.{IsPart, own_of, rows_of, names_it, numbers_of, is_in, is_about, events_of, whole_table, own_table, is_own_event, is_own, is_own_job, own_events, if_own}
 use Rattle.job_table.specs.Ended.{IsAbout, subject}
-use Rattle.job_table.specs.Fold.{after_one, after_all, accepted, if_accepted, unless_refused}
+use Rattle.job_table.specs.EventFold.{after_one, after_all, accepted, if_accepted, unless_refused}
 use Rattle.job_table.specs.Legal.{IsLegal}
 use Rattle.job_table.specs.Shapes.{Change, NewQueueRow, OfQueue, NewJobRow, OfJob, OfBoth, WithoutJob, OfClock, OfAll, IsOfOne, subject_of, causes_of, lacks_purge}
 use Rattle.job_table.specs.Step.{row, change_by, first_cause, refusal_of, answer_to, unless_refused_reply}

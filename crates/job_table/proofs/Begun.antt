@@ -12,13 +12,13 @@ use Rattle.std.proofs.lemmas.Bool.Decides.{nat_tests}
 use Rattle.std.proofs.lemmas.List.{get_or_default, length-map}
 use Rattle.spool_types.specs.State.{State, Job, job_of, queue_at, job_at}
 use Rattle.spool_types.specs.declared.rows.JobRow.{JobRow}
-use Rattle.job_table.specs.Drafts.{IsBlank, IsDraft, AreDrafts}
-use Rattle.job_table.specs.Lanes.{standing_of, seat, IsReseated, AreBeside}
+use Rattle.job_table.specs.LaneDrafts.{IsBlank, IsDraft, AreDrafts}
+use Rattle.job_table.specs.Lanes.{lane_state_of, seat, IsReseated, AreBeside}
 use Rattle.job_table.specs.Legal.{IsLegal}
-use Rattle.job_rows.specs.Places.{IsPlace}
-use Rattle.job_table.specs.Places.{IsNameAt}
-use Rattle.job_table.specs.declared.lane.Standing.{Standing}
-use Rattle.job_table.specs.declared.lane.Standing.TheVariants.{Ended, Processing}
+use Rattle.job_rows.specs.RowPositions.{IsPosition}
+use Rattle.job_table.specs.QueuePositions.{IsNameAt}
+use Rattle.job_table.specs.declared.lane.LaneState.{LaneState}
+use Rattle.job_table.specs.declared.lane.LaneState.TheVariants.{Ended, Processing}
 use Rattle.job_table.specs.declared.lane.draft.Draft.{Draft}
 use Rattle.job_table.proofs.Choice.{value_there, there_value}
 use Rattle.job_table.proofs.Drafts.{draft_as}
@@ -30,7 +30,7 @@ use Rattle.job_table.proofs.Tables.{map-same, needed_and_not}
 -- ## The jobs below a number
 
 -- they stand where they stand, and all others as ones that aren't there
-pub below : ℕ → (ℕ → Standing) → ℕ → Standing
+pub below : ℕ → (ℕ → LaneState) → ℕ → LaneState
 below n seats j = cond (nat_lt j n) (seats j) Ended
 
 is_below : (j n : ℕ) → j < n → nat_lt j n ≡ true
@@ -39,7 +39,7 @@ is_below j n lt = grind (arith, nat_tests)
 not_below : (j n : ℕ) → n ≤ j → nat_lt j n ≡ false
 not_below j n le = grind (arith, nat_tests)
 
-module _ (n : ℕ) (seats : ℕ → Standing) (j : ℕ) where
+module _ (n : ℕ) (seats : ℕ → LaneState) (j : ℕ) where
   pub below_there : j < n → below n seats j ≡ seats j
   unfolding below
   below_there lt = ap (λ b. cond b (seats j) Ended) (is_below j n lt)
@@ -95,7 +95,7 @@ module _ (s : State) (legal : IsLegal s) where
   entry_number : (i : ℕ) (d : ℕ × Job) → i < length entries → (get_or entries i d).1.id ≡ (get_or entries i d).0
   entry_number i d lt =
       let e = get_or entries i d in
-      let place : IsPlace nat_cmp (λ (x : ℕ × Job). x.0) entries e.0 i = record { in_range = lt; same = λ x. ap (λ (y : ℕ × Job). nat_cmp y.0 e.0) (get_or_default entries i x d lt) ∙ sym (nat_cmp_is e.0 e.0 _ refl) } in
+      let place : IsPosition nat_cmp (λ (x : ℕ × Job). x.0) entries e.0 i = record { in_range = lt; same = λ x. ap (λ (y : ℕ × Job). nat_cmp y.0 e.0) (get_or_default entries i x d lt) ∙ sym (nat_cmp_is e.0 e.0 _ refl) } in
       let found : finite.find nat_cmp e.0 entries ≡ Some e.1 =
       subst (λ fs. finite.find nat_cmp e.0 fs ≡ Some e.1) (map-same entries)
       (rows.find_place nat_cmp nat_cmp_total (λ (x : ℕ × Job). x.0) (λ (x : ℕ × Job). x.1) entries (subst (λ fs. IsTrue (finite.is_sorted nat_cmp fs)) (sym (map-same entries)) (rows.true_from _ (finite.entries_sorted s.jobs))) e.0 i d place) in
@@ -195,7 +195,7 @@ module _ (s : State) (legal : IsLegal s) where
         | inr other ↦ others_stand name j other
       ]
 
-      this_reseated : IsReseated (below begun.number (seat s r.queue)) (below (r.id + 1) (seat s r.queue)) r.id (standing_of r)
+      this_reseated : IsReseated (below begun.number (seat s r.queue)) (below (r.id + 1) (seat s r.queue)) r.id (lane_state_of r)
       this_reseated = record {
         own = below_there (r.id + 1) (seat s r.queue) r.id (omega arith) ∙ seat_here s r.queue r.id r there refl;
         others = λ j other. others_stand r.queue j other;
@@ -205,14 +205,14 @@ module _ (s : State) (legal : IsLegal s) where
         abbrev names : List (List ℕ)
         names = finite.keys s.queues
 
-        pub place_in : place < length drafts
-        place_in = subst (λ n. place < n) (sym begun.each.count) of.in_range
+        pub position_in : place < length drafts
+        position_in = subst (λ n. place < n) (sym begun.each.count) of.in_range
 
         pub own_draft : IsBegun s begun.number at r.queue (get_or drafts place d)
-        own_draft = subst (λ name. IsBegun s begun.number at name (get_or drafts place d)) of.own (begun.each.each place [] d place_in)
+        own_draft = subst (λ name. IsBegun s begun.number at name (get_or drafts place d)) of.own (begun.each.each place [] d position_in)
 
         -- no job of its queue is processing, where it is
-        pub this_alone : standing_of r ≡ Processing → (get_or drafts place d).processing ≡ None
+        pub this_alone : lane_state_of r ≡ Processing → (get_or drafts place d).processing ≡ None
         this_alone busy = none_left (get_or drafts place d).processing (λ k at_k.
             let stands : below begun.number (seat s r.queue) k ≡ Processing = own_draft.draft.lane.processing k at_k in
             elim (cases_lt k begun.number) [
@@ -224,7 +224,7 @@ module _ (s : State) (legal : IsLegal s) where
             ])
 
         -- with this job in the draft of its queue
-        pub begun_more : (new : Draft) → ((before after : ℕ → Standing) → IsDraft before (get_or drafts place d) → before r.id ≡ Ended → IsReseated before after r.id (standing_of r) → IsDraft after new)
+        pub begun_more : (new : Draft) → ((before after : ℕ → LaneState) → IsDraft before (get_or drafts place d) → before r.id ≡ Ended → IsReseated before after r.id (lane_state_of r) → IsDraft after new)
             → new.live ≤ (get_or drafts place d).live + 1 → AreBegun s (at + 1) (set drafts place new)
         begun_more new put count = record {
           number = r.id + 1;
@@ -237,7 +237,7 @@ module _ (s : State) (legal : IsLegal s) where
           ];
           behind = λ i q le in_range.
               omega (arith, numbers_rise at i q (omega (arith, le)) in_range, own_number q);
-          each = beside_set (IsBegun s begun.number at) (IsBegun s (r.id + 1) (at + 1)) names drafts place new begun.each place_in
+          each = beside_set (IsBegun s begun.number at) (IsBegun s (r.id + 1) (at + 1)) names drafts place new begun.each position_in
               (λ i name e lt other is. record {
                 draft = draft_as (below begun.number (seat s (get_or names i name))) (below (r.id + 1) (seat s (get_or names i name))) (get_or drafts i e) (elsewhere (get_or names i name) (λ same.
                     let in_names : i < length names = subst (λ n. i < n) begun.each.count lt in

@@ -13,11 +13,11 @@ use Rattle.job_table.specs.Attempts.{HasNoProcessing, busy_of}
 use Rattle.job_table.specs.Legal.{IsLegal}
 use Rattle.job_table.specs.Lanes.{seat, IsLane, AreLanes}
 use Rattle.job_table.specs.declared.lane.Lane.{Lane}
-use Rattle.job_table.specs.declared.lane.Standing.TheVariants.{Processing}
+use Rattle.job_table.specs.declared.lane.LaneState.TheVariants.{Processing}
 use Rattle.job_table.proofs.Choice.{value_there, there_value, passing}
 use Rattle.job_table.proofs.Names.{name_there}
 use Rattle.job_table.proofs.Next.{found, unfound}
-use Rattle.job_table.proofs.Seats.{seat_here, seat_found, processing_phase, processing_standing}
+use Rattle.job_table.proofs.Seats.{seat_here, seat_found, processing_phase, processing_state}
 
 abbrev pub is_busy_of : List ℕ → Job → Bool
 is_busy_of name r = is_of name r && is_processing r.phase
@@ -31,7 +31,7 @@ module _ (s : State) (legal : IsLegal s) (name : List ℕ) where
     pub lane_found : (r : Job) → Contains jobs r → is_busy_of name r ≡ true → lane.processing ≡ Some r.id
     lane_found r there busy =
         let parts = and_parts (is_of name r) (is_processing r.phase) busy in
-        is.found r.id (seat_here s name r.id r (there_value s legal r there) ((bytes_decides r.queue name).0 parts.0) ∙ processing_standing r r.phase parts.1)
+        is.found r.id (seat_here s name r.id r (there_value s legal r there) ((bytes_decides r.queue name).0 parts.0) ∙ processing_state r r.phase parts.1)
 
     pub found_lane : (k : ℕ) → lane.processing ≡ Some k → (r : Job) × Contains jobs r × (is_busy_of name r ≡ true)
     found_lane k at =
@@ -82,7 +82,7 @@ module _ (s : State) (legal : IsLegal s) (v : ℕ) (lanes : List Lane) (are : Ar
       let within : place.0 < length lanes = subst (λ n. place.0 < n) (sym are.count) place.1 in
       let d = some_lane lanes place.0 within in
       let own : IsLane (seat s r.queue) (get_or lanes place.0 d) = subst (λ name. IsLane (seat s name) (get_or lanes place.0 d)) place.2 (are.each place.0 r.queue d within).lane in
-      let taken : (get_or lanes place.0 d).processing ≡ Some j = own.found j (seat_here s r.queue j r there refl ∙ processing_standing r r.phase busy) in
+      let taken : (get_or lanes place.0 d).processing ≡ Some j = own.found j (seat_here s r.queue j r there refl ∙ processing_state r r.phase busy) in
       both_ways _ none (list_any_at is_taken lanes place.0 d within (ap is_some taken)))
 
   pub some_taken : list_any is_taken lanes ≡ true → ¬ (HasNoProcessing s)

@@ -12,7 +12,7 @@ use Rattle.spool_types.specs.declared.phase.Phase.{Phase}
 use Rattle.spool_types.specs.declared.phase.Phase.TheVariants.{Incoming, Waiting, Processing, Completed, Canceled, Aborted}
 use Rattle.spool_types.specs.Phases.{has_ended, is_processing, is_waiting}
 use Rattle.spool_types.specs.State.{State, Job, Jobs, Queues, job_at}
-use Rattle.job_table.specs.Changes.{ended, is_passed, is_late, at_moment, change_found, change_job, change_jobs, at_clock}
+use Rattle.job_table.specs.EventChanges.{ended, is_passed, is_late, at_moment, change_found, change_job, change_jobs, at_clock}
 use Rattle.job_table.specs.Legal.{IsLegal, IsLegalJob}
 use Rattle.job_table.proofs.Changes.{same_number}
 

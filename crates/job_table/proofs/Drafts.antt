@@ -7,13 +7,13 @@ use Rattle.std.proofs.lemmas.List.{length-append, get_or_append_left, get_or_pus
 use Rattle.std.proofs.lemmas.List.Quantifiers.{all_pairs_push}
 use Rattle.std.proofs.lemmas.List.Elements.{Contains-append_left, Contains-get_or, Contains-push, Contains-push_cases}
 use Rattle.spool_types.specs.State.{State}
-use Rattle.queue_sched.specs.Index.{Waits, HasEachOnce}
+use Rattle.queue_sched.specs.WaitingIndex.{Waits, HasEachOnce}
 use Rattle.queue_sched.specs.declared.entry.Entry.{Entry}
-use Rattle.job_table.specs.Drafts.{drafted, IsBlank, IsDraft, AreDrafts}
+use Rattle.job_table.specs.LaneDrafts.{drafted, IsBlank, IsDraft, AreDrafts}
 use Rattle.job_table.specs.Lanes.{seat, IsLane, IsAdvanced, IsReseated, AreBeside, IsLaneOf, AreLanes}
 use Rattle.job_table.specs.declared.lane.Lane.{Lane}
-use Rattle.job_table.specs.declared.lane.Standing.{Standing}
-use Rattle.job_table.specs.declared.lane.Standing.TheVariants.{Ended, Incoming, Waiting, Processing}
+use Rattle.job_table.specs.declared.lane.LaneState.{LaneState}
+use Rattle.job_table.specs.declared.lane.LaneState.TheVariants.{Ended, Incoming, Waiting, Processing}
 use Rattle.job_table.specs.declared.lane.draft.Draft.{Draft}
 use Rattle.job_table.proofs.Lanes.{empty_lane, lane_with, lacks, left_ended, put_incoming, put_processing, put_waiting}
 use Rattle.job_table.proofs.Seats.{lane_as}
@@ -41,7 +41,7 @@ pushed es e f = (
   ],
 )
 
-module _ (old new : ℕ → Standing) (j : ℕ) (d : Draft) (is : IsDraft old d) (was : old j ≡ Ended) (to : Standing) (seated : IsReseated old new j to) where
+module _ (old new : ℕ → LaneState) (j : ℕ) (d : Draft) (is : IsDraft old d) (was : old j ≡ Ended) (to : LaneState) (seated : IsReseated old new j to) where
   -- with room for one job more
   abbrev roomy : Lane
   roomy = record (drafted d) { index = record { items = d.waiting.items; moment = 0; room = d.live + 1 }; reserved = d.live + 1 }
@@ -68,7 +68,7 @@ module _ (old new : ℕ → Standing) (j : ℕ) (d : Draft) (is : IsDraft old d)
   }
 
 -- the draft goes by where the jobs stand
-pub draft_as : (old new : ℕ → Standing) (d : Draft) → ((k : ℕ) → new k ≡ old k) → IsDraft old d → IsDraft new d
+pub draft_as : (old new : ℕ → LaneState) (d : Draft) → ((k : ℕ) → new k ≡ old k) → IsDraft old d → IsDraft new d
 draft_as old new d same is = record { lane = lane_as old new (drafted d) same is.lane; once = is.once }
 
 -- ## The lane that it becomes

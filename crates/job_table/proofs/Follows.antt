@@ -1,7 +1,7 @@
 -- What an event may make of a job.
 use Rattle.std.proofs.Common.{◌≡◌, ◌⊎◌, inl, inr, ℕ, ◌<◌, List, Some, None, Option, IsTrue, refl, arith}
 use Rattle.job_table.specs.Attempts.{next_stage, ruled}
-use Rattle.job_table.specs.Changes.{closed}
+use Rattle.job_table.specs.EventChanges.{closed}
 use Rattle.job_table.specs.Stages.{IsUpTo}
 use Rattle.spool_types.specs.declared.event.Closing.{Closing}
 use Rattle.spool_types.specs.declared.phase.Hold.{Hold as Held}

@@ -11,10 +11,10 @@ use Rattle.spool_types.specs.declared.event.Event.{Event}
 use Rattle.spool_types.specs.declared.event.Event.TheVariants.{Purge}
 use Rattle.spool_types.specs.declared.event.Reply.{Reply}
 use Rattle.spool_types.specs.declared.rows.QueueRow.{QueueRow}
-use Rattle.job_table.specs.Changes.{new_job}
+use Rattle.job_table.specs.EventChanges.{new_job}
 use Rattle.job_table.specs.Contents.{Contents, Room, HasRoom}
 use Rattle.job_table.specs.Ended.{IsAbout, subject}
-use Rattle.job_table.specs.Held.{IsInLanes}
+use Rattle.job_table.specs.TableInvariant.{IsInLanes}
 use Rattle.job_table.specs.Lanes.{AreLanes}
 use Rattle.job_table.specs.Legal.{IsLegal}
 use Rattle.job_table.specs.RowChanges.{WritesRows, IsOfRows}

@@ -9,17 +9,17 @@ use Rattle.spool_types.specs.Busy.{is_of, is_busy}
 use Rattle.spool_types.specs.Phases.{is_waiting}
 use Rattle.spool_types.specs.State.{State, Job, job_at, queue_at}
 use Rattle.spool_types.specs.declared.rows.QueueRow.{QueueRow}
-use Rattle.queue_sched.specs.Index.{Waits, entry_of, IsIndexOf, IsFirstStartable, NoneIsStartable}
+use Rattle.queue_sched.specs.WaitingIndex.{Waits, entry_of, IsIndexOf, IsFirstStartable, NoneIsStartable}
 use Rattle.queue_sched.specs.Next.{is_free, is_eligible, is_ready_of, IsNextJob}
 use Rattle.queue_sched.specs.declared.entry.Entry.{Entry}
 use Rattle.job_table.specs.Legal.{IsLegal}
 use Rattle.job_table.specs.Lanes.{seat, IsLane}
 use Rattle.job_table.specs.declared.lane.Lane.{Lane}
-use Rattle.job_table.specs.declared.lane.Standing.TheVariants.{Waiting}
+use Rattle.job_table.specs.declared.lane.LaneState.TheVariants.{Waiting}
 use Rattle.job_table.proofs.Changes.{some_same, not_both}
 use Rattle.job_table.proofs.Busy.{is_busy_of, lane_found, found_lane}
 use Rattle.job_table.proofs.Choice.{value_there, there_value, passing}
-use Rattle.job_table.proofs.Seats.{seat_here, seat_found, waiting_phase, waiting_standing}
+use Rattle.job_table.proofs.Seats.{seat_here, seat_found, waiting_phase, waiting_state}
 
 module _ (s : State) (legal : IsLegal s) (name : List ℕ) (lane : Lane) (is : IsLane (seat s name) lane) where
   abbrev jobs : List Job
@@ -34,7 +34,7 @@ module _ (s : State) (legal : IsLegal s) (name : List ℕ) (lane : Lane) (is : I
     each = λ r there waiting.
         let parts = and_parts (is_of name r) (is_waiting r.phase) waiting in
         let at = there_value s legal r there in
-        (is.listed r.id (entry_of r) (seat_here s name r.id r at ((bytes_decides r.queue name).0 parts.0) ∙ waiting_standing r r.phase parts.1)).1;
+        (is.listed r.id (entry_of r) (seat_here s name r.id r at ((bytes_decides r.queue name).0 parts.0) ∙ waiting_state r r.phase parts.1)).1;
   }
 
   idle : lane.processing ≡ None → is_busy jobs name ≡ false

@@ -5,11 +5,11 @@ use Rattle.std.specs.List.{Contains, AllPairs, AllByRecursion}
 use Rattle.std.proofs.lemmas.Bool.{both_ways, cases_eq}
 use Rattle.std.proofs.lemmas.List.{length-map, length-set, get_or-set_same, get_or-set_other}
 use Rattle.std.proofs.lemmas.List.Elements.{Contains-get_or}
-use Rattle.queue_sched.specs.Index.{Waits, InOrder, goes_before, LacksJob}
+use Rattle.queue_sched.specs.WaitingIndex.{Waits, InOrder, goes_before, LacksJob}
 use Rattle.queue_sched.specs.declared.entry.Entry.{Entry}
 use Rattle.job_table.specs.declared.lane.Lane.{Lane}
-use Rattle.job_table.specs.declared.lane.Standing.{Standing}
-use Rattle.job_table.specs.declared.lane.Standing.TheVariants.{Ended, Incoming, Waiting, Processing}
+use Rattle.job_table.specs.declared.lane.LaneState.{LaneState}
+use Rattle.job_table.specs.declared.lane.LaneState.TheVariants.{Ended, Incoming, Waiting, Processing}
 use Rattle.job_table.specs.Lanes.{is_live, AllDiffer, AtMost, AtMostLive, IsLane, IsReseated, IsSameLane}
 
 -- ## Numbers that differ
@@ -112,17 +112,17 @@ module _ (p q : ℕ → Bool) (j n : ℕ) (most : AtMost p n) (others : (k : ℕ
 
 -- ## How many jobs haven't ended
 
-live_waiting : (to : Standing) (e : Entry) → to ≡ Waiting e → is_live to ≡ true
+live_waiting : (to : LaneState) (e : Entry) → to ≡ Waiting e → is_live to ≡ true
 live_waiting to e is = ap is_live is
 
-ended_and_live : (to : Standing) → to ≡ Ended → is_live to ≡ true → ⊥
+ended_and_live : (to : LaneState) → to ≡ Ended → is_live to ≡ true → ⊥
 ended_and_live to is live = (let no : false ≡ true = sym (ap is_live is) ∙ live in absurd (cc))
 
-module _ (old new : ℕ → Standing) (j : ℕ) (n : ℕ) (most : AtMostLive old n) where
-  abbrev Live : (ℕ → Standing) → ℕ → Bool
+module _ (old new : ℕ → LaneState) (j : ℕ) (n : ℕ) (most : AtMostLive old n) where
+  abbrev Live : (ℕ → LaneState) → ℕ → Bool
   Live seats k = is_live (seats k)
 
-  live_others : (to : Standing) → IsReseated old new j to → (k : ℕ) → ¬ (k ≡ j) → Live new k ≡ Live old k
+  live_others : (to : LaneState) → IsReseated old new j to → (k : ℕ) → ¬ (k ≡ j) → Live new k ≡ Live old k
   live_others to seated k other = ap is_live (seated.others k other)
 
   pub one_live : is_live (old j) ≡ true → 1 ≤ n
@@ -133,7 +133,7 @@ module _ (old new : ℕ → Standing) (j : ℕ) (n : ℕ) (most : AtMostLive old
   one_live_less seated = one_less (Live old) (Live new) j n most (live_others Ended seated) (ap is_live seated.own)
 
   -- a job is put in
-  pub one_live_more : (to : Standing) → IsReseated old new j to → AtMostLive new (n + 1)
+  pub one_live_more : (to : LaneState) → IsReseated old new j to → AtMostLive new (n + 1)
   one_live_more to seated = one_more (Live old) (Live new) j n most (live_others to seated)
 
 -- ## How many stand in a list
@@ -152,7 +152,7 @@ not_before_itself e = search rules
 same_entry : (e f : Entry) → Waiting e ≡ Waiting f → e ≡ f
 same_entry e f is = cc
 
-module _ (seats : ℕ → Standing) where
+module _ (seats : ℕ → LaneState) where
   abbrev IsItem : Entry → Type 0
   IsItem e = seats e.id ≡ Waiting e
 
@@ -166,7 +166,7 @@ module _ (seats : ℕ → Standing) where
 
 -- ## A job leaves, or is put in
 
-module _ (old new : ℕ → Standing) (j : ℕ) (lane : Lane) (is : IsLane old lane) where
+module _ (old new : ℕ → LaneState) (j : ℕ) (lane : Lane) (is : IsLane old lane) where
   -- a job that waits is none that is processing, or the other way round
   apart_waiting : (k : ℕ) (e : Entry) → old k ≡ Waiting e → old k ≡ Processing → ⊥
   apart_waiting k e p q = (let no : Waiting e ≡ Processing = sym p ∙ q in absurd (cc))
@@ -186,7 +186,7 @@ module _ (old new : ℕ → Standing) (j : ℕ) (lane : Lane) (is : IsLane old l
         }
 
     -- what stands elsewhere than the job that left
-    stood : (k : ℕ) (x : Standing) → new k ≡ x → is_live x ≡ true → (¬ (k ≡ j)) × (old k ≡ x)
+    stood : (k : ℕ) (x : LaneState) → new k ≡ x → is_live x ≡ true → (¬ (k ≡ j)) × (old k ≡ x)
     stood k x at alive = elim (cases_eq k j) [
       | inl own ↦ absurd (ended_and_live x (sym at ∙ ap new own ∙ seated.own) alive)
       | inr other ↦ (other, sym (seated.others k other) ∙ at)
@@ -236,9 +236,9 @@ module _ (old new : ℕ → Standing) (j : ℕ) (lane : Lane) (is : IsLane old l
       reserved = rw room is.reserved;
     }
 
-  module _ (to : Standing) (seated : IsReseated old new j to) (was : old j ≡ Ended) where
+  module _ (to : LaneState) (seated : IsReseated old new j to) (was : old j ≡ Ended) where
     -- all that stood before stand as they did
-    stands : (k : ℕ) (x : Standing) → old k ≡ x → is_live x ≡ true → new k ≡ x
+    stands : (k : ℕ) (x : LaneState) → old k ≡ x → is_live x ≡ true → new k ≡ x
     stands k x at alive = seated.others k (λ own. ended_and_live x (sym at ∙ ap old own ∙ was) alive) ∙ at
 
     pub put_incoming : to ≡ Incoming → lane.live < lane.reserved → (n : ℕ) → n ≡ lane.live + 1 → IsLane new (record lane { live = n })
@@ -252,7 +252,7 @@ module _ (old new : ℕ → Standing) (j : ℕ) (lane : Lane) (is : IsLane old l
       reserved = is.reserved;
     }
       where
-        before : (k : ℕ) (x : Standing) → new k ≡ x → (x ≡ to → ⊥) → old k ≡ x
+        before : (k : ℕ) (x : LaneState) → new k ≡ x → (x ≡ to → ⊥) → old k ≡ x
         before k x at apart = sym (seated.others k (λ own. apart (sym at ∙ ap new own ∙ seated.own))) ∙ at
 
     pub put_processing : to ≡ Processing → lane.processing ≡ None → lane.live < lane.reserved → (n : ℕ) → n ≡ lane.live + 1 → IsLane new (record lane { processing = Some j; live = n })
@@ -322,12 +322,12 @@ module _ (old new : ℕ → Standing) (j : ℕ) (lane : Lane) (is : IsLane old l
     }
 
 -- the index has no job that stands elsewhere
-pub lacks : (seats : ℕ → Standing) (lane : Lane) (j : ℕ) → IsLane seats lane → seats j ≡ Ended → LacksJob lane.index.items j
+pub lacks : (seats : ℕ → LaneState) (lane : Lane) (j : ℕ) → IsLane seats lane → seats j ≡ Ended → LacksJob lane.index.items j
 lacks seats lane j is ended = λ e there same. (let no : Waiting e ≡ Ended = sym (is.waiting e there) ∙ ap seats same ∙ ended in absurd (cc))
 
 -- ## A lane by itself
 
-pub empty_lane : (w : Waits) → w.items ≡ [] → (seats : ℕ → Standing) → ((j : ℕ) → seats j ≡ Ended) → IsLane seats (record { index = w; processing = None; live = 0; reserved = 0 })
+pub empty_lane : (w : Waits) → w.items ≡ [] → (seats : ℕ → LaneState) → ((j : ℕ) → seats j ≡ Ended) → IsLane seats (record { index = w; processing = None; live = 0; reserved = 0 })
 empty_lane w none seats ended = record {
   waiting = λ e there. absurd (nothing e (subst (λ es. Contains es e) none there));
   listed = λ j e waits. (let no : Waiting e ≡ Ended = sym waits ∙ ended j in absurd (cc));
@@ -342,7 +342,7 @@ empty_lane w none seats ended = record {
     nothing e there = omega (arith, there.1)
 
 -- the same entries, and no less room
-pub lane_with : (lane : Lane) (w : Waits) → w.items ≡ lane.index.items → (n : ℕ) → lane.live ≤ n → n ≤ w.room → (seats : ℕ → Standing) → IsLane seats lane → IsLane seats (record lane { index = w; reserved = n })
+pub lane_with : (lane : Lane) (w : Waits) → w.items ≡ lane.index.items → (n : ℕ) → lane.live ≤ n → n ≤ w.room → (seats : ℕ → LaneState) → IsLane seats lane → IsLane seats (record lane { index = w; reserved = n })
 lane_with lane w items n live room seats is = record {
   waiting = λ e there. is.waiting e (subst (λ es. Contains es e) items there);
   listed = λ j e waits. (let there = is.listed j e waits in (there.0, subst (λ es. Contains es e) (sym items) there.1));
@@ -354,10 +354,10 @@ lane_with lane w items n live room seats is = record {
 }
 
 -- the jobs without one, which may then be put in elsewhere
-pub taken : (ℕ → Standing) → ℕ → ℕ → Standing
+pub taken : (ℕ → LaneState) → ℕ → ℕ → LaneState
 taken seats j k = elim (cases_eq k j) [ inl same ↦ Ended | inr other ↦ seats k ]
 
-pub taken_own : (seats : ℕ → Standing) (j : ℕ) → IsReseated seats (taken seats j) j Ended
+pub taken_own : (seats : ℕ → LaneState) (j : ℕ) → IsReseated seats (taken seats j) j Ended
 unfolding taken
 taken_own seats j = record { own = own (cases_eq j j); others = λ k other. others k other (cases_eq k j) }
   where
@@ -369,7 +369,7 @@ taken_own seats j = record { own = own (cases_eq j j); others = λ k other. othe
     others k other (inl same) = absurd (other same)
     others k other (inr apart) = refl
 
-pub put_back : (old new : ℕ → Standing) (j : ℕ) (to : Standing) → IsReseated old new j to → IsReseated (taken old j) new j to
+pub put_back : (old new : ℕ → LaneState) (j : ℕ) (to : LaneState) → IsReseated old new j to → IsReseated (taken old j) new j to
 put_back old new j to seated = record { own = seated.own; others = λ k other. seated.others k other ∙ sym ((taken_own old j).others k other) }
 
 -- ## A list whose elements change one after another

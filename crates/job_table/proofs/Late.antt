@@ -10,7 +10,7 @@ use Rattle.spool_types.specs.declared.refusal.Refusal.TheVariants.{NoJob, JobEnd
 use Rattle.spool_types.specs.Phases.{has_ended, is_waiting}
 use Rattle.spool_types.specs.State.{State, Job, job_at}
 use Rattle.queue_sched.specs.declared.deadlines.Deadline.{Deadline}
-use Rattle.job_table.specs.Changes.{at_moment, change_found, change_jobs, ended, is_late}
+use Rattle.job_table.specs.EventChanges.{at_moment, change_found, change_jobs, ended, is_late}
 use Rattle.job_table.specs.Legal.{IsLegal}
 use Rattle.job_table.specs.Over.{is_over, is_over_by}
 use Rattle.job_table.specs.Shapes.{passes}

@@ -12,10 +12,10 @@ use Rattle.spool_types.specs.declared.version.Version.{Version}
 use Rattle.spool_types.specs.declared.listing.Head.{Head}
 use Rattle.spool_types.specs.declared.listing.Row.{Row}
 use Rattle.spool_types.specs.declared.listing.Row.TheVariants.{Head as HeadRow, Queue, Job as JobRow, Piece}
-use Rattle.job_table.specs.Documents.{document_len}
+use Rattle.job_table.specs.DocumentLengths.{document_len}
 use Rattle.job_table.specs.Legal.{IsLegal}
 use Rattle.job_table.specs.Loading.{Part, Progress, begin_loading, begun_part, headed, with_queue, with_job, with_piece, with_last, with_next_piece, loaded, IsNewJob, IsNextQueue, IsNextPiece, IsPieceOf, IsPlaced}
-use Rattle.job_table.specs.Reading.{IsPartial, IsPartialIn, IsFresh, IsReading, IsGrown, part_of}
+use Rattle.job_table.specs.LoadingFields.{IsPartial, IsPartialIn, IsFresh, IsReading, IsGrown, part_of}
 use Rattle.job_table.specs.declared.loading.Partial.{Partial}
 use Rattle.job_table.proofs.Changes.{apart, some_same, one_more, legal_queue, legal_put}
 use Rattle.job_table.proofs.Legal.{legal_nothing}

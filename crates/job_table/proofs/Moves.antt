@@ -11,8 +11,8 @@ use Rattle.backend_codes.specs.declared.verdicts.Verdict.{Verdict}
 use Rattle.backend_codes.specs.declared.verdicts.Verdict.TheVariants as verdicts
 use Rattle.spool_types.specs.declared.effect.Effect.{Effect}
 use Rattle.job_table.specs.Attempts.{ruled, with_pages, with_effects, rule_by, rule_found, stops_queue}
-use Rattle.job_table.specs.Changes.{with_stopped, change_found, change_job, change_found_queue, change_queue, change_own_queue}
-use Rattle.row_effects.specs.Fold.{queue_after}
+use Rattle.job_table.specs.EventChanges.{with_stopped, change_found, change_job, change_found_queue, change_queue, change_own_queue}
+use Rattle.row_effects.specs.EffectFold.{queue_after}
 use Rattle.job_table.specs.Ended.{subject}
 use Rattle.job_table.specs.Legal.{IsLegal}
 use Rattle.job_table.specs.Shapes.{Change, NewQueueRow, OfQueue, NewJobRow, OfJob, OfBoth, WithoutJob, OfClock, OfAll, subject_of, made}

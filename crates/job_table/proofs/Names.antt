@@ -14,8 +14,8 @@ use Rattle.std.proofs.lemmas.Map.Lookups.{exact_bytes}
 use Rattle.std.proofs.lemmas.Map.Views.{tells_apart}
 use Rattle.spool_types.specs.State.{State, queue_at}
 use Rattle.spool_types.specs.declared.rows.QueueRow.{QueueRow}
-use Rattle.job_table.specs.Places.{IsNameAt, IsNameGap}
-use Rattle.job_table.specs.Rows.{queue_entry}
+use Rattle.job_table.specs.QueuePositions.{IsNameAt, IsNameGap}
+use Rattle.job_table.specs.TableRows.{queue_entry}
 use Rattle.job_table.proofs.Choice.{passing}
 use Rattle.job_table.proofs.Rows as rows
 use Rattle.job_table.proofs.Tables.{IsQueuePlace, IsQueueGap, queues_of, keys_queues, get_no_queue, insert_queue, sorted_insert_queue}

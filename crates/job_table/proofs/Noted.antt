@@ -6,7 +6,7 @@ use Rattle.std.specs.FinMap as finite
 use Rattle.extents.specs.declared.extent.Extent.{Extent}
 use Rattle.job_table.specs.Contents.{places_of}
 use Rattle.job_table.specs.Noted.{new_entry, new_spare, spare_entry}
-use Rattle.job_rows.specs.Places.{IsPlace, IsGap}
+use Rattle.job_rows.specs.RowPositions.{IsPosition, IsGap}
 use Rattle.job_table.specs.declared.new_places.NewDocument.{NewDocument}
 use Rattle.job_table.proofs.Changes.{same_itself, same_number}
 use Rattle.job_table.proofs.Rows as rows
@@ -34,7 +34,7 @@ module _ (ds : List NewDocument) (sorted : IsTrue (finite.is_sorted nat_cmp (map
   pub no_spare : (j at : ℕ) → IsGap nat_cmp (λ (d : NewDocument). d.job) ds j at → unwrap_or (finite.find nat_cmp j (map spare_entry ds)) 0 ≡ 0
   no_spare j at gap = ap (λ o. unwrap_or o 0) (rows.find_gap nat_cmp nat_cmp_total (λ (d : NewDocument). d.job) new_spare ds j at gap)
 
-  module _ (j at : ℕ) (old : NewDocument) (is_old : old ≡ get_or ds at old) (place : IsPlace nat_cmp (λ (d : NewDocument). d.job) ds j at) where
+  module _ (j at : ℕ) (old : NewDocument) (is_old : old ≡ get_or ds at old) (place : IsPosition nat_cmp (λ (d : NewDocument). d.job) ds j at) where
     pub items_there : places_of (map new_entry ds) j ≡ old.extents.items
     items_there =
         ap (λ o. unwrap_or o []) (rows.find_place nat_cmp nat_cmp_total (λ (d : NewDocument). d.job) (λ (d : NewDocument). d.extents.items) ds sorted j at old place)

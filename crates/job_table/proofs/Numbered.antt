@@ -15,8 +15,8 @@ use Rattle.std.proofs.lemmas.Option.{slice_get_within, get_or_from_slice_get}
 use Rattle.spool_types.specs.Limits.{greatest_number}
 use Rattle.spool_types.specs.declared.rows.JobRow.{JobRow}
 use Rattle.spool_types.specs.State.{Job, job_of}
-use Rattle.job_rows.specs.Rows.{Listed, place_in, HasNumber, HasRow, LacksNumber}
-use Rattle.job_table.specs.Rows.{job_entry}
+use Rattle.job_rows.specs.NumberedRows.{Listed, position_in, HasNumber, HasRow, LacksNumber}
+use Rattle.job_table.specs.TableRows.{job_entry}
 use Rattle.job_table.proofs.Changes.{same_number}
 use Rattle.job_table.proofs.Rows.{t_from, true_from, second_of, rise}
 use Rattle.job_table.proofs.Tables.{IsJobPlace, IsJobGap, get_job, get_no_job, find_job, jobs_of}
@@ -100,7 +100,7 @@ found_numbered : (rs : List JobRow) (j : ℕ) (r : Job) → finite.find nat_cmp 
 found_numbered [] j r there = absurd (cc)
 found_numbered (x ∷ rs) j r there = either (x.job.id == j) refl (λ later. found_numbered rs j r later)
   where
-    either : (b : Bool) → (x.job.id == j) ≡ b → (finite.find nat_cmp j (map job_entry rs) ≡ Some r → HasNumber (numbers_of rs) j) → cond b 0 (suc (place_in (numbers_of rs) j)) < suc (length (numbers_of rs))
+    either : (b : Bool) → (x.job.id == j) ≡ b → (finite.find nat_cmp j (map job_entry rs) ≡ Some r → HasNumber (numbers_of rs) j) → cond b 0 (suc (position_in (numbers_of rs) j)) < suc (length (numbers_of rs))
     either true here later = omega arith
     either false other later =
         let rest = later (ap (λ b. cond b (Some (job_of x)) (finite.find nat_cmp j (map job_entry rs))) (sym (other_there x.job.id j other)) ∙ there) in
@@ -125,16 +125,16 @@ module _ (rows : Listed) (own : rows.numbers ≡ numbers_of rows.items) (sorted 
   number_at at d lt = ap (λ ns. get_or ns at 0) own ∙ get_or-map (λ (r : JobRow). r.job.id) rows.items at d 0 lt
 
   -- the row that was found stands at the place of its number
-  pub row_place : (j : ℕ) (row : JobRow) → HasRow rows j row → IsJobPlace rows.items j (place_in rows.numbers j)
+  pub row_place : (j : ℕ) (row : JobRow) → HasRow rows j row → IsJobPlace rows.items j (position_in rows.numbers j)
   row_place j row found =
-      let within : place_in rows.numbers j < length rows.items = subst (λ n. place_in rows.numbers j < n) as_many found.place.in_range in
+      let within : position_in rows.numbers j < length rows.items = subst (λ n. position_in rows.numbers j < n) as_many found.place.in_range in
       record {
         in_range = within;
-        same = λ d. ap (λ n. nat_cmp n j) (sym (number_at (place_in rows.numbers j) d within)) ∙ found.place.same 0;
+        same = λ d. ap (λ n. nat_cmp n j) (sym (number_at (position_in rows.numbers j) d within)) ∙ found.place.same 0;
       }
 
   pub row_there : (j : ℕ) (row : JobRow) → HasRow rows j row → finite.get (jobs_of rows.items) j ≡ Some (job_of row)
-  row_there j row found = get_job rows.items sorted j (place_in rows.numbers j) row (row_place j row found) ∙ ap (λ r. Some (job_of r)) found.is
+  row_there j row found = get_job rows.items sorted j (position_in rows.numbers j) row (row_place j row found) ∙ ap (λ r. Some (job_of r)) found.is
 
   -- where the number is lacking there is no job
   pub no_row : (j : ℕ) → LacksNumber rows.numbers j → finite.get (jobs_of rows.items) j ≡ None
@@ -156,19 +156,19 @@ abbrev pub numbers_left : Option ℕ → ℕ
 numbers_left None = 0
 numbers_left (Some n) = greatest_number + 2 - n
 
-place_is : (rs : List JobRow) → IsTrue (finite.is_sorted nat_cmp (map job_entry rs)) → (at n : ℕ) → slice_get (numbers_of rs) at ≡ Some n → place_in (numbers_of rs) n ≡ at
+place_is : (rs : List JobRow) → IsTrue (finite.is_sorted nat_cmp (map job_entry rs)) → (at n : ℕ) → slice_get (numbers_of rs) at ≡ Some n → position_in (numbers_of rs) n ≡ at
 place_is [] sorted at n is = absurd (cc)
-place_is (r ∷ rs) sorted zero n is = ap (λ b. cond b 0 (suc (place_in (numbers_of rs) n))) (let same : r.job.id ≡ n = cc in same_yes r.job.id n same)
+place_is (r ∷ rs) sorted zero n is = ap (λ b. cond b 0 (suc (position_in (numbers_of rs) n))) (let same : r.job.id ≡ n = cc in same_yes r.job.id n same)
 place_is (r ∷ rs) sorted (suc at) n is =
     let within : at < length rs = subst (λ k. at < k) (length-map rs (λ (x : JobRow). x.job.id)) (slice_get_within (numbers_of rs) at n is) in
     let own : (get_or rs at r).job.id ≡ n = sym (get_or-map (λ (x : JobRow). x.job.id) rs at r 0 within) ∙ get_or_from_slice_get (numbers_of rs) at n 0 is in
     let less = rise nat_cmp nat_cmp_total (λ (x : JobRow). x.job.id) job_of (r ∷ rs) (t_from _ sorted) 0 (suc at) r (omega arith) (omega arith) in
-    ap (λ b. cond b 0 (suc (place_in (numbers_of rs) n))) (lower_no r.job.id n (subst (λ k. nat_cmp r.job.id k ≡ Less) own less))
+    ap (λ b. cond b 0 (suc (position_in (numbers_of rs) n))) (lower_no r.job.id n (subst (λ k. nat_cmp r.job.id k ≡ Less) own less))
     ∙ ap suc (place_is rs (true_from _ (second_of _ _ (t_from _ sorted))) at n is)
 
 -- the place of a number that was reached
-pub place_reached : (rows : Listed) → rows.numbers ≡ numbers_of rows.items → IsTrue (finite.is_sorted nat_cmp (map job_entry rows.items)) → (at n : ℕ) → slice_get rows.numbers at ≡ Some n → place_in rows.numbers n ≡ at
-place_reached rows own sorted at n is = ap (λ ns. place_in ns n) own ∙ place_is rows.items sorted at n (ap (λ ns. slice_get ns at) (sym own) ∙ is)
+pub place_reached : (rows : Listed) → rows.numbers ≡ numbers_of rows.items → IsTrue (finite.is_sorted nat_cmp (map job_entry rows.items)) → (at n : ℕ) → slice_get rows.numbers at ≡ Some n → position_in rows.numbers n ≡ at
+place_reached rows own sorted at n is = ap (λ ns. position_in ns n) own ∙ place_is rows.items sorted at n (ap (λ ns. slice_get ns at) (sym own) ∙ is)
 
 -- the rows that were reached: they have the numbers of the first ones, and some of them were written anew
 module _ (first : Listed) (own : first.numbers ≡ numbers_of first.items) (sorted : IsTrue (finite.is_sorted nat_cmp (map job_entry first.items))) where
@@ -176,13 +176,13 @@ module _ (first : Listed) (own : first.numbers ≡ numbers_of first.items) (sort
   within_reach at n is = subst (λ p. p < length first.numbers) (sym (place_reached first own sorted at n is)) (slice_get_within first.numbers at n is)
 
   pub record IsReached (rows : Listed) (at n : ℕ) (row : JobRow) : Type 0 where
-    pub place : place_in rows.numbers n ≡ at
+    pub place : position_in rows.numbers n ≡ at
     pub within : at < length first.items
     pub is : get_or rows.items at row ≡ row
 
   pub reached_row : (rows : Listed) → rows ≡ record first { items = rows.items } → (at n : ℕ) → slice_get first.numbers at ≡ Some n → (row : JobRow) → HasRow rows n row → IsReached rows at n row
   reached_row rows same at n is row found =
-      let place : place_in rows.numbers n ≡ at = ap (λ (r : Listed). place_in r.numbers n) same ∙ place_reached first own sorted at n is in
+      let place : position_in rows.numbers n ≡ at = ap (λ (r : Listed). position_in r.numbers n) same ∙ place_reached first own sorted at n is in
       record {
         place = place;
         within = subst (λ k. at < k) (as_many first own sorted) (slice_get_within first.numbers at n is);

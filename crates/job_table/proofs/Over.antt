@@ -13,7 +13,7 @@ use Rattle.spool_types.specs.declared.refusal.Refusal.TheVariants.{NoJob, JobEnd
 use Rattle.spool_types.specs.State.{State, Job, job_at}
 use Rattle.job_table.specs.Attempts.{lost_by, lose_attempt, rule_found, is_processing_at}
 use Rattle.job_table.specs.Ended.{subject}
-use Rattle.job_table.specs.Fold.{after_all, after_one, unless_refused}
+use Rattle.job_table.specs.EventFold.{after_all, after_one, unless_refused}
 use Rattle.job_table.specs.Legal.{IsLegal}
 use Rattle.job_table.specs.Over.{is_over_by, is_over, IsOver, late_refusal}
 use Rattle.job_table.specs.Shapes.{Change, NewQueueRow, OfQueue, NewJobRow, OfJob, OfBoth, WithoutJob, OfClock, OfAll, subject_of, causes_of, made, where_it}

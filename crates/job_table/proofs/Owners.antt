@@ -11,7 +11,7 @@ use Rattle.std.proofs.lemmas.Bool.{and_parts, or_cases, false_from_ne_true}
 use Rattle.std.proofs.lemmas.Bool.Decides.{nat_tests}
 use Rattle.std.proofs.lemmas.List.Folds.{list_any-append}
 use Rattle.backend_codes.specs.declared.verdicts.Verdict.{Verdict}
-use Rattle.row_effects.specs.Fold.{queue_after}
+use Rattle.row_effects.specs.EffectFold.{queue_after}
 use Rattle.spool_types.specs.declared.effect.Effect.{Effect}
 use Rattle.spool_types.specs.declared.event.Event.{Event}
 use Rattle.spool_types.specs.declared.refusal.Refusal.{Refusal}
@@ -21,8 +21,8 @@ use Rattle.spool_types.specs.Busy.{is_of}
 use Rattle.spool_types.specs.State.{State, Job, nothing_in, queue_at, job_at}
 use Rattle.job_table.specs.Apart.{whole_table, is_own_event, names_it, job_made, with_number, numbers_of, is_in, is_about, events_of, is_own, is_own_job, own_events, if_own}
 use Rattle.job_table.specs.Attempts.{ruled, rule_by, rule_found, lost_by, reopened, with_pages, with_effects}
-use Rattle.job_table.specs.Changes.{at_moment, at_clock, change_found, change_found_queue, change_job}
-use Rattle.job_table.specs.Fold.{after_one, after_all, accepted, if_accepted, unless_refused}
+use Rattle.job_table.specs.EventChanges.{at_moment, at_clock, change_found, change_found_queue, change_job}
+use Rattle.job_table.specs.EventFold.{after_one, after_all, accepted, if_accepted, unless_refused}
 use Rattle.job_table.specs.Legal.{IsLegal}
 use Rattle.job_table.specs.Shapes.{Change, NewQueueRow, OfQueue, NewJobRow, OfJob, OfBoth, WithoutJob, OfClock, OfAll, causes_of, made}
 use Rattle.job_table.specs.Step.{row, change_by, refusal_of, after, first_cause}

@@ -13,7 +13,7 @@ use Rattle.spool_types.specs.declared.rows.QueueRow.{QueueRow}
 use Rattle.spool_types.specs.Busy.{is_of}
 use Rattle.spool_types.specs.State.{State, Job, queue_at, job_at}
 use Rattle.job_table.specs.Apart.{IsPart, own_of, is_own_job}
-use Rattle.job_table.specs.Changes.{at_moment, at_clock, change_found, change_job, change_found_queue, change_queue}
+use Rattle.job_table.specs.EventChanges.{at_moment, at_clock, change_found, change_job, change_found_queue, change_queue}
 use Rattle.job_table.proofs.Changes.{same_number}
 use Rattle.job_table.proofs.Clocked.{at_queue, clock_job}
 

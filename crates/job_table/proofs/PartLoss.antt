@@ -13,10 +13,10 @@ use Rattle.spool_types.specs.Busy.{is_of}
 use Rattle.spool_types.specs.Phases.{is_processing}
 use Rattle.spool_types.specs.State.{State, Job, queue_at, job_at}
 use Rattle.backend_codes.specs.declared.verdicts.Verdict.{Verdict}
-use Rattle.row_effects.specs.Fold.{queue_after}
+use Rattle.row_effects.specs.EffectFold.{queue_after}
 use Rattle.job_table.specs.Apart.{IsPart, own_of, is_own_job}
 use Rattle.job_table.specs.Attempts.{ruled, rule, rule_by, rule_found, rule_at, stops_queue, lost_by, reopened, with_pages, with_effects}
-use Rattle.job_table.specs.Changes.{with_stopped, change_found, change_job, change_own_queue}
+use Rattle.job_table.specs.EventChanges.{with_stopped, change_found, change_job, change_own_queue}
 use Rattle.job_table.specs.Legal.{IsLegal}
 use Rattle.job_table.specs.Losses.{IsSameButStopped}
 use Rattle.job_table.proofs.Changes.{some_same, same_itself, changed_there, change_own_other}

@@ -20,9 +20,9 @@ use Rattle.spool_types.specs.Phases.{has_ended, is_incoming, is_processing, is_w
 use Rattle.spool_types.specs.State.{State, Job, queue_at, job_at}
 use Rattle.job_table.specs.Apart.{IsPart, own_of, names_it, is_own, is_own_job}
 use Rattle.job_table.specs.Attempts.{is_next, is_in_stage, with_effects}
-use Rattle.job_table.specs.Changes.{change_job}
+use Rattle.job_table.specs.EventChanges.{change_job}
 use Rattle.job_table.specs.Ended.{IsAbout, subject}
-use Rattle.job_table.specs.Fold.{after_one, unless_refused}
+use Rattle.job_table.specs.EventFold.{after_one, unless_refused}
 use Rattle.job_table.specs.Legal.{IsLegal}
 use Rattle.job_table.specs.Shapes.{Change, NewQueueRow, OfQueue, NewJobRow, OfJob, OfBoth, WithoutJob, OfClock, OfAll, IsOfOne, subject_of, causes_of, made, lacks_by, lacks_purge, where_it, passes, about_queue, about_job}
 use Rattle.job_table.specs.Step.{row, change_by, refusal_of, after, reply_to, answer_to, unless_refused_reply, first_cause, phase_found, size_found}

@@ -7,7 +7,7 @@ use Rattle.spool_types.specs.declared.event.Event.TheVariants.{Purge}
 use Rattle.spool_types.specs.declared.refusal.Refusal.{Refusal}
 use Rattle.spool_types.specs.State.{State, Job, job_at}
 use Rattle.job_table.specs.Ended.{HasEndedJob, IsKeptOrPurged}
-use Rattle.job_table.specs.Fold.{after_all, after_one, accepted, if_accepted, unless_refused}
+use Rattle.job_table.specs.EventFold.{after_all, after_one, accepted, if_accepted, unless_refused}
 use Rattle.job_table.specs.Legal.{IsLegal}
 use Rattle.job_table.specs.Shapes.{WithoutJob, made}
 use Rattle.job_table.specs.Step.{change_by, refusal_of, after}

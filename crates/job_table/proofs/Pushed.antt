@@ -12,12 +12,12 @@ use Rattle.std.specs.FinMap as finite
 use Rattle.spool_types.specs.declared.rows.QueueRow.{QueueRow}
 use Rattle.spool_types.specs.declared.rows.JobRow.{JobRow}
 use Rattle.spool_types.specs.State.{job_of}
-use Rattle.job_rows.specs.Rows.{Listed}
+use Rattle.job_rows.specs.NumberedRows.{Listed}
 use Rattle.job_table.specs.Contents.{places_at, places_of}
 use Rattle.job_table.specs.Legal.{IsLegal}
 use Rattle.job_table.specs.Loading.{IsAbove, with_queue, with_job}
-use Rattle.job_table.specs.Rows.{HoldsDocument, place_entry}
-use Rattle.job_table.specs.Seen.{contents_of, IsOrdered}
+use Rattle.job_table.specs.TableRows.{HoldsDocument, place_entry}
+use Rattle.job_table.specs.TableFields.{contents_of, IsOrdered}
 use Rattle.job_table.specs.declared.store.Store.TheInside.{Inside}
 use Rattle.job_table.proofs.Above.{insert_last, above_each, last_gap, absent_above}
 use Rattle.job_table.proofs.Changes.{same_number}

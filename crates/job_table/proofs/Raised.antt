@@ -12,14 +12,14 @@ use Rattle.spool_types.specs.declared.version.Version.TheVariants.{Two}
 use Rattle.spool_types.specs.Limits.{greatest_number}
 use Rattle.spool_types.specs.State.{State, Job, queue_at, job_at}
 use Rattle.backend_codes.specs.declared.verdicts.Verdict.{Verdict}
-use Rattle.row_effects.specs.Fold.{queue_after}
+use Rattle.row_effects.specs.EffectFold.{queue_after}
 use Rattle.job_table.specs.Attempts.{rule_by, rule_found, rule_at, lost_by, is_processing_at, lose_attempt, lose_attempts, reopened, with_pages, with_effects}
-use Rattle.job_table.specs.Changes.{change_found_queue, change_found, change_own_queue, change_job}
-use Rattle.job_table.specs.Fold.{after_one, after_all, unless_refused, AreAccepted}
+use Rattle.job_table.specs.EventChanges.{change_found_queue, change_found, change_own_queue, change_job}
+use Rattle.job_table.specs.EventFold.{after_one, after_all, unless_refused, AreAccepted}
 use Rattle.job_table.specs.Legal.{IsLegal}
 use Rattle.job_table.specs.Shapes.{Change, NewQueueRow, OfQueue, NewJobRow, OfJob, OfBoth, WithoutJob, OfClock, OfAll, lacks_by, lacks_purge, about_queue, where_it, causes_of, made}
 use Rattle.job_table.specs.Step.{row, change_by, refusal_of, after, reply_to, first_cause}
-use Rattle.job_table.specs.Versions.{raised}
+use Rattle.job_table.specs.TableVersions.{raised}
 use Rattle.job_table.proofs.Accepted.{none_first}
 use Rattle.job_table.proofs.Reopened.{reopened_counts}
 

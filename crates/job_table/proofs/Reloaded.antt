@@ -19,7 +19,7 @@ use Rattle.spool_types.specs.State.{State, Job, Queues, Jobs, queue_at, job_at}
 use Rattle.spool_types.specs.declared.rows.QueueRow.{QueueRow}
 use Rattle.spool_types.specs.declared.listing.Row.{Row}
 use Rattle.spool_types.specs.declared.listing.Row.TheVariants.{Head as HeadRow, Queue, Job as JobRow, Piece}
-use Rattle.job_table.specs.Documents.{document_len, AreDocuments}
+use Rattle.job_table.specs.DocumentLengths.{document_len, AreDocuments}
 use Rattle.job_table.specs.Legal.{IsLegal}
 use Rattle.job_table.specs.Listing.{listing, parts, job_rows}
 use Rattle.job_table.specs.Loading.{Part, Progress, IsAbove, begin_loading, begun_part, with_job, with_piece, with_last, loaded, IsWhole, IsNewJob, IsPlaced, ArePlaced, loaded_all}

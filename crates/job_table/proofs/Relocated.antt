@@ -12,14 +12,14 @@ use Rattle.spool_types.specs.Limits.{longest_send}
 use Rattle.spool_types.specs.Phases.{has_ended}
 use Rattle.spool_types.specs.State.{State, Job, job_of, job_at}
 use Rattle.spool_types.specs.declared.rows.JobRow.{JobRow}
-use Rattle.job_rows.specs.Rows.{Listed}
+use Rattle.job_rows.specs.NumberedRows.{Listed}
 use Rattle.job_table.specs.Contents.{Noted, HasMoves, document_room, move_room, places_at, places_of}
-use Rattle.job_table.specs.Documents.{document_len}
+use Rattle.job_table.specs.DocumentLengths.{document_len}
 use Rattle.job_table.specs.Lanes.{AreBeside}
 use Rattle.job_table.specs.Legal.{IsLegal}
 use Rattle.job_table.specs.Noted.{new_entry, new_spare, spare_entry, blank_entry, IsNewOf}
-use Rattle.job_table.specs.Rows.{job_entry, place_entry, document_entry, document_spare, HoldsDocument, HoldDocuments, HasNew, IsMoved}
-use Rattle.job_table.specs.Seen.{contents_of, IsOrdered}
+use Rattle.job_table.specs.TableRows.{job_entry, place_entry, document_entry, document_spare, HoldsDocument, HoldDocuments, HasNew, IsMoved}
+use Rattle.job_table.specs.TableFields.{contents_of, IsOrdered}
 use Rattle.job_table.specs.declared.new_places.NewDocument.{NewDocument}
 use Rattle.job_table.specs.declared.store.Store.TheInside.{Inside}
 use Rattle.job_table.proofs.Changes.{apart, some_same, same_number}

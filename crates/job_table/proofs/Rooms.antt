@@ -12,9 +12,9 @@ use Rattle.job_table.specs.Over.{is_over_by}
 use Rattle.job_table.specs.Contents.{Contents, Room, HasNoMore, places_of}
 use Rattle.extents.specs.declared.extent.Extent.{Extent}
 use Rattle.extents.specs.Extents.{size_of}
-use Rattle.job_table.specs.Documents.{document_len}
-use Rattle.job_table.specs.Rows.{document_spare, document_entry, place_entry, job_entry, IsFreed, HoldsDocument, HoldDocuments, KeepsDocument}
-use Rattle.job_rows.specs.Places.{IsPlace}
+use Rattle.job_table.specs.DocumentLengths.{document_len}
+use Rattle.job_table.specs.TableRows.{document_spare, document_entry, place_entry, job_entry, IsFreed, HoldsDocument, HoldDocuments, KeepsDocument}
+use Rattle.job_rows.specs.RowPositions.{IsPosition}
 use Rattle.job_table.proofs.Changes.{some_same, same_number}
 use Rattle.job_table.proofs.Rows as rows
 
@@ -70,7 +70,7 @@ less_unless true o = omega arith
 less_unless false o = omega arith
 
 -- what is found among rows once one is taken out
-module _ (ys : List JobRow) (sorted : IsTrue (finite.is_sorted nat_cmp (map job_entry ys))) (j at : ℕ) (place : IsPlace nat_cmp (λ (r : JobRow). r.job.id) ys j at) where
+module _ (ys : List JobRow) (sorted : IsTrue (finite.is_sorted nat_cmp (map job_entry ys))) (j at : ℕ) (place : IsPosition nat_cmp (λ (r : JobRow). r.job.id) ys j at) where
   pub room_remove : (k : ℕ) → room_among (remove ys at) k ≤ room_among ys k
   room_remove k =
       subst (λ o. unwrap_or o 0 ≤ room_among ys k)

@@ -14,17 +14,17 @@ use Rattle.spool_types.specs.declared.event.Event.{Event}
 use Rattle.spool_types.specs.declared.refusal.Refusal.TheVariants.{JobEnded}
 use Rattle.spool_types.specs.declared.phase.Phase.{Phase}
 use Rattle.spool_types.specs.declared.phase.Phase.TheVariants as phases
-use Rattle.queue_sched.specs.Index.{entry_of}
+use Rattle.queue_sched.specs.WaitingIndex.{entry_of}
 use Rattle.queue_sched.specs.declared.entry.Entry.{Entry}
 use Rattle.job_table.specs.Ended.{subject}
 use Rattle.job_table.specs.Legal.{IsLegal}
 use Rattle.job_table.specs.Shapes.{Change, NewQueueRow, OfQueue, NewJobRow, OfJob, OfBoth, WithoutJob, OfClock, OfAll, subject_of, causes_of}
 use Rattle.job_table.specs.Step.{row, change_by, first_cause, refusal_of, after}
-use Rattle.job_table.specs.Lanes.{standing_in, standing_of, seat_of, seat, is_live, live_count, IsLane, IsReseated, IsSameLane, IsAdvanced, HasSeat, AreBeside, IsLaneOf, AreLanes}
-use Rattle.job_table.specs.Places.{IsNameAt}
+use Rattle.job_table.specs.Lanes.{lane_state_in, lane_state_of, seat_of, seat, is_live, live_count, IsLane, IsReseated, IsSameLane, IsAdvanced, HasSeat, AreBeside, IsLaneOf, AreLanes}
+use Rattle.job_table.specs.QueuePositions.{IsNameAt}
 use Rattle.job_table.specs.declared.lane.Lane.{Lane}
-use Rattle.job_table.specs.declared.lane.Standing.{Standing}
-use Rattle.job_table.specs.declared.lane.Standing.TheVariants.{Ended, Waiting, Processing}
+use Rattle.job_table.specs.declared.lane.LaneState.{LaneState}
+use Rattle.job_table.specs.declared.lane.LaneState.TheVariants.{Ended, Waiting, Processing}
 use Rattle.spool_types.specs.declared.refusal.Refusal.{Refusal}
 use Rattle.job_table.proofs.Accepted.{job_found}
 use Rattle.job_table.proofs.Changes.{some_same}
@@ -36,7 +36,7 @@ use Rattle.job_table.proofs.Tables.{needed_and_not}
 
 -- ## What a standing says of the phase
 
-pub waiting_phase : (r : Job) (p : Phase) (e : Entry) → standing_in r p ≡ Waiting e → (e ≡ entry_of r) × (is_waiting p ≡ true)
+pub waiting_phase : (r : Job) (p : Phase) (e : Entry) → lane_state_in r p ≡ Waiting e → (e ≡ entry_of r) × (is_waiting p ≡ true)
 waiting_phase r (phases.Incoming hold) e is = absurd (cc)
 waiting_phase r (phases.Waiting hold not_before first) e is = (cc, refl)
 waiting_phase r (phases.Processing attempt stage stages) e is = absurd (cc)
@@ -44,15 +44,15 @@ waiting_phase r phases.Completed e is = absurd (cc)
 waiting_phase r phases.Canceled e is = absurd (cc)
 waiting_phase r (phases.Aborted reason) e is = absurd (cc)
 
-pub waiting_standing : (r : Job) (p : Phase) → is_waiting p ≡ true → standing_in r p ≡ Waiting (entry_of r)
-waiting_standing r (phases.Incoming hold) is = absurd (cc)
-waiting_standing r (phases.Waiting hold not_before first) is = refl
-waiting_standing r (phases.Processing attempt stage stages) is = absurd (cc)
-waiting_standing r phases.Completed is = absurd (cc)
-waiting_standing r phases.Canceled is = absurd (cc)
-waiting_standing r (phases.Aborted reason) is = absurd (cc)
+pub waiting_state : (r : Job) (p : Phase) → is_waiting p ≡ true → lane_state_in r p ≡ Waiting (entry_of r)
+waiting_state r (phases.Incoming hold) is = absurd (cc)
+waiting_state r (phases.Waiting hold not_before first) is = refl
+waiting_state r (phases.Processing attempt stage stages) is = absurd (cc)
+waiting_state r phases.Completed is = absurd (cc)
+waiting_state r phases.Canceled is = absurd (cc)
+waiting_state r (phases.Aborted reason) is = absurd (cc)
 
-pub processing_phase : (r : Job) (p : Phase) → standing_in r p ≡ Processing → is_processing p ≡ true
+pub processing_phase : (r : Job) (p : Phase) → lane_state_in r p ≡ Processing → is_processing p ≡ true
 processing_phase r (phases.Incoming hold) is = absurd (cc)
 processing_phase r (phases.Waiting hold not_before first) is = absurd (cc)
 processing_phase r (phases.Processing attempt stage stages) is = refl
@@ -60,15 +60,15 @@ processing_phase r phases.Completed is = absurd (cc)
 processing_phase r phases.Canceled is = absurd (cc)
 processing_phase r (phases.Aborted reason) is = absurd (cc)
 
-pub processing_standing : (r : Job) (p : Phase) → is_processing p ≡ true → standing_in r p ≡ Processing
-processing_standing r (phases.Incoming hold) is = absurd (cc)
-processing_standing r (phases.Waiting hold not_before first) is = absurd (cc)
-processing_standing r (phases.Processing attempt stage stages) is = refl
-processing_standing r phases.Completed is = absurd (cc)
-processing_standing r phases.Canceled is = absurd (cc)
-processing_standing r (phases.Aborted reason) is = absurd (cc)
+pub processing_state : (r : Job) (p : Phase) → is_processing p ≡ true → lane_state_in r p ≡ Processing
+processing_state r (phases.Incoming hold) is = absurd (cc)
+processing_state r (phases.Waiting hold not_before first) is = absurd (cc)
+processing_state r (phases.Processing attempt stage stages) is = refl
+processing_state r phases.Completed is = absurd (cc)
+processing_state r phases.Canceled is = absurd (cc)
+processing_state r (phases.Aborted reason) is = absurd (cc)
 
-pub dead_phase : (r : Job) (p : Phase) → is_live (standing_in r p) ≡ false → has_ended p ≡ true
+pub dead_phase : (r : Job) (p : Phase) → is_live (lane_state_in r p) ≡ false → has_ended p ≡ true
 dead_phase r (phases.Incoming hold) is = absurd (cc)
 dead_phase r (phases.Waiting hold not_before first) is = absurd (cc)
 dead_phase r (phases.Processing attempt stage stages) is = absurd (cc)
@@ -85,41 +85,41 @@ own_of : (name : List ℕ) (r : Job) → is_of name r ≡ true → r.queue ≡ n
 own_of name r is = (bytes_decides r.queue name).0 is
 
 module _ (s : State) (name : List ℕ) (j : ℕ) where
-  pub seat_here : (r : Job) → job_at s j ≡ Some r → r.queue ≡ name → seat s name j ≡ standing_of r
-  seat_here r there own = ap (seat_of name) there ∙ ap (λ b. cond b (standing_of r) Ended) (of_own name r own)
+  pub seat_here : (r : Job) → job_at s j ≡ Some r → r.queue ≡ name → seat s name j ≡ lane_state_of r
+  seat_here r there own = ap (seat_of name) there ∙ ap (λ b. cond b (lane_state_of r) Ended) (of_own name r own)
 
   pub seat_else : (r : Job) → job_at s j ≡ Some r → (r.queue ≡ name → ⊥) → seat s name j ≡ Ended
   seat_else r there other = ap (seat_of name) there ∙ either (is_of name r) refl
     where
-      either : (b : Bool) → is_of name r ≡ b → cond b (standing_of r) Ended ≡ Ended
+      either : (b : Bool) → is_of name r ≡ b → cond b (lane_state_of r) Ended ≡ Ended
       either true is = absurd (other (own_of name r is))
       either false is = refl
 
   pub seat_absent : job_at s j ≡ None → seat s name j ≡ Ended
   seat_absent absent = ap (seat_of name) absent
 
-  ended_dead : (x : Standing) → Ended ≡ x → is_live x ≡ true → ⊥
+  ended_dead : (x : LaneState) → Ended ≡ x → is_live x ≡ true → ⊥
   ended_dead x is live = (let no : false ≡ true = ap is_live is ∙ live in absurd (cc))
 
   -- a job that hasn't ended, and stands in the queue, is one of the queue's
-  pub seat_found : (x : Standing) → seat s name j ≡ x → is_live x ≡ true → (r : Job) × (job_at s j ≡ Some r) × (r.queue ≡ name) × (standing_of r ≡ x)
+  pub seat_found : (x : LaneState) → seat s name j ≡ x → is_live x ≡ true → (r : Job) × (job_at s j ≡ Some r) × (r.queue ≡ name) × (lane_state_of r ≡ x)
   seat_found x is live = by_job (job_at s j) refl
     where
-      by_own : (r : Job) → job_at s j ≡ Some r → (b : Bool) → is_of name r ≡ b → (r : Job) × (job_at s j ≡ Some r) × (r.queue ≡ name) × (standing_of r ≡ x)
+      by_own : (r : Job) → job_at s j ≡ Some r → (b : Bool) → is_of name r ≡ b → (r : Job) × (job_at s j ≡ Some r) × (r.queue ≡ name) × (lane_state_of r ≡ x)
       by_own r at true own = (r, at, own_of name r own, sym (seat_here r at (own_of name r own)) ∙ is)
-      by_own r at false other = absurd (ended_dead x (sym (ap (seat_of name) at ∙ ap (λ b. cond b (standing_of r) Ended) other) ∙ is) live)
+      by_own r at false other = absurd (ended_dead x (sym (ap (seat_of name) at ∙ ap (λ b. cond b (lane_state_of r) Ended) other) ∙ is) live)
 
-      by_job : (o : Option Job) → job_at s j ≡ o → (r : Job) × (job_at s j ≡ Some r) × (r.queue ≡ name) × (standing_of r ≡ x)
+      by_job : (o : Option Job) → job_at s j ≡ o → (r : Job) × (job_at s j ≡ Some r) × (r.queue ≡ name) × (lane_state_of r ≡ x)
       by_job None at = absurd (ended_dead x (sym (seat_absent at) ∙ is) live)
       by_job (Some r) at = by_own r at (is_of name r) refl
 
-ended_standing : (r : Job) (p : Phase) → has_ended p ≡ true → standing_in r p ≡ Ended
-ended_standing r (phases.Incoming hold) over = absurd (cc)
-ended_standing r (phases.Waiting hold not_before first) over = absurd (cc)
-ended_standing r (phases.Processing attempt stage stages) over = absurd (cc)
-ended_standing r phases.Completed over = refl
-ended_standing r phases.Canceled over = refl
-ended_standing r (phases.Aborted reason) over = refl
+ended_state : (r : Job) (p : Phase) → has_ended p ≡ true → lane_state_in r p ≡ Ended
+ended_state r (phases.Incoming hold) over = absurd (cc)
+ended_state r (phases.Waiting hold not_before first) over = absurd (cc)
+ended_state r (phases.Processing attempt stage stages) over = absurd (cc)
+ended_state r phases.Completed over = refl
+ended_state r phases.Canceled over = refl
+ended_state r (phases.Aborted reason) over = refl
 
 -- a job of this row, which has ended, goes, and nothing else does
 pub record Leaves (s t : State) (j : ℕ) (row : Job) : Type 0 where
@@ -137,12 +137,12 @@ seat_left s t j r leaves name k = elim (cases_eq k j) [
   | inr other ↦ ap (seat_of name) (leaves.others k other)
 ]
   where
-    either : (b : Bool) → cond b (standing_of r) Ended ≡ Ended
-    either true = ended_standing r r.phase leaves.ended
+    either : (b : Bool) → cond b (lane_state_of r) Ended ≡ Ended
+    either true = ended_state r r.phase leaves.ended
     either false = refl
 
 -- a lane goes by where the jobs stand
-pub lane_as : (old new : ℕ → Standing) (lane : Lane) → ((k : ℕ) → new k ≡ old k) → IsLane old lane → IsLane new lane
+pub lane_as : (old new : ℕ → LaneState) (lane : Lane) → ((k : ℕ) → new k ≡ old k) → IsLane old lane → IsLane new lane
 lane_as old new lane same is = record {
   waiting = λ e there. same e.id ∙ is.waiting e there;
   listed = λ k e waits. is.listed k e (sym (same k) ∙ waits);
@@ -229,7 +229,7 @@ module _ (s t : State) (legal : IsLegal t) (j : ℕ) (moves : Moves s t j) (r : 
   abbrev moved : Job
   moved = (moves.own r there).0
 
-  pub moved_seat : IsReseated (seat s r.queue) (seat t r.queue) j (standing_of moved)
+  pub moved_seat : IsReseated (seat s r.queue) (seat t r.queue) j (lane_state_of moved)
   moved_seat = record {
     own = seat_here t r.queue j moved (moves.own r there).1 (moves.own r there).2.queue;
     others = λ k other. ap (seat_of r.queue) (moves.others k other);
@@ -244,11 +244,11 @@ module _ (s t : State) (legal : IsLegal t) (j : ℕ) (moves : Moves s t j) (r : 
     | inr apart ↦ ap (seat_of name) (moves.others k apart)
   ]
 
-  pub moved_number : (e : Entry) → standing_of moved ≡ Waiting e → e.id ≡ j
+  pub moved_number : (e : Entry) → lane_state_of moved ≡ Waiting e → e.id ≡ j
   moved_number e is = ap (λ (f : Entry). f.id) (waiting_phase moved moved.phase e is).0 ∙ (legal.jobs j moved (moves.own r there).1).id
 
   -- no other job of its queue is processing
-  pub moved_alone : (lane : Lane) → IsLane (seat s r.queue) lane → standing_of moved ≡ Processing → (k : ℕ) → lane.processing ≡ Some k → k ≡ j
+  pub moved_alone : (lane : Lane) → IsLane (seat s r.queue) lane → lane_state_of moved ≡ Processing → (k : ℕ) → lane.processing ≡ Some k → k ≡ j
   moved_alone lane is busy k at = elim (cases_eq k j) [
     | inl same ↦ same
     | inr other ↦
@@ -257,7 +257,7 @@ module _ (s t : State) (legal : IsLegal t) (j : ℕ) (moves : Moves s t j) (r : 
         (processing_phase found.0 found.0.phase found.3) (processing_phase moved moved.phase busy))
   ]
 
-no_more_live : (from to : Standing) (old new v w : ℕ) → new + live_count from ≡ old + live_count to → (is_live to ≡ true → is_live from ≡ false → ⊥) → old + v ≤ w → new + v ≤ w
+no_more_live : (from to : LaneState) (old new v w : ℕ) → new + live_count from ≡ old + live_count to → (is_live to ≡ true → is_live from ≡ false → ⊥) → old + v ≤ w → new + v ≤ w
 no_more_live from to old new v w count keeps spare = by_count (is_live from) (is_live to) refl refl
   where
     by_count : (b c : Bool) → is_live from ≡ b → is_live to ≡ c → new + v ≤ w
@@ -267,8 +267,8 @@ no_more_live from to old new v w count keeps spare = by_count (is_live from) (is
     by_count false false is is_to = (let same : new + 0 ≡ old + 0 = ap (λ x. new + cond x 1 0) (sym is) ∙ count ∙ ap (λ x. old + cond x 1 0) is_to in omega (arith, same, spare))
 
 -- what a lane is once a job was put elsewhere in it
-pub record IsReseatedLane (j : ℕ) (from to : Standing) (old new : Lane) : Type 0 where
-  pub lane : (before after : ℕ → Standing) → IsLane before old → before j ≡ from → IsReseated before after j to → IsLane after new
+pub record IsReseatedLane (j : ℕ) (from to : LaneState) (old new : Lane) : Type 0 where
+  pub lane : (before after : ℕ → LaneState) → IsLane before old → before j ≡ from → IsReseated before after j to → IsLane after new
   pub live : new.live + live_count from ≡ old.live + live_count to
   pub moment : new.index.moment ≡ old.index.moment
   pub reserved : new.reserved ≡ old.reserved
@@ -294,7 +294,7 @@ module _ (s t : State) (v : ℕ) (lanes : List Lane) (are : AreLanes s v lanes) 
   -- with a job elsewhere in its lane, where the other lanes have their jobs as before
   pub lanes_reseated : (w : ℕ) → w ≤ v → t.moment ≡ s.moment → (name : List ℕ) (at : ℕ) → IsNameAt names name at
       → ((other : List ℕ) → (other ≡ name → ⊥) → (k : ℕ) → seat t other k ≡ seat s other k)
-      → (j : ℕ) (from to : Standing) (new d : Lane) → IsReseatedLane j from to (get_or lanes at d) new
+      → (j : ℕ) (from to : LaneState) (new d : Lane) → IsReseatedLane j from to (get_or lanes at d) new
       → seat s name j ≡ from → IsReseated (seat s name) (seat t name) j to → (new.live + w ≤ new.reserved)
       → AreBeside (IsLaneOf t w) names (set lanes at new)
   lanes_reseated w fewer moment name at place elsewhere j from to new d changed was seated spare =
@@ -333,17 +333,17 @@ module _ (s t : State) (v : ℕ) (lanes : List Lane) (are : AreLanes s v lanes) 
 
   -- with a job that went elsewhere
   pub lanes_moved : IsLegal t → (j : ℕ) (moves : Moves s t j) (r : Job) (there : job_at s j ≡ Some r) (at : ℕ) → IsNameAt names r.queue at
-      → (q : Job) → job_at t j ≡ Some q → (is_live (standing_of q) ≡ true → is_live (standing_of r) ≡ false → ⊥)
-      → (new d : Lane) → IsReseatedLane j (standing_of r) (standing_of q) (get_or lanes at d) new
+      → (q : Job) → job_at t j ≡ Some q → (is_live (lane_state_of q) ≡ true → is_live (lane_state_of r) ≡ false → ⊥)
+      → (new d : Lane) → IsReseatedLane j (lane_state_of r) (lane_state_of q) (get_or lanes at d) new
       → AreLanes t v (set lanes at new)
   lanes_moved legal j moves r there at place q there_too keeps new d changed =
       let same : moved s t legal j moves r there ≡ q = some_same _ q (sym (moves.own r there).1 ∙ there_too) in
       let own = lane_at r.queue at place d in
       subst (λ ns. AreBeside (IsLaneOf t v) ns (set lanes at new)) (sym moves.names)
-      (lanes_reseated v (omega arith) moves.moment r.queue at place (moved_elsewhere s t legal j moves r there) j (standing_of r) (standing_of q) new d changed
+      (lanes_reseated v (omega arith) moves.moment r.queue at place (moved_elsewhere s t legal j moves r there) j (lane_state_of r) (lane_state_of q) new d changed
       (seat_here s r.queue j r there refl)
-      (subst (λ x. IsReseated (seat s r.queue) (seat t r.queue) j (standing_of x)) same (moved_seat s t legal j moves r there))
-      (no_more_live (standing_of r) (standing_of q) (get_or lanes at d).live new.live v new.reserved changed.live keeps (subst (λ n. (get_or lanes at d).live + v ≤ n) (sym changed.reserved) own.spare)))
+      (subst (λ x. IsReseated (seat s r.queue) (seat t r.queue) j (lane_state_of x)) same (moved_seat s t legal j moves r there))
+      (no_more_live (lane_state_of r) (lane_state_of q) (get_or lanes at d).live new.live v new.reserved changed.live keeps (subst (λ n. (get_or lanes at d).live + v ≤ n) (sym changed.reserved) own.spare)))
 
 -- ## A job comes
 
@@ -356,7 +356,7 @@ pub record Gains (s t : State) (j : ℕ) (q : Job) : Type 0 where
   pub there : job_at t j ≡ Some q
 
 module _ (s t : State) (legal : IsLegal t) (j : ℕ) (q : Job) (gains : Gains s t j q) where
-  gained_seat : IsReseated (seat s q.queue) (seat t q.queue) j (standing_of q)
+  gained_seat : IsReseated (seat s q.queue) (seat t q.queue) j (lane_state_of q)
   gained_seat = record {
     own = seat_here t q.queue j q gains.there refl;
     others = λ k other. ap (seat_of q.queue) (gains.others k other);
@@ -370,10 +370,10 @@ module _ (s t : State) (legal : IsLegal t) (j : ℕ) (q : Job) (gains : Gains s 
     | inr apart ↦ ap (seat_of name) (gains.others k apart)
   ]
 
-  pub gained_number : (e : Entry) → standing_of q ≡ Waiting e → e.id ≡ j
+  pub gained_number : (e : Entry) → lane_state_of q ≡ Waiting e → e.id ≡ j
   gained_number e is = ap (λ (f : Entry). f.id) (waiting_phase q q.phase e is).0 ∙ (legal.jobs j q gains.there).id
 
-  pub gained_alone : (lane : Lane) → IsLane (seat s q.queue) lane → standing_of q ≡ Processing → (k : ℕ) → lane.processing ≡ Some k → k ≡ j
+  pub gained_alone : (lane : Lane) → IsLane (seat s q.queue) lane → lane_state_of q ≡ Processing → (k : ℕ) → lane.processing ≡ Some k → k ≡ j
   gained_alone lane is busy k at = elim (cases_eq k j) [
     | inl same ↦ same
     | inr other ↦
@@ -383,15 +383,15 @@ module _ (s t : State) (legal : IsLegal t) (j : ℕ) (q : Job) (gains : Gains s 
   ]
 
   pub lanes_gained : (v : ℕ) → 0 < v → (lanes : List Lane) (are : AreLanes s v lanes) (at : ℕ) → IsNameAt (finite.keys s.queues) q.queue at
-      → (new d : Lane) → IsReseatedLane j Ended (standing_of q) (get_or lanes at d) new → AreLanes t 0 (set lanes at new)
+      → (new d : Lane) → IsReseatedLane j Ended (lane_state_of q) (get_or lanes at d) new → AreLanes t 0 (set lanes at new)
   lanes_gained v some lanes are at place new d changed =
       let own = lane_at s t v lanes are q.queue at place d in
       subst (λ ns. AreBeside (IsLaneOf t 0) ns (set lanes at new)) (sym gains.names)
-      (lanes_reseated s t v lanes are 0 (omega arith) gains.moment q.queue at place gained_elsewhere j Ended (standing_of q) new d changed
+      (lanes_reseated s t v lanes are 0 (omega arith) gains.moment q.queue at place gained_elsewhere j Ended (lane_state_of q) new d changed
       (seat_absent s q.queue j gains.absent) gained_seat
-      (one_more (standing_of q) (get_or lanes at d).live new.live (get_or lanes at d).reserved new.reserved changed.live changed.reserved own.spare))
+      (one_more (lane_state_of q) (get_or lanes at d).live new.live (get_or lanes at d).reserved new.reserved changed.live changed.reserved own.spare))
     where
-      one_more : (to : Standing) (old now room after : ℕ) → now + 0 ≡ old + live_count to → after ≡ room → old + v ≤ room → now + 0 ≤ after
+      one_more : (to : LaneState) (old now room after : ℕ) → now + 0 ≡ old + live_count to → after ≡ room → old + v ≤ room → now + 0 ≤ after
       one_more to old now room after count same spare = by_live (is_live to) refl
         where
           by_live : (b : Bool) → is_live to ≡ b → now + 0 ≤ after
@@ -414,7 +414,7 @@ module _ (s t : State) (legal : IsLegal s) (name : List ℕ) (absent : queue_at 
 
   pub lanes_added : (v : ℕ) (lanes : List Lane) → AreLanes s v lanes → t.moment ≡ s.moment → (at : ℕ) → at ≤ length (finite.keys s.queues)
       → finite.keys t.queues ≡ insert (finite.keys s.queues) at name
-      → (lane : Lane) → ((seats : ℕ → Standing) → ((j : ℕ) → seats j ≡ Ended) → IsLane seats lane) → lane.index.moment ≡ s.moment
+      → (lane : Lane) → ((seats : ℕ → LaneState) → ((j : ℕ) → seats j ≡ Ended) → IsLane seats lane) → lane.index.moment ≡ s.moment
       → AreLanes t 0 (insert lanes at lane)
   lanes_added v lanes are moment at within names lane empty at_moment =
       let own = empty (seat t name) none_stands in
@@ -471,7 +471,7 @@ subject_there : (s : State) (j : ℕ) (e : Event) → subject e ≡ Some j → r
 subject_there s j e is accepted = subject_by s j (change_by e) ((row e).own s) is accepted
 
 -- and finds that it hasn't ended
-subject_live : (s : State) → IsLegal s → (j : ℕ) (e : Event) → subject e ≡ Some j → refusal_of s e ≡ None → (r : Job) → job_at s j ≡ Some r → is_live (standing_of r) ≡ false → ⊥
+subject_live : (s : State) → IsLegal s → (j : ℕ) (e : Event) → subject e ≡ Some j → refusal_of s e ≡ None → (r : Job) → job_at s j ≡ Some r → is_live (lane_state_of r) ≡ false → ⊥
 subject_live s legal j e is accepted r there dead =
     refused_and_not (refusal_of s e) JobEnded
     (refused_as_ended s j r (record { legal = legal; there = there; ended = dead_phase r r.phase dead }) e is) accepted
@@ -482,7 +482,7 @@ pub record Goes (s t : State) (j : ℕ) : Type 0 where
   pub legal : IsLegal t
   pub row : Job
   pub there : job_at s j ≡ Some row
-  pub alive : is_live (standing_of row) ≡ false → ⊥
+  pub alive : is_live (lane_state_of row) ≡ false → ⊥
 
 pub goes : ((effects : List Effect) → KeepsOrder effects) → (s t : State) → IsLegal s → (j : ℕ) (e : Event) → subject e ≡ Some j → refusal_of s e ≡ None → t ≡ after s e → Goes s t j
 goes law s t legal j e is accepted after_it =
@@ -503,7 +503,7 @@ module _ (s t : State) (j : ℕ) (g : Goes s t j) where
   pub gone_there : job_at t j ≡ Some gone
   gone_there = (g.moves.own g.row g.there).1
 
-  pub goes_number : (e : Entry) → standing_of gone ≡ Waiting e → e.id ≡ j
+  pub goes_number : (e : Entry) → lane_state_of gone ≡ Waiting e → e.id ≡ j
   goes_number = moved_number s t g.legal j g.moves g.row g.there
 
   module _ (v : ℕ) (lanes : List Lane) (are : AreLanes s v lanes) (at : ℕ) (place : IsNameAt (finite.keys s.queues) g.row.queue at) where
@@ -511,11 +511,11 @@ module _ (s t : State) (j : ℕ) (g : Goes s t j) where
       own_lane : IsLane (seat s g.row.queue) x
       own_lane = subst (IsLane (seat s g.row.queue)) (sym is) (lane_at s t v lanes are g.row.queue at place x).lane
 
-      pub goes_from : (from : Standing) → from ≡ standing_of g.row → HasSeat x j from
+      pub goes_from : (from : LaneState) → from ≡ lane_state_of g.row → HasSeat x j from
       goes_from from stood = record { seats = seat s g.row.queue; lane = own_lane; own = seat_here s g.row.queue j g.row g.there refl ∙ sym stood }
 
-      pub goes_alone : standing_of gone ≡ Processing → (k : ℕ) → x.processing ≡ Some k → k ≡ j
+      pub goes_alone : lane_state_of gone ≡ Processing → (k : ℕ) → x.processing ≡ Some k → k ≡ j
       goes_alone = moved_alone s t g.legal j g.moves g.row g.there x own_lane
 
-      pub goes_lanes : (new : Lane) → IsReseatedLane j (standing_of g.row) (standing_of gone) x new → AreLanes t v (set lanes at new)
-      goes_lanes new changed = lanes_moved s t v lanes are g.legal j g.moves g.row g.there at place gone gone_there (λ live dead. g.alive dead) new x (subst (λ y. IsReseatedLane j (standing_of g.row) (standing_of gone) y new) is changed)
+      pub goes_lanes : (new : Lane) → IsReseatedLane j (lane_state_of g.row) (lane_state_of gone) x new → AreLanes t v (set lanes at new)
+      goes_lanes new changed = lanes_moved s t v lanes are g.legal j g.moves g.row g.there at place gone gone_there (λ live dead. g.alive dead) new x (subst (λ y. IsReseatedLane j (lane_state_of g.row) (lane_state_of gone) y new) is changed)

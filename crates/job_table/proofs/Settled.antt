@@ -9,8 +9,8 @@ use Rattle.spool_types.specs.Sent.{with_placed, extent_behind}
 use Rattle.spool_types.specs.State.{Job}
 use Rattle.job_table.specs.Contents.{places_of}
 use Rattle.job_table.specs.Loading.{IsPieceOf}
-use Rattle.job_table.specs.Reading.{part_of, with_last_place, IsGrown, IsMeasured}
-use Rattle.job_table.specs.Rows.{place_entry}
+use Rattle.job_table.specs.LoadingFields.{part_of, with_last_place, IsGrown, IsMeasured}
+use Rattle.job_table.specs.TableRows.{place_entry}
 use Rattle.job_table.specs.declared.loading.Partial.{Partial}
 use Rattle.job_table.proofs.Changes.{same_itself}
 use Rattle.job_table.proofs.Rooms.{size_more}

@@ -7,8 +7,8 @@ use Rattle.std.specs.FinMap as finite
 use Rattle.std.proofs.lemmas.Bool.Decides.{nat_tests}
 use Rattle.std.proofs.lemmas.Bool.{and_parts, both_ways}
 use Rattle.job_table.specs.Attempts.{is_in_stage, next_stage, rule, ruled, with_pages, with_effects, rule_by, rule_found, stage_verdict, lost_by, reopened}
-use Rattle.job_table.specs.Changes.{at_moment, change_found, change_found_queue, change_job, change_own_queue}
-use Rattle.job_table.specs.Fold.{after_all, after_one, unless_refused}
+use Rattle.job_table.specs.EventChanges.{at_moment, change_found, change_found_queue, change_job, change_own_queue}
+use Rattle.job_table.specs.EventFold.{after_all, after_one, unless_refused}
 use Rattle.job_table.specs.Legal.{IsLegal, Fits}
 use Rattle.job_table.specs.Stages.{Key, key_of, IsUpTo, IsSpentOf, IsSpentBy, IsSpent, IsIn}
 use Rattle.job_table.specs.Shapes.{Change, NewQueueRow, OfQueue, NewJobRow, OfJob, OfBoth, WithoutJob, OfClock, OfAll, causes_of, made}
@@ -23,7 +23,7 @@ use Rattle.spool_types.specs.declared.refusal.Refusal.{Refusal}
 use Rattle.spool_types.specs.declared.rows.QueueRow.{QueueRow}
 use Rattle.spool_types.specs.Phases.{has_ended, is_processing}
 use Rattle.spool_types.specs.State.{State, Job, queue_at, job_at}
-use Rattle.row_effects.specs.Fold.{queue_after}
+use Rattle.row_effects.specs.EffectFold.{queue_after}
 use Rattle.backend_codes.specs.declared.verdicts.Verdict.{Verdict}
 use Rattle.backend_codes.specs.declared.verdicts.Verdict.TheVariants as verdicts
 use Rattle.job_table.proofs.Accepted.{accepted_new, job_there, accepted_stage}

@@ -8,18 +8,18 @@ use Rattle.std.specs.FinMap as finite
 use Rattle.spool_types.specs.declared.rows.QueueRow.{QueueRow}
 use Rattle.spool_types.specs.declared.rows.JobRow.{JobRow}
 use Rattle.spool_types.specs.State.{Job, job_of, Queues, Jobs}
-use Rattle.job_table.specs.Rows.{queue_entry, job_entry}
-use Rattle.job_rows.specs.Places.{IsPlace, IsGap}
+use Rattle.job_table.specs.TableRows.{queue_entry, job_entry}
+use Rattle.job_rows.specs.RowPositions.{IsPosition, IsGap}
 use Rattle.job_table.proofs.Rows as rows
 
 abbrev pub IsQueuePlace : List QueueRow → List ℕ → ℕ → Type 0
-IsQueuePlace = IsPlace (slice_cmp nat_cmp) (λ r. r.name)
+IsQueuePlace = IsPosition (slice_cmp nat_cmp) (λ r. r.name)
 
 abbrev pub IsQueueGap : List QueueRow → List ℕ → ℕ → Type 0
 IsQueueGap = IsGap (slice_cmp nat_cmp) (λ r. r.name)
 
 abbrev pub IsJobPlace : List JobRow → ℕ → ℕ → Type 0
-IsJobPlace = IsPlace nat_cmp (λ r. r.job.id)
+IsJobPlace = IsPosition nat_cmp (λ r. r.job.id)
 
 abbrev pub IsJobGap : List JobRow → ℕ → ℕ → Type 0
 IsJobGap = IsGap nat_cmp (λ r. r.job.id)

@@ -19,9 +19,9 @@ use Rattle.spool_types.specs.declared.listing.Row.{Row}
 use Rattle.spool_types.specs.declared.listing.Row.TheVariants.{Head as HeadRow, Queue, Job as JobRow, Piece}
 use Rattle.job_table.specs.Legal.{IsLegal}
 use Rattle.job_table.specs.Listing.{listing, job_rows}
-use Rattle.job_table.specs.Documents.{document_len, AreDocuments}
+use Rattle.job_table.specs.DocumentLengths.{document_len, AreDocuments}
 use Rattle.job_table.specs.Loading.{Part, Progress, IsAbove, begin_loading, begun_part, with_queue, with_job, with_piece, with_last, with_next_piece, loaded, IsWhole, IsPieceOf, IsPlaced, ArePlaced, loaded_all}
-use Rattle.job_table.specs.Reading.{IsPartial, IsPartialIn, IsReading}
+use Rattle.job_table.specs.LoadingFields.{IsPartial, IsPartialIn, IsReading}
 use Rattle.job_table.proofs.Above.{entries_above, above_front, found_there}
 use Rattle.job_table.proofs.Changes.{not_both, some_same, same_itself}
 use Rattle.job_table.proofs.Rows.{map_none}

@@ -7,7 +7,7 @@ use Rattle.spool_types.specs.declared.rows.QueueRow.{QueueRow}
 use Rattle.spool_types.specs.declared.version.Version.{Version}
 use Rattle.spool_types.specs.Busy.{is_of}
 use Rattle.spool_types.specs.State.{State, Job, nothing_in, queue_at, job_at}
-use Rattle.job_table.specs.Fold.{after_one, after_all, accepted}
+use Rattle.job_table.specs.EventFold.{after_one, after_all, accepted}
 use Rattle.job_table.specs.Shapes.{Change, NewQueueRow, OfQueue, NewJobRow, OfJob, OfBoth, WithoutJob, OfClock, OfAll}
 use Rattle.job_table.specs.Step.{change_by}
 

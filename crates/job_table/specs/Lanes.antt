@@ -6,38 +6,38 @@ use Rattle.spool_types.specs.Busy.{is_of}
 use Rattle.spool_types.specs.State.{State, Job, job_at}
 use Rattle.spool_types.specs.declared.phase.Phase.{Phase}
 use Rattle.spool_types.specs.declared.phase.Phase.TheVariants as phases
-use Rattle.queue_sched.specs.Index.{entry_of}
+use Rattle.queue_sched.specs.WaitingIndex.{entry_of}
 use Rattle.queue_sched.specs.declared.entry.Entry.{Entry}
 use Rattle.job_table.specs.declared.lane.Lane.{Lane}
-use Rattle.job_table.specs.declared.lane.Standing.{Standing}
-use Rattle.job_table.specs.declared.lane.Standing.TheVariants.{Ended, Incoming, Waiting, Processing}
+use Rattle.job_table.specs.declared.lane.LaneState.{LaneState}
+use Rattle.job_table.specs.declared.lane.LaneState.TheVariants.{Ended, Incoming, Waiting, Processing}
 
 -- ## Where a job stands
 
-abbrev pub standing_in : Job → Phase → Standing
-standing_in r (phases.Incoming hold) = Incoming
-standing_in r (phases.Waiting hold not_before first) = Waiting (entry_of r)
-standing_in r (phases.Processing attempt stage stages) = Processing
-standing_in r phase = Ended
+abbrev pub lane_state_in : Job → Phase → LaneState
+lane_state_in r (phases.Incoming hold) = Incoming
+lane_state_in r (phases.Waiting hold not_before first) = Waiting (entry_of r)
+lane_state_in r (phases.Processing attempt stage stages) = Processing
+lane_state_in r phase = Ended
 
-abbrev pub standing_of : Job → Standing
-standing_of r = standing_in r r.phase
+abbrev pub lane_state_of : Job → LaneState
+lane_state_of r = lane_state_in r r.phase
 
 -- a job that isn't in the queue stands there as one that has ended
-abbrev pub seat_of : List ℕ → Option Job → Standing
+abbrev pub seat_of : List ℕ → Option Job → LaneState
 seat_of name None = Ended
-seat_of name (Some r) = cond (is_of name r) (standing_of r) Ended
+seat_of name (Some r) = cond (is_of name r) (lane_state_of r) Ended
 
 -- where the job of this number stands in the queue of this name
-abbrev pub seat : State → List ℕ → ℕ → Standing
+abbrev pub seat : State → List ℕ → ℕ → LaneState
 seat s name j = seat_of name (job_at s j)
 
-abbrev pub is_live : Standing → Bool
+abbrev pub is_live : LaneState → Bool
 is_live Ended = false
-is_live standing = true
+is_live lane_state = true
 
-abbrev pub live_count : Standing → ℕ
-live_count standing = cond (is_live standing) 1 0
+abbrev pub live_count : LaneState → ℕ
+live_count lane_state = cond (is_live lane_state) 1 0
 
 -- ## What a lane has
 
@@ -51,11 +51,11 @@ abbrev pub AtMost : (ℕ → Bool) → ℕ → Type 0
 AtMost p n = (js : List ℕ) → AllDiffer js → AllByRecursion (λ j. p j ≡ true) js → length js ≤ n
 
 -- no more than so many jobs haven't ended
-abbrev pub AtMostLive : (ℕ → Standing) → ℕ → Type 0
+abbrev pub AtMostLive : (ℕ → LaneState) → ℕ → Type 0
 AtMostLive seats n = AtMost (λ j. is_live (seats j)) n
 
 -- the lane is that of the jobs that stand so
-pub record IsLane (seats : ℕ → Standing) (lane : Lane) : Type 0 where
+pub record IsLane (seats : ℕ → LaneState) (lane : Lane) : Type 0 where
   pub waiting : (e : Entry) → Contains lane.index.items e → seats e.id ≡ Waiting e
   pub listed : (j : ℕ) (e : Entry) → seats j ≡ Waiting e → (e.id ≡ j) × Contains lane.index.items e
   pub processing : (j : ℕ) → lane.processing ≡ Some j → seats j ≡ Processing
@@ -65,26 +65,26 @@ pub record IsLane (seats : ℕ → Standing) (lane : Lane) : Type 0 where
   pub reserved : lane.reserved ≤ lane.index.room
 
 -- one job stands elsewhere, and all others as before
-pub record IsReseated (old new : ℕ → Standing) (j : ℕ) (to : Standing) : Type 0 where
+pub record IsReseated (old new : ℕ → LaneState) (j : ℕ) (to : LaneState) : Type 0 where
   pub own : new j ≡ to
   pub others : (k : ℕ) → ¬ (k ≡ j) → new k ≡ old k
 
 -- the lane has a job that stands so
-pub record HasSeat (owner : Lane) (j : ℕ) (standing : Standing) : Type 0 where
-  pub seats : ℕ → Standing
+pub record HasSeat (owner : Lane) (j : ℕ) (lane_state : LaneState) : Type 0 where
+  pub seats : ℕ → LaneState
   pub lane : IsLane seats owner
-  pub own : seats j ≡ standing
+  pub own : seats j ≡ lane_state
 
 -- the same jobs, and as much room at least
 pub record IsSameLane (old new : Lane) : Type 0 where
-  pub lane : (seats : ℕ → Standing) → IsLane seats old → IsLane seats new
+  pub lane : (seats : ℕ → LaneState) → IsLane seats old → IsLane seats new
   pub live : new.live ≡ old.live
   pub moment : new.index.moment ≡ old.index.moment
   pub reserved : old.reserved ≤ new.reserved
 
 -- the same jobs and as much room, at another moment
 pub record IsAdvanced (now : ℕ) (old new : Lane) : Type 0 where
-  pub lane : (seats : ℕ → Standing) → IsLane seats old → IsLane seats new
+  pub lane : (seats : ℕ → LaneState) → IsLane seats old → IsLane seats new
   pub live : new.live ≡ old.live
   pub moment : new.index.moment ≡ now
   pub reserved : new.reserved ≡ old.reserved

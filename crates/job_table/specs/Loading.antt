@@ -16,8 +16,8 @@ use Rattle.spool_types.specs.declared.version.Version.{Version}
 use Rattle.spool_types.specs.declared.listing.Head.{Head}
 use Rattle.spool_types.specs.declared.listing.Row.{Row}
 use Rattle.spool_types.specs.declared.listing.Row.TheVariants.{Head as HeadRow, Queue, Job as JobRow, Piece}
-use Rattle.row_effects.specs.Fold.{IsInOrder}
-use Rattle.job_table.specs.Documents.{document_len}
+use Rattle.row_effects.specs.EffectFold.{IsInOrder}
+use Rattle.job_table.specs.DocumentLengths.{document_len}
 use Rattle.job_table.specs.Legal.{Fits}
 
 -- a job, and how many bytes of its document have come

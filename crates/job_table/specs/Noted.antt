@@ -7,7 +7,7 @@ use Rattle.spool_types.specs.Limits.{longest_send}
 use Rattle.spool_types.specs.State.{Job}
 use Rattle.spool_types.specs.declared.rows.JobRow.{JobRow}
 use Rattle.job_table.specs.Contents.{Noted}
-use Rattle.job_table.specs.Documents.{document_len}
+use Rattle.job_table.specs.DocumentLengths.{document_len}
 use Rattle.job_table.specs.declared.new_places.NewDocument.{NewDocument}
 use Rattle.job_table.specs.declared.new_places.NewPlaces.TheInside.{Inside}
 

@@ -3,7 +3,7 @@ use Rattle.std.specs.Prelude.{◌≡◌, ℕ, true, None}
 use Rattle.spool_types.specs.Phases.{has_ended}
 use Rattle.spool_types.specs.State.{State, Job}
 use Rattle.spool_types.specs.declared.event.Event.{Event}
-use Rattle.job_table.specs.Changes.{closed, ended, held}
+use Rattle.job_table.specs.EventChanges.{closed, ended, held}
 use Rattle.job_table.specs.Shapes.{Change, OfJob, WithoutJob, OfClock, OfAll}
 use Rattle.job_table.specs.Step.{change_by, refusal_of}
 use Rattle.job_table.specs.declared.store.row_changes.RowChange.{RowChange}

@@ -12,7 +12,7 @@ use Rattle.spool_types.specs.Limits.{most_queues, greatest_number}
 use Rattle.spool_types.specs.Phases.{has_ended}
 use Rattle.spool_types.specs.State.{State, Job, queue_at, job_at}
 use Rattle.job_table.specs.Attempts.{with_effects, rule_at, reopened}
-use Rattle.job_table.specs.Changes.{change_queue, change_job, at_clock}
+use Rattle.job_table.specs.EventChanges.{change_queue, change_job, at_clock}
 
 -- a new queue, a change of a queue, a new job, a change of a job, a verdict on a job and its queue (behind the effects that
 -- were told, if any), a job that goes, the moment, or the policy on every processing job

@@ -14,7 +14,7 @@ use Rattle.spool_types.specs.Limits.{longest_document}
 use Rattle.spool_types.specs.Phases.{has_ended, is_incoming, is_processing, is_waiting, hold_of, is_in_force, hold_until}
 use Rattle.spool_types.specs.State.{State, Job, job_at}
 use Rattle.job_table.specs.Attempts.{is_next, is_in_stage, started, stage_verdict, lost_by}
-use Rattle.job_table.specs.Changes.{new_queue, with_notes, with_accepting, with_stopped, new_job, with_bytes, ended, closed, held}
+use Rattle.job_table.specs.EventChanges.{new_queue, with_notes, with_accepting, with_stopped, new_job, with_bytes, ended, closed, held}
 use Rattle.job_table.specs.Shapes.{Change, NewQueueRow, OfQueue, NewJobRow, OfJob, OfBoth, WithoutJob, OfClock, OfAll, made, causes_of, where_it}
 
 -- the refusal of the first cause that holds

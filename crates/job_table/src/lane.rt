@@ -3,10 +3,10 @@
 ghost use Rattle.std.specs.Prelude.{◌≡◌, ℕ, ◌+◌, ◌<◌, ◌≤◌, ◌↔◌, ◌⊎◌, true, false, List, length, slice_index_or, None, Some, IfSome, OnOk};
 ghost use Rattle.std.specs.Option.{IsNone};
 ghost use Rattle.std.specs.List.{Contains};
-ghost use Rattle.queue_sched.specs.Index.{IsFirstStartable, NoneIsStartable};
+ghost use Rattle.queue_sched.specs.WaitingIndex.{IsFirstStartable, NoneIsStartable};
 ghost use Rattle.queue_sched.specs.declared.entry.Entry.{Entry};
-ghost use Rattle.job_table.specs.Lanes.{standing_of, is_live, live_count, IsLane, IsReseated, HasSeat, IsSameLane, IsAdvanced};
-ghost use Rattle.job_table.specs.declared.lane.Standing.{Standing};
+ghost use Rattle.job_table.specs.Lanes.{lane_state_of, is_live, live_count, IsLane, IsReseated, HasSeat, IsSameLane, IsAdvanced};
+ghost use Rattle.job_table.specs.declared.lane.LaneState.{LaneState};
 ghost use Rattle.job_table.specs.declared.lane.Lane.{Lane};
 
 use queue_sched::{Entry, Index};
@@ -19,7 +19,7 @@ pub(crate) use draft::Draft;
 
 /// Where a job stands in the lane of its queue.
 #[derive(Clone, Copy, Debug)]
-pub(crate) enum Standing {
+pub(crate) enum LaneState {
     /// It has ended, or isn't there.
     Ended,
     Incoming,
@@ -28,17 +28,17 @@ pub(crate) enum Standing {
 }
 
 // Where the job stands in the lane of its queue.
-pub(crate) fn standing_of(job: &Job) -> Standing
-    ensures { result ≡ standing_of job.now }
+pub(crate) fn lane_state_of(job: &Job) -> LaneState
+    ensures { result ≡ lane_state_of job.now }
 {
     match job.phase {
-        Phase::Incoming(_) => Standing::Incoming,
+        Phase::Incoming(_) => LaneState::Incoming,
         Phase::Waiting { .. } => match Entry::of_job(job) {
-            Some(entry) => Standing::Waiting(entry),
+            Some(entry) => LaneState::Waiting(entry),
             None => unreachable!(),
         },
-        Phase::Processing { .. } => Standing::Processing,
-        Phase::Completed | Phase::Canceled | Phase::Aborted(_) => Standing::Ended,
+        Phase::Processing { .. } => LaneState::Processing,
+        Phase::Completed | Phase::Canceled | Phase::Aborted(_) => LaneState::Ended,
     }
 }
 
@@ -57,7 +57,7 @@ pub(crate) struct Lane {
 impl Lane {
     /// The lane of a queue without jobs. It takes no memory.
     pub(crate) fn new(alloc: Global, moment: Moment) -> Lane
-        ensures lane { (seats : ℕ → Standing) → ((j : ℕ) → seats j ≡ Standing.Ended) → IsLane seats result }
+        ensures lane { (seats : ℕ → LaneState) → ((j : ℕ) → seats j ≡ LaneState.Ended) → IsLane seats result }
         ensures moment { result.index.moment ≡ moment }
         ensures live { result.live ≡ 0 }
     {
@@ -74,7 +74,7 @@ impl Lane {
     /// Makes room for a job more.
     pub(crate) fn reserve(&mut self) -> Result<(), AllocError>
         ensures room { OnOk result (self.old.live + 1 ≤ self.new.reserved) }
-        ensures lane { (seats : ℕ → Standing) → IsLane seats self.old → IsLane seats self.new }
+        ensures lane { (seats : ℕ → LaneState) → IsLane seats self.old → IsLane seats self.new }
         ensures live { self.new.live ≡ self.old.live }
         ensures moment { self.new.index.moment ≡ self.old.index.moment }
         ensures kept { self.old.reserved ≤ self.new.reserved }
@@ -106,7 +106,7 @@ impl Lane {
     /// Brings a moment that isn't earlier.
     pub(crate) fn advance(&mut self, moment: Moment)
         requires { self.old.index.moment ≤ moment }
-        ensures lane { (seats : ℕ → Standing) → IsLane seats self.old → IsLane seats self.new }
+        ensures lane { (seats : ℕ → LaneState) → IsLane seats self.old → IsLane seats self.new }
         ensures moment { self.new.index.moment ≡ moment }
         ensures live { self.new.live ≡ self.old.live }
         ensures reserved { self.new.reserved ≡ self.old.reserved }
@@ -115,18 +115,18 @@ impl Lane {
     }
 
     /// Puts a job where it stands now. One that waits before and after keeps its place where its turn stays. It takes no memory.
-    pub(crate) fn reseat(&mut self, job: JobId, from: Standing, to: Standing)
+    pub(crate) fn reseat(&mut self, job: JobId, from: LaneState, to: LaneState)
         requires there { HasSeat self.old job from }
-        requires own { (e : Entry) → to ≡ Standing.Waiting e → e.id ≡ job }
+        requires own { (e : Entry) → to ≡ LaneState.Waiting e → e.id ≡ job }
         requires room { is_live to ≡ true → is_live from ≡ false → self.old.live < self.old.reserved }
-        requires alone { to ≡ Standing.Processing → (k : ℕ) → self.old.processing ≡ Some k → k ≡ job }
-        ensures lane { (old new : ℕ → Standing) → IsLane old self.old → old job ≡ from → IsReseated old new job to → IsLane new self.new }
+        requires alone { to ≡ LaneState.Processing → (k : ℕ) → self.old.processing ≡ Some k → k ≡ job }
+        ensures lane { (old new : ℕ → LaneState) → IsLane old self.old → old job ≡ from → IsReseated old new job to → IsLane new self.new }
         ensures live { self.new.live + live_count from ≡ self.old.live + live_count to }
         ensures moment { self.new.index.moment ≡ self.old.index.moment }
         ensures reserved { self.new.reserved ≡ self.old.reserved }
     {
         match (from, to) {
-            (Standing::Waiting(before), Standing::Waiting(entry)) => {
+            (LaneState::Waiting(before), LaneState::Waiting(entry)) => {
                 self.index.replace(before, entry)
             }
             _ => {
@@ -137,22 +137,22 @@ impl Lane {
     }
 
     // Takes a job away.
-    fn leave(&mut self, _job: JobId, from: Standing)
+    fn leave(&mut self, _job: JobId, from: LaneState)
         requires { HasSeat self.old _job from }
-        ensures lane { (old new : ℕ → Standing) → IsLane old self.old → old _job ≡ from → IsReseated old new _job Standing.Ended → IsLane new self.new }
+        ensures lane { (old new : ℕ → LaneState) → IsLane old self.old → old _job ≡ from → IsReseated old new _job LaneState.Ended → IsLane new self.new }
         ensures live { self.new.live + live_count from ≡ self.old.live }
         ensures processing { (k : ℕ) → self.new.processing ≡ Some k → self.old.processing ≡ Some k }
         ensures moment { self.new.index.moment ≡ self.old.index.moment }
         ensures reserved { self.new.reserved ≡ self.old.reserved }
     {
         match from {
-            Standing::Ended => {}
-            Standing::Incoming => self.live -= 1,
-            Standing::Waiting(entry) => {
+            LaneState::Ended => {}
+            LaneState::Incoming => self.live -= 1,
+            LaneState::Waiting(entry) => {
                 self.index.remove(entry);
                 self.live -= 1;
             }
-            Standing::Processing => {
+            LaneState::Processing => {
                 self.processing = None;
                 self.live -= 1;
             }
@@ -160,24 +160,24 @@ impl Lane {
     }
 
     // Puts a job in that isn't there.
-    fn enter(&mut self, job: JobId, to: Standing)
-        requires there { HasSeat self.old job Standing.Ended }
-        requires own { (e : Entry) → to ≡ Standing.Waiting e → e.id ≡ job }
+    fn enter(&mut self, job: JobId, to: LaneState)
+        requires there { HasSeat self.old job LaneState.Ended }
+        requires own { (e : Entry) → to ≡ LaneState.Waiting e → e.id ≡ job }
         requires room { is_live to ≡ true → self.old.live < self.old.reserved }
-        requires alone { to ≡ Standing.Processing → self.old.processing ≡ None }
-        ensures lane { (old new : ℕ → Standing) → IsLane old self.old → old job ≡ Standing.Ended → IsReseated old new job to → IsLane new self.new }
+        requires alone { to ≡ LaneState.Processing → self.old.processing ≡ None }
+        ensures lane { (old new : ℕ → LaneState) → IsLane old self.old → old job ≡ LaneState.Ended → IsReseated old new job to → IsLane new self.new }
         ensures live { self.new.live ≡ self.old.live + live_count to }
         ensures moment { self.new.index.moment ≡ self.old.index.moment }
         ensures reserved { self.new.reserved ≡ self.old.reserved }
     {
         match to {
-            Standing::Ended => {}
-            Standing::Incoming => self.live += 1,
-            Standing::Waiting(entry) => {
+            LaneState::Ended => {}
+            LaneState::Incoming => self.live += 1,
+            LaneState::Waiting(entry) => {
                 self.list(entry);
                 self.live += 1;
             }
-            Standing::Processing => {
+            LaneState::Processing => {
                 self.processing = Some(job);
                 self.live += 1;
             }
@@ -186,7 +186,7 @@ impl Lane {
 
     // Adds a waiting job to the index. A job that hasn't ended is one of those that the index has room for.
     fn list(&mut self, entry: Entry)
-        requires there { HasSeat self.old entry.id Standing.Ended }
+        requires there { HasSeat self.old entry.id LaneState.Ended }
         requires room { self.old.live < self.old.reserved }
         ensures items { (e : Entry) → Contains self.new.index.items e ↔ (Contains self.old.index.items e ⊎ (e ≡ entry)) }
         ensures moment { self.new.index.moment ≡ self.old.index.moment }

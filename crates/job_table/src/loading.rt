@@ -6,16 +6,16 @@ ghost use Rattle.spool_types.specs.declared.listing.Row.{Row};
 ghost use Rattle.spool_types.specs.Busy.{is_busy};
 ghost use Rattle.spool_types.specs.State.{job_of};
 ghost use Rattle.spool_types.specs.Phases.{has_ended, is_processing};
-ghost use Rattle.row_effects.specs.Fold.{IsInOrder};
+ghost use Rattle.row_effects.specs.EffectFold.{IsInOrder};
 ghost use Rattle.row_effects.specs.Keys.{is_ascending};
-ghost use Rattle.row_effects.specs.Reasons.{word_of};
-ghost use Rattle.row_effects.specs.Attributes.{name_of};
+ghost use Rattle.row_effects.specs.QueueReasons.{word_of};
+ghost use Rattle.row_effects.specs.QueueAttributes.{name_of};
 ghost use Rattle.job_table.specs.Legal.{IsLegal, Fits, IsUntyped, IsStartable, IsStarted};
 ghost use Rattle.job_table.specs.Contents.{HasPlace, no_moves, places_at, places_of};
-ghost use Rattle.job_table.specs.Documents.{document_len};
+ghost use Rattle.job_table.specs.DocumentLengths.{document_len};
 ghost use Rattle.job_table.specs.Loading.{IsWhole, IsPlaced, IsNewQueue, IsNewJob, IsNextQueue, IsNextJob, IsNextPiece, IsPieceOf, begin_loading, loaded, with_job};
-ghost use Rattle.job_table.specs.Reading.{AddsPiece, HasSameParts, IsGrown, IsMeasured, MayGrow, part_of, with_last_place};
-ghost use Rattle.job_table.specs.Rows.{IsFreed};
+ghost use Rattle.job_table.specs.LoadingFields.{AddsPiece, HasSameParts, IsGrown, IsMeasured, MayGrow, part_of, with_last_place};
+ghost use Rattle.job_table.specs.TableRows.{IsFreed};
 ghost use Rattle.extents.specs.Extents.{size_of};
 ghost use Rattle.spool_types.specs.Sent.{bytes_behind, piece_of};
 
@@ -78,7 +78,7 @@ impl Model for Loading {
 
     ghost coded = { Prim.hlevel (codes, map.code) };
 
-    ghost use Rattle.job_table.specs.Reading.{loaded_of, IsLoading};
+    ghost use Rattle.job_table.specs.LoadingFields.{loaded_of, IsLoading};
 
     ghost view = { loaded_of };
 

@@ -5,10 +5,10 @@ ghost use Rattle.std.specs.FinMap as finite;
 ghost use Rattle.spool_types.specs.Limits.{longest_send};
 ghost use Rattle.spool_types.specs.State.{Job};
 ghost use Rattle.job_table.specs.Contents.{no_moves, places_of, move_room};
-ghost use Rattle.job_table.specs.Documents.{document_len};
+ghost use Rattle.job_table.specs.DocumentLengths.{document_len};
 ghost use Rattle.job_table.specs.Noted.{new_entry, new_spare, blank_entry, IsNewFor};
-ghost use Rattle.job_rows.specs.Places.{IsPlace, IsGap};
-ghost use Rattle.job_table.specs.Rows.{job_entry};
+ghost use Rattle.job_rows.specs.RowPositions.{IsPosition, IsGap};
+ghost use Rattle.job_table.specs.TableRows.{job_entry};
 
 use crate::places::{document_len, piece_count};
 use job_rows::Rows;
@@ -102,7 +102,7 @@ impl NewPlaces {
 // Where the job stands, or would go.
 fn place(documents: &[NewDocument], job: JobId) -> Result<usize, usize>
     requires { IsTrue (finite.is_sorted nat_cmp (map new_entry documents.now)) }
-    ensures found { IfOk result (IsPlace nat_cmp (λ d. d.job) documents.now job) }
+    ensures found { IfOk result (IsPosition nat_cmp (λ d. d.job) documents.now job) }
     ensures absent { IfErr result (IsGap nat_cmp (λ d. d.job) documents.now job) }
 {
     documents.binary_search_by_key(&job, |document| document.job)

@@ -1,7 +1,7 @@
 //! Where the bytes of sends and of pieces lie, and how many pieces a document has.
 ghost use Rattle.std.specs.Prelude.{◌≡◌, ◌+◌, ◌*◌, ◌<◌, ◌≤◌, ◌^◌};
 ghost use Rattle.spool_types.specs.Limits.{longest_send};
-ghost use Rattle.job_table.specs.Documents.{document_len};
+ghost use Rattle.job_table.specs.DocumentLengths.{document_len};
 ghost use Rattle.spool_types.specs.Sent.{bytes_behind, extent_behind};
 
 use spool_types::{Extent, Job, LONGEST_SEND};

@@ -6,15 +6,15 @@ ghost use Rattle.std.specs.FinMap as finite;
 ghost use Rattle.spool_types.specs.Limits.{greatest_number};
 ghost use Rattle.spool_types.specs.State.{Job, nothing_in, job_of, queue_at, job_at};
 ghost use Rattle.job_table.specs.Contents.{no_room, places_at, AreSized, HasOwnPlaces, IsFreedWhenEnded};
-ghost use Rattle.job_table.specs.Documents.{document_len};
+ghost use Rattle.job_table.specs.DocumentLengths.{document_len};
 ghost use Rattle.job_table.specs.Legal.{IsLegal};
-ghost use Rattle.job_table.specs.Rows.{job_entry, place_entry};
-ghost use Rattle.job_table.specs.Versions.{raised};
+ghost use Rattle.job_table.specs.TableRows.{job_entry, place_entry};
+ghost use Rattle.job_table.specs.TableVersions.{raised};
 ghost use Rattle.extents.specs.Extents.{size_of};
 ghost use Rattle.spool_types.specs.Phases.{has_ended};
 
 use job_rows::Rows;
-use lookup::queue_place;
+use lookup::queue_position;
 use row_effects::Spare;
 use spool_types::{JobId, JobRow, Moment, QueueName, QueueRow, Version};
 use std::alloc::Global;
@@ -53,7 +53,7 @@ impl Model for Store {
 
     ghost coded = { Prim.hlevel (codes, map.code) };
 
-    ghost use Rattle.job_table.specs.Seen.{contents_of, IsOrdered};
+    ghost use Rattle.job_table.specs.TableFields.{contents_of, IsOrdered};
 
     ghost view = { contents_of };
 
@@ -112,7 +112,7 @@ impl Store {
     pub fn queue(&self, name: &QueueName) -> Option<&QueueRow>
         ensures { option_copied result ≡ queue_at self.now.state name.now }
     {
-        match queue_place(&self.queues, name) {
+        match queue_position(&self.queues, name) {
             Ok(at) => Some(&self.queues[at]),
             Err(_) => None,
         }

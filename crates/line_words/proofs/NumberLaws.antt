@@ -4,7 +4,7 @@ use Rattle.std.proofs.lemmas.Bool.{and_right, lt-leb}
 use Rattle.std.proofs.lemmas.List.{drop_more}
 use Rattle.std.specs.List.{list_all}
 use Rattle.std.specs.Char.{is_ascii_digit}
-use Rattle.line_words.specs.Numbers.{read_on, is_decimal, decimal}
+use Rattle.line_words.specs.DecimalNumbers.{read_on, is_decimal, decimal}
 
 -- digits behind a number don't make it less
 grows : (n : ℕ) (digits : List ℕ) → n ≤ read_on n digits

@@ -1,5 +1,5 @@
 pub mod Blanks
 pub mod Quotes
-pub mod Seen
+pub mod WordFields
 pub mod Quoting
-pub mod Numbers
+pub mod DecimalNumbers

@@ -38,19 +38,19 @@ is_bare DoubleEscaped = false
 
 -- a blank that is neither in quotes nor escaped
 abbrev pub is_cut : Quoting → ℕ → Bool
-is_cut place b = is_blank b && is_bare place
+is_cut quote_state b = is_blank b && is_bare quote_state
 
 -- what the bytes say: those that belong to the value
 abbrev pub said : Quoting → List ℕ → List ℕ
-said place [] = []
-said place (b ∷ bs) = cond (keeps place b) (b ∷ said (next place b) bs) (said (next place b) bs)
+said quote_state [] = []
+said quote_state (b ∷ bs) = cond (keeps quote_state b) (b ∷ said (next quote_state b) bs) (said (next quote_state b) bs)
 
 -- where these bytes lead
 abbrev pub place_after : Quoting → List ℕ → Quoting
-place_after place [] = place
-place_after place (b ∷ bs) = place_after (next place b) bs
+place_after quote_state [] = quote_state
+place_after quote_state (b ∷ bs) = place_after (next quote_state b) bs
 
 -- the pieces between the blanks that cut; where two such blanks are side by side, the piece between them is empty
 abbrev pub pieces : Quoting → List ℕ → List (List ℕ)
-pieces place [] = [] ∷ []
-pieces place (b ∷ bs) = cond (is_cut place b) ([] ∷ pieces Bare bs) (onto_first b (pieces (next place b) bs))
+pieces quote_state [] = [] ∷ []
+pieces quote_state (b ∷ bs) = cond (is_cut quote_state b) ([] ∷ pieces Bare bs) (onto_first b (pieces (next quote_state b) bs))

@@ -1,6 +1,6 @@
 //! Decimal numbers.
 ghost use Rattle.std.specs.Prelude.{◌≡◌, ◌<◌, ◌≤◌, ◌^◌, IfSome};
-ghost use Rattle.line_words.specs.Numbers.{decimal};
+ghost use Rattle.line_words.specs.DecimalNumbers.{decimal};
 
 /// The number that a word is, if it is of decimal digits alone, of any count but none, and no greater than `most`.
 pub fn decimal(word: &[u8], most: u64) -> Option<u64>

@@ -3,7 +3,7 @@ ghost use Rattle.std.specs.Prelude.{◌≡◌, ◌++◌, false, IfOk, IsOk, OnOk
 ghost use Rattle.std.specs.List.{list_any};
 ghost use Rattle.std.specs.Option.{option_map};
 ghost use Rattle.line_words.specs.Quotes.{is_quote, is_backslash, escape_of, with_bytes, quoted};
-ghost use Rattle.line_words.specs.Seen.{bytes_of};
+ghost use Rattle.line_words.specs.WordFields.{bytes_of};
 
 use crate::words::Word;
 use std::alloc::{AllocError, Global};

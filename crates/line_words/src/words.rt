@@ -1,6 +1,6 @@
 //! A word in memory.
 ghost use Rattle.std.specs.Prelude.{◌≡◌, IfOk};
-ghost use Rattle.line_words.specs.Seen.{bytes_of};
+ghost use Rattle.line_words.specs.WordFields.{bytes_of};
 
 use std::alloc::{AllocError, Global};
 

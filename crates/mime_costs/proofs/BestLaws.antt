@@ -4,7 +4,7 @@ use Rattle.std.proofs.lemmas.Bool.{both_ways, cases_eq, false_from_ne_true, eqb-
 use Rattle.std.proofs.lemmas.List.{length-map}
 use Rattle.std.specs.List.{Contains, find}
 use Rattle.mime_costs.specs.Conversions.{same, matches}
-use Rattle.mime_costs.specs.Index.{sources_of, places_in, Ascends}
+use Rattle.mime_costs.specs.SourceIndex.{sources_of, positions_in, Ascends}
 use Rattle.mime_costs.specs.Costs.{plus, is_at, least, best, begins, is_taken}
 use Rattle.mime_costs.specs.Walks.{Leads, cost_of, line_of, is_before, beats, Worth, worth_of, IsReached, IsLeast, IsApart}
 use Rattle.mime_costs.specs.declared.conversion.Conversion.{Conversion}
@@ -78,7 +78,7 @@ rest_cost c m (Some n) h = let e : c + n ≡ m = cc in (ap Some (let f : n ≡ m
 
 -- how a walk of one line more begins
 record Begun (file : List Conversion) (to : List ℕ) (k m : ℕ) (media : List ℕ) (c : Conversion) : Type 0 where
-  found : find (begins file to k m (places_in (sources_of file) media)) file ≡ Some c
+  found : find (begins file to k m (positions_in (sources_of file) media)) file ≡ Some c
   there : Contains file c
   takes : matches c.source media ≡ true
   behind : least file to k c.destination ≡ Some (m - c.cost)
@@ -89,16 +89,16 @@ unfolding least
 begun file to k m media h = from (least_of_one (λ c. matches c.source media) (λ c. plus c.cost (least file to k c.destination)) file m h)
   where
     test : Conversion → Bool
-    test = begins file to k m (places_in (sources_of file) media)
+    test = begins file to k m (positions_in (sources_of file) media)
 
     made : (c : Conversion) × (find test file ≡ Some c) × Contains file c × (test c ≡ true) → (c : Conversion) × Begun file to k m media c
     made (c, e, there, t) =
-        let parts = taken_at (is_taken file (places_in (sources_of file) media) c) (plus c.cost (least file to k c.destination)) m t in
+        let parts = taken_at (is_taken file (positions_in (sources_of file) media) c) (plus c.cost (least file to k c.destination)) m t in
         let left = rest_cost c.cost m (least file to k c.destination) parts.1 in
         (c, record { found = e; there = there; takes = sym (taken_matches file media c there) ∙ parts.0; behind = left.0; less = left.1 })
 
     from : (c : Conversion) × Contains file c × (matches c.source media ≡ true) × (plus c.cost (least file to k c.destination) ≡ Some m) → (c : Conversion) × Begun file to k m media c
-    from (c, there, takes, is) = made (found_some test file c there (at_taken (is_taken file (places_in (sources_of file) media) c) _ m (taken_matches file media c there ∙ takes) is))
+    from (c, there, takes, is) = made (found_some test file c there (at_taken (is_taken file (positions_in (sources_of file) media) c) _ m (taken_matches file media c there ∙ takes) is))
 
 -- the first walk is a walk of that cost
 pub record IsOf (file : List Conversion) (to : List ℕ) (k m : ℕ) (media : List ℕ) (walk : List Conversion) : Type 0 where
@@ -106,7 +106,7 @@ pub record IsOf (file : List Conversion) (to : List ℕ) (k m : ℕ) (media : Li
   pub count : length walk ≡ k
   pub cost : cost_of walk ≡ m
 
-pub best_is : (file : List Conversion) (to : List ℕ) (k m : ℕ) (media : List ℕ) → least file to k media ≡ Some m → IsOf file to k m media (best file to k m (places_in (sources_of file) media))
+pub best_is : (file : List Conversion) (to : List ℕ) (k m : ℕ) (media : List ℕ) → least file to k media ≡ Some m → IsOf file to k m media (best file to k m (positions_in (sources_of file) media))
 unfolding least best
 best_is file to zero m media h = here (same media to) refl h
   where
@@ -115,16 +115,16 @@ best_is file to zero m media h = here (same media to) refl h
     here false e h = absurd (cc)
 best_is file to (suc k) m media h = step (λ c e. best_is file to k (m - c.cost) c.destination e) (begun file to k m media h)
   where
-    step : ((c : Conversion) → least file to k c.destination ≡ Some (m - c.cost) → IsOf file to k (m - c.cost) c.destination (best file to k (m - c.cost) (places_in (sources_of file) c.destination)))
-        → (c : Conversion) × Begun file to k m media c → IsOf file to (suc k) m media (best file to (suc k) m (places_in (sources_of file) media))
+    step : ((c : Conversion) → least file to k c.destination ≡ Some (m - c.cost) → IsOf file to k (m - c.cost) c.destination (best file to k (m - c.cost) (positions_in (sources_of file) c.destination)))
+        → (c : Conversion) × Begun file to k m media c → IsOf file to (suc k) m media (best file to (suc k) m (positions_in (sources_of file) media))
     step below (c, b) =
         let rest = below c b.behind in
-        subst (λ o. IsOf file to (suc k) m media (elim o [ None ↦ [] | Some c ↦ c ∷ best file to k (m - c.cost) (places_in (sources_of file) c.destination) ])) (sym b.found)
-        (record { leads = (b.there, b.takes, rest.leads); count = ap suc rest.count; cost = (let e : cost_of (best file to k (m - c.cost) (places_in (sources_of file) c.destination)) ≡ m - c.cost = rest.cost in let l : c.cost ≤ m = b.less in omega arith) })
+        subst (λ o. IsOf file to (suc k) m media (elim o [ None ↦ [] | Some c ↦ c ∷ best file to k (m - c.cost) (positions_in (sources_of file) c.destination) ])) (sym b.found)
+        (record { leads = (b.there, b.takes, rest.leads); count = ap suc rest.count; cost = (let e : cost_of (best file to k (m - c.cost) (positions_in (sources_of file) c.destination)) ≡ m - c.cost = rest.cost in let l : c.cost ≤ m = b.less in omega arith) })
 
 -- and no walk of that cost and length has smaller line numbers
 pub best_first : (file : List Conversion) (n : ℕ) → Ascends n file → (to : List ℕ) (k m : ℕ) (media : List ℕ) → least file to k media ≡ Some m → (walk : List Conversion) → Leads file media walk to → length walk ≡ k → cost_of walk ≡ m
-    → is_before (map line_of walk) (map line_of (best file to k m (places_in (sources_of file) media))) ≡ false
+    → is_before (map line_of walk) (map line_of (best file to k m (positions_in (sources_of file) media))) ≡ false
 unfolding least best
 best_first file n rising to zero m media h walk leads count cost = refl
 best_first file n rising to (suc k) m media h [] leads count cost = absurd (omega arith)
@@ -132,10 +132,10 @@ best_first file n rising to (suc k) m media h (v ∷ walk) (there, takes, leads)
     step (λ e. best_first file n rising to k (m - v.cost) v.destination e walk leads (omega arith) (omega arith)) (begun file to k m media h)
   where
     test : Conversion → Bool
-    test = begins file to k m (places_in (sources_of file) media)
+    test = begins file to k m (positions_in (sources_of file) media)
 
     lines_from : Conversion → List ℕ
-    lines_from y = y.line ∷ map line_of (best file to k (m - y.cost) (places_in (sources_of file) y.destination))
+    lines_from y = y.line ∷ map line_of (best file to k (m - y.cost) (positions_in (sources_of file) y.destination))
 
     -- the walk's own rest is a cheapest one, or it would not cost so little
     exact : (rest : Option ℕ) → AtMost rest (cost_of walk) → ((l : ℕ) → rest ≡ Some l → m ≤ v.cost + l) → plus v.cost rest ≡ Some m
@@ -150,7 +150,7 @@ best_first file n rising to (suc k) m media h (v ∷ walk) (there, takes, leads)
     passes : test v ≡ true
     passes =
         let most : AtMost (least file to k v.destination) (cost_of walk) = subst (λ j. AtMost (least file to j v.destination) (cost_of walk)) (let e : length walk ≡ k = omega arith in e) (least_most file to v.destination walk leads) in
-        at_taken (is_taken file (places_in (sources_of file) media) v) _ m (taken_matches file media v there ∙ takes) (exact (least file to k v.destination) most no_less)
+        at_taken (is_taken file (positions_in (sources_of file) media) v) _ m (taken_matches file media v there ∙ takes) (exact (least file to k v.destination) most no_less)
 
     tie : (i : ℕ) (xs ys : List ℕ) → is_before xs ys ≡ false → is_before (i ∷ xs) (i ∷ ys) ≡ false
     tie i xs ys h = or_from (ltb i i) (eqb i i && is_before xs ys) (le-ltb i i (omega arith)) (and_right (eqb i i) (is_before xs ys) h)
@@ -158,17 +158,17 @@ best_first file n rising to (suc k) m media h (v ∷ walk) (there, takes, leads)
     above : (i j : ℕ) (xs ys : List ℕ) → i < j → is_before (j ∷ xs) (i ∷ ys) ≡ false
     above i j xs ys h = or_from (ltb j i) (eqb j i && is_before xs ys) (le-ltb j i (omega arith)) (and_left (eqb j i) (is_before xs ys) (ne_eqb j i (λ e. omega arith)))
 
-    meets : (least file to k v.destination ≡ Some (m - v.cost) → is_before (map line_of walk) (map line_of (best file to k (m - v.cost) (places_in (sources_of file) v.destination))) ≡ false)
+    meets : (least file to k v.destination ≡ Some (m - v.cost) → is_before (map line_of walk) (map line_of (best file to k (m - v.cost) (positions_in (sources_of file) v.destination))) ≡ false)
         → (c : Conversion) → Begun file to k m media c → (c ≡ v) ⊎ (c.line < v.line) → is_before (v.line ∷ map line_of walk) (lines_from c) ≡ false
     meets below c b (inl e) =
         subst (λ y. is_before (v.line ∷ map line_of walk) (lines_from y) ≡ false) (sym e)
-        (tie v.line (map line_of walk) (map line_of (best file to k (m - v.cost) (places_in (sources_of file) v.destination))) (below (subst (λ y. least file to k y.destination ≡ Some (m - y.cost)) e b.behind)))
-    meets below c b (inr less) = above c.line v.line (map line_of walk) (map line_of (best file to k (m - c.cost) (places_in (sources_of file) c.destination))) less
+        (tie v.line (map line_of walk) (map line_of (best file to k (m - v.cost) (positions_in (sources_of file) v.destination))) (below (subst (λ y. least file to k y.destination ≡ Some (m - y.cost)) e b.behind)))
+    meets below c b (inr less) = above c.line v.line (map line_of walk) (map line_of (best file to k (m - c.cost) (positions_in (sources_of file) c.destination))) less
 
-    step : (least file to k v.destination ≡ Some (m - v.cost) → is_before (map line_of walk) (map line_of (best file to k (m - v.cost) (places_in (sources_of file) v.destination))) ≡ false)
-        → (c : Conversion) × Begun file to k m media c → is_before (v.line ∷ map line_of walk) (map line_of (best file to (suc k) m (places_in (sources_of file) media))) ≡ false
+    step : (least file to k v.destination ≡ Some (m - v.cost) → is_before (map line_of walk) (map line_of (best file to k (m - v.cost) (positions_in (sources_of file) v.destination))) ≡ false)
+        → (c : Conversion) × Begun file to k m media c → is_before (v.line ∷ map line_of walk) (map line_of (best file to (suc k) m (positions_in (sources_of file) media))) ≡ false
     step below (c, b) =
-        subst (λ o. is_before (v.line ∷ map line_of walk) (map line_of (elim o [ None ↦ [] | Some c ↦ c ∷ best file to k (m - c.cost) (places_in (sources_of file) c.destination) ])) ≡ false) (sym b.found)
+        subst (λ o. is_before (v.line ∷ map line_of walk) (map line_of (elim o [ None ↦ [] | Some c ↦ c ∷ best file to k (m - c.cost) (positions_in (sources_of file) c.destination) ])) ≡ false) (sym b.found)
         (meets below c b (found_first test n file c v rising b.found there passes))
 
 -- ## The chain
@@ -193,17 +193,17 @@ pub record IsBest (file : List Conversion) (from to : List ℕ) (k m : ℕ) : Ty
   pub least_cost : (j n : ℕ) → j ≤ 15 → least file to j from ≡ Some n → (m < n) ⊎ ((m ≡ n) × (k ≤ j))
 
 module _ (file : List Conversion) (from to : List ℕ) (k m : ℕ) (b : IsBest file from to k m) where
-  pub reached : IsReached file from to (record { cost = m; lines = map line_of (best file to k m (places_in (sources_of file) from)) })
+  pub reached : IsReached file from to (record { cost = m; lines = map line_of (best file to k m (positions_in (sources_of file) from)) })
   reached =
-      let walk = best file to k m (places_in (sources_of file) from) in
+      let walk = best file to k m (positions_in (sources_of file) from) in
       let is = best_is file to k m from b.there in
       (walk, record { leads = is.leads; short = (let e : length walk ≡ k = is.count in let s : k ≤ 15 = b.short in omega arith) }, ap (λ c. record { cost = c; lines = map line_of walk }) is.cost)
 
-  pub none_beats : Ascends 1 file → IsLeast file from to (record { cost = m; lines = map line_of (best file to k m (places_in (sources_of file) from)) })
+  pub none_beats : Ascends 1 file → IsLeast file from to (record { cost = m; lines = map line_of (best file to k m (positions_in (sources_of file) from)) })
   none_beats rising walk is = compare (least_most file to from walk is.leads)
     where
       chosen : List Conversion
-      chosen = best file to k m (places_in (sources_of file) from)
+      chosen = best file to k m (positions_in (sources_of file) from)
 
       count : length (map line_of chosen) ≡ k
       count = length-map chosen line_of ∙ (best_is file to k m from b.there).count

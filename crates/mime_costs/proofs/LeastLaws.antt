@@ -3,7 +3,7 @@ use Rattle.std.proofs.Common.{◌≡◌, ℕ, suc, zero, ◌+◌, ◌*◌, ◌�
 use Rattle.std.proofs.lemmas.Bool.{cond-true, cases_lt}
 use Rattle.std.specs.List.{Contains}
 use Rattle.mime_costs.specs.Conversions.{same, matches}
-use Rattle.mime_costs.specs.Index.{sources_of, places_in, AreCheap}
+use Rattle.mime_costs.specs.SourceIndex.{sources_of, positions_in, AreCheap}
 use Rattle.mime_costs.specs.Costs.{lesser, plus, least_of, least_in, least, row_of, is_taken}
 use Rattle.mime_costs.specs.Walks.{Leads, cost_of}
 use Rattle.mime_costs.specs.declared.conversion.Conversion.{Conversion}
@@ -95,10 +95,10 @@ least_in_row p h [] = refl
 least_in_row p h (x ∷ file) = ap (lesser (cond (p x) (plus x.cost (h x)) None)) (least_in_row p h file)
 
 -- the least from the places of a type
-pub least_from : (file : List Conversion) (to media : List ℕ) (k : ℕ) → least_in (is_taken file (places_in (sources_of file) media)) file (row_of file to k) ≡ least file to (suc k) media
+pub least_from : (file : List Conversion) (to media : List ℕ) (k : ℕ) → least_in (is_taken file (positions_in (sources_of file) media)) file (row_of file to k) ≡ least file to (suc k) media
 unfolding least
 least_from file to media k =
-    least_in_same (is_taken file (places_in (sources_of file) media)) (λ c. matches c.source media) file (row_of file to k) (taken_matches file media)
+    least_in_same (is_taken file (positions_in (sources_of file) media)) (λ c. matches c.source media) file (row_of file to k) (taken_matches file media)
     ∙ least_in_row (λ c. matches c.source media) (λ c. least file to k c.destination) file
 
 -- ## Walks

@@ -6,7 +6,7 @@ use Rattle.std.proofs.lemmas.List.Sums.{passes_at_first, fails_before_first, pos
 use Rattle.std.specs.List.{Contains}
 use Rattle.std.specs.Cmp.Lexicographic.{same_text, bytes_decides}
 use Rattle.mime_costs.specs.Conversions.{same, matches, super_source, every_type}
-use Rattle.mime_costs.specs.Index.{source_of, sources_of, place_in, places_in}
+use Rattle.mime_costs.specs.SourceIndex.{source_of, sources_of, position_in, positions_in}
 use Rattle.mime_costs.specs.Costs.{is_taken}
 use Rattle.mime_costs.specs.declared.conversion.Conversion.{Conversion}
 
@@ -17,9 +17,9 @@ pub same-eq : (text other : List ℕ) → same text other ≡ true → text ≡ 
 same-eq text other h = same_text text other (sym h)
 
 -- a source that is there stands before the end
-inside : (sources : List (List ℕ)) (source : List ℕ) (k : ℕ) → k < length sources → get_or sources k source ≡ source → place_in sources source < length sources
+inside : (sources : List (List ℕ)) (source : List ℕ) (k : ℕ) → k < length sources → get_or sources k source ≡ source → position_in sources source < length sources
 inside sources source k less is =
-    elim (cases_lt (place_in sources source) (length sources)) [
+    elim (cases_lt (position_in sources source) (length sources)) [
       | inl h ↦ h
       | inr h ↦ absurd (both_ways (same (get_or sources k source) source)
           (fails_before_first (λ other. same other source) sources k source (omega arith))
@@ -27,17 +27,17 @@ inside sources source k less is =
     ]
 
 -- at its place stands the source
-at_place : (sources : List (List ℕ)) (source d : List ℕ) → place_in sources source < length sources → get_or sources (place_in sources source) d ≡ source
+at_place : (sources : List (List ℕ)) (source d : List ℕ) → position_in sources source < length sources → get_or sources (position_in sources source) d ≡ source
 at_place sources source d less = same-eq _ source (passes_at_first (λ other. same other source) sources d less)
 
 -- two sources stand at one place where they are the same
-pub same_place : (sources : List (List ℕ)) (source other : List ℕ) → Contains sources source → eqb (place_in sources source) (place_in sources other) ≡ same source other
+pub same_place : (sources : List (List ℕ)) (source other : List ℕ) → Contains sources source → eqb (position_in sources source) (position_in sources other) ≡ same source other
 same_place sources source other (k, less, is) =
-    let here : place_in sources source < length sources = inside sources source k less is in
-    (elim (same source other) as (λ v. same source other ≡ v → eqb (place_in sources source) (place_in sources other) ≡ v) [
-      | true ↦ λ h. eq-eqb _ _ (ap (place_in sources) (same-eq source other h))
+    let here : position_in sources source < length sources = inside sources source k less is in
+    (elim (same source other) as (λ v. same source other ≡ v → eqb (position_in sources source) (position_in sources other) ≡ v) [
+      | true ↦ λ h. eq-eqb _ _ (ap (position_in sources) (same-eq source other h))
       | false ↦ λ h. ne_eqb _ _ (λ e.
-          let there : place_in sources other < length sources = omega (arith, e) in
+          let there : position_in sources other < length sources = omega (arith, e) in
           both_ways (same source other) h
           (ap (λ s. same s other) (sym (at_place sources source [] here) ∙ ap (λ n. get_or sources n []) e ∙ at_place sources other [] there) ∙ same-refl other))
     ]) refl
@@ -49,7 +49,7 @@ source_there file c (k, less, is) =
     (k, short, get_or-map source_of file k c c.source less ∙ ap source_of is)
 
 -- the conversions at the places of a type are those that take it
-pub taken_matches : (file : List Conversion) (media : List ℕ) (c : Conversion) → Contains file c → is_taken file (places_in (sources_of file) media) c ≡ matches c.source media
+pub taken_matches : (file : List Conversion) (media : List ℕ) (c : Conversion) → Contains file c → is_taken file (positions_in (sources_of file) media) c ≡ matches c.source media
 taken_matches file media c there =
     let sources = sources_of file in
     let in_sources : Contains sources c.source = source_there file c there in
@@ -59,7 +59,7 @@ taken_matches file media c there =
     three p q r = cc
 
 -- a conversion's group is one of the file
-pub source_place : (file : List Conversion) (i : ℕ) (d : Conversion) → i < length file → place_in (sources_of file) (get_or file i d).source < length file
+pub source_place : (file : List Conversion) (i : ℕ) (d : Conversion) → i < length file → position_in (sources_of file) (get_or file i d).source < length file
 source_place file i d less =
     let short = length-map file source_of in
     let l : i < length (sources_of file) = omega arith in
@@ -68,7 +68,7 @@ source_place file i d less =
 
 -- the loop that looks for a source
 module _ (file : List Conversion) (source : List ℕ) (i : ℕ) where
-  pub place_found : (x : Conversion) → i < length file → x ≡ get_or file i x → same x.source source ≡ true → ((k : ℕ) → k < i → same (get_or (sources_of file) k []) source ≡ false) → i ≡ place_in (sources_of file) source
+  pub place_found : (x : Conversion) → i < length file → x ≡ get_or file i x → same x.source source ≡ true → ((k : ℕ) → k < i → same (get_or (sources_of file) k []) source ≡ false) → i ≡ position_in (sources_of file) source
   place_found x less here is before =
       let long = length-map file source_of in
       sym (position_or_len_is (λ other. same other source) (sources_of file) i [] (omega arith) before
@@ -78,7 +78,7 @@ module _ (file : List Conversion) (source : List ℕ) (i : ℕ) where
   place_more x less here is before =
       below_more (λ k. same (get_or (sources_of file) k []) source ≡ false) i before (ap (λ s. same s source) (get_or-map source_of file i x [] less ∙ ap source_of (sym here)) ∙ is)
 
-  pub place_none : length file ≤ i → i ≤ length file → ((k : ℕ) → k < i → same (get_or (sources_of file) k []) source ≡ false) → length file ≡ place_in (sources_of file) source
+  pub place_none : length file ≤ i → i ≤ length file → ((k : ℕ) → k < i → same (get_or (sources_of file) k []) source ≡ false) → length file ≡ position_in (sources_of file) source
   place_none le ge before =
       let long = length-map file source_of in
       let e : length file ≡ i = omega arith in

@@ -1,14 +1,14 @@
 -- The lines of a file, as they are read.
 use Rattle.std.proofs.Common.{◌≡◌, ℕ, suc, ◌<◌, ◌≤◌, Bool, true, false, ◌&&◌, cond, List, [], ◌∷◌, ◌++◌, refl, ap, sym, ◌∙◌, arith, subst, Option, None, Some, Result, Ok, Err, leb, is_none}
 use Rattle.std.proofs.lemmas.Bool.{leb-true, cond_both}
-use Rattle.mime_lines.specs.Numbers.{number_of}
+use Rattle.mime_lines.specs.RuleNumbers.{number_of}
 use Rattle.mime_lines.specs.JoinedLines.{Line, with_line, left_open, joined_from, is_silent, is_continued, lines_of, joined_lines}
 use Rattle.spool_types.specs.Values.{is_media_type, is_filter_name, text_in, folded_in}
 use Rattle.spool_types.specs.declared.warning.WarningKind.{WarningKind}
 use Rattle.spool_types.specs.declared.warning.WarningKind.TheVariants.{BadType, BadNumber}
 use Rattle.mime_costs.specs.Conversions.{is_source}
-use Rattle.mime_costs.specs.Index.{Ascends, AreCheap}
-use Rattle.mime_costs.specs.Reading.{cheap, cost_in, Words, four_words, with_filter, with_cost, with_destination, with_source, of_words, conversion_of, taken, conversions_in, conversions_of}
+use Rattle.mime_costs.specs.SourceIndex.{Ascends, AreCheap}
+use Rattle.mime_costs.specs.ConversionFiles.{cheap, cost_in, Words, four_words, with_filter, with_cost, with_destination, with_source, of_words, conversion_of, taken, conversions_in, conversions_of}
 use Rattle.mime_costs.specs.declared.conversion.Conversion.{Conversion}
 
 -- ## The parts of a line

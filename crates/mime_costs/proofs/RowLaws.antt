@@ -3,10 +3,10 @@ use Rattle.std.proofs.Common.{◌≡◌, ℕ, suc, zero, ◌+◌, ◌*◌, ◌<�
 use Rattle.std.proofs.lemmas.Bool.{both_ways, ne_eqb, cases_eq, cases_lt}
 use Rattle.std.proofs.lemmas.List.{length-map, get_or-map, get_or-set_same, get_or-set_other, get_or_default}
 use Rattle.std.specs.List.{All}
-use Rattle.mime_costs.specs.Index.{sources_of, place_in, places_in, takes, links_in, link_of, AreCheap}
+use Rattle.mime_costs.specs.SourceIndex.{sources_of, position_in, positions_in, takes, links_in, link_of, AreCheap}
 use Rattle.mime_costs.specs.Costs.{lesser, plus, is_at, least, least_in, row_of, is_of_group, is_taken, cost_in_groups, next_cost, is_step, IsSmall}
 use Rattle.mime_costs.specs.declared.conversion.Conversion.{Conversion}
-use Rattle.mime_costs.specs.declared.links.Places.{Places}
+use Rattle.mime_costs.specs.declared.links.Positions.{Positions}
 use Rattle.mime_costs.specs.declared.links.Link.{Link}
 use Rattle.mime_costs.proofs.PlaceLaws.{source_place}
 use Rattle.mime_costs.proofs.LeastLaws.{lesser-none, lesser_assoc, lesser_comm, lesser_same, lesser_one, least_from, least_small}
@@ -40,7 +40,7 @@ module _ (p : Conversion → Bool) (file : List Conversion) (row : List (Option 
 abbrev pub AreGroups : List Conversion → List (Option ℕ) → List (Option ℕ) → ℕ → Type 0
 AreGroups file row groups i = (g : ℕ) → get_or groups g None ≡ least_in (is_of_group file g) (take i file) (take i row)
 
-pub groups_more : (file : List Conversion) (row groups : List (Option ℕ)) (i group : ℕ) (d : Conversion) → i < length file → i < length row → group ≡ place_in (sources_of file) (get_or file i d).source → group < length groups
+pub groups_more : (file : List Conversion) (row groups : List (Option ℕ)) (i group : ℕ) (d : Conversion) → i < length file → i < length row → group ≡ position_in (sources_of file) (get_or file i d).source → group < length groups
     → AreGroups file row groups i → AreGroups file row (set groups group (lesser (get_or groups group None) (plus (get_or file i d).cost (get_or row i None)))) (i + 1)
 groups_more file row groups i group d less there is inside so_far g = at (cases_eq g group)
   where
@@ -78,14 +78,14 @@ least_in_or p q (x ∷ file) (r ∷ row) =
     four false false a x y = refl
 
 -- the groups of three places, and the conversions that these take
-pub groups_taken : (file : List Conversion) (row groups : List (Option ℕ)) (places : Places) → ((g : ℕ) → get_or groups g None ≡ least_in (is_of_group file g) file row) → cost_in_groups groups places ≡ least_in (is_taken file places) file row
-groups_taken file row groups places is =
-    let a = is_of_group file places.of_type in
-    let b = is_of_group file places.of_super in
-    let c = is_of_group file places.of_any in
-    ap (λ o. lesser o (lesser (get_or groups places.of_super None) (get_or groups places.of_any None))) (is places.of_type)
-    ∙ ap (λ o. lesser (least_in a file row) (lesser o (get_or groups places.of_any None))) (is places.of_super)
-    ∙ ap (λ o. lesser (least_in a file row) (lesser (least_in b file row) o)) (is places.of_any)
+pub groups_taken : (file : List Conversion) (row groups : List (Option ℕ)) (positions : Positions) → ((g : ℕ) → get_or groups g None ≡ least_in (is_of_group file g) file row) → cost_in_groups groups positions ≡ least_in (is_taken file positions) file row
+groups_taken file row groups positions is =
+    let a = is_of_group file positions.of_type in
+    let b = is_of_group file positions.of_super in
+    let c = is_of_group file positions.of_any in
+    ap (λ o. lesser o (lesser (get_or groups positions.of_super None) (get_or groups positions.of_any None))) (is positions.of_type)
+    ∙ ap (λ o. lesser (least_in a file row) (lesser o (get_or groups positions.of_any None))) (is positions.of_super)
+    ∙ ap (λ o. lesser (least_in a file row) (lesser (least_in b file row) o)) (is positions.of_any)
     ∙ sym (lesser_assoc (least_in a file row) (least_in b file row) (least_in c file row))
     ∙ ap (λ o. lesser o (least_in c file row)) (sym (least_in_or a b file row))
     ∙ sym (least_in_or (λ x. a x || b x) c file row)
@@ -96,7 +96,7 @@ next_is file to k groups is = over file
   where
     at : (c : Conversion) → next_cost groups (link_of (sources_of file) c) ≡ least file to (k + 1) c.destination
     at c =
-        groups_taken file (row_of file to k) groups (places_in (sources_of file) c.destination) is ∙ least_from file to c.destination k
+        groups_taken file (row_of file to k) groups (positions_in (sources_of file) c.destination) is ∙ least_from file to c.destination k
         ∙ ap (λ n. least file to n c.destination) (sym (add-one k))
 
     over : (some : List Conversion) → map (next_cost groups) (map (link_of (sources_of file)) some) ≡ map (λ c. least file to (k + 1) c.destination) some
@@ -128,33 +128,33 @@ link_at file links i d e is less = ap (λ l. get_or l i e) is ∙ get_or-map (li
 -- ## The loops over the conversions
 
 module _ (file : List Conversion) (links : List Link) (row : List (Option ℕ)) (i : ℕ) (x : Conversion) (e : Link) (linked : links ≡ links_in file) (long : length row ≡ length file) (less : i < length file) (here : x ≡ get_or file i x) where
-  pub group_is : (get_or links i e).group ≡ place_in (sources_of file) (get_or file i x).source
+  pub group_is : (get_or links i e).group ≡ position_in (sources_of file) (get_or file i x).source
   group_is = ap (λ l. l.group) (link_at file links i x e linked less)
 
   pub group_inside : (get_or links i e).group < length file
   group_inside = subst (λ g. g < length file) (sym group_is) (source_place file i x less)
 
   -- the cost of this conversion, if it is taken
-  taken_is : (places : Places) → cond (takes places (get_or links i e).group) (plus x.cost (get_or row i None)) None ≡ cond (is_taken file places (get_or file i x)) (plus (get_or file i x).cost (get_or row i None)) None
-  taken_is places =
-      ap (λ g. cond (takes places g) (plus x.cost (get_or row i None)) None) group_is
-      ∙ ap (λ n. cond (is_taken file places (get_or file i x)) (plus n (get_or row i None)) None) (ap (λ y. y.cost) here)
+  taken_is : (positions : Positions) → cond (takes positions (get_or links i e).group) (plus x.cost (get_or row i None)) None ≡ cond (is_taken file positions (get_or file i x)) (plus (get_or file i x).cost (get_or row i None)) None
+  taken_is positions =
+      ap (λ g. cond (takes positions g) (plus x.cost (get_or row i None)) None) group_is
+      ∙ ap (λ n. cond (is_taken file positions (get_or file i x)) (plus n (get_or row i None)) None) (ap (λ y. y.cost) here)
 
-  pub cost_more : (places : Places) (so_far this next : Option ℕ) → so_far ≡ least_in (is_taken file places) (take i file) (take i row)
-      → this ≡ cond (takes places (get_or links i e).group) (plus x.cost (get_or row i None)) None → next ≡ lesser so_far this
-      → next ≡ least_in (is_taken file places) (take (i + 1) file) (take (i + 1) row)
-  cost_more places so_far this next before is after =
-      after ∙ ap (λ o. lesser o this) before ∙ ap (lesser (least_in (is_taken file places) (take i file) (take i row))) (is ∙ taken_is places)
-      ∙ sym (ap (λ n. least_in (is_taken file places) (take n file) (take n row)) (add-one i) ∙ least_in_step (is_taken file places) file row i x less (omega arith))
+  pub cost_more : (positions : Positions) (so_far this next : Option ℕ) → so_far ≡ least_in (is_taken file positions) (take i file) (take i row)
+      → this ≡ cond (takes positions (get_or links i e).group) (plus x.cost (get_or row i None)) None → next ≡ lesser so_far this
+      → next ≡ least_in (is_taken file positions) (take (i + 1) file) (take (i + 1) row)
+  cost_more positions so_far this next before is after =
+      after ∙ ap (λ o. lesser o this) before ∙ ap (lesser (least_in (is_taken file positions) (take i file) (take i row))) (is ∙ taken_is positions)
+      ∙ sym (ap (λ n. least_in (is_taken file positions) (take n file) (take n row)) (add-one i) ∙ least_in_step (is_taken file positions) file row i x less (omega arith))
 
-  pub step_here : (places : Places) (m : ℕ) (b : Bool) → b ≡ is_at (cond (takes places (get_or links i e).group) (plus x.cost (get_or row i None)) None) m → (d : Conversion) → is_step file row places m i d ≡ b
-  step_here places m b is d =
-      ap (λ y. is_at (cond (is_taken file places y) (plus y.cost (get_or row i None)) None) m) (get_or_default file i d x less)
-      ∙ ap (λ o. is_at o m) (sym (taken_is places)) ∙ sym is
+  pub step_here : (positions : Positions) (m : ℕ) (b : Bool) → b ≡ is_at (cond (takes positions (get_or links i e).group) (plus x.cost (get_or row i None)) None) m → (d : Conversion) → is_step file row positions m i d ≡ b
+  step_here positions m b is d =
+      ap (λ y. is_at (cond (is_taken file positions y) (plus y.cost (get_or row i None)) None) m) (get_or_default file i d x less)
+      ∙ ap (λ o. is_at o m) (sym (taken_is positions)) ∙ sym is
 
-  pub step_more : (places : Places) (m : ℕ) → false ≡ is_at (cond (takes places (get_or links i e).group) (plus x.cost (get_or row i None)) None) m
-      → ((j : ℕ) (d : Conversion) → j < i → is_step file row places m j d ≡ false) → (j : ℕ) (d : Conversion) → j < i + 1 → is_step file row places m j d ≡ false
-  step_more places m is before j d below = elim (cases_lt j i) [ inl l ↦ before j d l | inr l ↦ (let f : i ≡ j = omega arith in subst (λ k. is_step file row places m k d ≡ false) f (step_here places m false is d)) ]
+  pub step_more : (positions : Positions) (m : ℕ) → false ≡ is_at (cond (takes positions (get_or links i e).group) (plus x.cost (get_or row i None)) None) m
+      → ((j : ℕ) (d : Conversion) → j < i → is_step file row positions m j d ≡ false) → (j : ℕ) (d : Conversion) → j < i + 1 → is_step file row positions m j d ≡ false
+  step_more positions m is before j d below = elim (cases_lt j i) [ inl l ↦ before j d l | inr l ↦ (let f : i ≡ j = omega arith in subst (λ k. is_step file row positions m k d ≡ false) f (step_here positions m false is d)) ]
 
   pub groups_next : (groups : List (Option ℕ)) (cost next : Option ℕ) → length groups ≡ length file → AreGroups file row groups i → cost ≡ plus x.cost (get_or row i None) → next ≡ lesser (get_or groups (get_or links i e).group None) cost
       → AreGroups file row (set groups (get_or links i e).group next) (i + 1)
@@ -164,15 +164,15 @@ module _ (file : List Conversion) (links : List Link) (row : List (Option ℕ)) 
       (groups_more file row groups i (get_or links i e).group x less (omega arith) group_is (let g = group_inside in omega arith) so_far)
 
 -- no step at all contradicts a least cost
-pub no_step : (file : List Conversion) (row : List (Option ℕ)) (places : Places) (m : ℕ) (i : ℕ) → length file ≤ i → least_in (is_taken file places) file row ≡ Some m → ((j : ℕ) (d : Conversion) → j < i → is_step file row places m j d ≡ false) → ⊥
-no_step file row places m i le h none = against (some_step (is_taken file places) file row m h)
+pub no_step : (file : List Conversion) (row : List (Option ℕ)) (positions : Positions) (m : ℕ) (i : ℕ) → length file ≤ i → least_in (is_taken file positions) file row ≡ Some m → ((j : ℕ) (d : Conversion) → j < i → is_step file row positions m j d ≡ false) → ⊥
+no_step file row positions m i le h none = against (some_step (is_taken file positions) file row m h)
   where
-    against : (j : ℕ) × (j < length file) × ((d : Conversion) → is_step file row places m j d ≡ true) → ⊥
+    against : (j : ℕ) × (j < length file) × ((d : Conversion) → is_step file row positions m j d ≡ true) → ⊥
     against (j, less, is) = first file less is (none j)
       where
-        first : (some : List Conversion) → j < length some → ((d : Conversion) → is_step file row places m j d ≡ true) → ((d : Conversion) → j < i → is_step file row places m j d ≡ false) → ⊥
+        first : (some : List Conversion) → j < length some → ((d : Conversion) → is_step file row positions m j d ≡ true) → ((d : Conversion) → j < i → is_step file row positions m j d ≡ false) → ⊥
         first [] l is fails = omega arith
-        first (c ∷ some) l is fails = both_ways (is_step file row places m j c) (fails c (omega arith)) (is c)
+        first (c ∷ some) l is fails = both_ways (is_step file row positions m j c) (fails c (omega arith)) (is c)
 
 -- rows are small
 pub row_small : (file : List Conversion) → AreCheap file → (to : List ℕ) (k : ℕ) → k ≤ 15 → All IsSmall (row_of file to k)

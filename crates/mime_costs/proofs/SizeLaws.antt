@@ -5,12 +5,12 @@ use Rattle.std.proofs.lemmas.List.{length-map, get_or-map, get_or_append_left, g
 use Rattle.std.specs.List.{All}
 use Rattle.std.specs.declared.alloc.Global.{Global}
 use Rattle.std.specs.declared.vec.Vec.{Vec}
-use Rattle.mime_costs.specs.Index.{sources_of, places_in, Ascends, AreCheap}
+use Rattle.mime_costs.specs.SourceIndex.{sources_of, positions_in, Ascends, AreCheap}
 use Rattle.mime_costs.specs.Costs.{least, best, least_in, row_of, is_taken, IsTable, IsRow, IsSmall, IsBestSize, better_size, costs_from}
 use Rattle.mime_costs.specs.Walks.{line_of, IsReached, IsLeast, IsApart}
 use Rattle.mime_costs.specs.declared.chain.Size.{Size}
 use Rattle.mime_costs.specs.declared.conversion.Conversion.{Conversion}
-use Rattle.mime_costs.specs.declared.links.Places.{Places}
+use Rattle.mime_costs.specs.declared.links.Positions.{Positions}
 use Rattle.mime_costs.proofs.LeastLaws.{least_from}
 use Rattle.mime_costs.proofs.RowLaws.{row_small}
 use Rattle.mime_costs.proofs.BestLaws.{IsBest, reached, none_beats, apart, none_empty}
@@ -90,13 +90,13 @@ best_more costs (Some size) (Some cost) h =
     changes less k m (inr p) = (let e : Some cost ≡ Some m = p.1 in let f : k ≡ length costs = p.0 in inr ((let g : cost ≡ m = cc in g), omega arith))
 
 -- one row more
-pub size_more : (file : List Conversion) (places : Places) (rows : List (Vec (Option ℕ) Global)) (i : ℕ) (row : Vec (Option ℕ) Global) → i < length rows → row ≡ get_or rows i row → (so_far next : Option Size) (cost : Option ℕ)
-    → IsBestSize (costs_from file places (take i rows)) so_far → cost ≡ least_in (is_taken file places) file row.items → next ≡ better_size so_far cost i → IsBestSize (costs_from file places (take (i + 1) rows)) next
-size_more file places rows i row less here so_far next cost best is after =
-    let costs = costs_from file places (take i rows) in
-    let long : length costs ≡ i = length-map (take i rows) (λ r. least_in (is_taken file places) file r.items) ∙ length-take-le i rows (omega arith) in
+pub size_more : (file : List Conversion) (positions : Positions) (rows : List (Vec (Option ℕ) Global)) (i : ℕ) (row : Vec (Option ℕ) Global) → i < length rows → row ≡ get_or rows i row → (so_far next : Option Size) (cost : Option ℕ)
+    → IsBestSize (costs_from file positions (take i rows)) so_far → cost ≡ least_in (is_taken file positions) file row.items → next ≡ better_size so_far cost i → IsBestSize (costs_from file positions (take (i + 1) rows)) next
+size_more file positions rows i row less here so_far next cost best is after =
+    let costs = costs_from file positions (take i rows) in
+    let long : length costs ≡ i = length-map (take i rows) (λ r. least_in (is_taken file positions) file r.items) ∙ length-take-le i rows (omega arith) in
     subst (λ l. IsBestSize l next)
-    (ap (λ o. costs ++ o ∷ []) (is ∙ ap (λ r. least_in (is_taken file places) file r.items) here) ∙ sym (map_more (λ r. least_in (is_taken file places) file r.items) rows i row less))
+    (ap (λ o. costs ++ o ∷ []) (is ∙ ap (λ r. least_in (is_taken file positions) file r.items) here) ∙ sym (map_more (λ r. least_in (is_taken file positions) file r.items) rows i row less))
     (subst (IsBestSize (costs ++ cost ∷ [])) (ap (better_size so_far cost) long ∙ sym after) (best_more costs so_far cost best))
 
 pub table_more : (file : List Conversion) (to : List ℕ) (n : ℕ) (rows : List (Vec (Option ℕ) Global)) (row : Vec (Option ℕ) Global) → IsTable file to n rows → row.items ≡ row_of file to n → IsTable file to (n + 1) (rows ++ row ∷ [])
@@ -119,20 +119,20 @@ table_rows file cheap to rows table k d less =
 
 module _ (file : List Conversion) (from to : List ℕ) (rows : List (Vec (Option ℕ) Global)) (d : Vec (Option ℕ) Global) (table : IsTable file to 15 rows) (other : from ≡ to → ⊥) where
   abbrev pub costs : List (Option ℕ)
-  costs = costs_from file (places_in (sources_of file) from) rows
+  costs = costs_from file (positions_in (sources_of file) from) rows
 
   -- what the costs say of walks
   cost_at : (k : ℕ) → k < 15 → get_or costs k None ≡ least file to (suc k) from
   cost_at k less =
       let count : length rows ≡ 15 = table.count in
-      get_or-map (λ row. least_in (is_taken file (places_in (sources_of file) from)) file row.items) rows k d None (omega arith)
-      ∙ ap (least_in (is_taken file (places_in (sources_of file) from)) file) (table.row k d less)
+      get_or-map (λ row. least_in (is_taken file (positions_in (sources_of file) from)) file row.items) rows k d None (omega arith)
+      ∙ ap (least_in (is_taken file (positions_in (sources_of file) from)) file) (table.row k d less)
       ∙ least_from file to from k
 
   inside : (k m : ℕ) → get_or costs k None ≡ Some m → k < 15
   inside k m h =
       let count : length rows ≡ 15 = table.count in
-      let long = length-map rows (λ row. least_in (is_taken file (places_in (sources_of file) from)) file row.items) in
+      let long = length-map rows (λ row. least_in (is_taken file (positions_in (sources_of file) from)) file row.items) in
       let l : k < length costs = within costs k m h in
       omega arith
 
@@ -159,12 +159,12 @@ module _ (file : List Conversion) (from to : List ℕ) (rows : List (Vec (Option
           raise (inr p) = inr (p.0, (let l : size.rest ≤ j = p.1 in omega arith))
 
 -- the chain of the size that was found
-pub some_chain : (file : List Conversion) → Ascends 1 file → (to : List ℕ) (rows : List (Vec (Option ℕ) Global)) (d : Vec (Option ℕ) Global) → IsTable file to 15 rows → (size : Size) (places : Places) → IsBestSize (costs_from file places rows) (Some size) → (lines : List ℕ)
-    → lines ≡ map line_of (best file to (size.rest + 1) size.cost places) → (from : List ℕ) → places ≡ places_in (sources_of file) from → (from ≡ to → ⊥)
+pub some_chain : (file : List Conversion) → Ascends 1 file → (to : List ℕ) (rows : List (Vec (Option ℕ) Global)) (d : Vec (Option ℕ) Global) → IsTable file to 15 rows → (size : Size) (positions : Positions) → IsBestSize (costs_from file positions rows) (Some size) → (lines : List ℕ)
+    → lines ≡ map line_of (best file to (size.rest + 1) size.cost positions) → (from : List ℕ) → positions ≡ positions_in (sources_of file) from → (from ≡ to → ⊥)
     → IsReached file from to (record { cost = size.cost; lines = lines }) × IsLeast file from to (record { cost = size.cost; lines = lines })
-some_chain file rising to rows d table size places found lines is from here other =
+some_chain file rising to rows d table size positions found lines is from here other =
     let b : IsBest file from to (size.rest + 1) size.cost = some_size file from to rows d table other size (subst (λ p. IsBestSize (costs_from file p rows) (Some size)) here found) in
-    let e : map line_of (best file to (size.rest + 1) size.cost (places_in (sources_of file) from)) ≡ lines = sym (is ∙ ap (λ p. map line_of (best file to (size.rest + 1) size.cost p)) here) in (
+    let e : map line_of (best file to (size.rest + 1) size.cost (positions_in (sources_of file) from)) ≡ lines = sym (is ∙ ap (λ p. map line_of (best file to (size.rest + 1) size.cost p)) here) in (
       subst (λ l. IsReached file from to (record { cost = size.cost; lines = l })) e (reached file from to (size.rest + 1) size.cost b),
       subst (λ l. IsLeast file from to (record { cost = size.cost; lines = l })) e (none_beats file from to (size.rest + 1) size.cost b rising),
     )

@@ -6,19 +6,19 @@ use Rattle.std.specs.HashMap.{HashMap, get_by}
 use Rattle.std.specs.Str.{bytes_eq}
 use denote.Ref.{Bor}
 use Rattle.mime_costs.specs.Conversions.{same}
-use Rattle.mime_costs.specs.Index.{sources_of, place_in}
+use Rattle.mime_costs.specs.SourceIndex.{sources_of, position_in}
 use Rattle.mime_costs.specs.declared.conversion.Conversion.{Conversion}
 
 -- in a map of n conversions the sources of these last ones stand where they do behind the first ones
 abbrev pub Known : {S : Type 0} → HashMap (Bor (List ℕ)) ℕ S → ℕ → ℕ → List Conversion → Type 0
-Known places n at tail = (source : List ℕ) → unwrap_or (get_by (λ k. bytes_eq source k.now) places) n ≡ at + place_in (sources_of tail) source
+Known positions n at tail = (source : List ℕ) → unwrap_or (get_by (λ k. bytes_eq source k.now) positions) n ≡ at + position_in (sources_of tail) source
 
 -- one more conversion in front
-pub one_known : {S : Type 0} (places more : HashMap (Bor (List ℕ)) ℕ S) (n at : ℕ) (c : Conversion) (tail : List Conversion) → Known places n (suc at) tail
-    → hash.UpdatesBy (λ x y. bytes_eq x.now y.now) (λ k. bytes_eq c.source k.now) places more (Some at) → Known more n at (c ∷ tail)
-one_known places more n at c tail known updates = λ source.
-    ap (λ o. unwrap_or o n) (hash_map_updates_str c.source places more (Some at) updates source)
-    ∙ here (same c.source source) (get_by (λ k. bytes_eq source k.now) places) (place_in (sources_of tail) source) (known source)
+pub one_known : {S : Type 0} (positions more : HashMap (Bor (List ℕ)) ℕ S) (n at : ℕ) (c : Conversion) (tail : List Conversion) → Known positions n (suc at) tail
+    → hash.UpdatesBy (λ x y. bytes_eq x.now y.now) (λ k. bytes_eq c.source k.now) positions more (Some at) → Known more n at (c ∷ tail)
+one_known positions more n at c tail known updates = λ source.
+    ap (λ o. unwrap_or o n) (hash_map_updates_str c.source positions more (Some at) updates source)
+    ∙ here (same c.source source) (get_by (λ k. bytes_eq source k.now) positions) (position_in (sources_of tail) source) (known source)
   where
     here : (b : Bool) (old : Option ℕ) (later : ℕ) → unwrap_or old n ≡ suc at + later → unwrap_or (cond b (Some at) old) n ≡ at + cond (not b) (1 + later) 0
     here true old later e = omega arith

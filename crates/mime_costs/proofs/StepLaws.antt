@@ -4,15 +4,15 @@ use Rattle.std.proofs.lemmas.List.{get_or-map, append_assoc, append-nil, length-
 use Rattle.std.specs.Prelude.{Result, Ok, Err, IfOk, IfSome}
 use Rattle.std.specs.declared.alloc.AllocError.{AllocError}
 use Rattle.mime_costs.specs.declared.chain.Chain.{Chain}
-use Rattle.mime_costs.specs.Seen.{IsAnswer}
+use Rattle.mime_costs.specs.ConversionFields.{IsAnswer}
 use Rattle.std.specs.List.{find, Contains, All}
 use Rattle.std.specs.declared.alloc.Global.{Global}
 use Rattle.std.specs.declared.vec.Vec.{Vec}
-use Rattle.mime_costs.specs.Index.{sources_of, places_in, Ascends}
+use Rattle.mime_costs.specs.SourceIndex.{sources_of, positions_in, Ascends}
 use Rattle.mime_costs.specs.Costs.{plus, is_at, least, least_in, best, begins, is_taken, is_step, row_of, IsTable}
 use Rattle.mime_costs.specs.Walks.{line_of, Leads}
 use Rattle.mime_costs.specs.declared.conversion.Conversion.{Conversion}
-use Rattle.mime_costs.specs.declared.links.Places.{Places}
+use Rattle.mime_costs.specs.declared.links.Positions.{Positions}
 use Rattle.mime_costs.proofs.BestLaws.{rest_cost, taken_at, rises}
 use Rattle.mime_costs.proofs.LeastLaws.{least_from}
 
@@ -22,15 +22,15 @@ found_at p [] i d less is before = absurd (omega arith)
 found_at p (x ∷ file) zero d less is before = ap (λ v. cond v (Some x) (find p file)) is
 found_at p (x ∷ file) (suc i) d less is before = ap (λ v. cond v (Some x) (find p file)) (before zero (omega arith)) ∙ found_at p file i d (omega arith) is (λ j l. before (suc j) (omega arith))
 
-module _ (file : List Conversion) (to : List ℕ) (k m : ℕ) (places : Places) (i : ℕ) (x : Conversion) (row : List (Option ℕ)) (less : i < length file) (here : x ≡ get_or file i x) (rows : row ≡ row_of file to k)
-    (is : (d : Conversion) → is_step file row places m i d ≡ true) (before : (j : ℕ) (d : Conversion) → j < i → is_step file row places m j d ≡ false) where
-  begins_at : (j : ℕ) → j < length file → begins file to k m places (get_or file j x) ≡ is_step file row places m j x
+module _ (file : List Conversion) (to : List ℕ) (k m : ℕ) (positions : Positions) (i : ℕ) (x : Conversion) (row : List (Option ℕ)) (less : i < length file) (here : x ≡ get_or file i x) (rows : row ≡ row_of file to k)
+    (is : (d : Conversion) → is_step file row positions m i d ≡ true) (before : (j : ℕ) (d : Conversion) → j < i → is_step file row positions m j d ≡ false) where
+  begins_at : (j : ℕ) → j < length file → begins file to k m positions (get_or file j x) ≡ is_step file row positions m j x
   begins_at j l =
-      ap (λ o. is_at (cond (is_taken file places (get_or file j x)) (plus (get_or file j x).cost o) None) m)
+      ap (λ o. is_at (cond (is_taken file positions (get_or file j x)) (plus (get_or file j x).cost o) None) m)
       (sym (ap (λ r. get_or r j None) rows ∙ get_or-map (λ c. least file to k c.destination) file j x None l))
 
-  parts : (is_taken file places (get_or file i x) ≡ true) × (plus (get_or file i x).cost (get_or row i None) ≡ Some m)
-  parts = taken_at (is_taken file places (get_or file i x)) (plus (get_or file i x).cost (get_or row i None)) m (is x)
+  parts : (is_taken file positions (get_or file i x) ≡ true) × (plus (get_or file i x).cost (get_or row i None) ≡ Some m)
+  parts = taken_at (is_taken file positions (get_or file i x)) (plus (get_or file i x).cost (get_or row i None)) m (is x)
 
   -- what the rest of the walk costs
   behind : (least file to k x.destination ≡ Some (m - x.cost)) × (x.cost ≤ m)
@@ -44,19 +44,19 @@ module _ (file : List Conversion) (to : List ℕ) (k m : ℕ) (places : Places) 
   cost_less = behind.1
 
   -- the walk begins with this conversion
-  pub best_begins : best file to (suc k) m places ≡ x ∷ best file to k (m - x.cost) (places_in (sources_of file) x.destination)
+  pub best_begins : best file to (suc k) m positions ≡ x ∷ best file to k (m - x.cost) (positions_in (sources_of file) x.destination)
   unfolding best
   best_begins =
-      ap (λ o. elim o [ None ↦ [] | Some c ↦ c ∷ best file to k (m - c.cost) (places_in (sources_of file) c.destination) ])
-      (found_at (begins file to k m places) file i x less (begins_at i less ∙ is x) (λ j l. begins_at j (omega arith) ∙ before j x l) ∙ ap Some (sym here))
+      ap (λ o. elim o [ None ↦ [] | Some c ↦ c ∷ best file to k (m - c.cost) (positions_in (sources_of file) c.destination) ])
+      (found_at (begins file to k m positions) file i x less (begins_at i less ∙ is x) (λ j l. begins_at j (omega arith) ∙ before j x l) ∙ ap Some (sym here))
 
-  module _ (next : Places) (cost : ℕ) (led : next ≡ places_in (sources_of file) x.destination) (paid : cost ≡ x.cost) where
-    pub lines_begin : (lines after : List ℕ) → after ≡ lines ++ x.line ∷ [] → after ++ map line_of (best file to k (m - cost) next) ≡ lines ++ map line_of (best file to (suc k) m places)
+  module _ (next : Positions) (cost : ℕ) (led : next ≡ positions_in (sources_of file) x.destination) (paid : cost ≡ x.cost) where
+    pub lines_begin : (lines after : List ℕ) → after ≡ lines ++ x.line ∷ [] → after ++ map line_of (best file to k (m - cost) next) ≡ lines ++ map line_of (best file to (suc k) m positions)
     lines_begin lines after pushed =
         ap (λ l. l ++ map line_of (best file to k (m - cost) next)) pushed
         ∙ ap (λ n. (lines ++ x.line ∷ []) ++ map line_of (best file to k (m - n) next)) paid
         ∙ ap (λ p. (lines ++ x.line ∷ []) ++ map line_of (best file to k (m - x.cost) p)) led
-        ∙ append_assoc lines (x.line ∷ []) (map line_of (best file to k (m - x.cost) (places_in (sources_of file) x.destination)))
+        ∙ append_assoc lines (x.line ∷ []) (map line_of (best file to k (m - x.cost) (positions_in (sources_of file) x.destination)))
         ∙ ap (λ w. lines ++ map line_of w) (sym best_begins)
 
     pub next_there : (j : ℕ) → k ≡ suc j → least_in (is_taken file next) file (row_of file to j) ≡ Some (m - cost)
@@ -64,9 +64,9 @@ module _ (file : List Conversion) (to : List ℕ) (k m : ℕ) (places : Places) 
         ap (λ p. least_in (is_taken file p) file (row_of file to j)) led
         ∙ least_from file to x.destination j ∙ ap (λ n. least file to n x.destination) (sym e) ∙ behind.0 ∙ ap (λ n. Some (m - n)) (sym paid)
 
-pub best_none : (file : List Conversion) (to : List ℕ) (m : ℕ) (places : Places) (lines whole : List ℕ) → lines ++ map line_of (best file to zero m places) ≡ whole → lines ≡ whole
+pub best_none : (file : List Conversion) (to : List ℕ) (m : ℕ) (positions : Positions) (lines whole : List ℕ) → lines ++ map line_of (best file to zero m positions) ≡ whole → lines ≡ whole
 unfolding best
-best_none file to m places lines whole h = sym (append-nil lines) ∙ h
+best_none file to m positions lines whole h = sym (append-nil lines) ∙ h
 
 -- the lines of a walk are lines of the file
 pub lines_there : (file : List Conversion) (from : List ℕ) (walk : List Conversion) (to : List ℕ) → Leads file from walk to → All (Contains (map line_of file)) (map line_of walk)

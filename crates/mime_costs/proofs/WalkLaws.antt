@@ -10,7 +10,7 @@ use Rattle.std.specs.declared.alloc.AllocError.{AllocError}
 use Rattle.mime_costs.specs.Conversions.{same, matches}
 use Rattle.mime_costs.specs.Walks.{line_of, Leads, IsWalk, IsLeast, IsApart, most_lines, worth_of, beats}
 use Rattle.mime_costs.specs.LeastWalk.{filter_of, has_filter, no_filter, filters_of, filters_between, that_take, walks, walks_within, better_walk, least_of_walks, least_walk}
-use Rattle.mime_costs.specs.Seen.{worth_of_chain, IsAnswer}
+use Rattle.mime_costs.specs.ConversionFields.{worth_of_chain, IsAnswer}
 use Rattle.mime_costs.specs.declared.chain.Chain.{Chain}
 use Rattle.mime_costs.specs.declared.conversion.Conversion.{Conversion}
 use Rattle.mime_costs.proofs.PlaceLaws.{same-refl, same-eq}

@@ -5,8 +5,8 @@ use Rattle.std.specs.declared.alloc.Global.{Global}
 use Rattle.std.specs.declared.vec.Vec.{Vec}
 use Rattle.mime_costs.specs.Conversions.{same, matches}
 use Rattle.mime_costs.specs.declared.chain.Size.{Size}
-use Rattle.mime_costs.specs.Index.{place_in, places_in, sources_of, takes}
-use Rattle.mime_costs.specs.declared.links.Places.{Places}
+use Rattle.mime_costs.specs.SourceIndex.{position_in, positions_in, sources_of, takes}
+use Rattle.mime_costs.specs.declared.links.Positions.{Positions}
 use Rattle.mime_costs.specs.declared.links.Link.{Link}
 use Rattle.mime_costs.specs.declared.conversion.Conversion.{Conversion}
 
@@ -51,34 +51,34 @@ row_of file to k = map (λ c. least file to k c.destination) file
 abbrev pub IsSmall : Option ℕ → Type 0
 IsSmall cost = IfSome cost (λ n. n ≤ 150000)
 
-abbrev pub cost_in_groups : List (Option ℕ) → Places → Option ℕ
-cost_in_groups groups places = lesser (get_or groups places.of_type None) (lesser (get_or groups places.of_super None) (get_or groups places.of_any None))
+abbrev pub cost_in_groups : List (Option ℕ) → Positions → Option ℕ
+cost_in_groups groups positions = lesser (get_or groups positions.of_type None) (lesser (get_or groups positions.of_super None) (get_or groups positions.of_any None))
 
 abbrev pub next_cost : List (Option ℕ) → Link → Option ℕ
 next_cost groups link = cost_in_groups groups link.next
 
 -- the conversion's source stands at this place
 abbrev pub is_of_group : List Conversion → ℕ → Conversion → Bool
-is_of_group file g c = place_in (sources_of file) c.source == g
+is_of_group file g c = position_in (sources_of file) c.source == g
 
 -- the conversion takes the type of these places
-abbrev pub is_taken : List Conversion → Places → Conversion → Bool
-is_taken file places c = takes places (place_in (sources_of file) c.source)
+abbrev pub is_taken : List Conversion → Positions → Conversion → Bool
+is_taken file positions c = takes positions (position_in (sources_of file) c.source)
 
 -- ## The choice of the walk
 
 -- the conversion begins a walk of k lines more, at the cost m, from the type of these places
-abbrev pub begins : List Conversion → List ℕ → ℕ → ℕ → Places → Conversion → Bool
-begins file to k m places c = is_at (cond (is_taken file places c) (plus c.cost (least file to k c.destination)) None) m
+abbrev pub begins : List Conversion → List ℕ → ℕ → ℕ → Positions → Conversion → Bool
+begins file to k m positions c = is_at (cond (is_taken file positions c) (plus c.cost (least file to k c.destination)) None) m
 
 -- the first walk of k lines at the cost m
-unfoldable pub best : List Conversion → List ℕ → ℕ → ℕ → Places → List Conversion
-best file to zero m places = []
-best file to (suc k) m places = elim (find (begins file to k m places) file) [ None ↦ [] | Some c ↦ c ∷ best file to k (m - c.cost) (places_in (sources_of file) c.destination) ]
+unfoldable pub best : List Conversion → List ℕ → ℕ → ℕ → Positions → List Conversion
+best file to zero m positions = []
+best file to (suc k) m positions = elim (find (begins file to k m positions) file) [ None ↦ [] | Some c ↦ c ∷ best file to k (m - c.cost) (positions_in (sources_of file) c.destination) ]
 
 -- the conversion at j begins a walk at the cost m, where the row says what the rest costs
-abbrev pub is_step : List Conversion → List (Option ℕ) → Places → ℕ → ℕ → Conversion → Bool
-is_step file row places m j d = is_at (cond (is_taken file places (get_or file j d)) (plus (get_or file j d).cost (get_or row j None)) None) m
+abbrev pub is_step : List Conversion → List (Option ℕ) → Positions → ℕ → ℕ → Conversion → Bool
+is_step file row positions m j d = is_at (cond (is_taken file positions (get_or file j d)) (plus (get_or file j d).cost (get_or row j None)) None) m
 
 -- a row of n costs, none of which is near a limit
 abbrev pub IsRow : ℕ → Vec (Option ℕ) Global → Type 0
@@ -90,8 +90,8 @@ pub record IsTable (file : List Conversion) (to : List ℕ) (n : ℕ) (table : L
   pub row : (k : ℕ) (d : Vec (Option ℕ) Global) → k < n → (get_or table k d).items ≡ row_of file to k
 
 -- the costs of the cheapest walks from these places, by the number of lines behind the first
-abbrev pub costs_from : List Conversion → Places → List (Vec (Option ℕ) Global) → List (Option ℕ)
-costs_from file places rows = map (λ row. least_in (is_taken file places) file row.items) rows
+abbrev pub costs_from : List Conversion → Positions → List (Vec (Option ℕ) Global) → List (Option ℕ)
+costs_from file positions rows = map (λ row. least_in (is_taken file positions) file row.items) rows
 
 -- the better of the best so far and a walk of more lines
 abbrev pub better_size : Option Size → Option ℕ → ℕ → Option Size

@@ -1,7 +1,7 @@
 pub mod Conversions
 pub mod Costs
-pub mod Index
+pub mod SourceIndex
 pub mod LeastWalk
-pub mod Reading
-pub mod Seen
+pub mod ConversionFiles
+pub mod ConversionFields
 pub mod Walks

@@ -4,13 +4,13 @@ ghost use Rattle.std.specs.List.{Contains, All};
 ghost use Rattle.std.specs.Option.{option_map};
 ghost use Rattle.mime_costs.specs.Walks.{Worth, line_of, worth_of, most_lines, IsReached, IsLeast, IsApart};
 ghost use Rattle.mime_costs.specs.LeastWalk.{least_walk, filters_of, filters_between};
-ghost use Rattle.mime_costs.specs.Reading.{conversions_of, warnings_of};
-ghost use Rattle.mime_costs.specs.Seen.{worth_of_chain};
+ghost use Rattle.mime_costs.specs.ConversionFiles.{conversions_of, warnings_of};
+ghost use Rattle.mime_costs.specs.ConversionFields.{worth_of_chain};
 ghost use Rattle.mime_costs.specs.declared.conversion.Conversion.{Conversion};
 
 use crate::chain::{Chain, find_chain};
 use crate::conversion::{Conversion, NO_FILTER};
-use crate::links::{Link, links_of, places_of};
+use crate::links::{Link, links_of, positions_of};
 use crate::reading::read_lines;
 use spool_types::{FilterName, Filters, MediaType, Warning};
 use std::alloc::{AllocError, Global};
@@ -31,7 +31,7 @@ impl Model for Convs {
 
     ghost Value = { List Conversion };
 
-    ghost use Rattle.mime_costs.specs.Seen.{IsIndexed};
+    ghost use Rattle.mime_costs.specs.ConversionFields.{IsIndexed};
 
     ghost view = { λ convs. convs.conversions.items };
 
@@ -68,8 +68,8 @@ impl Convs {
                 cost: 0,
             }));
         }
-        let places = places_of(self.alloc, &self.conversions, from)?;
-        find_chain(self.alloc, &self.conversions, &self.links, places, to)
+        let positions = positions_of(self.alloc, &self.conversions, from)?;
+        find_chain(self.alloc, &self.conversions, &self.links, positions, to)
     }
 
     /// The programs of the best walk in the order in which they run, if there is a walk. A conversion whose filter is `-`

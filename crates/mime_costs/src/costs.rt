@@ -3,11 +3,11 @@
 //! A row says of each conversion what the cheapest walk of so many lines behind it costs, if there is one.
 ghost use Rattle.std.specs.Prelude.{◌≡◌, ◌≤◌, ℕ, IfOk, IfSome, map, length, ◌==◌, slice_index_or, cond, None};
 ghost use Rattle.std.specs.List.{All};
-ghost use Rattle.mime_costs.specs.Index.{takes, links_in};
+ghost use Rattle.mime_costs.specs.SourceIndex.{takes, links_in};
 ghost use Rattle.mime_costs.specs.Costs.{lesser, plus, is_at, least_in, row_of, IsSmall, cost_in_groups, next_cost, is_of_group, is_taken};
 
 use crate::conversion::Conversion;
-use crate::links::{Link, Places};
+use crate::links::{Link, Positions};
 use spool_types::MediaType;
 use std::alloc::{AllocError, Global};
 
@@ -41,12 +41,12 @@ fn cost_if_taken(
     conversion: &Conversion,
     link: Link,
     rest: Option<u32>,
-    places: Places,
+    positions: Positions,
 ) -> Option<u32>
     requires { IsSmall rest }
-    ensures { result ≡ cond (takes places link.group) (plus conversion.now.cost rest) None }
+    ensures { result ≡ cond (takes positions link.group) (plus conversion.now.cost rest) None }
 {
-    if places.takes(link.group) {
+    if positions.takes(link.group) {
         cost_with(conversion, rest)
     } else {
         None
@@ -58,13 +58,13 @@ pub fn is_step(
     conversion: &Conversion,
     link: Link,
     rest: Option<u32>,
-    places: Places,
+    positions: Positions,
     cost: u32,
 ) -> bool
     requires { IsSmall rest }
-    ensures { result ≡ is_at (cond (takes places link.group) (plus conversion.now.cost rest) None) cost }
+    ensures { result ≡ is_at (cond (takes positions link.group) (plus conversion.now.cost rest) None) cost }
 {
-    match cost_if_taken(conversion, link, rest, places) {
+    match cost_if_taken(conversion, link, rest, positions) {
         Some(least) => least == cost,
         None => false,
     }
@@ -105,14 +105,14 @@ pub fn next_row(
 }
 
 // The least cost among the groups that take a type.
-fn cost_at(groups: &[Option<u32>], places: Places) -> Option<u32>
-    ensures { result ≡ cost_in_groups groups.now places }
+fn cost_at(groups: &[Option<u32>], positions: Positions) -> Option<u32>
+    ensures { result ≡ cost_in_groups groups.now positions }
 {
     lesser(
-        group_cost(groups, places.of_type),
+        group_cost(groups, positions.of_type),
         lesser(
-            group_cost(groups, places.of_super),
-            group_cost(groups, places.of_any),
+            group_cost(groups, positions.of_super),
+            group_cost(groups, positions.of_any),
         ),
     )
 }
@@ -152,16 +152,19 @@ pub fn cost_from(
     conversions: &[Conversion],
     links: &[Link],
     row: &[Option<u32>],
-    places: Places,
+    positions: Positions,
 ) -> Option<u32>
     requires links { links.now ≡ links_in conversions.now }
     requires row { length row.now ≡ length conversions.now }
     requires small { All IsSmall row.now }
-    ensures { result ≡ least_in (is_taken conversions.now places) conversions.now row.now }
+    ensures { result ≡ least_in (is_taken conversions.now positions) conversions.now row.now }
 {
     let mut least = None;
     for (i, conversion) in conversions.iter().enumerate() {
-        least = lesser(least, cost_if_taken(conversion, links[i], row[i], places));
+        least = lesser(
+            least,
+            cost_if_taken(conversion, links[i], row[i], positions),
+        );
     }
     least
 }

@@ -2,7 +2,7 @@
 ghost use Rattle.std.specs.Prelude.{◌≡◌, ℕ, List, IfOk};
 ghost use Rattle.std.specs.String.{string_bytes};
 ghost use Rattle.mime_costs.specs.Conversions.{super_source};
-ghost use Rattle.mime_costs.specs.Index.{sources_of, place_in, places_in, takes, links_in, AreSources};
+ghost use Rattle.mime_costs.specs.SourceIndex.{sources_of, position_in, positions_in, takes, links_in, AreSources};
 
 use crate::conversion::{Conversion, EVERY_TYPE};
 use spool_types::MediaType;
@@ -11,7 +11,7 @@ use std::collections::HashMap;
 
 /// The first conversions with the sources that take a type. Where no conversion has such a source, it is the number of all.
 #[derive(Clone, Copy, Debug)]
-pub struct Places {
+pub struct Positions {
     pub of_type: usize,
     pub of_super: usize,
     pub of_any: usize,
@@ -23,10 +23,10 @@ pub struct Link {
     /// The first conversion of the same source.
     pub group: usize,
     /// The groups that take its destination.
-    pub next: Places,
+    pub next: Positions,
 }
 
-impl Places {
+impl Positions {
     /// Whether the conversions of this group take the type.
     pub fn takes(self, group: usize) -> bool
         ensures { result ≡ takes self group }
@@ -42,18 +42,18 @@ pub fn links_of(alloc: Global, conversions: &[Conversion]) -> Result<Vec<Link>, 
     let sources = Sources::of(alloc, conversions)?;
     let mut links = Vec::with_capacity(alloc, conversions.len())?;
     for conversion in conversions {
-        let group = sources.place_of(conversion.source.as_str());
-        let next = sources.places_of(alloc, conversion.destination.as_str())?;
+        let group = sources.position_of(conversion.source.as_str());
+        let next = sources.positions_of(alloc, conversion.destination.as_str())?;
         links.push(Link { group, next })?;
     }
     Ok(links)
 }
 
-// The first conversion of each source, for the links of a whole file: there `places_of`, which looks through all
+// The first conversion of each source, for the links of a whole file: there `positions_of`, which looks through all
 // conversions for one type, would take a time that grows with their square.
 #[derive(Drop)]
 struct Sources<'a> {
-    places: HashMap<&'a str, usize>,
+    positions: HashMap<&'a str, usize>,
     // How many conversions there are.
     count: usize,
 }
@@ -63,51 +63,51 @@ impl<'a> Sources<'a> {
     fn of(alloc: Global, conversions: &'a [Conversion]) -> Result<Sources<'a>, AllocError>
         ensures { IfOk result (λ sources. AreSources sources (sources_of conversions.entry.now)) }
     {
-        let mut places = HashMap::new(alloc);
+        let mut positions = HashMap::new(alloc);
         let mut rest = conversions;
         while let Some((last, before)) = rest.split_last() {
-            places.insert(last.source.as_str(), before.len())?;
+            positions.insert(last.source.as_str(), before.len())?;
             rest = before;
         }
         Ok(Sources {
-            places,
+            positions,
             count: conversions.len(),
         })
     }
 
     // The first conversion of a source, or the number of all.
-    fn place_of(&self, source: &str) -> usize
-        ensures { (sources : List (List ℕ)) → AreSources self.now sources → result ≡ place_in sources source.now }
+    fn position_of(&self, source: &str) -> usize
+        ensures { (sources : List (List ℕ)) → AreSources self.now sources → result ≡ position_in sources source.now }
     {
-        self.places.get(&source).copied().unwrap_or(self.count)
+        self.positions.get(&source).copied().unwrap_or(self.count)
     }
 
     // The groups that take a type.
-    fn places_of(&self, alloc: Global, media: &str) -> Result<Places, AllocError>
-        ensures { (sources : List (List ℕ)) → AreSources self.now sources → IfOk result (λ places. places ≡ places_in sources media.now) }
+    fn positions_of(&self, alloc: Global, media: &str) -> Result<Positions, AllocError>
+        ensures { (sources : List (List ℕ)) → AreSources self.now sources → IfOk result (λ positions. positions ≡ positions_in sources media.now) }
     {
         let of_super = super_source(alloc, media)?;
-        Ok(Places {
-            of_type: self.place_of(media),
-            of_super: self.place_of(of_super.as_str()),
-            of_any: self.place_of(EVERY_TYPE),
+        Ok(Positions {
+            of_type: self.position_of(media),
+            of_super: self.position_of(of_super.as_str()),
+            of_any: self.position_of(EVERY_TYPE),
         })
     }
 }
 
 /// The groups that take a type.
-pub fn places_of(
+pub fn positions_of(
     alloc: Global,
     conversions: &[Conversion],
     media: &MediaType,
-) -> Result<Places, AllocError>
-    ensures { IfOk result (λ places. places ≡ places_in (sources_of conversions.now) media.now) }
+) -> Result<Positions, AllocError>
+    ensures { IfOk result (λ positions. positions ≡ positions_in (sources_of conversions.now) media.now) }
 {
     let of_super = super_source(alloc, media.as_str())?;
-    Ok(Places {
-        of_type: place_of(conversions, media.as_str()),
-        of_super: place_of(conversions, of_super.as_str()),
-        of_any: place_of(conversions, EVERY_TYPE),
+    Ok(Positions {
+        of_type: position_of(conversions, media.as_str()),
+        of_super: position_of(conversions, of_super.as_str()),
+        of_any: position_of(conversions, EVERY_TYPE),
     })
 }
 
@@ -125,8 +125,8 @@ fn super_source(alloc: Global, media: &str) -> Result<String, AllocError>
 }
 
 // The first conversion of a source, or the number of all.
-fn place_of(conversions: &[Conversion], source: &str) -> usize
-    ensures { result ≡ place_in (sources_of conversions.now) source.now }
+fn position_of(conversions: &[Conversion], source: &str) -> usize
+    ensures { result ≡ position_in (sources_of conversions.now) source.now }
 {
     for (i, conversion) in conversions.iter().enumerate() {
         if conversion.source.as_str() == source {

@@ -1,8 +1,8 @@
 //! The lines of a file of mime.convs(5).
 ghost use Rattle.std.specs.Prelude.{◌≡◌, IfOk};
 ghost use Rattle.std.specs.Option.{option_map};
-ghost use Rattle.mime_costs.specs.Reading.{cost_in, four_words, of_words, conversions_of, warnings_of};
-ghost use Rattle.mime_costs.specs.Seen.{words_in};
+ghost use Rattle.mime_costs.specs.ConversionFiles.{cost_in, four_words, of_words, conversions_of, warnings_of};
+ghost use Rattle.mime_costs.specs.ConversionFields.{words_in};
 
 use crate::conversion::{Conversion, Cost, Source};
 use line_words::first_word;

@@ -4,7 +4,7 @@ use Rattle.std.proofs.lemmas.Bool.{and_parts, cases_lt}
 use Rattle.std.proofs.Math.Nat.{mul-le-mul_left, mul_comm}
 use Rattle.std.proofs.lemmas.List.{drop_more}
 use Rattle.std.specs.List.{list_all}
-use Rattle.mime_lines.specs.Numbers.{read_on, digit_value}
+use Rattle.mime_lines.specs.RuleNumbers.{read_on, digit_value}
 
 -- digits behind a number don't make it less
 grows : (base n m : ℕ) (digits : List ℕ) → 1 ≤ base → m ≤ n → m ≤ read_on base n digits

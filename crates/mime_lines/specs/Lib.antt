@@ -1,3 +1,3 @@
 pub mod JoinedLines
-pub mod Numbers
-pub mod Seen
+pub mod RuleNumbers
+pub mod LineFields

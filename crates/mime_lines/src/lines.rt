@@ -2,7 +2,7 @@
 ghost use Rattle.std.specs.Prelude.{◌≡◌, ◌<◌, ◌∷◌, ◌++◌, [], IfOk, IfSome, MatchOption, map, length};
 ghost use Rattle.std.specs.Option.{option_map};
 ghost use Rattle.mime_lines.specs.JoinedLines.{is_silent, is_continued, with_line, left_open, without_last, without_cr, lines_of, joined_lines};
-ghost use Rattle.mime_lines.specs.Seen.{text_of, line_of};
+ghost use Rattle.mime_lines.specs.LineFields.{text_of, line_of};
 
 use line_words::after_blanks;
 use std::alloc::{AllocError, Global};

@@ -2,7 +2,7 @@
 ghost use Rattle.std.specs.Prelude.{◌≡◌, ◌≤◌, true, min};
 ghost use Rattle.std.specs.List.{list_all};
 ghost use Rattle.std.specs.Option.{option_map};
-ghost use Rattle.mime_lines.specs.Numbers.{number_of, in_base, is_digit_in, is_hex_digit, digit_value, behind_zero, read_on, told};
+ghost use Rattle.mime_lines.specs.RuleNumbers.{number_of, in_base, is_digit_in, is_hex_digit, digit_value, behind_zero, read_on, told};
 
 // One more than the greatest number.
 const TOO_GREAT: u64 = 4_294_967_296;

@@ -1,8 +1,8 @@
 -- The best alternative, from the last one on.
 use Rattle.std.proofs.Common.{◌≡◌, true, false, cond, List, [], ◌∷◌, ◌++◌, refl, ap, ◌∙◌, Option, None, Some}
 use Rattle.mime_rules.specs.Tests.{Subject}
-use Rattle.mime_rules.specs.Lines.{Alternative}
-use Rattle.mime_rules.specs.Best.{best, better}
+use Rattle.mime_rules.specs.RuleLines.{Alternative}
+use Rattle.mime_rules.specs.BestType.{best, better}
 
 -- the best of these and of one that is found already
 abbrev pub best_onto : Subject → List Alternative → Option Alternative → Option Alternative

@@ -9,11 +9,11 @@ use Rattle.mime_rules.specs.declared.stop.Stop.{Stop}
 use Rattle.mime_rules.specs.declared.stop.Stop.TheVariants.{Memory, Fault}
 use Rattle.spool_types.specs.declared.warning.WarningKind.{WarningKind}
 use Rattle.spool_types.specs.declared.warning.WarningKind.TheVariants.{BadRule}
-use Rattle.mime_rules.specs.Reading.{Read, read, wrong, on}
+use Rattle.mime_rules.specs.RuleReading.{Read, read, wrong, on}
 use Rattle.mime_rules.specs.Tests.{Subject, never, always, negation, both, either, any_of}
 use Rattle.mime_rules.specs.Tokens.{Token, gap, comma, plus, bang, opening, closing, test, priority, fault}
-use Rattle.mime_rules.specs.Grammar.{after_separators, is_end, both_of, either_of, negated, behind_factor, fault_of, item_end, behind_item, list_here, factor_within, item_within, list_within, line_end, whole, most_depth, steps, list_of}
-use Rattle.mime_rules.specs.Seen.{token_of, Reads, Stopped, ListSays, ItemSays, FactorSays, GroupSays, with_bangs, negated_meaning, all_or_none, is_bang_next, behind_bang, is_plus_next, behind_plus}
+use Rattle.mime_rules.specs.RuleGrammar.{after_separators, is_end, both_of, either_of, negated, behind_factor, fault_of, item_end, behind_item, list_here, factor_within, item_within, list_within, line_end, whole, most_depth, steps, list_of}
+use Rattle.mime_rules.specs.RuleFields.{token_of, Reads, Stopped, ListSays, ItemSays, FactorSays, GroupSays, with_bangs, negated_meaning, all_or_none, is_bang_next, behind_bang, is_plus_next, behind_plus}
 
 -- the list, behind the separators at its front
 abbrev pub HereSays : ℕ → List Token → Read Token (Subject → Bool) → Type 0

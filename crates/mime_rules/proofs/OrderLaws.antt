@@ -12,8 +12,8 @@ use Rattle.std.specs.Ordering.{nat_cmp, is_lt, is_gt, then_cmp, flip_args, on, o
 use Rattle.std.specs.declared.cmp.Ordering.{Ordering}
 use Rattle.std.specs.declared.cmp.Ordering.TheVariants.{Less, Equal, Greater}
 use Rattle.mime_rules.specs.Tests.{Subject}
-use Rattle.mime_rules.specs.Lines.{Alternative}
-use Rattle.mime_rules.specs.Best.{beats, better, best, IsBest, NoneHolds}
+use Rattle.mime_rules.specs.RuleLines.{Alternative}
+use Rattle.mime_rules.specs.BestType.{beats, better, best, IsBest, NoneHolds}
 
 -- ## The order
 

@@ -6,7 +6,7 @@ use Rattle.mime_rules.specs.Tests.{some_end}
 use Rattle.mime_rules.specs.Patterns.{Piece, run, one, matching, is_in, piece_of_byte, with_piece, pieces_in, range_behind}
 use Rattle.mime_rules.specs.declared.stop.Stop.{Stop}
 use Rattle.mime_rules.specs.declared.stop.Stop.TheVariants.{Memory, Fault}
-use Rattle.mime_rules.specs.Seen.{Stopped, PatternSays, PieceSays, passes_piece, is_run, rest_matches}
+use Rattle.mime_rules.specs.RuleFields.{Stopped, PatternSays, PieceSays, passes_piece, is_run, rest_matches}
 
 or_left : (a b : Bool) → a ≡ true → (a || b) ≡ true
 or_left true b h = refl

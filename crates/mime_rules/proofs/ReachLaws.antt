@@ -16,8 +16,8 @@ use Rattle.mime_rules.specs.declared.rule.Rule.TheViews.{roll-Rule}
 use Rattle.mime_rules.specs.declared.rule.Rule.TheFolds.{fold-roll-Rule, ind-Rule, map-Rule}
 use Rattle.mime_rules.specs.Tests.{Subject, all_of, any_of, some_end, stands, is_ascii_text, is_printable_text}
 use Rattle.mime_rules.specs.TypesValue.{TypesValue}
-use Rattle.mime_rules.specs.Best.{best, better}
-use Rattle.mime_rules.specs.Seen.{meaning_of_test, rule_step, meaning_of, alternative_of}
+use Rattle.mime_rules.specs.BestType.{best, better}
+use Rattle.mime_rules.specs.RuleFields.{meaning_of_test, rule_step, meaning_of, alternative_of}
 use Rattle.mime_rules.specs.Reach.{front, greatest, reach_of_test, reach_step, reach_of, reach_of_alternatives, reach, IsEnough}
 
 -- a window that lies among the first n bytes is that of the whole
@@ -29,11 +29,11 @@ window_of_front o k n bytes within = sym (drop-take o k (take n bytes)) ∙ ap (
 test_sees : (t : Test) (n : ℕ) (s : Subject) → reach_of_test t ≤ n → meaning_of_test t (front n s) ≡ meaning_of_test t s
 test_sees (Suffix suffix) n s within = refl
 test_sees (Match pattern) n s within = refl
-test_sees (Ascii place) n s within = ap (list_all is_ascii_text) (window_of_front place.offset place.count n s.bytes within)
-test_sees (Printable place) n s within = ap (list_all is_printable_text) (window_of_front place.offset place.count n s.bytes within)
+test_sees (Ascii range) n s within = ap (list_all is_ascii_text) (window_of_front range.offset range.count n s.bytes within)
+test_sees (Printable range) n s within = ap (list_all is_printable_text) (window_of_front range.offset range.count n s.bytes within)
 test_sees (Text o t) n s within = ap (λ b. bytes_eq b t.items) (window_of_front o (length t.items) n s.bytes within)
 test_sees (FoldedText o t) n s within = ap (λ b. str_eq_ignore_ascii_case b t.items) (window_of_front o (length t.items) n s.bytes within)
-test_sees (Contains place t) n s within = ap (some_end (stands t.items)) (window_of_front place.offset place.count n s.bytes within)
+test_sees (Contains range t) n s within = ap (some_end (stands t.items)) (window_of_front range.offset range.count n s.bytes within)
 test_sees (Locale t) n s within = refl
 
 -- ## Rules

@@ -7,9 +7,9 @@ use Rattle.spool_types.specs.declared.warning.WarningKind.TheVariants.{BadText, 
 use Rattle.line_words.specs.Blanks.{is_blank, after_blanks}
 use Rattle.mime_rules.specs.declared.stop.Stop.{Stop}
 use Rattle.mime_rules.specs.declared.stop.Stop.TheVariants.{Memory, Fault}
-use Rattle.mime_rules.specs.Reading.{Read, read, wrong, on}
-use Rattle.mime_rules.specs.Arguments.{with_byte, with_blank, text_from, bare, quoted, hex, pair_of, pair_at, pair_read, with_pair, is_quote, is_close, is_close_next, is_closing}
-use Rattle.mime_rules.specs.Seen.{Stopped, Grown, with_bytes}
+use Rattle.mime_rules.specs.RuleReading.{Read, read, wrong, on}
+use Rattle.mime_rules.specs.TestArguments.{with_byte, with_blank, text_from, bare, quoted, hex, pair_of, pair_at, pair_read, with_pair, is_quote, is_close, is_close_next, is_closing}
+use Rattle.mime_rules.specs.RuleFields.{Stopped, Grown, with_bytes}
 
 -- texts
 pub with_bytes_append : (xs : List ℕ) (b : ℕ) (text : Read ℕ (List ℕ)) → with_bytes (xs ++ b ∷ []) text ≡ with_bytes xs (with_byte b text)

@@ -4,10 +4,10 @@ use Rattle.std.specs.Prelude.{◌==◌, Result, Ok, Err, IfOk}
 use Rattle.std.proofs.lemmas.List.{map-append}
 use Rattle.mime_rules.specs.declared.stop.Stop.{Stop}
 use Rattle.mime_rules.specs.declared.stop.Stop.TheVariants.{Memory, Fault}
-use Rattle.mime_rules.specs.Seen.{Stopped, EndsBy}
+use Rattle.mime_rules.specs.RuleFields.{Stopped, EndsBy}
 use Rattle.std.proofs.lemmas.Bool.Decides.{nat_tests}
 use Rattle.spool_types.specs.declared.warning.WarningKind.{WarningKind}
-use Rattle.mime_rules.specs.Reading.{read, wrong}
+use Rattle.mime_rules.specs.RuleReading.{read, wrong}
 use Rattle.mime_rules.specs.Tokens.{Token, fault, token_at, with_token, tokens_within, tokens_of}
 
 -- these bytes have these tokens, with enough steps

@@ -1,11 +1,11 @@
 pub mod Tests
 pub mod Patterns
-pub mod Reading
-pub mod Arguments
+pub mod RuleReading
+pub mod TestArguments
 pub mod Tokens
-pub mod Grammar
-pub mod Lines
-pub mod Best
+pub mod RuleGrammar
+pub mod RuleLines
+pub mod BestType
 pub mod TypesValue
-pub mod Seen
+pub mod RuleFields
 pub mod Reach

@@ -8,8 +8,8 @@ use Rattle.mime_rules.specs.declared.rule.Rule.TheOpen.{Rule-F, Leaf, Not, All, 
 use Rattle.mime_rules.specs.declared.rule.Rule.TheFolds.{fold-Rule}
 use Rattle.mime_rules.specs.Tests.{Subject}
 use Rattle.mime_rules.specs.TypesValue.{TypesValue}
-use Rattle.mime_rules.specs.Best.{type_of}
-use Rattle.mime_rules.specs.Seen.{types_of}
+use Rattle.mime_rules.specs.BestType.{type_of}
+use Rattle.mime_rules.specs.RuleFields.{types_of}
 
 -- a document of which only the first n bytes are there
 abbrev pub front : ℕ → Subject → Subject
@@ -24,11 +24,11 @@ greatest (n ∷ ns) = max n (greatest ns)
 abbrev pub reach_of_test : Test → ℕ
 reach_of_test (Suffix suffix) = 0
 reach_of_test (Match pattern) = 0
-reach_of_test (Ascii place) = place.offset + place.count
-reach_of_test (Printable place) = place.offset + place.count
+reach_of_test (Ascii range) = range.offset + range.count
+reach_of_test (Printable range) = range.offset + range.count
 reach_of_test (Text o t) = o + length t.items
 reach_of_test (FoldedText o t) = o + length t.items
-reach_of_test (Contains place t) = place.offset + place.count
+reach_of_test (Contains range t) = range.offset + range.count
 reach_of_test (Locale t) = 0
 
 -- a rule, where the reach of each rule in it is known already

@@ -4,11 +4,11 @@ use Rattle.std.specs.Str.{bytes_eq}
 use Rattle.spool_types.specs.declared.warning.WarningKind.{WarningKind}
 use Rattle.spool_types.specs.declared.warning.WarningKind.TheVariants.{BadRule, UnknownRule}
 use Rattle.line_words.specs.Blanks.{is_blank, after_blanks}
-use Rattle.mime_lines.specs.Numbers.{greatest}
-use Rattle.mime_rules.specs.Reading.{Read, read, wrong, on}
+use Rattle.mime_lines.specs.RuleNumbers.{greatest}
+use Rattle.mime_rules.specs.RuleReading.{Read, read, wrong, on}
 use Rattle.mime_rules.specs.Tests.{Subject, suffix_test, ascii_test, printable_test, string_test, istring_test, contains_test, locale_test}
 use Rattle.mime_rules.specs.Patterns.{Piece, pattern_of, match_test}
-use Rattle.mime_rules.specs.Arguments.{number_then, text_at, value_at}
+use Rattle.mime_rules.specs.TestArguments.{number_then, text_at, value_at}
 use Rattle.mime_rules.specs.declared.arguments.Width.{Width}
 use Rattle.mime_rules.specs.declared.arguments.Width.TheVariants.{Char, Short, Int}
 use Rattle.mime_rules.specs.declared.names.RuleName.{RuleName}

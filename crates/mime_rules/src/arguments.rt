@@ -1,10 +1,10 @@
 //! The arguments of tests: numbers, texts and values.
 ghost use Rattle.std.specs.Prelude.{◌≡◌, ◌<◌, ◌≤◌, ◌∷◌, ℕ, ◌+◌, ◌*◌, List, length, IfOk, true, false};
 ghost use Rattle.line_words.specs.Blanks.{is_blank};
-ghost use Rattle.mime_lines.specs.Numbers.{is_hex_digit, digit_value};
-ghost use Rattle.mime_rules.specs.Reading.{read, on, before, from, closed_by};
-ghost use Rattle.mime_rules.specs.Arguments.{is_close, is_mark, is_quote, is_closing, number_at, number_then, text_from, text_at, pair_at, value_at, text_of_width, bare, quoted, hex, width_of, most_of, value_bytes};
-ghost use Rattle.mime_rules.specs.Seen.{Told, Grown};
+ghost use Rattle.mime_lines.specs.RuleNumbers.{is_hex_digit, digit_value};
+ghost use Rattle.mime_rules.specs.RuleReading.{read, on, before, from, closed_by};
+ghost use Rattle.mime_rules.specs.TestArguments.{is_close, is_mark, is_quote, is_closing, number_at, number_then, text_from, text_at, pair_at, value_at, text_of_width, bare, quoted, hex, width_of, most_of, value_bytes};
+ghost use Rattle.mime_rules.specs.RuleFields.{ReadsExactly, Grown};
 
 use crate::stop::Stop;
 use line_words::{after_blanks, is_blank, trim};
@@ -48,7 +48,7 @@ impl Width {
 
 /// A number up to the greatest allowed, and the byte that must follow it.
 pub(crate) fn number_then(line: &[u8], mark: u8, most: u32) -> Result<(u32, &[u8]), Stop>
-    ensures value { Told result (λ r. read r.0 r.1.now) (number_then mark most line.now) }
+    ensures value { ReadsExactly result (λ r. read r.0 r.1.now) (number_then mark most line.now) }
     ensures within { IfOk result (λ r. r.0 ≤ most) }
     ensures bound { IfOk result (λ r. length r.1.now < length line.now) }
 {
@@ -59,7 +59,7 @@ pub(crate) fn number_then(line: &[u8], mark: u8, most: u32) -> Result<(u32, &[u8
 
 // The number up to the next mark, and what follows from there on.
 fn number_at(line: &[u8], most: u32) -> Result<(u32, &[u8]), Stop>
-    ensures value { Told result (λ r. read r.0 r.1.now) (number_at most line.now) }
+    ensures value { ReadsExactly result (λ r. read r.0 r.1.now) (number_at most line.now) }
     ensures within { IfOk result (λ r. r.0 ≤ most) }
     ensures bound { IfOk result (λ r. length r.1.now ≤ length line.now) }
 {
@@ -79,7 +79,7 @@ fn number_at(line: &[u8], most: u32) -> Result<(u32, &[u8]), Stop>
 
 // What follows the wanted byte, which must stand here.
 fn closed_by(line: &[u8], wanted: u8) -> Result<&[u8], Stop>
-    ensures value { Told result (λ rest. read wanted rest.now) (closed_by wanted line.now) }
+    ensures value { ReadsExactly result (λ rest. read wanted rest.now) (closed_by wanted line.now) }
     ensures bound { IfOk result (λ rest. length rest.now < length line.now) }
 {
     match line.split_first() {
@@ -124,7 +124,7 @@ fn cut_at_close(line: &[u8]) -> (&[u8], &[u8])
 
 /// A text up to its closing parenthesis, and what follows that.
 pub(crate) fn text_at<'a>(alloc: Global, line: &'a [u8]) -> Result<(Vec<u8>, &'a [u8]), Stop>
-    ensures value { Told result (λ r. read r.0.items r.1.now) (text_at line.now) }
+    ensures value { ReadsExactly result (λ r. read r.0.items r.1.now) (text_at line.now) }
     ensures bound { IfOk result (λ r. length r.1.now < length line.now) }
 {
     let mut text = Vec::new(alloc);
@@ -213,7 +213,7 @@ fn hex_run<'a>(text: &mut Vec<u8>, line: &'a [u8]) -> Result<&'a [u8], Stop>
 
 // The byte of two hexadecimal digits, of which the second is the next byte, and what follows them.
 fn hex_pair(high: u8, line: &[u8]) -> Result<(u8, &[u8]), Stop>
-    ensures value { Told result (λ r. read r.0 r.1.now) (pair_at high line.now) }
+    ensures value { ReadsExactly result (λ r. read r.0 r.1.now) (pair_at high line.now) }
     ensures bound { IfOk result (λ r. length r.1.now < length line.now) }
 {
     match line.split_first() {
@@ -291,7 +291,7 @@ pub(crate) fn value_at<'a>(
     line: &'a [u8],
     width: Width,
 ) -> Result<(Vec<u8>, &'a [u8]), Stop>
-    ensures value { Told result (λ r. read r.0.items r.1.now) (value_at width line.now) }
+    ensures value { ReadsExactly result (λ r. read r.0.items r.1.now) (value_at width line.now) }
     ensures bound { IfOk result (λ r. length r.1.now < length line.now) }
 {
     let (word, rest) = cut_at_close(line);
@@ -316,7 +316,7 @@ fn closed_value<'a>(
     line: &'a [u8],
 ) -> Result<(Vec<u8>, &'a [u8]), Stop>
     requires { n ≤ most_of width }
-    ensures value { Told result (λ r. read r.0.items r.1.now) (on (λ _. read (value_bytes width n)) (closed_by 41 line.now)) }
+    ensures value { ReadsExactly result (λ r. read r.0.items r.1.now) (on (λ _. read (value_bytes width n)) (closed_by 41 line.now)) }
     ensures bound { IfOk result (λ r. length r.1.now < length line.now) }
 {
     let behind = closed_by(line, CLOSE)?;
@@ -330,7 +330,7 @@ fn text_of_width<'a>(
     line: &'a [u8],
     width: Width,
 ) -> Result<(Vec<u8>, &'a [u8]), Stop>
-    ensures value { Told result (λ r. read r.0.items r.1.now) (text_of_width width line.now) }
+    ensures value { ReadsExactly result (λ r. read r.0.items r.1.now) (text_of_width width line.now) }
     ensures bound { IfOk result (λ r. length r.1.now < length line.now) }
 {
     let (text, rest) = text_at(alloc, line)?;

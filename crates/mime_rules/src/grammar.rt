@@ -1,11 +1,11 @@
 //! The grammar of a list of rules, over its tokens.
 ghost use Rattle.std.specs.Prelude.{◌≡◌, ◌<◌, ◌≤◌, ℕ, Bool, List, [], ◌++◌, Option, map, length, IfOk, true, false};
 ghost use Rattle.std.specs.Option.{option_map, option_to_list};
-ghost use Rattle.mime_rules.specs.Reading.{Read, read, wrong};
+ghost use Rattle.mime_rules.specs.RuleReading.{Read, read, wrong};
 ghost use Rattle.mime_rules.specs.Tests.{Subject, any_of};
 ghost use Rattle.mime_rules.specs.Tokens.{Token as Sign};
-ghost use Rattle.mime_rules.specs.Grammar.{list_of, priority_of, after_separators, separates, is_end, group_end, fault_of, item_end, line_end};
-ghost use Rattle.mime_rules.specs.Seen.{Reads, Told, token_of, meaning_of, meaning_of_test, ListSays, ItemSays, FactorSays, GroupSays, is_bang_next, behind_bang, with_bangs, negated_meaning, all_or_none, ended, behind_plus, is_plus_next};
+ghost use Rattle.mime_rules.specs.RuleGrammar.{list_of, priority_of, after_separators, separates, is_end, group_end, fault_of, item_end, line_end};
+ghost use Rattle.mime_rules.specs.RuleFields.{Reads, ReadsExactly, token_of, meaning_of, meaning_of_test, ListSays, ItemSays, FactorSays, GroupSays, is_bang_next, behind_bang, with_bangs, negated_meaning, all_or_none, ended, behind_plus, is_plus_next};
 
 use crate::rule::{Rule, Test};
 use crate::stop::Stop;
@@ -34,7 +34,7 @@ pub(crate) fn priority_of(tokens: &VecDeque<Token>) -> u8
 
 /// The rule that a line's list is.
 pub(crate) fn list_of(alloc: Global, tokens: VecDeque<Token>) -> Result<Rule, Stop>
-    ensures value { Told result (λ rule. read (meaning_of rule) []) (list_of (map token_of tokens.items)) }
+    ensures value { ReadsExactly result (λ rule. read (meaning_of rule) []) (list_of (map token_of tokens.items)) }
 {
     let mut rest = tokens;
     match list(alloc, &mut rest, MOST_DEPTH) {
@@ -48,7 +48,7 @@ pub(crate) fn list_of(alloc: Global, tokens: VecDeque<Token>) -> Result<Rule, St
 
 // Nothing may follow the list of a line.
 fn end_line(tokens: &VecDeque<Token>) -> Result<(), Stop>
-    ensures { Told result (λ _. read true []) (line_end (map token_of tokens.now.items)) }
+    ensures { ReadsExactly result (λ _. read true []) (line_end (map token_of tokens.now.items)) }
 {
     match tokens.front() {
         None => Ok(()),
@@ -240,7 +240,7 @@ fn is_at_end(tokens: &VecDeque<Token>) -> bool
 
 // Behind an item a separator must stand, or the end of the list.
 fn end_item(tokens: &VecDeque<Token>) -> Result<(), Stop>
-    ensures { Told result (λ _. read true []) (item_end (map token_of tokens.now.items)) }
+    ensures { ReadsExactly result (λ _. read true []) (item_end (map token_of tokens.now.items)) }
 {
     match tokens.front() {
         None => Ok(()),

@@ -1,8 +1,8 @@
 //! What is so of the best alternative, and of the order by which it is the best. The functions do nothing: their clauses are the laws.
 ghost use Rattle.std.specs.Prelude.{◌≡◌, ◌⊎◌, List, Some, None, false, IsTrue};
 ghost use Rattle.mime_rules.specs.Tests.{Subject};
-ghost use Rattle.mime_rules.specs.Lines.{Alternative};
-ghost use Rattle.mime_rules.specs.Best.{best, beats, IsBest, NoneHolds};
+ghost use Rattle.mime_rules.specs.RuleLines.{Alternative};
+ghost use Rattle.mime_rules.specs.BestType.{best, beats, IsBest, NoneHolds};
 
 /// The best alternative is a true one that no true one beats; there is none exactly where no alternative is true; and those that no true
 /// one beats are of one type.

@@ -1,8 +1,8 @@
 //! The lines of a file of mime.types(5).
 ghost use Rattle.std.specs.Prelude.{◌≡◌};
 ghost use Rattle.spool_types.specs.Values.{media_in};
-ghost use Rattle.mime_rules.specs.Lines.{outcome_of};
-ghost use Rattle.mime_rules.specs.Seen.{LineTold, MediaTold};
+ghost use Rattle.mime_rules.specs.RuleLines.{outcome_of};
+ghost use Rattle.mime_rules.specs.RuleFields.{LineTold, MediaTold};
 
 use crate::grammar::{list_of, priority_of};
 use crate::rule::Rule;

@@ -2,7 +2,7 @@
 ghost use Rattle.std.specs.Prelude.{◌≡◌, ◌≤◌, length, take, drop, map};
 ghost use Rattle.std.specs.List.{list_all, list_any};
 ghost use Rattle.mime_rules.specs.Tests.{window, last_bytes, some_end, stands, stands_folded, is_ascii_text, is_printable_text};
-ghost use Rattle.mime_rules.specs.Seen.{subject_of, meaning_of_test, meaning_of, all_mean, any_means};
+ghost use Rattle.mime_rules.specs.RuleFields.{subject_of, meaning_of_test, meaning_of, all_mean, any_means};
 
 use crate::pattern::matches;
 use crate::rule::{Rule, Test, Window};
@@ -60,11 +60,11 @@ fn test_holds(test: &Test, subject: &Subject<'_>) -> bool
     match test {
         Test::Suffix(suffix) => last_bytes(subject.name, suffix.len()).eq_ignore_ascii_case(suffix),
         Test::Match(pattern) => matches(pattern, subject.name),
-        Test::Ascii(place) => are_ascii_text(window(subject.bytes, place)),
-        Test::Printable(place) => are_printable(window(subject.bytes, place)),
+        Test::Ascii(range) => are_ascii_text(window(subject.bytes, range)),
+        Test::Printable(range) => are_printable(window(subject.bytes, range)),
         Test::Text(offset, text) => stands_at(subject.bytes, *offset, text),
         Test::FoldedText(offset, text) => stands_folded_at(subject.bytes, *offset, text),
-        Test::Contains(place, text) => contains(window(subject.bytes, place), text),
+        Test::Contains(range, text) => contains(window(subject.bytes, range), text),
         Test::Locale(text) => subject.locale == text.as_slice(),
     }
 }
@@ -99,10 +99,10 @@ fn front(bytes: &[u8], count: usize) -> &[u8]
     }
 }
 
-fn window<'a>(bytes: &'a [u8], place: &Window) -> &'a [u8]
-    ensures { result.now ≡ window place.now.offset place.now.count bytes.now }
+fn window<'a>(bytes: &'a [u8], range: &Window) -> &'a [u8]
+    ensures { result.now ≡ window range.now.offset range.now.count bytes.now }
 {
-    front(from_offset(bytes, place.offset), place.count as usize)
+    front(from_offset(bytes, range.offset), range.count as usize)
 }
 
 fn stands_at(bytes: &[u8], offset: u32, text: &[u8]) -> bool

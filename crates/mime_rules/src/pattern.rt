@@ -1,10 +1,10 @@
 //! The patterns of `match`.
 ghost use Rattle.std.specs.Prelude.{◌≡◌, ◌≤◌, ◌<◌, ◌&&◌, ◌∷◌, nat_le, [], IfOk, IfSome, MatchOption, map, length, true, false, Some, None};
 ghost use Rattle.std.specs.Option.{option_map};
-ghost use Rattle.mime_rules.specs.Reading.{read};
+ghost use Rattle.mime_rules.specs.RuleReading.{read};
 ghost use Rattle.mime_rules.specs.Tests.{some_end};
 ghost use Rattle.mime_rules.specs.Patterns.{matching, is_in, piece_of_byte, pieces_in, with_piece, one, range_behind};
-ghost use Rattle.mime_rules.specs.Seen.{piece_of, passes_piece, is_run, rest_matches, Reads, PatternSays, PieceSays};
+ghost use Rattle.mime_rules.specs.RuleFields.{piece_of, passes_piece, is_run, rest_matches, Reads, PatternSays, PieceSays};
 
 use crate::stop::Stop;
 use spool_types::WarningKind;

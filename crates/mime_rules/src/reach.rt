@@ -46,19 +46,19 @@ fn reach_of_test(test: &Test, len: usize) -> usize
     match test {
         Test::Suffix(_) => 0,
         Test::Match(_) => 0,
-        Test::Ascii(place) => end_of_window(place, len),
-        Test::Printable(place) => end_of_window(place, len),
+        Test::Ascii(range) => end_of_window(range, len),
+        Test::Printable(range) => end_of_window(range, len),
         Test::Text(offset, text) => end_of_text(*offset, text, len),
         Test::FoldedText(offset, text) => end_of_text(*offset, text, len),
-        Test::Contains(place, _) => end_of_window(place, len),
+        Test::Contains(range, _) => end_of_window(range, len),
         Test::Locale(_) => 0,
     }
 }
 
-fn end_of_window(place: &Window, len: usize) -> usize
-    ensures { result ≡ min len (place.now.offset + place.now.count) }
+fn end_of_window(range: &Window, len: usize) -> usize
+    ensures { result ≡ min len (range.now.offset + range.now.count) }
 {
-    (place.offset as usize + place.count as usize).min(len)
+    (range.offset as usize + range.count as usize).min(len)
 }
 
 fn end_of_text(offset: u32, text: &[u8], len: usize) -> usize

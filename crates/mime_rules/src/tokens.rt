@@ -2,10 +2,10 @@
 ghost use Rattle.std.specs.Prelude.{◌≡◌, ◌<◌, ◌≤◌, ◌+◌, ◌∷◌, Some, None, map, length, IfOk, IfSome, true, false};
 ghost use Rattle.std.specs.Option.{option_map};
 ghost use Rattle.line_words.specs.Blanks.{after_blanks};
-ghost use Rattle.mime_rules.specs.Reading.{read};
+ghost use Rattle.mime_rules.specs.RuleReading.{read};
 ghost use Rattle.mime_rules.specs.Tests.{suffix_test};
 ghost use Rattle.mime_rules.specs.Tokens.{test, tokens_of, token_at, other_token, behind_plus, is_sign, sign_token, is_and, word_token, word_here, behind_word, named_token, pattern_token, ascii_token, printable_token, string_token, istring_token, value_token, contains_token, locale_token, priority_token};
-ghost use Rattle.mime_rules.specs.Seen.{Told, token_of, EndsBy};
+ghost use Rattle.mime_rules.specs.RuleFields.{ReadsExactly, token_of, EndsBy};
 
 use crate::arguments::{Width, number_then, text_at, value_at};
 use crate::names::{RuleName, rule_name};
@@ -76,7 +76,7 @@ fn with_last(tokens: VecDeque<Token>, stop: Stop) -> Result<VecDeque<Token>, All
 
 // The token that begins here. Blanks beside a plus are part of it.
 fn token_at<'a>(alloc: Global, line: &'a [u8]) -> Result<(Token, &'a [u8]), Stop>
-    ensures value { Told result (λ r. read (token_of r.0) r.1.now) (token_at line.now) }
+    ensures value { ReadsExactly result (λ r. read (token_of r.0) r.1.now) (token_at line.now) }
     ensures bound { IfOk result (λ r. length r.1.now < length line.now) }
 {
     match behind_plus(after_blanks(line)) {
@@ -88,7 +88,7 @@ fn token_at<'a>(alloc: Global, line: &'a [u8]) -> Result<(Token, &'a [u8]), Stop
 // A token that is no plus.
 fn other_token<'a>(alloc: Global, line: &'a [u8]) -> Result<(Token, &'a [u8]), Stop>
     requires { behind_plus (after_blanks line.now) ≡ None }
-    ensures value { Told result (λ r. read (token_of r.0) r.1.now) (other_token line.now) }
+    ensures value { ReadsExactly result (λ r. read (token_of r.0) r.1.now) (other_token line.now) }
     ensures bound { IfOk result (λ r. length r.1.now < length line.now) }
 {
     match line.split_first() {
@@ -123,7 +123,7 @@ fn is_sign(b: u8) -> bool
 
 // The token of a byte that no word holds.
 fn sign(first: u8, behind: &[u8]) -> Result<(Token, &[u8]), Stop>
-    ensures value { Told result (λ r. read (token_of r.0) r.1.now) (sign_token first behind.now) }
+    ensures value { ReadsExactly result (λ r. read (token_of r.0) r.1.now) (sign_token first behind.now) }
     ensures bound { IfOk result (λ r. length r.1.now ≤ length behind.now) }
 {
     if is_blank(first) {
@@ -150,7 +150,7 @@ fn is_and(line: &[u8]) -> bool
 // A suffix of names, or a rule that a name and `(` begin.
 fn word<'a>(alloc: Global, line: &'a [u8]) -> Result<(Token, &'a [u8]), Stop>
     requires { 0 < length (word_here line.now) }
-    ensures value { Told result (λ r. read (token_of r.0) r.1.now) (word_token (word_here line.now) (behind_word line.now)) }
+    ensures value { ReadsExactly result (λ r. read (token_of r.0) r.1.now) (word_token (word_here line.now) (behind_word line.now)) }
     ensures bound { IfOk result (λ r. length r.1.now < length line.now) }
 {
     let (word, rest) = cut_word(line);
@@ -167,7 +167,7 @@ fn word<'a>(alloc: Global, line: &'a [u8]) -> Result<(Token, &'a [u8]), Stop>
 }
 
 fn suffix_token<'a>(alloc: Global, word: &[u8], rest: &'a [u8]) -> Result<(Token, &'a [u8]), Stop>
-    ensures value { Told result (λ r. read (token_of r.0) r.1.now) (read (test (suffix_test (46 ∷ word.now))) rest.now) }
+    ensures value { ReadsExactly result (λ r. read (token_of r.0) r.1.now) (read (test (suffix_test (46 ∷ word.now))) rest.now) }
     ensures bound { IfOk result (λ r. r.1.now ≡ rest.now) }
 {
     let suffix = suffix(alloc, word)?;
@@ -204,7 +204,7 @@ fn named<'a>(
     name: Option<RuleName>,
     line: &'a [u8],
 ) -> Result<(Token, &'a [u8]), Stop>
-    ensures value { Told result (λ r. read (token_of r.0) r.1.now) (named_token name line.now) }
+    ensures value { ReadsExactly result (λ r. read (token_of r.0) r.1.now) (named_token name line.now) }
     ensures bound { IfOk result (λ r. length r.1.now ≤ length line.now) }
 {
     match name {
@@ -224,7 +224,7 @@ fn named<'a>(
 }
 
 fn pattern_token<'a>(alloc: Global, line: &'a [u8]) -> Result<(Token, &'a [u8]), Stop>
-    ensures value { Told result (λ r. read (token_of r.0) r.1.now) (pattern_token line.now) }
+    ensures value { ReadsExactly result (λ r. read (token_of r.0) r.1.now) (pattern_token line.now) }
     ensures bound { IfOk result (λ r. length r.1.now ≤ length line.now) }
 {
     let (text, rest) = text_at(alloc, line)?;
@@ -235,7 +235,7 @@ fn pattern_token<'a>(alloc: Global, line: &'a [u8]) -> Result<(Token, &'a [u8]),
 }
 
 fn ascii_token(line: &[u8]) -> Result<(Token, &[u8]), Stop>
-    ensures value { Told result (λ r. read (token_of r.0) r.1.now) (ascii_token line.now) }
+    ensures value { ReadsExactly result (λ r. read (token_of r.0) r.1.now) (ascii_token line.now) }
     ensures bound { IfOk result (λ r. length r.1.now ≤ length line.now) }
 {
     let (offset, behind) = number_then(line, COMMA, GREATEST)?;
@@ -244,7 +244,7 @@ fn ascii_token(line: &[u8]) -> Result<(Token, &[u8]), Stop>
 }
 
 fn printable_token(line: &[u8]) -> Result<(Token, &[u8]), Stop>
-    ensures value { Told result (λ r. read (token_of r.0) r.1.now) (printable_token line.now) }
+    ensures value { ReadsExactly result (λ r. read (token_of r.0) r.1.now) (printable_token line.now) }
     ensures bound { IfOk result (λ r. length r.1.now ≤ length line.now) }
 {
     let (offset, behind) = number_then(line, COMMA, GREATEST)?;
@@ -253,7 +253,7 @@ fn printable_token(line: &[u8]) -> Result<(Token, &[u8]), Stop>
 }
 
 fn string_token<'a>(alloc: Global, line: &'a [u8]) -> Result<(Token, &'a [u8]), Stop>
-    ensures value { Told result (λ r. read (token_of r.0) r.1.now) (string_token line.now) }
+    ensures value { ReadsExactly result (λ r. read (token_of r.0) r.1.now) (string_token line.now) }
     ensures bound { IfOk result (λ r. length r.1.now ≤ length line.now) }
 {
     let (offset, behind) = number_then(line, COMMA, GREATEST)?;
@@ -262,7 +262,7 @@ fn string_token<'a>(alloc: Global, line: &'a [u8]) -> Result<(Token, &'a [u8]), 
 }
 
 fn istring_token<'a>(alloc: Global, line: &'a [u8]) -> Result<(Token, &'a [u8]), Stop>
-    ensures value { Told result (λ r. read (token_of r.0) r.1.now) (istring_token line.now) }
+    ensures value { ReadsExactly result (λ r. read (token_of r.0) r.1.now) (istring_token line.now) }
     ensures bound { IfOk result (λ r. length r.1.now ≤ length line.now) }
 {
     let (offset, behind) = number_then(line, COMMA, GREATEST)?;
@@ -271,7 +271,7 @@ fn istring_token<'a>(alloc: Global, line: &'a [u8]) -> Result<(Token, &'a [u8]),
 }
 
 fn value_token<'a>(alloc: Global, width: Width, line: &'a [u8]) -> Result<(Token, &'a [u8]), Stop>
-    ensures value { Told result (λ r. read (token_of r.0) r.1.now) (value_token width line.now) }
+    ensures value { ReadsExactly result (λ r. read (token_of r.0) r.1.now) (value_token width line.now) }
     ensures bound { IfOk result (λ r. length r.1.now ≤ length line.now) }
 {
     let (offset, behind) = number_then(line, COMMA, GREATEST)?;
@@ -280,7 +280,7 @@ fn value_token<'a>(alloc: Global, width: Width, line: &'a [u8]) -> Result<(Token
 }
 
 fn contains_token<'a>(alloc: Global, line: &'a [u8]) -> Result<(Token, &'a [u8]), Stop>
-    ensures value { Told result (λ r. read (token_of r.0) r.1.now) (contains_token line.now) }
+    ensures value { ReadsExactly result (λ r. read (token_of r.0) r.1.now) (contains_token line.now) }
     ensures bound { IfOk result (λ r. length r.1.now ≤ length line.now) }
 {
     let (offset, behind) = number_then(line, COMMA, GREATEST)?;
@@ -293,7 +293,7 @@ fn contains_token<'a>(alloc: Global, line: &'a [u8]) -> Result<(Token, &'a [u8])
 }
 
 fn locale_token<'a>(alloc: Global, line: &'a [u8]) -> Result<(Token, &'a [u8]), Stop>
-    ensures value { Told result (λ r. read (token_of r.0) r.1.now) (locale_token line.now) }
+    ensures value { ReadsExactly result (λ r. read (token_of r.0) r.1.now) (locale_token line.now) }
     ensures bound { IfOk result (λ r. length r.1.now ≤ length line.now) }
 {
     let (text, rest) = text_at(alloc, line)?;
@@ -301,7 +301,7 @@ fn locale_token<'a>(alloc: Global, line: &'a [u8]) -> Result<(Token, &'a [u8]), 
 }
 
 fn priority_token(line: &[u8]) -> Result<(Token, &[u8]), Stop>
-    ensures value { Told result (λ r. read (token_of r.0) r.1.now) (priority_token line.now) }
+    ensures value { ReadsExactly result (λ r. read (token_of r.0) r.1.now) (priority_token line.now) }
     ensures bound { IfOk result (λ r. length r.1.now ≤ length line.now) }
 {
     let (n, rest) = number_then(line, CLOSE, GREATEST_PRIORITY)?;

@@ -1,11 +1,11 @@
 //! The types of documents.
 ghost use Rattle.std.specs.Prelude.{◌≡◌, ◌∷◌, ◌++◌, [], IfOk, map, min};
 ghost use Rattle.std.specs.Option.{option_map};
-ghost use Rattle.mime_lines.specs.Seen.{line_of};
-ghost use Rattle.mime_rules.specs.Lines.{alternatives_of, warnings_of, alternatives_in, warnings_in};
-ghost use Rattle.mime_rules.specs.Best.{type_of, best, better, beats};
+ghost use Rattle.mime_lines.specs.LineFields.{line_of};
+ghost use Rattle.mime_rules.specs.RuleLines.{alternatives_of, warnings_of, alternatives_in, warnings_in};
+ghost use Rattle.mime_rules.specs.BestType.{type_of, best, better, beats};
 ghost use Rattle.mime_rules.specs.Reach.{reach, IsEnough};
-ghost use Rattle.mime_rules.specs.Seen.{types_of, alternative_of, subject_of};
+ghost use Rattle.mime_rules.specs.RuleFields.{types_of, alternative_of, subject_of};
 
 use crate::line::{Alternative, read_line};
 use crate::meaning::{Subject, holds};

@@ -9,13 +9,13 @@ use Rattle.spool_types.specs.declared.refusal.Refusal.{Refusal}
 use Rattle.spool_types.specs.State.{State}
 use Rattle.job_table.specs.Attempts.{next_of}
 use Rattle.job_table.specs.Step.{after, reply_to, step, answered, refusal_of}
-use Rattle.spool_core.specs.Standing.{Standing}
+use Rattle.spool_core.specs.OpenSpools.{OpenSpool}
 use Rattle.spool_core.specs.declared.spool.apply_fault.ApplyFault.TheVariants as faults
 use Rattle.print_rounds.specs.declared.outcome.RoundFault.{RoundFault}
 use Rattle.print_rounds.specs.declared.outcome.Launch.{Launch}
 use Rattle.print_rounds.specs.declared.outcome.Launch.TheVariants as launches
 use Rattle.print_rounds.specs.Counts.{starting_fault, start_fault, launching_fault, launch_fault}
-use Rattle.print_rounds.specs.Courses.{Answer, Starting, IsStartingOf, AreStartings, Launching}
+use Rattle.print_rounds.specs.RunStates.{Answer, Starting, IsStartingOf, AreStartings, Launching}
 use Rattle.print_rounds.specs.Faultless.{IsBegun, AllBegun, IsServed, AllServed}
 
 -- ## No fault
@@ -36,7 +36,7 @@ unrefused s e refusal accepted refused = apart (after s e, reply_to s e) (step s
     apart x o taken denied = absurd (cc)
 
 module _ {D : Type 0} (device : DiskView D) where
-  one_begun : (old : Standing D) (o : Option ℕ) (answer : Option Answer) (new : Standing D) → IsStartingOf device old o answer new → start_fault answer ≡ None → IsBegun answer
+  one_begun : (old : OpenSpool D) (o : Option ℕ) (answer : Option Answer) (new : OpenSpool D) → IsStartingOf device old o answer new → start_fault answer ≡ None → IsBegun answer
   one_begun old None answer new (none, same) e = subst IsBegun (sym none) tt
   one_begun old (Some j) None new is e = tt
   one_begun old (Some j) (Some (Ok reply)) new is e = tt
@@ -47,7 +47,7 @@ module _ {D : Type 0} (device : DiskView D) where
   one_begun old (Some j) (Some (Err faults.Disk)) new is e = absurd (cc)
 
   -- each job was started, where no start has a fault
-  pub all_begun : (old : Standing D) (ts : List (Starting D)) (new : Standing D) → AreStartings device old ts new → starting_fault ts ≡ None → AllBegun ts
+  pub all_begun : (old : OpenSpool D) (ts : List (Starting D)) (new : OpenSpool D) → AreStartings device old ts new → starting_fault ts ≡ None → AllBegun ts
   all_begun old [] new same e = tt
   all_begun old (t ∷ ts) new (start, starts) e = (
     one_begun old (next_of old.state t.queue) t.answer t.next start (or_first (start_fault t.answer) (starting_fault ts) e),

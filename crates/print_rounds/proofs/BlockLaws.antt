@@ -19,9 +19,9 @@ use Rattle.spool_types.specs.Busy.{is_of}
 use Rattle.spool_types.specs.State.{State, Job, Queues, job_at}
 use Rattle.spool_types.specs.declared.rows.QueueRow.{QueueRow}
 use Rattle.job_table.specs.Legal.{IsLegal}
-use Rattle.job_table.specs.Places.{IsNameAt}
-use Rattle.child_pipeline.specs.Slots.{Slots}
-use Rattle.print_rounds.specs.Looks.{free_queues, is_blocked, is_of_queue, runs}
+use Rattle.job_table.specs.QueuePositions.{IsNameAt}
+use Rattle.child_pipeline.specs.StageSlots.{Slots}
+use Rattle.print_rounds.specs.StageChecks.{free_queues, is_blocked, is_of_queue, runs}
 use Rattle.print_rounds.specs.Passes.{unblocked}
 use Rattle.print_rounds.proofs.LookLaws.{jobs_to, no_jobs, true_from}
 use Rattle.print_rounds.proofs.StartLaws.{queue_count}

@@ -17,12 +17,12 @@ use Rattle.spool_types.specs.declared.rows.QueueRow.{QueueRow}
 use Rattle.spool_types.specs.Busy.{is_of}
 use Rattle.spool_types.specs.Phases.{is_processing}
 use Rattle.spool_types.specs.State.{State, Job, job_at}
-use Rattle.child_pipeline.specs.Told.{is_in}
+use Rattle.child_pipeline.specs.ChildTraces.{is_in}
 use Rattle.job_table.specs.Attempts.{busy_of}
 use Rattle.print_rounds.specs.Choice.{busy_jobs, with_busy}
 use Rattle.print_rounds.specs.Finished.{AreDistinct, AllRest, HasNoneRunning}
-use Rattle.child_pipeline.specs.Slots.{Slots}
-use Rattle.print_rounds.specs.Looks.{idle_among, is_stray, runs, tended_jobs}
+use Rattle.child_pipeline.specs.StageSlots.{Slots}
+use Rattle.print_rounds.specs.StageChecks.{idle_among, is_stray, runs, tended_jobs}
 use Rattle.print_rounds.proofs.EndLaws.{not_first, not_second}
 use Rattle.print_rounds.proofs.FreeLaws.{resting_of}
 use Rattle.print_rounds.proofs.LookLaws.{true_from}

@@ -13,16 +13,16 @@ use Rattle.spool_types.specs.declared.refusal.Refusal.{Refusal}
 use Rattle.spool_types.specs.Sent.{sent_by, sent_to}
 use Rattle.spool_types.specs.State.{State}
 use Rattle.job_table.specs.Attempts.{next_of}
-use Rattle.job_table.specs.Fold.{after_one, after_all}
+use Rattle.job_table.specs.EventFold.{after_one, after_all}
 use Rattle.job_table.specs.Step.{refusal_of}
 use Rattle.spool_core.specs.Image.{HasTable, HasDocument, HasDocuments, HasWhole, documents_after_one, unless_refused_sent}
-use Rattle.spool_core.specs.Standing.{Standing}
+use Rattle.spool_core.specs.OpenSpools.{OpenSpool}
 use Rattle.spool_core.specs.declared.spool.apply_fault.ApplyFault.TheVariants as faults
 use Rattle.filter_args.specs.declared.place.Place.{Place}
-use Rattle.child_pipeline.specs.Slots.{Slots, end_in}
-use Rattle.child_pipeline.specs.Told.{Told}
+use Rattle.child_pipeline.specs.StageSlots.{Slots, end_in}
+use Rattle.child_pipeline.specs.ChildTraces.{ChildTrace}
 use Rattle.print_rounds.specs.Counts.{tried_by, start_events, start_tried, starting_events, starting_tried, report_events, report_tried, ending_events, ending_tried}
-use Rattle.print_rounds.specs.Courses.{Course, course, Answer, IsApplied, Starting, IsStartingOf, AreStartings, Launching, AreLaunchings, AreReads, AreHanded, Ending, IsEnding, IsEndingOf, AreEndings, IsReport, is_silent}
+use Rattle.print_rounds.specs.RunStates.{RunState, run_state, Answer, IsApplied, Starting, IsStartingOf, AreStartings, Launching, AreLaunchings, AreReads, AreHanded, Ending, IsEnding, IsEndingOf, AreEndings, IsReport, is_silent}
 use Rattle.print_rounds.specs.declared.outcome.Report.{Report}
 use Rattle.print_rounds.specs.declared.outcome.Report.TheVariants as reports
 use Rattle.print_rounds.specs.Rounds.{HasSomeOf, HasSomeWhole, LeavesDocuments}
@@ -54,34 +54,34 @@ module _ (Left : State → List ℕ → Type 0) where
 
 -- What is left by a crash, and what has to be so of a spool for that. An event that sends nothing leaves it as before or after
 -- it, and while the device works it goes on to be so; and so it does over reads.
-pub record IsLasting {D : Type 0} (device : DiskView D) (Given : Standing D → Type 0) (Left : State → List ℕ → Type 0) : Type 0 where
-  pub one : (old : Standing D) (e : Event) (a : Answer) (new : Standing D) → sent_by e ≡ None → IsApplied device old e a new → old.dead ≡ false → IsSome (device.bytes old.disk) → Given old →
+pub record IsLasting {D : Type 0} (device : DiskView D) (Given : OpenSpool D → Type 0) (Left : State → List ℕ → Type 0) : Type 0 where
+  pub one : (old : OpenSpool D) (e : Event) (a : Answer) (new : OpenSpool D) → sent_by e ≡ None → IsApplied device old e a new → old.dead ≡ false → IsSome (device.bytes old.disk) → Given old →
       LeavesOnly device old.disk new.disk (λ c. Left old.state c ⊎ Left (after_one old.state e) c)
-  pub next : (old : Standing D) (e : Event) (a : Answer) (new : Standing D) → sent_by e ≡ None → IsApplied device old e a new → new.dead ≡ false → IsSome (device.bytes old.disk) → Given old → Given new
-  pub read : (old new : Standing D) → new.state ≡ old.state → ChangesNothing device old.disk new.disk → Given old → Given new
+  pub next : (old : OpenSpool D) (e : Event) (a : Answer) (new : OpenSpool D) → sent_by e ≡ None → IsApplied device old e a new → new.dead ≡ false → IsSome (device.bytes old.disk) → Given old → Given new
+  pub read : (old new : OpenSpool D) → new.state ≡ old.state → ChangesNothing device old.disk new.disk → Given old → Given new
 
-module _ {D : Type 0} (device : DiskView D) (lawful : IsLawful device) (Given : Standing D → Type 0) (Left : State → List ℕ → Type 0) (lasting : IsLasting device Given Left) where
+module _ {D : Type 0} (device : DiskView D) (lawful : IsLawful device) (Given : OpenSpool D → Type 0) (Left : State → List ℕ → Type 0) (lasting : IsLasting device Given Left) where
   -- what a crash in a part leaves: an image that there was, or what is after the first of the events
-  pub record Crashes (old : Standing D) (tried : List Event) (new : Standing D) : Type 0 where
+  pub record Crashes (old : OpenSpool D) (tried : List Event) (new : OpenSpool D) : Type 0 where
     pub left : old.dead ≡ false → IsSome (device.bytes old.disk) → Given old → LeavesOnly device old.disk new.disk (λ c. device.image old.disk c ⊎ HasSome Left old.state tried c)
     pub keeps : new.dead ≡ false → IsSome (device.bytes old.disk) → Given old → Given new
 
   -- nothing is done
-  still : (old new : Standing D) (tried : List Event) → new ≡ old → Crashes old tried new
-  still old new tried same = subst (λ (s : Standing D). Crashes old tried s) (sym same) (record {
+  still : (old new : OpenSpool D) (tried : List Event) → new ≡ old → Crashes old tried new
+  still old new tried same = subst (λ (s : OpenSpool D). Crashes old tried s) (sym same) (record {
     left = λ alive tells given. started device old.disk _ (λ c since. inl (lawful.only_now old.disk c since));
     keeps = λ lives tells given. given;
   })
 
   -- a part, and another after it
-  module _ (old mid new : Standing D) (es fs xs ys : List Event) (first : IsPart device old es xs mid) (more : IsPart device mid fs ys new) (one : Crashes old es mid) (two : Crashes mid fs new) where
+  module _ (old mid new : OpenSpool D) (es fs xs ys : List Event) (first : IsPart device old es xs mid) (more : IsPart device mid fs ys new) (one : Crashes old es mid) (two : Crashes mid fs new) where
     first_run : LeavesOnly device old.disk mid.disk (λ c. device.image old.disk c ⊎ HasSome Left old.state es c) → LeavesOnly device old.disk mid.disk (λ c. device.image old.disk c ⊎ HasSome Left old.state (es ++ fs) c)
     first_run run = weaker_run device old.disk mid.disk _ _ run (λ c. ⊎_elim (λ now. inl now) (λ some. inr (first_left Left old.state es fs c some)))
 
     by_dead : (b : Bool) → mid.dead ≡ b → IsSome (device.bytes old.disk) → Given old → LeavesOnly device old.disk mid.disk (λ c. device.image old.disk c ⊎ HasSome Left old.state es c)
         → LeavesOnly device old.disk new.disk (λ c. device.image old.disk c ⊎ HasSome Left old.state (es ++ fs) c)
     by_dead true is tells given run =
-        subst (λ (s : Standing D). LeavesOnly device old.disk s.disk (λ c. device.image old.disk c ⊎ HasSome Left old.state (es ++ fs) c)) (sym (more.dead is)) (first_run run)
+        subst (λ (s : OpenSpool D). LeavesOnly device old.disk s.disk (λ c. device.image old.disk c ⊎ HasSome Left old.state (es ++ fs) c)) (sym (more.dead is)) (first_run run)
     by_dead false is tells given run =
         let table : mid.state ≡ after_all old.state es = first.table ∙ ap (after_all old.state) (sym (first.acknowledged is)) in
         runs_on device old.disk mid.disk new.disk _ _ (first_run run) (two.left is (first.told.1 tells) (one.keeps is tells given))
@@ -95,7 +95,7 @@ module _ {D : Type 0} (device : DiskView D) (lawful : IsLawful device) (Given : 
           two.keeps lives (first.told.1 tells) (one.keeps works tells given);
     }
 
-  one_crash : (old : Standing D) (e : Event) (a : Answer) (new : Standing D) → sent_by e ≡ None → IsApplied device old e a new → Crashes old (tried_by e a) new
+  one_crash : (old : OpenSpool D) (e : Event) (a : Answer) (new : OpenSpool D) → sent_by e ≡ None → IsApplied device old e a new → Crashes old (tried_by e a) new
   one_crash old e a new none is = record {
     left = by_answer a is;
     keeps = lasting.next old e a new none is;
@@ -115,19 +115,19 @@ module _ {D : Type 0} (device : DiskView D) (lawful : IsLawful device) (Given : 
 
   -- ## The steps
 
-  start_crash : (old : Standing D) (o : Option ℕ) (answer : Option Answer) (new : Standing D) → IsStartingOf device old o answer new → Crashes old (start_tried o answer) new
+  start_crash : (old : OpenSpool D) (o : Option ℕ) (answer : Option Answer) (new : OpenSpool D) → IsStartingOf device old o answer new → Crashes old (start_tried o answer) new
   start_crash old None answer new (none, same) = still old new [] same
   start_crash old (Some j) None new is = absurd is
   start_crash old (Some j) (Some a) new (accepted, is) = one_crash old (Start j) a new refl is
 
-  pub starts_crash : (old : Standing D) (ts : List (Starting D)) (new : Standing D) → AreStartings device old ts new → Crashes old (starting_tried old ts) new
+  pub starts_crash : (old : OpenSpool D) (ts : List (Starting D)) (new : OpenSpool D) → AreStartings device old ts new → Crashes old (starting_tried old ts) new
   starts_crash old [] new same = still old new [] same
   starts_crash old (t ∷ ts) new (start, starts) =
       let o = next_of old.state t.queue in
       both_crash old t.next new (start_tried o t.answer) (starting_tried t.next ts) (start_events o t.answer) (starting_events t.next ts)
       (start_part device old o t.answer t.next start) (starts_part device t.next ts new starts) (start_crash old o t.answer t.next start) (starts_crash t.next ts new starts)
 
-  reads_crash : (old : Standing D) (ts : List Launching) (new : Standing D) → AreReads device old ts new → Crashes old [] new
+  reads_crash : (old : OpenSpool D) (ts : List Launching) (new : OpenSpool D) → AreReads device old ts new → Crashes old [] new
   reads_crash old ts new reads =
       let same = reads_still device lawful old ts new reads in
       record {
@@ -135,24 +135,24 @@ module _ {D : Type 0} (device : DiskView D) (lawful : IsLawful device) (Given : 
         keeps = λ lives tells given. lasting.read old new (reads_state device old ts new reads) same given;
       }
 
-  report_crash : (old : Course D) (j : ℕ) (r : Report) (new : Course D) → IsReport device old j r new → Crashes old.spool (report_tried (Stage (end_in old.slots j)) r) new.spool
+  report_crash : (old : RunState D) (j : ℕ) (r : Report) (new : RunState D) → IsReport device old j r new → Crashes old.spool (report_tried (Stage (end_in old.slots j)) r) new.spool
   report_crash old j reports.Silent new none = absurd none
-  report_crash old j reports.NoMemory new same = still old.spool new.spool [] (ap (λ (c : Course D). c.spool) same)
+  report_crash old j reports.NoMemory new same = still old.spool new.spool [] (ap (λ (c : RunState D). c.spool) same)
   report_crash old j (reports.Answered a) new report = one_crash old.spool (Stage (end_in old.slots j)) a new.spool refl report.0
 
-  end_crash : (old : Course D) (e : Ending D) → IsEnding device old e → Crashes old.spool (report_tried (Stage (end_in e.kept.slots e.job)) e.report) e.next.spool
+  end_crash : (old : RunState D) (e : Ending D) → IsEnding device old e → Crashes old.spool (report_tried (Stage (end_in e.kept.slots e.job)) e.report) e.next.spool
   end_crash old e ends = by_silence (is_silent (finite.get old.slots e.job)) ends
     where
       event : Event
       event = Stage (end_in e.kept.slots e.job)
 
       by_silence : (b : Bool) → IsEndingOf device old b e → Crashes old.spool (report_tried event e.report) e.next.spool
-      by_silence true (silent, kept, same) = still old.spool e.next.spool (report_tried event e.report) (ap (λ (c : Course D). c.spool) same)
+      by_silence true (silent, kept, same) = still old.spool e.next.spool (report_tried event e.report) (ap (λ (c : RunState D). c.spool) same)
       by_silence false (finishes, same, report) =
-          subst (λ (x : Standing D). Crashes x (report_tried event e.report) e.next.spool) same (report_crash e.kept e.job e.report e.next report)
+          subst (λ (x : OpenSpool D). Crashes x (report_tried event e.report) e.next.spool) same (report_crash e.kept e.job e.report e.next report)
 
-  ends_crash : (old : Course D) (es : List (Ending D)) (new : Course D) → AreEndings device old es new → Crashes old.spool (ending_tried es) new.spool
-  ends_crash old [] new same = still old.spool new.spool [] (ap (λ (c : Course D). c.spool) same)
+  ends_crash : (old : RunState D) (es : List (Ending D)) (new : RunState D) → AreEndings device old es new → Crashes old.spool (ending_tried es) new.spool
+  ends_crash old [] new same = still old.spool new.spool [] (ap (λ (c : RunState D). c.spool) same)
   ends_crash old (e ∷ es) new ends =
       let event = Stage (end_in e.kept.slots e.job) in
       both_crash old.spool e.next.spool new.spool (report_tried event e.report) (ending_tried es) (report_events event e.report) (ending_events es)
@@ -182,7 +182,7 @@ same_whole : (s t : State) (documents : ℕ → List ℕ) (e : Event) (c : List 
 same_whole s t documents e c none (table, has) = (table, same_documents s t documents e c none has)
 
 -- the bytes that a disk tells have these documents
-abbrev pub TellsDocuments : {D : Type 0} → DiskView D → (ℕ → List ℕ) → Standing D → Type 0
+abbrev pub TellsDocuments : {D : Type 0} → DiskView D → (ℕ → List ℕ) → OpenSpool D → Type 0
 TellsDocuments device documents s = (bytes : List ℕ) → device.bytes s.disk ≡ Some bytes → HasDocuments s.state documents bytes
 
 some_bytes : (o : Option (List ℕ)) → IsSome o → (bytes : List ℕ) × (o ≡ Some bytes)
@@ -190,23 +190,23 @@ some_bytes None some = absurd (cc)
 some_bytes (Some bytes) some = (bytes, refl)
 
 module _ {D : Type 0} (device : DiskView D) (lawful : IsLawful device) (documents : ℕ → List ℕ) where
-  sent_run : (old : Standing D) (e : Event) (a : Answer) (new : Standing D) → sent_by e ≡ None → IsApplied device old e a new → old.dead ≡ false → IsSome (device.bytes old.disk) → TellsDocuments device documents old →
+  sent_run : (old : OpenSpool D) (e : Event) (a : Answer) (new : OpenSpool D) → sent_by e ≡ None → IsApplied device old e a new → old.dead ≡ false → IsSome (device.bytes old.disk) → TellsDocuments device documents old →
       LeavesOnly device old.disk new.disk (λ c. HasWhole old.state documents c ⊎ HasWhole (after_one old.state e) documents c)
   sent_run old e a new none is alive tells given =
       let (bytes, has) = some_bytes (device.bytes old.disk) tells in
       weaker_run device old.disk new.disk _ _ (is.whole alive bytes documents has (given bytes has))
       (λ c. ⊎_elim (λ before. inl before) (λ after. inr (same_whole old.state (after_one old.state e) documents e c none after)))
 
-  sent_images : (old : Standing D) (e : Event) (reply : Reply) (new : Standing D) → sent_by e ≡ None → IsApplied device old e (Ok reply) new → IsSome (device.bytes old.disk) → TellsDocuments device documents old → LeavesDocuments device documents new
+  sent_images : (old : OpenSpool D) (e : Event) (reply : Reply) (new : OpenSpool D) → sent_by e ≡ None → IsApplied device old e (Ok reply) new → IsSome (device.bytes old.disk) → TellsDocuments device documents old → LeavesDocuments device documents new
   sent_images old e reply new none is tells given = λ c now.
       let (bytes, has) = some_bytes (device.bytes old.disk) tells in
       same_documents old.state new.state documents e c none (is.sent bytes documents has (given bytes has) c now)
 
-  pub told_of : (s : Standing D) → LeavesDocuments device documents s → TellsDocuments device documents s
+  pub told_of : (s : OpenSpool D) → LeavesDocuments device documents s → TellsDocuments device documents s
   told_of s given = λ bytes has. given bytes (lawful.reads_image s.disk bytes has)
 
   -- what stands after an answer, by what is sent where it is acknowledged
-  by_answer : (Given : Standing D → Type 0) (old : Standing D) (e : Event) (a : Answer) (new : Standing D) → IsApplied device old e a new → new.dead ≡ false → Given old → ((reply : Reply) → a ≡ Ok reply → Given new) → Given new
+  by_answer : (Given : OpenSpool D → Type 0) (old : OpenSpool D) (e : Event) (a : Answer) (new : OpenSpool D) → IsApplied device old e a new → new.dead ≡ false → Given old → ((reply : Reply) → a ≡ Ok reply → Given new) → Given new
   by_answer Given old e (Ok reply) new is lives given sent = sent reply refl
   by_answer Given old e (Err faults.Dead) new is lives given sent = subst Given (sym is.cause.1) given
   by_answer Given old e (Err (faults.Refused refusal)) new is lives given sent = subst Given (sym is.cause.2) given
@@ -235,21 +235,21 @@ module _ {D : Type 0} (device : DiskView D) (lawful : IsLawful device) (document
 -- ## A whole round
 
 -- until the device has failed a crash leaves the table
-abbrev pub IsKept : {D : Type 0} → DiskView D → Standing D → Type 0
+abbrev pub IsKept : {D : Type 0} → DiskView D → OpenSpool D → Type 0
 IsKept device s = s.dead ≡ false → IsSome (device.bytes s.disk) → (c : List ℕ) → device.image s.disk c → HasTable s.state c
 
-module _ {D : Type 0} (device : DiskView D) (lawful : IsLawful device) (old mid : Standing D) (ts : List (Starting D)) (starts : AreStartings device old ts mid) (ls : List Launching) (read : Standing D) (reads : AreReads device mid ls read) (slots : Slots) (told : Option Told) (es : List (Ending D)) (new : Course D) (ends : AreEndings device (course read slots told) es new) where
+module _ {D : Type 0} (device : DiskView D) (lawful : IsLawful device) (old mid : OpenSpool D) (ts : List (Starting D)) (starts : AreStartings device old ts mid) (ls : List Launching) (read : OpenSpool D) (reads : AreReads device mid ls read) (slots : Slots) (told : Option ChildTrace) (es : List (Ending D)) (new : RunState D) (ends : AreEndings device (run_state read slots told) es new) where
   rest_part : IsPart device mid (ending_tried es) (ending_events es) new.spool
-  rest_part = both_parts device mid read new.spool [] (ending_tried es) [] (ending_events es) (reads_part device mid ls read lawful reads) (ends_part device (course read slots told) es new ends)
+  rest_part = both_parts device mid read new.spool [] (ending_tried es) [] (ending_events es) (reads_part device mid ls read lawful reads) (ends_part device (run_state read slots told) es new ends)
 
   -- the starts, the reads and the ends
   pub round_part : IsPart device old (starting_tried old ts ++ ending_tried es) (starting_events old ts ++ ending_events es) new.spool
   round_part = both_parts device old mid new.spool (starting_tried old ts) (ending_tried es) (starting_events old ts) (ending_events es) (starts_part device old ts mid starts) rest_part
 
-  module _ (Given : Standing D → Type 0) (Left : State → List ℕ → Type 0) (lasting : IsLasting device Given Left) where
+  module _ (Given : OpenSpool D → Type 0) (Left : State → List ℕ → Type 0) (lasting : IsLasting device Given Left) where
     rest_crash : Crashes device lawful Given Left lasting mid (ending_tried es) new.spool
-    rest_crash = both_crash device lawful Given Left lasting mid read new.spool [] (ending_tried es) [] (ending_events es) (reads_part device mid ls read lawful reads) (ends_part device (course read slots told) es new ends)
-        (reads_crash device lawful Given Left lasting mid ls read reads) (ends_crash device lawful Given Left lasting (course read slots told) es new ends)
+    rest_crash = both_crash device lawful Given Left lasting mid read new.spool [] (ending_tried es) [] (ending_events es) (reads_part device mid ls read lawful reads) (ends_part device (run_state read slots told) es new ends)
+        (reads_crash device lawful Given Left lasting mid ls read reads) (ends_crash device lawful Given Left lasting (run_state read slots told) es new ends)
 
     round_crash : Crashes device lawful Given Left lasting old (starting_tried old ts ++ ending_tried es) new.spool
     round_crash = both_crash device lawful Given Left lasting old mid new.spool (starting_tried old ts) (ending_tried es) (starting_events old ts) (ending_events es) (starts_part device old ts mid starts) rest_part
@@ -271,7 +271,7 @@ module _ {D : Type 0} (device : DiskView D) (lawful : IsLawful device) (old mid 
   lasting lives tells documents given = (round_crash (LeavesDocuments device documents) (λ s c. HasWhole s documents c) (left_last device lawful documents)).keeps lives tells given
 
   -- what is read where the disk tells its bytes
-  pub handed : mid.dead ≡ false → (bytes : List ℕ) (documents : ℕ → List ℕ) → device.bytes old.disk ≡ Some bytes → HasDocuments old.state documents bytes → (place : Place) (own own' : Slots) (seen seen' : Option Told) → AreLaunchings place mid.state own seen ls own' seen' → AreHanded documents ls
+  pub handed : mid.dead ≡ false → (bytes : List ℕ) (documents : ℕ → List ℕ) → device.bytes old.disk ≡ Some bytes → HasDocuments old.state documents bytes → (place : Place) (own own' : Slots) (seen seen' : Option ChildTrace) → AreLaunchings place mid.state own seen ls own' seen' → AreHanded documents ls
   handed lives bytes documents has given place own own' seen seen' launches =
       let start = starts_crash device lawful (TellsDocuments device documents) (λ s c. HasWhole s documents c) (told_last device lawful documents) old ts mid starts in
       let tells : IsSome (device.bytes old.disk) = subst IsSome (sym has) refl in

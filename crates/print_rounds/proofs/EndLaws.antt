@@ -7,12 +7,12 @@ use Rattle.std.proofs.lemmas.Bool.{eqb-true}
 use Rattle.spool_types.specs.declared.event.Reply.{Reply}
 use Rattle.spool_types.specs.declared.event.Reply.TheVariants as replies
 use Rattle.spool_types.specs.Phases.{is_processing}
-use Rattle.child_pipeline.specs.Told.{Told, is_in, without, after_finish}
-use Rattle.child_pipeline.specs.Slots.{Slots, slot_in, begun, with_progress, FinishesFrom, Waits, IsFinish, advanced, advanced_in, is_ready, is_running, IsTicketless}
+use Rattle.child_pipeline.specs.ChildTraces.{ChildTrace, is_in, without, after_finish}
+use Rattle.child_pipeline.specs.StageSlots.{Slots, slot_in, begun, with_progress, FinishesFrom, Waits, IsFinish, advanced, advanced_in, is_ready, is_running, IsTicketless}
 use Rattle.child_pipeline.specs.declared.runner.Progress.{Progress}
 use Rattle.child_pipeline.specs.declared.runner.Progress.TheVariants.{Ready, Running, Ended}
 use Rattle.child_pipeline.specs.declared.runner.Slot.{Slot}
-use Rattle.print_rounds.specs.Courses.{Course, Answer, Ending, IsReport, IsEnding, IsEndingOf, AreEndings, is_silent, moved, moved_by}
+use Rattle.print_rounds.specs.RunStates.{RunState, Answer, Ending, IsReport, IsEnding, IsEndingOf, AreEndings, is_silent, moved, moved_by}
 use Rattle.print_rounds.specs.declared.outcome.Report.{Report}
 use Rattle.print_rounds.specs.declared.outcome.Report.TheVariants as reports
 use Rattle.print_rounds.specs.Finished.{AreDistinct, with_number, with_slot, running_in, after_finishes, AreFinished}
@@ -77,14 +77,14 @@ one_more a b = omega arith
 
 module _ {D : Type 0} (device : DiskView D) where
   -- a report changes the slot of its job alone, and calls no child
-  pub report_same : (old : Course D) (j : ℕ) (r : Report) (new : Course D) → IsReport device old j r new → (new.told ≡ old.told) × SameBut j old.slots new.slots
+  pub report_same : (old : RunState D) (j : ℕ) (r : Report) (new : RunState D) → IsReport device old j r new → (new.told ≡ old.told) × SameBut j old.slots new.slots
   report_same old j reports.Silent new none = absurd none
-  report_same old j reports.NoMemory new same = (ap (λ (c : Course D). c.told) same, λ k other. ap (λ (c : Course D). finite.get c.slots k) same)
+  report_same old j reports.NoMemory new same = (ap (λ (c : RunState D). c.told) same, λ k other. ap (λ (c : RunState D). finite.get c.slots k) same)
   report_same old j (reports.Answered a) new report = (report.2, λ k other. ap (λ m. finite.get m k) report.1 ∙ moved_same old.slots j a k other)
 
   -- what the end of one stage leaves
-  pub record IsOneEnd (t : Told) (old : Course D) (j : ℕ) (js : List ℕ) (new : Course D) : Type 0 where
-    pub told : Told
+  pub record IsOneEnd (t : ChildTrace) (old : RunState D) (j : ℕ) (js : List ℕ) (new : RunState D) : Type 0 where
+    pub told : ChildTrace
     pub tells : new.told ≡ Some told
     pub orders : told.orders ≡ t.orders
     pub running : told.running ≡ running_in old.slots js
@@ -92,16 +92,16 @@ module _ {D : Type 0} (device : DiskView D) where
     pub only : after_finishes t (running_in old.slots (j ∷ js)) ≡ after_finishes told (running_in old.slots js)
     pub finished : told.finished + length (running_in old.slots js) ≡ t.finished + length (running_in old.slots (j ∷ js))
 
-  pub one_end : (t : Told) (old : Course D) (e : Ending D) (js : List ℕ) → IsEnding device old e → old.told ≡ Some t → t.running ≡ running_in old.slots (e.job ∷ js) → IsOneEnd t old e.job js e.next
+  pub one_end : (t : ChildTrace) (old : RunState D) (e : Ending D) (js : List ℕ) → IsEnding device old e → old.told ≡ Some t → t.running ≡ running_in old.slots (e.job ∷ js) → IsOneEnd t old e.job js e.next
   one_end t old e js ends tells runs = by_slot (finite.get old.slots e.job) refl
     where
       unchanged : with_slot (finite.get old.slots e.job) (running_in old.slots js) ≡ running_in old.slots js → e.next ≡ old → IsOneEnd t old e.job js e.next
       unchanged silent is = record {
         told = t;
-        tells = ap (λ (c : Course D). c.told) is ∙ tells;
+        tells = ap (λ (c : RunState D). c.told) is ∙ tells;
         orders = refl;
         running = runs ∙ silent;
-        same = λ k other. ap (λ (c : Course D). finite.get c.slots k) is;
+        same = λ k other. ap (λ (c : RunState D). finite.get c.slots k) is;
         only = ap (after_finishes t) silent;
         finished = ap (λ ns. t.finished + length ns) (sym silent);
       }
@@ -143,8 +143,8 @@ module _ {D : Type 0} (device : DiskView D) where
       by_slot (Some slot) there = by_progress slot slot.progress there refl (subst (λ o. IsEndingOf device old (is_silent o) e) there ends)
 
   -- Each child that was running has been finished once, and no other, whatever became of the events.
-  pub ends_finished : (t : Told) (old : Course D) (es : List (Ending D)) (new : Course D) → AreEndings device old es new → old.told ≡ Some t → t.running ≡ running_in old.slots (map (λ e. e.job) es) → AreDistinct (map (λ e. e.job) es) → (t' : Told) × (new.told ≡ Some t') × AreFinished t old.slots (map (λ e. e.job) es) t'
-  ends_finished t old [] new same tells runs distinct = (t, ap (λ (c : Course D). c.told) same ∙ tells, record { only = refl; orders = refl; running = runs; finished = sym (add-zero t.finished) })
+  pub ends_finished : (t : ChildTrace) (old : RunState D) (es : List (Ending D)) (new : RunState D) → AreEndings device old es new → old.told ≡ Some t → t.running ≡ running_in old.slots (map (λ e. e.job) es) → AreDistinct (map (λ e. e.job) es) → (t' : ChildTrace) × (new.told ≡ Some t') × AreFinished t old.slots (map (λ e. e.job) es) t'
+  ends_finished t old [] new same tells runs distinct = (t, ap (λ (c : RunState D). c.told) same ∙ tells, record { only = refl; orders = refl; running = runs; finished = sym (add-zero t.finished) })
   ends_finished t old (e ∷ es) new ends tells runs distinct =
       let js : List ℕ = map (λ e. e.job) es in
       let one = one_end t old e js ends.0 tells runs in
@@ -197,17 +197,17 @@ moved_rests m j (Ok r) rests = reply_rests m j r
 moved_rests m j (Err fault) rests = rests
 
 module _ {D : Type 0} (device : DiskView D) where
-  report_rests : (old : Course D) (j : ℕ) (r : Report) (new : Course D) → IsReport device old j r new → IsTicketless (finite.get old.slots j) → IsTicketless (finite.get new.slots j)
+  report_rests : (old : RunState D) (j : ℕ) (r : Report) (new : RunState D) → IsReport device old j r new → IsTicketless (finite.get old.slots j) → IsTicketless (finite.get new.slots j)
   report_rests old j reports.Silent new none rests = absurd none
-  report_rests old j reports.NoMemory new same rests = subst (λ (c : Course D). IsTicketless (finite.get c.slots j)) (sym same) rests
+  report_rests old j reports.NoMemory new same rests = subst (λ (c : RunState D). IsTicketless (finite.get c.slots j)) (sym same) rests
   report_rests old j (reports.Answered a) new report rests = subst (λ m. IsTicketless (finite.get m j)) (sym report.1) (moved_rests old.slots j a rests)
 
   -- after the end of a stage its slot runs no child, and all others are as they were
-  pub end_rests : (old : Course D) (e : Ending D) → IsEnding device old e → SameBut e.job old.slots e.next.slots × IsTicketless (finite.get e.next.slots e.job)
+  pub end_rests : (old : RunState D) (e : Ending D) → IsEnding device old e → SameBut e.job old.slots e.next.slots × IsTicketless (finite.get e.next.slots e.job)
   end_rests old e ends = by_slot (finite.get old.slots e.job) refl
     where
       silent : e.next ≡ old → IsTicketless (finite.get old.slots e.job) → SameBut e.job old.slots e.next.slots × IsTicketless (finite.get e.next.slots e.job)
-      silent same rests = (λ k other. ap (λ (c : Course D). finite.get c.slots k) same, subst (λ (c : Course D). IsTicketless (finite.get c.slots e.job)) (sym same) rests)
+      silent same rests = (λ k other. ap (λ (c : RunState D). finite.get c.slots k) same, subst (λ (c : RunState D). IsTicketless (finite.get c.slots e.job)) (sym same) rests)
 
       spoken : SameBut e.job old.slots e.kept.slots → IsTicketless (finite.get e.kept.slots e.job) → IsReport device e.kept e.job e.report e.next → SameBut e.job old.slots e.next.slots × IsTicketless (finite.get e.next.slots e.job)
       spoken same rests report = (λ k other. (report_same device e.kept e.job e.report e.next report).1 k other ∙ same k other, report_rests e.kept e.job e.report e.next report rests)
@@ -234,8 +234,8 @@ module _ {D : Type 0} (device : DiskView D) where
   in_or_out false c e = refl
 
   -- after the ends no child of these jobs runs, and those of others run on
-  pub ends_rest : (old : Course D) (es : List (Ending D)) (new : Course D) → AreEndings device old es new → (k : ℕ) → (is_in k (map (λ e. e.job) es) ≡ false → IsTicketless (finite.get old.slots k)) → IsTicketless (finite.get new.slots k)
-  ends_rest old [] new same k rests = subst (λ (c : Course D). IsTicketless (finite.get c.slots k)) (sym same) (rests refl)
+  pub ends_rest : (old : RunState D) (es : List (Ending D)) (new : RunState D) → AreEndings device old es new → (k : ℕ) → (is_in k (map (λ e. e.job) es) ≡ false → IsTicketless (finite.get old.slots k)) → IsTicketless (finite.get new.slots k)
+  ends_rest old [] new same k rests = subst (λ (c : RunState D). IsTicketless (finite.get c.slots k)) (sym same) (rests refl)
   ends_rest old (e ∷ es) new ends k rests = ends_rest e.next es new ends.1 k (λ out. by_job (e.job == k) refl out)
     where
       one : SameBut e.job old.slots e.next.slots × IsTicketless (finite.get e.next.slots e.job)

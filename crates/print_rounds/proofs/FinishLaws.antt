@@ -3,32 +3,32 @@ use Rattle.std.proofs.Common.{◌≡◌, ℕ, Bool, true, false, cond, List, [],
 use Rattle.std.specs.FinMap as finite
 use Rattle.std.specs.List.{filter}
 use Rattle.std.proofs.lemmas.List.{map-append}
-use Rattle.child_pipeline.specs.Slots.{Slots, IsNextJob, IsTicketless, IsEnded, IsRunning, FinishesFrom, FinishesStage, Waits, begun, is_running, slot_in}
+use Rattle.child_pipeline.specs.StageSlots.{Slots, IsNextJob, IsTicketless, IsEnded, IsRunning, FinishesFrom, FinishesStage, Waits, begun, is_running, slot_in}
 use Rattle.child_pipeline.specs.declared.runner.Progress.{Progress}
 use Rattle.child_pipeline.specs.declared.runner.Progress.TheVariants.{Ready, Running, Ended}
 use Rattle.child_pipeline.specs.declared.runner.Slot.{Slot}
 use Rattle.child_pipeline.specs.Tickets.{AreKeptBy, HasTickets, IsRunningAs}
-use Rattle.child_pipeline.specs.Told.{Told, after_finish, is_in}
+use Rattle.child_pipeline.specs.ChildTraces.{ChildTrace, after_finish, is_in}
 use Rattle.print_rounds.specs.Finished.{HasNoneRunning}
-use Rattle.print_rounds.specs.Looks.{has_child, runs}
-use Rattle.print_rounds.specs.Ticks.{AreFinishings, Finishing, IsFinishedOff, running_jobs}
+use Rattle.print_rounds.specs.StageChecks.{has_child, runs}
+use Rattle.print_rounds.specs.RoundTicks.{AreFinishings, Finishing, IsFinishedOff, running_jobs}
 use Rattle.print_rounds.proofs.EndLaws.{in_head}
 use Rattle.print_rounds.proofs.FreeLaws.{IsWalkedTo, answered, walk_begins, walk_ends, walk_goes_on}
 use Rattle.print_rounds.proofs.LookLaws.{all_jobs, ended_rests, finish_same, jobs_to, next_filtered, next_same, no_filtered}
 
 -- where no slot has a child, and the slots have all tickets, none is told to be running
-none_running : (slots : Slots) (t : Told) → HasTickets slots t → HasNoneRunning slots → (ns : List ℕ) → t.running ≡ ns → ns ≡ []
+none_running : (slots : Slots) (t : ChildTrace) → HasTickets slots t → HasNoneRunning slots → (ns : List ℕ) → t.running ≡ ns → ns ≡ []
 none_running slots t has rests [] is = refl
 none_running slots t has rests (n ∷ ns) is =
     let (j, r) = has.owned n (ap (is_in n) is ∙ in_head n ns) in
     absurd (subst IsTicketless r.there (rests j) n r.runs)
 
 -- the tickets are kept, and no child was started
-pub record IsKeptOn (t : Told) (slots : Slots) (told : Option Told) : Type 0 where
+pub record IsKeptOn (t : ChildTrace) (slots : Slots) (told : Option ChildTrace) : Type 0 where
   pub kept : AreKeptBy t 0 slots told
   pub orders : kept.now.orders ≡ t.orders
 
-pub finished_off : (slots : Slots) (t : Told) (told : Option Told) → IsKeptOn t slots told → HasNoneRunning slots → IsFinishedOff t told
+pub finished_off : (slots : Slots) (t : ChildTrace) (told : Option ChildTrace) → IsKeptOn t slots told → HasNoneRunning slots → IsFinishedOff t told
 finished_off slots t told on rests =
     let now = on.kept.now in
     let none = none_running slots now on.kept.tickets rests now.running refl in
@@ -37,7 +37,7 @@ finished_off slots t told on rests =
 
 -- what a finish leaves
 abbrev pub FinishKeeps : Type 0
-FinishKeeps = (slots : Slots) (j n : ℕ) (t : Told) (new : Slots) (told : Option Told) → HasTickets slots t → IsRunningAs slots j n → Waits (Some t) n slots j new told → AreKeptBy t 0 new told
+FinishKeeps = (slots : Slots) (j n : ℕ) (t : ChildTrace) (new : Slots) (told : Option ChildTrace) → HasTickets slots t → IsRunningAs slots j n → Waits (Some t) n slots j new told → AreKeptBy t 0 new told
 
 runs_as : (slots : Slots) (j n : ℕ) → (slot_in slots j).progress ≡ Running n → IsRunningAs slots j n
 runs_as slots j n is = by_slot (finite.get slots j) refl is
@@ -46,7 +46,7 @@ runs_as slots j n is = by_slot (finite.get slots j) refl is
     by_slot None there is = absurd (cc)
     by_slot (Some slot) there is = record { slot = slot; there = there; runs = is }
 
-pub kept_on : FinishKeeps → (t : Told) (slots : Slots) (told : Option Told) (j : ℕ) (new : Slots) (told' : Option Told) → IsRunning (finite.get slots j) → FinishesStage told slots j new told' → IsKeptOn t slots told → IsKeptOn t new told'
+pub kept_on : FinishKeeps → (t : ChildTrace) (slots : Slots) (told : Option ChildTrace) (j : ℕ) (new : Slots) (told' : Option ChildTrace) → IsRunning (finite.get slots j) → FinishesStage told slots j new told' → IsKeptOn t slots told → IsKeptOn t new told'
 kept_on law t slots told j new told' going finishes on = by_progress (slot_in slots j).progress refl finishes
   where
     not_off : (p : Progress ℕ) → (slot_in slots j).progress ≡ p → is_running p ≡ false → ⊥
@@ -71,28 +71,28 @@ kept_on law t slots told j new told' going finishes on = by_progress (slot_in sl
         let same : next.now ≡ after_finish now n = ap (λ o. unwrap_or o next.now) (sym next.tells ∙ told_so) in
         record {
           kept = record { now = next.now; tells = next.tells; tickets = next.tickets; balanced = omega (arith, on.kept.balanced, next.balanced) };
-          orders = ap (λ (x : Told). x.orders) same ∙ on.orders;
+          orders = ap (λ (x : ChildTrace). x.orders) same ∙ on.orders;
         }
 
 -- one finish more
-more_finishings : (slots mid : Slots) (told told' : Option Told) (fs : List Finishing) (f : Finishing) → AreFinishings slots told fs mid told' → FinishesStage told' mid f.job f.slots f.told → AreFinishings slots told (fs ++ f ∷ []) f.slots f.told
+more_finishings : (slots mid : Slots) (told told' : Option ChildTrace) (fs : List Finishing) (f : Finishing) → AreFinishings slots told fs mid told' → FinishesStage told' mid f.job f.slots f.told → AreFinishings slots told (fs ++ f ∷ []) f.slots f.told
 more_finishings slots mid told told' [] f (same, tells) is = (subst (λ m. FinishesStage told m f.job f.slots f.told) same (subst (λ o. FinishesStage o mid f.job f.slots f.told) tells is), (refl, refl))
 more_finishings slots mid told told' (x ∷ fs) f (first, more) is = (first, more_finishings x.slots mid x.told told' fs f more is)
 
 -- The jobs up to one have no child: each that ran has been finished, and no ticket is lost.
-pub record AreFinishedTo (old : Slots) (told : Option Told) (behind : Option ℕ) (new : Slots) (told' : Option Told) : Type 0 where
+pub record AreFinishedTo (old : Slots) (told : Option ChildTrace) (behind : Option ℕ) (new : Slots) (told' : Option ChildTrace) : Type 0 where
   pub walked : IsWalkedTo (λ j o. IsTicketless o) old behind new
   pub steps : (fs : List Finishing) × AreFinishings old told fs new told' × (map (λ f. f.job) fs ≡ filter (runs old) (jobs_to behind (finite.keys old)))
-  pub kept : (t : Told) → told ≡ Some t → HasTickets old t → IsKeptOn t new told'
+  pub kept : (t : ChildTrace) → told ≡ Some t → HasTickets old t → IsKeptOn t new told'
 
-pub none_yet : (old : Slots) (told : Option Told) → AreFinishedTo old told None old told
+pub none_yet : (old : Slots) (told : Option ChildTrace) → AreFinishedTo old told None old told
 none_yet old told = record {
   walked = walk_begins (λ j o. IsTicketless o) old (λ j gone. tt);
   steps = ([], (refl, refl), sym (no_filtered (runs old) old));
   kept = λ t tells has. record { kept = record { now = t; tells = tells; tickets = has; balanced = omega arith }; orders = refl };
 }
 
-module _ (old : Slots) (told : Option Told) (behind : Option ℕ) (now : Slots) (told' : Option Told) (so_far : AreFinishedTo old told behind now told') where
+module _ (old : Slots) (told : Option ChildTrace) (behind : Option ℕ) (now : Slots) (told' : Option ChildTrace) (so_far : AreFinishedTo old told behind now told') where
   module _ (k : ℕ) (next : IsNextJob now behind (Some k)) where
     -- the job's slot is as it was at the start
     at_first : runs now k ≡ runs old k
@@ -112,7 +112,7 @@ module _ (old : Slots) (told : Option Told) (behind : Option ℕ) (now : Slots) 
         }
 
     -- it had one, which was finished
-    pub waits : FinishKeeps → (new : Slots) (told'' : Option Told) → IsRunning (finite.get now k) → FinishesStage told' now k new told'' → IsEnded (finite.get new k) → AreFinishedTo old told (Some k) new told''
+    pub waits : FinishKeeps → (new : Slots) (told'' : Option ChildTrace) → IsRunning (finite.get now k) → FinishesStage told' now k new told'' → IsEnded (finite.get new k) → AreFinishedTo old told (Some k) new told''
     waits law new told'' going finishes ended =
         let (fs, are, jobs) = so_far.steps in
         let f : Finishing = record { job = k; slots = new; told = told'' } in

@@ -4,13 +4,13 @@ use Rattle.std.specs.Cmp.{nat_cmp_total}
 use Rattle.std.specs.FinMap as finite
 use Rattle.std.proofs.lemmas.Bool.{eqb-true, eq-eqb, ltb-true, ltb-false}
 use Rattle.spool_types.specs.State.{State, Job, job_at}
-use Rattle.child_pipeline.specs.Slots.{Slots, IsTicketless, IsRunning, IsBehind, IsNextJob, is_running}
+use Rattle.child_pipeline.specs.StageSlots.{Slots, IsTicketless, IsRunning, IsBehind, IsNextJob, is_running}
 use Rattle.child_pipeline.specs.declared.runner.Progress.{Progress}
 use Rattle.child_pipeline.specs.declared.runner.Progress.TheVariants.{Ready, Running, Ended}
 use Rattle.child_pipeline.specs.declared.runner.Slot.{Slot}
 use Rattle.print_rounds.specs.Finished.{HasNoneRunning}
-use Rattle.print_rounds.specs.Looks.{has_child, idle_slots, is_kept}
-use Rattle.print_rounds.specs.Script.{current_slots, is_current}
+use Rattle.print_rounds.specs.StageChecks.{has_child, idle_slots, is_kept}
+use Rattle.print_rounds.specs.RoundScript.{current_slots, is_current}
 use Rattle.print_rounds.proofs.EndLaws.{SameBut, get_gone, get_left, not_second}
 
 -- what is left of a slot

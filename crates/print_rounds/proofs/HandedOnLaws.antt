@@ -8,16 +8,16 @@ use Rattle.spool_types.specs.declared.event.Event.{Event}
 use Rattle.spool_types.specs.declared.event.Event.TheVariants.{Stage}
 use Rattle.spool_types.specs.declared.rows.QueueRow.{QueueRow}
 use Rattle.spool_types.specs.State.{State, Job, job_at}
-use Rattle.job_table.specs.Documents.{document_len}
-use Rattle.job_table.specs.Fold.{after_all}
+use Rattle.job_table.specs.DocumentLengths.{document_len}
+use Rattle.job_table.specs.EventFold.{after_all}
 use Rattle.job_table.specs.Legal.{IsLegal}
 use Rattle.job_table.specs.Stages.{Key}
-use Rattle.spool_core.specs.Standing.{Standing}
+use Rattle.spool_core.specs.OpenSpools.{OpenSpool}
 use Rattle.filter_args.specs.declared.place.Place.{Place}
-use Rattle.child_pipeline.specs.Slots.{Slots, slot_in, begun, with_progress, put_progress, progress_after, IsStart, IsTicketless, order_in, end_in, FinishesFrom, FinishesStage, Waits, IsFinish}
+use Rattle.child_pipeline.specs.StageSlots.{Slots, slot_in, begun, with_progress, put_progress, progress_after, IsStart, IsTicketless, order_in, end_in, FinishesFrom, FinishesStage, Waits, IsFinish}
 use Rattle.child_pipeline.specs.Tickets.{AreKeptBy, AreOnce, HasTickets, IsRunningAs}
-use Rattle.child_pipeline.specs.Told.{Told, is_in, without, Looks, starts_first, started_by, first_finish, after_finish, after_look}
-use Rattle.child_pipeline.specs.declared.children.Places.{Places}
+use Rattle.child_pipeline.specs.ChildTraces.{ChildTrace, is_in, without, Looks, starts_first, started_by, first_finish, after_finish, after_look}
+use Rattle.child_pipeline.specs.declared.children.StartRoom.{StartRoom}
 use Rattle.child_pipeline.specs.declared.order.ChildFault.{ChildFault}
 use Rattle.child_pipeline.specs.declared.order.Finish.{Finish}
 use Rattle.child_pipeline.specs.declared.order.Order.{Order}
@@ -27,13 +27,13 @@ use Rattle.child_pipeline.specs.declared.runner.Progress.TheVariants.{Ready, Run
 use Rattle.child_pipeline.specs.declared.runner.Slot.{Slot}
 use Rattle.print_rounds.specs.Choice.{slots_for}
 use Rattle.print_rounds.specs.Counts.{report_events, starting_events}
-use Rattle.print_rounds.specs.Courses.{Course, course, Launching, IsInput, IsLaunch, AreLaunchings, AreHanded, given, Ending, IsEnding, IsEndingOf, AreEndings, is_silent}
-use Rattle.print_rounds.specs.HandedOn.{IsOrderFor, RunTheirStages, answer_to, answer_of, answer_by, answer_at, refused_in, ended_in, dropped_in, answers_in, finished_in, AllRight, TickHandsOn, FinishesHandOn, TickCall, AreTicks, AreHandedOn}
+use Rattle.print_rounds.specs.RunStates.{RunState, run_state, Launching, IsInput, IsLaunch, AreLaunchings, AreHanded, given, Ending, IsEnding, IsEndingOf, AreEndings, is_silent}
+use Rattle.print_rounds.specs.TickInputs.{IsOrderFor, RunTheirStages, answer_to, answer_of, answer_by, answer_at, refused_in, ended_in, dropped_in, answers_in, finished_in, AllRight, TickHandsOn, FinishesHandOn, TickCall, AreTicks, AreHandedOn}
 use Rattle.print_rounds.specs.Inputs.{AnsweredOrder, IsRight, HaveDocuments, IsKeptFrom, AreKeptFrom}
-use Rattle.print_rounds.specs.Looks.{Look, IsLookBy, AreLooks, is_looked_at, Dropping, IsDropped, IsDropping, AreDroppings, idle_slots, is_kept}
+use Rattle.print_rounds.specs.StageChecks.{Look, IsLookBy, AreLooks, is_looked_at, Dropping, IsDropped, IsDropping, AreDroppings, idle_slots, is_kept}
 use Rattle.print_rounds.specs.Passes.{PassSteps, IsPass}
-use Rattle.print_rounds.specs.Ticks.{IsTickOf, Finishing, AreFinishings}
-use Rattle.print_rounds.specs.World.{key_in}
+use Rattle.print_rounds.specs.RoundTicks.{IsTickOf, Finishing, AreFinishings}
+use Rattle.print_rounds.specs.StageHistory.{key_in}
 use Rattle.print_rounds.specs.declared.outcome.Launch.{Launch}
 use Rattle.print_rounds.specs.declared.outcome.Launch.TheVariants.{Unlaunched, Launched, NoMemory, Disk, Dead}
 use Rattle.print_rounds.specs.declared.outcome.Round.{Round}
@@ -95,7 +95,7 @@ all_both earlier (p ∷ ps) qs first second = (first.0, all_both earlier ps qs f
 -- ## The children that slots have
 
 -- Each is told to be running, is that of one slot alone, and runs the slot's stage.
-record HasRunners (t : Told) (slots : Slots) : Type 0 where
+record HasRunners (t : ChildTrace) (slots : Slots) : Type 0 where
   pub running : (j n : ℕ) → IsRunningAs slots j n → is_in n t.running ≡ true
   pub apart : (i j n : ℕ) → IsRunningAs slots i n → IsRunningAs slots j n → i ≡ j
   pub run : RunTheirStages t.orders slots
@@ -124,7 +124,7 @@ put_fewer j old new same rests k n slot there runs = by_job (k == j) refl
 as_before : (old new : Slots) → IsFewer old new → (j n : ℕ) → IsRunningAs new j n → IsRunningAs old j n
 as_before old new fewer j n is = record { slot = is.slot; there = fewer j n is.slot is.there is.runs; runs = is.runs }
 
-fewer_run : (t : Told) (old new : Slots) → IsFewer old new → HasRunners t old → HasRunners t new
+fewer_run : (t : ChildTrace) (old new : Slots) → IsFewer old new → HasRunners t old → HasRunners t new
 fewer_run t old new fewer has = record {
   running = λ j n is. has.running j n (as_before old new fewer j n is);
   apart = λ i j n first second. has.apart i j n (as_before old new fewer i n first) (as_before old new fewer j n second);
@@ -132,18 +132,18 @@ fewer_run t old new fewer has = record {
 }
 
 -- with more orders, none of which was started
-grown_run : (t t' : Told) (slots : Slots) (more : List Placed) → t'.running ≡ t.running → t'.orders ≡ t.orders ++ more → HasRunners t slots → HasRunners t' slots
+grown_run : (t t' : ChildTrace) (slots : Slots) (more : List Placed) → t'.running ≡ t.running → t'.orders ≡ t.orders ++ more → HasRunners t slots → HasRunners t' slots
 grown_run t t' slots more running orders has = record {
   running = λ j n is. ap (is_in n) running ∙ has.running j n is;
   apart = has.apart;
   run = λ j n slot there runs. subst (λ ps. IsOrderFor ps n (stage_at j slot)) (sym orders) (order_more t.orders more n (stage_at j slot) (has.run j n slot there runs));
 }
 
-told_run : (t t' : Told) (slots : Slots) → t'.running ≡ t.running → t'.orders ≡ t.orders → HasRunners t slots → HasRunners t' slots
+told_run : (t t' : ChildTrace) (slots : Slots) → t'.running ≡ t.running → t'.orders ≡ t.orders → HasRunners t slots → HasRunners t' slots
 told_run t t' slots running orders has = grown_run t t' slots [] running (orders ∙ sym (append-nil t.orders)) has
 
 -- the child of a slot is finished
-finished_run : (t : Told) (n j : ℕ) (slot : Slot ℕ) (old new : Slots) → finite.get old j ≡ Some slot → slot.progress ≡ Running n → IsFewer old new → IsTicketless (finite.get new j) → HasRunners t old → HasRunners (after_finish t n) new
+finished_run : (t : ChildTrace) (n j : ℕ) (slot : Slot ℕ) (old new : Slots) → finite.get old j ≡ Some slot → slot.progress ≡ Running n → IsFewer old new → IsTicketless (finite.get new j) → HasRunners t old → HasRunners (after_finish t n) new
 finished_run t n j slot old new there runs fewer rests has = record {
   running = λ k m is. still_in m n t.running (λ same.
       let own : k ≡ j = has.apart k j n (subst (IsRunningAs old k) same (as_before old new fewer k m is)) (record { slot = slot; there = there; runs = runs }) in
@@ -158,7 +158,7 @@ number_in (Running n) = n
 number_in (Ended finish) = 0
 
 -- a child was started for a slot
-module _ (t t' : Told) (p : Placed) (j : ℕ) (old new : Slots) (put : Slot ℕ) (same : SameBut j old new) (there : finite.get new j ≡ Some put) (runs : put.progress ≡ Running (length t.orders)) (key : key_in p ≡ record { job = j; attempt = put.attempt; stage = put.stage }) (orders : t'.orders ≡ t.orders ++ p ∷ []) (running : t'.running ≡ t.running ++ length t.orders ∷ []) (has : HasRunners t old) where
+module _ (t t' : ChildTrace) (p : Placed) (j : ℕ) (old new : Slots) (put : Slot ℕ) (same : SameBut j old new) (there : finite.get new j ≡ Some put) (runs : put.progress ≡ Running (length t.orders)) (key : key_in p ≡ record { job = j; attempt = put.attempt; stage = put.stage }) (orders : t'.orders ≡ t.orders ++ p ∷ []) (running : t'.running ≡ t.running ++ length t.orders ∷ []) (has : HasRunners t old) where
   own_put : (k : ℕ) (slot : Slot ℕ) → (k == j) ≡ true → finite.get new k ≡ Some slot → slot ≡ put
   own_put k slot is at = some_of slot put (sym at ∙ ap (finite.get new) (eqb-true k j is) ∙ there)
 
@@ -209,8 +209,8 @@ module _ (t t' : Told) (p : Placed) (j : ℕ) (old new : Slots) (put : Slot ℕ)
 
 -- ## The start of a stage
 
-record IsStartOn (earlier : List AnsweredOrder) (t : Told) (j : ℕ) (d : Option (List ℕ)) (new : Slots) (told : Option Told) : Type 0 where
-  pub now : Told
+record IsStartOn (earlier : List AnsweredOrder) (t : ChildTrace) (j : ℕ) (d : Option (List ℕ)) (new : Slots) (told : Option ChildTrace) : Type 0 where
+  pub now : ChildTrace
   pub tells : told ≡ Some now
   pub orders : List Placed
   pub added : now.orders ≡ t.orders ++ orders
@@ -220,7 +220,7 @@ record IsStartOn (earlier : List AnsweredOrder) (t : Told) (j : ℕ) (d : Option
   pub runs : HasRunners now new
 
 -- no order was given
-no_start_on : (earlier : List AnsweredOrder) (t : Told) (j : ℕ) (d : Option (List ℕ)) (old new : Slots) (told : Option Told) → told ≡ Some t → AreKeptFrom earlier new → IsFewer old new → HasRunners t old → IsStartOn earlier t j d new told
+no_start_on : (earlier : List AnsweredOrder) (t : ChildTrace) (j : ℕ) (d : Option (List ℕ)) (old new : Slots) (told : Option ChildTrace) → told ≡ Some t → AreKeptFrom earlier new → IsFewer old new → HasRunners t old → IsStartOn earlier t j d new told
 no_start_on earlier t j d old new told tells kept fewer runs = record {
   now = t;
   tells = tells;
@@ -232,7 +232,7 @@ no_start_on earlier t j d old new told tells kept fewer runs = record {
   runs = fewer_run t old new fewer runs;
 }
 
-module _ (earlier : List AnsweredOrder) (place : Place) (t : Told) (old own : Slots) (r : Job) (q : QueueRow) (d : Option (List ℕ)) (due : slots_for old r ≡ Some own) (input : IsInput (slot_in own r.id).progress (document_len r) d) (kept_old : AreKeptFrom earlier old) (runs : HasRunners t old) (b : Bool) (n : ℕ) (new : Slots) (put : new ≡ put_progress own r.id (progress_after b n)) where
+module _ (earlier : List AnsweredOrder) (place : Place) (t : ChildTrace) (old own : Slots) (r : Job) (q : QueueRow) (d : Option (List ℕ)) (due : slots_for old r ≡ Some own) (input : IsInput (slot_in own r.id).progress (document_len r) d) (kept_old : AreKeptFrom earlier old) (runs : HasRunners t old) (b : Bool) (n : ℕ) (new : Slots) (put : new ≡ put_progress own r.id (progress_after b n)) where
   same_but : SameBut r.id old new
   same_but = others earlier place t t.finishes old own r q d due input kept_old b n new put
 
@@ -249,12 +249,12 @@ module _ (earlier : List AnsweredOrder) (place : Place) (t : Told) (old own : Sl
   fewer is = put_fewer r.id old new same_but (unstarted_rests earlier place t t.finishes old own r q d due input kept_old b n new put is)
 
   -- by the answers that are to come
-  start_on : (told : Option Told) (starts : List (Result (Unit {0}) ChildFault)) → t.starts ≡ starts → b ≡ starts_first starts → (IsTrue b → n ≡ length t.orders) → told ≡ Some (started_by t (order_in place own r q (given d)) starts) → IsStartOn earlier t r.id d new told
+  start_on : (told : Option ChildTrace) (starts : List (Result (Unit {0}) ChildFault)) → t.starts ≡ starts → b ≡ starts_first starts → (IsTrue b → n ≡ length t.orders) → told ≡ Some (started_by t (order_in place own r q (given d)) starts) → IsStartOn earlier t r.id d new told
   start_on told [] e is number tells = no_start_on earlier t r.id d old new told tells (kept_then false is) (fewer is) runs
   start_on told (Ok done ∷ rest) e is number tells =
       let order : Order = order_in place own r q (given d) in
       let p : Placed = record { order = order; before = t.finished } in
-      let now : Told = started_by t order (Ok done ∷ rest) in
+      let now : ChildTrace = started_by t order (Ok done ∷ rest) in
       record {
         now = now;
         tells = tells;
@@ -268,7 +268,7 @@ module _ (earlier : List AnsweredOrder) (place : Place) (t : Told) (old own : Sl
   start_on told (Err fault ∷ rest) e is number tells =
       let order : Order = order_in place own r q (given d) in
       let p : Placed = record { order = order; before = t.finished } in
-      let now : Told = started_by t order (Err fault ∷ rest) in
+      let now : ChildTrace = started_by t order (Err fault ∷ rest) in
       record {
         now = now;
         tells = tells;
@@ -280,17 +280,17 @@ module _ (earlier : List AnsweredOrder) (place : Place) (t : Told) (old own : Sl
         runs = grown_run t now new (p ∷ []) refl refl (fewer_run t old new (fewer is) runs);
       }
 
-same_on : (earlier : List AnsweredOrder) (t : Told) (old : Slots) (j : ℕ) (d : Option (List ℕ)) (new : Slots) (told : Option Told) → told ≡ Some t → AreKeptFrom earlier old → HasRunners t old → new ≡ old → IsStartOn earlier t j d new told
+same_on : (earlier : List AnsweredOrder) (t : ChildTrace) (old : Slots) (j : ℕ) (d : Option (List ℕ)) (new : Slots) (told : Option ChildTrace) → told ≡ Some t → AreKeptFrom earlier old → HasRunners t old → new ≡ old → IsStartOn earlier t j d new told
 same_on earlier t old j d new told tells kept runs same = no_start_on earlier t j d old new told tells (subst (AreKeptFrom earlier) (sym same) kept) (same_fewer old new same) runs
 
-own_on : (earlier : List AnsweredOrder) (t : Told) (old : Slots) (j : ℕ) (d : Option (List ℕ)) (r : Job) (own new : Slots) (told : Option Told) → slots_for old r ≡ Some own → told ≡ Some t → AreKeptFrom earlier old → HasRunners t old → new ≡ own → IsStartOn earlier t j d new told
+own_on : (earlier : List AnsweredOrder) (t : ChildTrace) (old : Slots) (j : ℕ) (d : Option (List ℕ)) (r : Job) (own new : Slots) (told : Option ChildTrace) → slots_for old r ≡ Some own → told ≡ Some t → AreKeptFrom earlier old → HasRunners t old → new ≡ own → IsStartOn earlier t j d new told
 own_on earlier t old j d r own new told due tells kept runs same =
     let (slot, there, ready) = at_due (finite.get own r.id) r.phase (due_of old r own due) in
     no_start_on earlier t j d old new told tells (subst (AreKeptFrom earlier) (sym same) (own_slots earlier old r own due kept))
     (subst (IsFewer old) (sym same) (put_fewer r.id old own (due_own old r own due).same (ready_rests (finite.get own r.id) slot there ready))) runs
 
 module _ (place : Place) (s : State) (numbers : HasNumbers s) where
-  launch_on : (earlier : List AnsweredOrder) (t : Told) (old : Slots) (told : Option Told) (j : ℕ) (d : Option (List ℕ)) (l : Launch) (new : Slots) (told' : Option Told) → IsLaunch place s old told j d l new told' → told ≡ Some t → AreKeptFrom earlier old → HasRunners t old → IsStartOn earlier t j d new told'
+  launch_on : (earlier : List AnsweredOrder) (t : ChildTrace) (old : Slots) (told : Option ChildTrace) (j : ℕ) (d : Option (List ℕ)) (l : Launch) (new : Slots) (told' : Option ChildTrace) → IsLaunch place s old told j d l new told' → told ≡ Some t → AreKeptFrom earlier old → HasRunners t old → IsStartOn earlier t j d new told'
   launch_on earlier t old told j d Unlaunched new told' (rest, none, same, tells') tells kept runs = same_on earlier t old j d new told' (tells' ∙ tells) kept runs same
   launch_on earlier t old told j d (Launched b) new told' (r, q, own, due, input, starts) tells kept runs =
       let order : Order = order_in place own r q (given d) in
@@ -304,8 +304,8 @@ module _ (place : Place) (s : State) (numbers : HasNumbers s) where
   launch_on earlier t old told j d Disk new told' (r, q, own, due, none, same, tells') tells kept runs = own_on earlier t old j d r own new told' due.due (tells' ∙ tells) kept runs same
   launch_on earlier t old told j d Dead new told' (none, same, tells') tells kept runs = same_on earlier t old j d new told' (tells' ∙ tells) kept runs same
 
-  record AreStartsOn (earlier : List AnsweredOrder) (t : Told) (ts : List Launching) (new : Slots) (told : Option Told) : Type 0 where
-    pub now : Told
+  record AreStartsOn (earlier : List AnsweredOrder) (t : ChildTrace) (ts : List Launching) (new : Slots) (told : Option ChildTrace) : Type 0 where
+    pub now : ChildTrace
     pub tells : told ≡ Some now
     pub orders : List Placed
     pub added : now.orders ≡ t.orders ++ orders
@@ -314,7 +314,7 @@ module _ (place : Place) (s : State) (numbers : HasNumbers s) where
     pub kept : AreKeptFrom earlier new
     pub runs : HasRunners now new
 
-  launches_on : (earlier : List AnsweredOrder) (t : Told) (old : Slots) (told : Option Told) (ts : List Launching) (new : Slots) (told' : Option Told) → AreLaunchings place s old told ts new told' → told ≡ Some t → AreKeptFrom earlier old → HasRunners t old → AreStartsOn earlier t ts new told'
+  launches_on : (earlier : List AnsweredOrder) (t : ChildTrace) (old : Slots) (told : Option ChildTrace) (ts : List Launching) (new : Slots) (told' : Option ChildTrace) → AreLaunchings place s old told ts new told' → told ≡ Some t → AreKeptFrom earlier old → HasRunners t old → AreStartsOn earlier t ts new told'
   launches_on earlier t old told [] new told' (same, tells') tells kept runs = record {
     now = t;
     tells = tells' ∙ tells;
@@ -342,14 +342,14 @@ module _ (place : Place) (s : State) (numbers : HasNumbers s) where
 -- ## Looks
 
 -- what the children tell of orders stays, and their running
-abbrev IsSeen : Told → Option Told → Type 0
-IsSeen t told = (now : Told) × (told ≡ Some now) × (now.orders ≡ t.orders) × (now.running ≡ t.running)
+abbrev IsSeen : ChildTrace → Option ChildTrace → Type 0
+IsSeen t told = (now : ChildTrace) × (told ≡ Some now) × (now.orders ≡ t.orders) × (now.running ≡ t.running)
 
-look_on : (b : Bool) (told : Option Told) (l : Look) (t : Told) → IsLookBy b told l → told ≡ Some t → IsSeen t l.told
+look_on : (b : Bool) (told : Option ChildTrace) (l : Look) (t : ChildTrace) → IsLookBy b told l → told ≡ Some t → IsSeen t l.told
 look_on true told l t look tells = let is = subst (λ o. Looks o l.ripe l.told) tells look in (after_look t, is.told, refl, refl)
 look_on false told l t look tells = (t, look.1 ∙ tells, refl, refl)
 
-looks_on : (waits : Bool) (slots : Slots) (told : Option Told) (ls : List Look) (told' : Option Told) (t : Told) → AreLooks waits slots told ls told' → told ≡ Some t → IsSeen t told'
+looks_on : (waits : Bool) (slots : Slots) (told : Option ChildTrace) (ls : List Look) (told' : Option ChildTrace) (t : ChildTrace) → AreLooks waits slots told ls told' → told ≡ Some t → IsSeen t told'
 looks_on waits slots told [] told' t same tells = (t, same ∙ tells, refl, refl)
 looks_on waits slots told (l ∷ ls) told' t (look, looks) tells =
     let (mid, tells_mid, orders, running) = look_on (is_looked_at waits slots l.job) told l t look tells in
@@ -362,8 +362,8 @@ grown_kept : (xs ys : List AnsweredOrder) (slots : Slots) → AreKeptFrom xs slo
 grown_kept xs ys slots kept j slot there = kept_more xs ys j slot slot.progress (kept j slot there)
 
 -- a job's child was finished, or its finish was kept before
-record IsFinishedOn (xs : List AnsweredOrder) (t : Told) (told : Option Told) (old : Slots) (j : ℕ) (new : Slots) (told' : Option Told) : Type 0 where
-  pub now : Told
+record IsFinishedOn (xs : List AnsweredOrder) (t : ChildTrace) (told : Option ChildTrace) (old : Slots) (j : ℕ) (new : Slots) (told' : Option ChildTrace) : Type 0 where
+  pub now : ChildTrace
   pub tells : told' ≡ Some now
   pub orders : now.orders ≡ t.orders
   pub runs : HasRunners now new
@@ -374,7 +374,7 @@ record IsFinishedOn (xs : List AnsweredOrder) (t : Told) (told : Option Told) (o
   pub ended : slot.progress ≡ Ended finish
   pub same : SameBut j old new
 
-module _ (xs : List AnsweredOrder) (t : Told) (told : Option Told) (old : Slots) (j : ℕ) (new : Slots) (told' : Option Told) (tells : told ≡ Some t) (runs : HasRunners t old) (kept_old : AreKeptFrom xs old) where
+module _ (xs : List AnsweredOrder) (t : ChildTrace) (told : Option ChildTrace) (old : Slots) (j : ℕ) (new : Slots) (told' : Option ChildTrace) (tells : told ≡ Some t) (runs : HasRunners t old) (kept_old : AreKeptFrom xs old) where
   -- the slot's child is finished
   waited_on : (slot : Slot ℕ) (n : ℕ) → finite.get old j ≡ Some slot → slot.progress ≡ Running n → Waits told n old j new told' → IsFinishedOn xs t told old j new told'
   waited_on slot n there is fin =
@@ -438,26 +438,26 @@ module _ (xs : List AnsweredOrder) (t : Told) (told : Option Told) (old : Slots)
 -- ## The ends of stages
 
 -- what is left once some have been answered
-record AreAnswered (xs : List AnsweredOrder) (t : Told) (slots : Slots) (told : Option Told) : Type 0 where
-  pub now : Told
+record AreAnswered (xs : List AnsweredOrder) (t : ChildTrace) (slots : Slots) (told : Option ChildTrace) : Type 0 where
+  pub now : ChildTrace
   pub tells : told ≡ Some now
   pub orders : now.orders ≡ t.orders
   pub runs : HasRunners now slots
   pub kept : AreKeptFrom xs slots
 
 module _ {D : Type 0} (device : DiskView D) (stays : (s : State) (events : List Event) → IsLegal s → IsLegal (after_all s events)) where
-  end_on : (xs : List AnsweredOrder) (t : Told) (old : Course D) (e : Ending D) → IsEnding device old e → IsLegal old.spool.state → old.told ≡ Some t → HasRunners t old.slots → AreKeptFrom xs old.slots → AreAnswered (xs ++ answer_at (finite.get old.slots e.job) old.told) t e.next.slots e.next.told
+  end_on : (xs : List AnsweredOrder) (t : ChildTrace) (old : RunState D) (e : Ending D) → IsEnding device old e → IsLegal old.spool.state → old.told ≡ Some t → HasRunners t old.slots → AreKeptFrom xs old.slots → AreAnswered (xs ++ answer_at (finite.get old.slots e.job) old.told) t e.next.slots e.next.told
   end_on xs t old e ends legal tells runs kept_old = by_silent (is_silent (finite.get old.slots e.job)) ends
     where
       unchanged : e.next ≡ old → AreAnswered (xs ++ answer_at (finite.get old.slots e.job) old.told) t e.next.slots e.next.told
-      unchanged is = subst (λ (c : Course D). AreAnswered (xs ++ answer_at (finite.get old.slots e.job) old.told) t c.slots c.told) (sym is)
+      unchanged is = subst (λ (c : RunState D). AreAnswered (xs ++ answer_at (finite.get old.slots e.job) old.told) t c.slots c.told) (sym is)
           (record { now = t; tells = tells; orders = refl; runs = runs; kept = grown_kept xs (answer_at (finite.get old.slots e.job) old.told) old.slots kept_old })
 
       spoken : IsEndingOf device old false e → AreAnswered (xs ++ answer_at (finite.get old.slots e.job) old.told) t e.next.slots e.next.told
       spoken ending =
           let fin = finish_on xs t old.told old.slots e.job e.kept.slots e.kept.told tells runs kept_old ending.0 in
           let report = report_same device e.kept e.job e.report e.next ending.2 in
-          let legal_kept : IsLegal e.kept.spool.state = subst (λ (x : Standing D). IsLegal x.state) (sym ending.1) legal in
+          let legal_kept : IsLegal e.kept.spool.state = subst (λ (x : OpenSpool D). IsLegal x.state) (sym ending.1) legal in
           record {
             now = fin.now;
             tells = report.0 ∙ fin.tells;
@@ -470,8 +470,8 @@ module _ {D : Type 0} (device : DiskView D) (stays : (s : State) (events : List 
       by_silent true ending = unchanged ending.2
       by_silent false ending = spoken ending
 
-  ends_on : (xs : List AnsweredOrder) (t : Told) (old : Course D) (es : List (Ending D)) (new : Course D) → AreEndings device old es new → IsLegal old.spool.state → old.told ≡ Some t → HasRunners t old.slots → AreKeptFrom xs old.slots → AreAnswered (xs ++ ended_in old es) t new.slots new.told
-  ends_on xs t old [] new same legal tells runs kept_old = subst (λ (c : Course D). AreAnswered (xs ++ []) t c.slots c.told) (sym same)
+  ends_on : (xs : List AnsweredOrder) (t : ChildTrace) (old : RunState D) (es : List (Ending D)) (new : RunState D) → AreEndings device old es new → IsLegal old.spool.state → old.told ≡ Some t → HasRunners t old.slots → AreKeptFrom xs old.slots → AreAnswered (xs ++ ended_in old es) t new.slots new.told
+  ends_on xs t old [] new same legal tells runs kept_old = subst (λ (c : RunState D). AreAnswered (xs ++ []) t c.slots c.told) (sym same)
       (record { now = t; tells = tells; orders = refl; runs = runs; kept = grown_kept xs [] old.slots kept_old })
   ends_on xs t old (e ∷ es) new (ends, others) legal tells runs kept_old =
       let one = end_on xs t old e ends legal tells runs kept_old in
@@ -488,7 +488,7 @@ module _ {D : Type 0} (device : DiskView D) (stays : (s : State) (events : List 
 -- ## Droppings, and what `finish_children` does
 
 module _ (waits : Bool) where
-  drop_on : (xs : List AnsweredOrder) (t : Told) (slots : Slots) (told : Option Told) (d : Dropping) → IsDropping waits slots told d → told ≡ Some t → HasRunners t slots → AreKeptFrom xs slots → AreAnswered (xs ++ cond d.look.ripe (answer_at (finite.get slots d.look.job) d.look.told) []) t d.slots d.told
+  drop_on : (xs : List AnsweredOrder) (t : ChildTrace) (slots : Slots) (told : Option ChildTrace) (d : Dropping) → IsDropping waits slots told d → told ≡ Some t → HasRunners t slots → AreKeptFrom xs slots → AreAnswered (xs ++ cond d.look.ripe (answer_at (finite.get slots d.look.job) d.look.told) []) t d.slots d.told
   drop_on xs t slots told d (look, dropped) tells runs kept_old = by_ripe (look_on (is_looked_at waits slots d.look.job) told d.look t look tells) d.look.ripe dropped
     where
       by_ripe : IsSeen t d.look.told → (b : Bool) → IsDropped b slots d.look.job d.look.told d.slots d.told → AreAnswered (xs ++ cond b (answer_at (finite.get slots d.look.job) d.look.told) []) t d.slots d.told
@@ -510,7 +510,7 @@ module _ (waits : Bool) where
             kept = subst (AreKeptFrom (xs ++ answer_at (finite.get slots d.look.job) d.look.told)) (sym gone) (gone_kept (xs ++ answer_at (finite.get slots d.look.job) d.look.told) ended d.look.job fin.kept);
           }
 
-  drops_on : (xs : List AnsweredOrder) (t : Told) (slots : Slots) (told : Option Told) (ds : List Dropping) (new : Slots) (told' : Option Told) → AreDroppings waits slots told ds new told' → told ≡ Some t → HasRunners t slots → AreKeptFrom xs slots → AreAnswered (xs ++ dropped_in slots told ds) t new told'
+  drops_on : (xs : List AnsweredOrder) (t : ChildTrace) (slots : Slots) (told : Option ChildTrace) (ds : List Dropping) (new : Slots) (told' : Option ChildTrace) → AreDroppings waits slots told ds new told' → told ≡ Some t → HasRunners t slots → AreKeptFrom xs slots → AreAnswered (xs ++ dropped_in slots told ds) t new told'
   drops_on xs t slots told [] new told' (same, tells') tells runs kept_old = record {
     now = t;
     tells = tells' ∙ tells;
@@ -530,7 +530,7 @@ module _ (waits : Bool) where
         kept = subst (λ ys. AreKeptFrom ys new) (append_assoc xs answers (dropped_in d.slots d.told ds)) more.kept;
       }
 
-finishings_on : (xs : List AnsweredOrder) (t : Told) (slots : Slots) (told : Option Told) (fs : List Finishing) (new : Slots) (told' : Option Told) → AreFinishings slots told fs new told' → told ≡ Some t → HasRunners t slots → AreKeptFrom xs slots → AreAnswered (xs ++ finished_in slots told fs) t new told'
+finishings_on : (xs : List AnsweredOrder) (t : ChildTrace) (slots : Slots) (told : Option ChildTrace) (fs : List Finishing) (new : Slots) (told' : Option ChildTrace) → AreFinishings slots told fs new told' → told ≡ Some t → HasRunners t slots → AreKeptFrom xs slots → AreAnswered (xs ++ finished_in slots told fs) t new told'
 finishings_on xs t slots told [] new told' (same, tells') tells runs kept_old = record {
   now = t;
   tells = tells' ∙ tells;
@@ -550,18 +550,18 @@ finishings_on xs t slots told (f ∷ fs) new told' (finish, finishes) tells runs
       kept = subst (λ ys. AreKeptFrom ys new) (append_assoc xs answers (finished_in f.slots f.told fs)) more.kept;
     }
 
-runners : (slots : Slots) (t : Told) → HasTickets slots t → RunTheirStages t.orders slots → HasRunners t slots
+runners : (slots : Slots) (t : ChildTrace) → HasTickets slots t → RunTheirStages t.orders slots → HasRunners t slots
 runners slots t tickets run = record { running = tickets.running; apart = tickets.apart; run = run }
 
 -- what a finish leaves of the tickets
 abbrev TicketsStay : Type 0
-TicketsStay = (slots : Slots) (j n : ℕ) (t : Told) (new : Slots) (told : Option Told) → HasTickets slots t → IsRunningAs slots j n → Waits (Some t) n slots j new told → AreKeptBy t 0 new told
+TicketsStay = (slots : Slots) (j n : ℕ) (t : ChildTrace) (new : Slots) (told : Option ChildTrace) → HasTickets slots t → IsRunningAs slots j n → Waits (Some t) n slots j new told → AreKeptBy t 0 new told
 
-abbrev HaveTickets : Slots → Option Told → Type 0
-HaveTickets slots told = (now : Told) × (told ≡ Some now) × HasTickets slots now
+abbrev HaveTickets : Slots → Option ChildTrace → Type 0
+HaveTickets slots told = (now : ChildTrace) × (told ≡ Some now) × HasTickets slots now
 
 module _ (stay : TicketsStay) where
-  finish_tickets : (t : Told) (told : Option Told) (old : Slots) (j : ℕ) (new : Slots) (told' : Option Told) → told ≡ Some t → HasTickets old t → FinishesStage told old j new told' → HaveTickets new told'
+  finish_tickets : (t : ChildTrace) (told : Option ChildTrace) (old : Slots) (j : ℕ) (new : Slots) (told' : Option ChildTrace) → told ≡ Some t → HasTickets old t → FinishesStage told old j new told' → HaveTickets new told'
   finish_tickets t told old j new told' tells tickets finishes = by_slot (finite.get old j) refl
     where
       by_progress : (slot : Slot ℕ) (p : Progress ℕ) → finite.get old j ≡ Some slot → slot.progress ≡ p → FinishesFrom p told old j new told' → HaveTickets new told'
@@ -575,13 +575,13 @@ module _ (stay : TicketsStay) where
       by_slot None there = absurd (subst (λ o. FinishesFrom (unwrap_or o (begun 0 0)).progress told old j new told') there finishes)
       by_slot (Some slot) there = by_progress slot slot.progress there refl (subst (λ o. FinishesFrom (unwrap_or o (begun 0 0)).progress told old j new told') there finishes)
 
-  finishings_tickets : (t : Told) (slots : Slots) (told : Option Told) (fs : List Finishing) (new : Slots) (told' : Option Told) → AreFinishings slots told fs new told' → told ≡ Some t → HasTickets slots t → HaveTickets new told'
+  finishings_tickets : (t : ChildTrace) (slots : Slots) (told : Option ChildTrace) (fs : List Finishing) (new : Slots) (told' : Option ChildTrace) → AreFinishings slots told fs new told' → told ≡ Some t → HasTickets slots t → HaveTickets new told'
   finishings_tickets t slots told [] new told' (same, tells') tells tickets = (t, tells' ∙ tells, subst (λ m. HasTickets m t) (sym same) tickets)
   finishings_tickets t slots told (f ∷ fs) new told' (finish, finishes) tells tickets =
       let (mid, tells_mid, tickets_mid) = finish_tickets t told slots f.job f.slots f.told tells tickets finish in
       finishings_tickets mid f.slots f.told fs new told' finishes tells_mid tickets_mid
 
-  pub finishes_hand : (earlier : List AnsweredOrder) (t : Told) (slots : Slots) (told : Option Told) (fs : List Finishing) (new : Slots) (told' : Option Told) → told ≡ Some t → HasTickets slots t → AreKeptFrom earlier slots → RunTheirStages t.orders slots → AreFinishings slots told fs new told' → FinishesHandOn earlier t slots told fs new told'
+  pub finishes_hand : (earlier : List AnsweredOrder) (t : ChildTrace) (slots : Slots) (told : Option ChildTrace) (fs : List Finishing) (new : Slots) (told' : Option ChildTrace) → told ≡ Some t → HasTickets slots t → AreKeptFrom earlier slots → RunTheirStages t.orders slots → AreFinishings slots told fs new told' → FinishesHandOn earlier t slots told fs new told'
   finishes_hand earlier t slots told fs new told' tells tickets kept_old run finishes =
       let all = finishings_on earlier t slots told fs new told' finishes tells (runners slots t tickets run) kept_old in
       let (now, tells_now, tickets_now) = finishings_tickets t slots told fs new told' finishes tells tickets in
@@ -599,7 +599,7 @@ module _ (stay : TicketsStay) where
 none_there : {P : Type 0} (j : ℕ) (slot : Slot ℕ) → finite.get (finite.empty {R = nat_cmp}) j ≡ Some slot → P
 none_there j slot there = let none : None ≡ Some slot = sym (finite.get-empty nat_cmp j) ∙ there in absurd (cc)
 
-none_tickets : (t : Told) → t.running ≡ [] → HasTickets finite.empty t
+none_tickets : (t : ChildTrace) → t.running ≡ [] → HasTickets finite.empty t
 none_tickets t quiet = record {
   running = λ j n is. none_there j is.slot is.there;
   owned = λ n is. let not : false ≡ true = ap (is_in n) (sym quiet) ∙ is in absurd (cc);
@@ -615,18 +615,18 @@ idle_there s slots j slot there = left_there (is_kept (job_at s j) (finite.get s
     (sym (finite.get-retain_keys slots (λ k. is_kept (job_at s k) (finite.get slots k)) j (λ x tied. ap (λ k. is_kept (job_at s k) (finite.get slots k)) (sym (finite.nat_cmp-IsAntisymmetric j x tied)))) ∙ there)
 
 module _ {D : Type 0} (device : DiskView D) (stays : (s : State) (events : List Event) → IsLegal s → IsLegal (after_all s events)) where
-  pass_hands : (place : Place) (waits : Bool) (places : Option Places) (earlier : List AnsweredOrder) (t : Told) (old : Course D) (steps : PassSteps D) (new : Course D) → IsPass device place waits places old steps new → IsLegal old.spool.state → old.told ≡ Some t → HasTickets old.slots t → AreKeptFrom earlier old.slots → RunTheirStages t.orders old.slots → TickHandsOn earlier t old steps new
-  pass_hands place waits places earlier t old steps new made legal tells tickets kept_old run =
+  pass_hands : (place : Place) (waits : Bool) (start_room : Option StartRoom) (earlier : List AnsweredOrder) (t : ChildTrace) (old : RunState D) (steps : PassSteps D) (new : RunState D) → IsPass device place waits start_room old steps new → IsLegal old.spool.state → old.told ≡ Some t → HasTickets old.slots t → AreKeptFrom earlier old.slots → RunTheirStages t.orders old.slots → TickHandsOn earlier t old steps new
+  pass_hands place waits start_room earlier t old steps new made legal tells tickets kept_old run =
       let s : State = old.spool.state in
       let slots : Slots = idle_slots s old.slots in
-      let mid : Standing D = steps.parts.mid in
+      let mid : OpenSpool D = steps.parts.mid in
       let legal_mid : IsLegal mid.state = subst IsLegal (sym (starts_part device old.spool steps.parts.startings mid made.starts).table) (stays s (starting_events old.spool steps.parts.startings) legal) in
       let legal_read : IsLegal steps.parts.read.state = subst IsLegal (sym (reads_state device mid steps.parts.launchings steps.parts.read made.reads)) legal_mid in
       let runs : HasRunners t slots = fewer_run t old.slots slots (λ k n slot there is. idle_there s old.slots k slot there) (runners old.slots t tickets run) in
       let starts = launches_on place mid.state (λ j r there. (legal_mid.jobs j r there).id) earlier t slots old.told steps.parts.launchings steps.parts.slots steps.parts.told made.launches tells (λ j slot there. kept_old j slot (idle_there s old.slots j slot there)) runs in
       let (seen, tells_seen, orders_seen, running_seen) = looks_on waits steps.parts.slots steps.parts.told steps.looks steps.looked starts.now made.looks starts.tells in
       let refused : List AnsweredOrder = refused_in old.told steps.parts.launchings in
-      let between : Course D = course steps.parts.read steps.parts.slots steps.looked in
+      let between : RunState D = run_state steps.parts.read steps.parts.slots steps.looked in
       let ends = ends_on device stays (earlier ++ refused) seen between steps.parts.endings steps.ended made.ends legal_read tells_seen (told_run starts.now seen steps.parts.slots running_seen orders_seen starts.runs) (grown_kept earlier refused steps.parts.slots starts.kept) in
       let ended : List AnsweredOrder = ended_in between steps.parts.endings in
       let drops = drops_on waits ((earlier ++ refused) ++ ended) ends.now steps.ended.slots steps.ended.told steps.droppings new.slots new.told made.drops ends.tells ends.runs ends.kept in
@@ -642,12 +642,12 @@ module _ {D : Type 0} (device : DiskView D) (stays : (s : State) (events : List 
         run = drops.runs.run;
       }
 
-  pub tick_hands : (place : Place) (earlier : List AnsweredOrder) (t : Told) (old new : Course D) (result : Result Round RoundFault) → IsLegal old.spool.state → old.told ≡ Some t → HasTickets old.slots t → AreKeptFrom earlier old.slots → RunTheirStages t.orders old.slots → (r : IsTickOf device place old new result) → TickHandsOn earlier t old r.steps new
-  tick_hands place earlier t old new result legal tells tickets kept_old run r = pass_hands place false r.places earlier t old r.steps new r.made legal tells tickets kept_old run
+  pub tick_hands : (place : Place) (earlier : List AnsweredOrder) (t : ChildTrace) (old new : RunState D) (result : Result Round RoundFault) → IsLegal old.spool.state → old.told ≡ Some t → HasTickets old.slots t → AreKeptFrom earlier old.slots → RunTheirStages t.orders old.slots → (r : IsTickOf device place old new result) → TickHandsOn earlier t old r.steps new
+  tick_hands place earlier t old new result legal tells tickets kept_old run r = pass_hands place false r.start_room earlier t old r.steps new r.made legal tells tickets kept_old run
 
   -- ## Ticks one after the other
 
-  all_hand : (place : Place) (earlier : List AnsweredOrder) (t : Told) (slots : Slots) (told : Option Told) (cs : List (TickCall D)) (ticks : AreTicks device place slots told cs) → told ≡ Some t → HasTickets slots t → AreKeptFrom earlier slots → RunTheirStages t.orders slots → AreHandedOn device place slots told earlier t cs ticks
+  all_hand : (place : Place) (earlier : List AnsweredOrder) (t : ChildTrace) (slots : Slots) (told : Option ChildTrace) (cs : List (TickCall D)) (ticks : AreTicks device place slots told cs) → told ≡ Some t → HasTickets slots t → AreKeptFrom earlier slots → RunTheirStages t.orders slots → AreHandedOn device place slots told earlier t cs ticks
   all_hand place earlier t slots told [] ticks tells tickets kept_old run = tt
   all_hand place earlier t slots told (c ∷ cs) (begins, tells_c, legal, tick, ticks) tells tickets kept_old run =
       let tickets_c : HasTickets c.old.slots t = subst (λ m. HasTickets m t) (sym begins) tickets in
@@ -658,5 +658,5 @@ module _ {D : Type 0} (device : DiskView D) (stays : (s : State) (events : List 
         all_hand place (earlier ++ answers_in c.old tick.steps) hands.now c.new.slots c.new.told cs ticks hands.tells (subst (HasTickets c.new.slots) same by.tickets) hands.kept hands.run,
       )
 
-  pub ticks_hand : (place : Place) (t : Told) (cs : List (TickCall D)) (ticks : AreTicks device place finite.empty (Some t) cs) → t.running ≡ [] → AreHandedOn device place finite.empty (Some t) [] t cs ticks
+  pub ticks_hand : (place : Place) (t : ChildTrace) (cs : List (TickCall D)) (ticks : AreTicks device place finite.empty (Some t) cs) → t.running ≡ [] → AreHandedOn device place finite.empty (Some t) [] t cs ticks
   ticks_hand place t cs ticks quiet = all_hand place [] t finite.empty (Some t) cs ticks refl (none_tickets t quiet) (λ j slot there. none_there j slot there) (λ j n slot there runs. none_there j slot there)

@@ -12,26 +12,26 @@ use Rattle.spool_types.specs.declared.phase.Phase.TheVariants.{Incoming, Waiting
 use Rattle.spool_types.specs.declared.rows.QueueRow.{QueueRow}
 use Rattle.spool_types.specs.State.{State, Job, job_at}
 use Rattle.job_table.specs.Attempts.{is_in_stage}
-use Rattle.job_table.specs.Fold.{after_all, AreAccepted}
+use Rattle.job_table.specs.EventFold.{after_all, AreAccepted}
 use Rattle.job_table.specs.Legal.{IsLegal}
 use Rattle.job_table.specs.Stages.{Key, key_of, IsIn, IsSpent}
 use Rattle.job_table.specs.Step.{after, refusal_of}
-use Rattle.spool_core.specs.Standing.{Standing}
+use Rattle.spool_core.specs.OpenSpools.{OpenSpool}
 use Rattle.filter_args.specs.declared.place.Place.{Place}
 use Rattle.child_pipeline.specs.declared.order.ChildFault.{ChildFault}
 use Rattle.child_pipeline.specs.declared.order.Placed.{Placed}
 use Rattle.child_pipeline.specs.declared.runner.Progress.{Progress}
 use Rattle.child_pipeline.specs.declared.runner.Progress.TheVariants.{Ready, Running, Ended}
 use Rattle.child_pipeline.specs.declared.runner.Slot.{Slot}
-use Rattle.child_pipeline.specs.Slots.{Slots, slot_in, begun, IsStart, with_progress, put_progress, progress_after, order_in, end_in, is_ready, IsDue, IsCurrent, FinishesFrom}
-use Rattle.child_pipeline.specs.Told.{Told, started_by}
+use Rattle.child_pipeline.specs.StageSlots.{Slots, slot_in, begun, IsStart, with_progress, put_progress, progress_after, order_in, end_in, is_ready, IsDue, IsCurrent, FinishesFrom}
+use Rattle.child_pipeline.specs.ChildTraces.{ChildTrace, started_by}
 use Rattle.print_rounds.specs.Choice.{slots_for, slots_in, slots_by, readiness}
 use Rattle.print_rounds.specs.Counts.{report_events}
-use Rattle.print_rounds.specs.Courses.{Answer, Course, Launching, IsLaunch, AreLaunchings, given, Ending, IsReport, IsEndingOf, AreEndings, is_silent}
-use Rattle.print_rounds.specs.Script.{current_slots, is_current}
-use Rattle.print_rounds.specs.World.{key_in, keys_in, IsBegunSlot, IsHeld}
-use Rattle.job_table.specs.Turns.{IsAmong, AreOnce}
-use Rattle.job_table.specs.Versions.{raised}
+use Rattle.print_rounds.specs.RunStates.{Answer, RunState, Launching, IsLaunch, AreLaunchings, given, Ending, IsReport, IsEndingOf, AreEndings, is_silent}
+use Rattle.print_rounds.specs.RoundScript.{current_slots, is_current}
+use Rattle.print_rounds.specs.StageHistory.{key_in, keys_in, IsBegunSlot, IsHeld}
+use Rattle.job_table.specs.TableCalls.{IsAmong, AreOnce}
+use Rattle.job_table.specs.TableVersions.{raised}
 use Rattle.print_rounds.specs.declared.outcome.Launch.{Launch}
 use Rattle.print_rounds.specs.declared.outcome.Launch.TheVariants.{Unlaunched, Launched, NoMemory, Disk, Dead}
 use Rattle.print_rounds.specs.declared.outcome.Report.{Report}
@@ -74,8 +74,8 @@ never_both o x p q = cc
 
 -- what starts do: their orders are for stages that the table has jobs in and that weren't begun, each once; they are begun
 -- then, and what was begun stays so
-pub record AreBegun (s : State) (t : Told) (old : Slots) (new : Slots) (told : Option Told) : Type 0 where
-  pub now : Told
+pub record AreBegun (s : State) (t : ChildTrace) (old : Slots) (new : Slots) (told : Option ChildTrace) : Type 0 where
+  pub now : ChildTrace
   pub tells : told ≡ Some now
   pub orders : List Placed
   pub added : now.orders ≡ t.orders ++ orders
@@ -85,7 +85,7 @@ pub record AreBegun (s : State) (t : Told) (old : Slots) (new : Slots) (told : O
   pub begun : (k : Key) → IsAmong (keys_in orders) k → IsBegunSlot new k
   pub kept : (k : Key) → IsIn s k → IsBegunSlot old k → IsBegunSlot new k
 
-none_begun : (s : State) (t : Told) (old new : Slots) (told : Option Told) → told ≡ Some t → ((k : Key) → IsIn s k → IsBegunSlot old k → IsBegunSlot new k) → AreBegun s t old new told
+none_begun : (s : State) (t : ChildTrace) (old new : Slots) (told : Option ChildTrace) → told ≡ Some t → ((k : Key) → IsIn s k → IsBegunSlot old k → IsBegunSlot new k) → AreBegun s t old new told
 none_begun s t old new told tells kept = record {
   now = t;
   tells = tells;
@@ -99,7 +99,7 @@ none_begun s t old new told tells kept = record {
 }
 
 -- starts, and then more
-both_begun : (s : State) (t : Told) (old mid new : Slots) (told told' : Option Told) (one : AreBegun s t old mid told) → AreBegun s one.now mid new told' → AreBegun s t old new told'
+both_begun : (s : State) (t : ChildTrace) (old mid new : Slots) (told told' : Option ChildTrace) (one : AreBegun s t old mid told) → AreBegun s one.now mid new told' → AreBegun s t old new told'
 both_begun s t old mid new told told' one two = record {
   now = two.now;
   tells = two.tells;
@@ -165,7 +165,7 @@ module _ (s : State) (old own : Slots) (r : Job) (there : job_at s r.id ≡ Some
   kept_by : (new : Slots) → SameBut r.id old new → (k : Key) → IsIn s k → IsBegunSlot old k → IsBegunSlot new k
   kept_by new same k inside has = begun_same old new k (same k.job (other_begun k inside has (k.job == r.id) refl)) has
 
-  module _ (place : Place) (q : QueueRow) (t : Told) (n : ℕ) (b : Bool) (new : Slots) (put : new ≡ put_progress own r.id (progress_after b n)) where
+  module _ (place : Place) (q : QueueRow) (t : ChildTrace) (n : ℕ) (b : Bool) (new : Slots) (put : new ≡ put_progress own r.id (progress_after b n)) where
     own_in : IsIn s (key_at r.id (slot_in own r.id))
     own_in = current_in s r (slot_in own r.id) r.phase there refl (due_slot (finite.get own r.id) r.phase (due_of old r own due))
 
@@ -184,7 +184,7 @@ module _ (s : State) (old own : Slots) (r : Job) (there : job_at s r.id ≡ Some
     others : SameBut r.id old new
     others k other = ap (λ m. finite.get m k) put ∙ get_other own r.id k (with_progress (slot_in own r.id) (progress_after b n)) other ∙ (due_own old r own due).same k other
 
-    one_order : (p : Placed) → key_in p ≡ key_at r.id (slot_in own r.id) → (now : Told) (told : Option Told) → told ≡ Some now → now.orders ≡ t.orders ++ p ∷ [] → AreBegun s t old new told
+    one_order : (p : Placed) → key_in p ≡ key_at r.id (slot_in own r.id) → (now : ChildTrace) (told : Option ChildTrace) → told ≡ Some now → now.orders ≡ t.orders ++ p ∷ [] → AreBegun s t old new told
     one_order p is now told tells added = record {
       now = now;
       tells = tells;
@@ -207,14 +207,14 @@ module _ (s : State) (old own : Slots) (r : Job) (there : job_at s r.id ≡ Some
     }
 
     -- by the answers that are still to come
-    by_answers : (starts : List (Result (Unit {0}) ChildFault)) (document : List ℕ) (told : Option Told) → told ≡ Some (started_by t (order_in place own r q document) starts) → AreBegun s t old new told
+    by_answers : (starts : List (Result (Unit {0}) ChildFault)) (document : List ℕ) (told : Option ChildTrace) → told ≡ Some (started_by t (order_in place own r q document) starts) → AreBegun s t old new told
     by_answers [] document told tells = none_begun s t old new told tells (kept_by new others)
     by_answers (Ok done ∷ rest) document told tells = one_order (record { order = order_in place own r q document; before = t.finished }) refl _ told tells refl
     by_answers (Err fault ∷ rest) document told tells = one_order (record { order = order_in place own r q document; before = t.finished }) refl _ told tells refl
 
 module _ (place : Place) (s : State) (numbers : HasNumbers s) where
   -- no child was started, and the slots are as they were
-  same_begun : (t : Told) (old new : Slots) (told : Option Told) → told ≡ Some t → new ≡ old → AreBegun s t old new told
+  same_begun : (t : ChildTrace) (old new : Slots) (told : Option ChildTrace) → told ≡ Some t → new ≡ old → AreBegun s t old new told
   same_begun t old new told tells same = none_begun s t old new told tells (λ k inside has. begun_same old new k (ap (λ m. finite.get m k.job) same) has)
 
   -- no child was started, and there is a slot for it
@@ -222,7 +222,7 @@ module _ (place : Place) (s : State) (numbers : HasNumbers s) where
   own_kept old new j r own there due same k inside has =
       kept_by s old own r (ap (job_at s) (numbers j r there) ∙ there) due new (λ i other. ap (λ m. finite.get m i) same ∙ (due_own old r own due).same i other) k inside has
 
-  launch_begun : (t : Told) (old : Slots) (told : Option Told) (j : ℕ) (d : Option (List ℕ)) (l : Launch) (new : Slots) (told' : Option Told) → IsLaunch place s old told j d l new told' → told ≡ Some t → AreBegun s t old new told'
+  launch_begun : (t : ChildTrace) (old : Slots) (told : Option ChildTrace) (j : ℕ) (d : Option (List ℕ)) (l : Launch) (new : Slots) (told' : Option ChildTrace) → IsLaunch place s old told j d l new told' → told ≡ Some t → AreBegun s t old new told'
   launch_begun t old told j d Unlaunched new told' (rests, none, same, tells') tells = same_begun t old new told' (tells' ∙ tells) same
   launch_begun t old told j d (Launched b) new told' (r, q, own, due, input, starts) tells =
       let row = ap (job_at s) (numbers j r due.row) ∙ due.row in
@@ -235,7 +235,7 @@ module _ (place : Place) (s : State) (numbers : HasNumbers s) where
   launch_begun t old told j d Disk new told' (r, q, own, due, none, same, tells') tells = none_begun s t old new told' (tells' ∙ tells) (own_kept old new j r own due.row due.due same)
   launch_begun t old told j d Dead new told' (none, same, tells') tells = same_begun t old new told' (tells' ∙ tells) same
 
-  pub launches_begun : (t : Told) (old : Slots) (told : Option Told) (ts : List Launching) (new : Slots) (told' : Option Told) → AreLaunchings place s old told ts new told' → told ≡ Some t → AreBegun s t old new told'
+  pub launches_begun : (t : ChildTrace) (old : Slots) (told : Option ChildTrace) (ts : List Launching) (new : Slots) (told' : Option ChildTrace) → AreLaunchings place s old told ts new told' → told ≡ Some t → AreBegun s t old new told'
   launches_begun t old told [] new told' (same, tells') tells = same_begun t old new told' (tells' ∙ tells) same
   launches_begun t old told (l ∷ ts) new told' (launch, launches) tells =
       let one = launch_begun t old told l.job l.document l.launch l.slots l.told launch tells in
@@ -258,7 +258,7 @@ pub record Laws : Type 0 where
   pub raised_legal : (s : State) → IsLegal s → IsLegal (raised s)
 
 -- a finish that is kept for a job
-pub waited_begun : (old new : Slots) (j : ℕ) (told told' : Option Told) (p : Progress ℕ) → p ≡ (slot_in old j).progress → FinishesFrom p told old j new told' → (k : Key) → IsBegunSlot old k → IsBegunSlot new k
+pub waited_begun : (old new : Slots) (j : ℕ) (told told' : Option ChildTrace) (p : Progress ℕ) → p ≡ (slot_in old j).progress → FinishesFrom p told old j new told' → (k : Key) → IsBegunSlot old k → IsBegunSlot new k
 waited_begun old new j told told' (Ended finish) at (same, tells) k has = begun_same old new k (ap (λ m. finite.get m k.job) same) has
 waited_begun old new j told told' (Ready input) at finishes k has = absurd finishes
 waited_begun old new j told told' (Running n) at finishes k has = by_job (k.job == j) refl
@@ -281,7 +281,7 @@ module _ {D : Type 0} (device : DiskView D) (laws : Laws) (k : Key) where
   after_event : (s t : State) (e : Event) → IsLegal s → t ≡ after_all s (e ∷ []) → IsIn s k → IsIn t k ⊎ IsSpent t k
   after_event s t e legal is inside = subst (λ u. IsIn u k ⊎ IsSpent u k) (sym is) (laws.left s k (e ∷ []) legal inside)
 
-  answered_going : (kept next : Course D) (j : ℕ) (a : Answer) → IsReport device kept j (reports.Answered a) next → IsLegal kept.spool.state → IsIn kept.spool.state k → IsBegunSlot kept.slots k → IsGoing next.spool.state next.slots k
+  answered_going : (kept next : RunState D) (j : ℕ) (a : Answer) → IsReport device kept j (reports.Answered a) next → IsLegal kept.spool.state → IsIn kept.spool.state k → IsBegunSlot kept.slots k → IsGoing next.spool.state next.slots k
   answered_going kept next j (Err fault) (is, slots, told) legal inside has =
       inl (subst (λ s. IsIn s k) (sym (fault_state device kept.spool (Stage (end_in kept.slots j)) fault next.spool is.cause)) inside, begun_same kept.slots next.slots k (ap (λ m. finite.get m k.job) slots) has)
   answered_going kept next j (Ok reply) (is, slots, told) legal inside has = by_job (k.job == j) refl
@@ -302,19 +302,19 @@ module _ {D : Type 0} (device : DiskView D) (laws : Laws) (k : Key) where
         | inr gone ↦ inr gone
       ]
 
-  report_going : (kept next : Course D) (j : ℕ) (r : Report) → IsReport device kept j r next → IsLegal kept.spool.state → IsIn kept.spool.state k → IsBegunSlot kept.slots k → IsGoing next.spool.state next.slots k
+  report_going : (kept next : RunState D) (j : ℕ) (r : Report) → IsReport device kept j r next → IsLegal kept.spool.state → IsIn kept.spool.state k → IsBegunSlot kept.slots k → IsGoing next.spool.state next.slots k
   report_going kept next j reports.Silent is legal inside has = absurd is
-  report_going kept next j reports.NoMemory is legal inside has = subst (λ (c : Course D). IsGoing c.spool.state c.slots k) (sym is) (inl (inside, has))
+  report_going kept next j reports.NoMemory is legal inside has = subst (λ (c : RunState D). IsGoing c.spool.state c.slots k) (sym is) (inl (inside, has))
   report_going kept next j (reports.Answered a) is legal inside has = answered_going kept next j a is legal inside has
 
-  end_going : (old : Course D) (e : Ending D) (b : Bool) → IsEndingOf device old b e → IsLegal old.spool.state → IsIn old.spool.state k → IsBegunSlot old.slots k → IsGoing e.next.spool.state e.next.slots k
-  end_going old e true (silent, kept, next) legal inside has = subst (λ (c : Course D). IsGoing c.spool.state c.slots k) (sym next) (inl (inside, has))
+  end_going : (old : RunState D) (e : Ending D) (b : Bool) → IsEndingOf device old b e → IsLegal old.spool.state → IsIn old.spool.state k → IsBegunSlot old.slots k → IsGoing e.next.spool.state e.next.slots k
+  end_going old e true (silent, kept, next) legal inside has = subst (λ (c : RunState D). IsGoing c.spool.state c.slots k) (sym next) (inl (inside, has))
   end_going old e false (finishes, same, report) legal inside has =
-      report_going e.kept e.next e.job e.report report (subst (λ (x : Standing D). IsLegal x.state) (sym same) legal) (subst (λ (x : Standing D). IsIn x.state k) (sym same) inside)
+      report_going e.kept e.next e.job e.report report (subst (λ (x : OpenSpool D). IsLegal x.state) (sym same) legal) (subst (λ (x : OpenSpool D). IsIn x.state k) (sym same) inside)
       (waited_begun old.slots e.kept.slots e.job old.told e.kept.told (slot_in old.slots e.job).progress refl finishes k has)
 
-  pub ends_going : (old : Course D) (es : List (Ending D)) (new : Course D) → AreEndings device old es new → IsLegal old.spool.state → IsGoing old.spool.state old.slots k → IsGoing new.spool.state new.slots k
-  ends_going old [] new same legal going = subst (λ (c : Course D). IsGoing c.spool.state c.slots k) (sym same) going
+  pub ends_going : (old : RunState D) (es : List (Ending D)) (new : RunState D) → AreEndings device old es new → IsLegal old.spool.state → IsGoing old.spool.state old.slots k → IsGoing new.spool.state new.slots k
+  ends_going old [] new same legal going = subst (λ (c : RunState D). IsGoing c.spool.state c.slots k) (sym same) going
   ends_going old (e ∷ es) new (ends, others) legal going =
       let part = end_part device old e ends in
       let table = part.table in

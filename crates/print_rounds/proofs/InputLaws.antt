@@ -15,17 +15,17 @@ use Rattle.spool_types.specs.declared.rows.QueueRow.{QueueRow}
 use Rattle.spool_types.specs.Limits.{longest_document}
 use Rattle.spool_types.specs.Phases.{is_processing}
 use Rattle.spool_types.specs.State.{State, Job}
-use Rattle.job_table.specs.Documents.{document_len}
-use Rattle.job_table.specs.Fold.{after_all}
+use Rattle.job_table.specs.DocumentLengths.{document_len}
+use Rattle.job_table.specs.EventFold.{after_all}
 use Rattle.job_table.specs.Legal.{IsLegal}
 use Rattle.job_table.specs.Stages.{Key}
 use Rattle.job_table.specs.Step.{refusal_of}
-use Rattle.spool_core.specs.Standing.{Standing}
+use Rattle.spool_core.specs.OpenSpools.{OpenSpool}
 use Rattle.filter_args.specs.declared.place.Place.{Place}
 use Rattle.child_pipeline.specs.Finishes.{kept}
 use Rattle.child_pipeline.specs.Orders.{order_of}
-use Rattle.child_pipeline.specs.Slots.{Slots, slot_in, begun, begun_in, with_progress, put_progress, progress_after, IsStart, IsTicketless, IsDue, order_in, input_in, end_in, finish_in, advanced, advanced_in, is_ready, FinishesFrom, Waits, IsFinish}
-use Rattle.child_pipeline.specs.Told.{Told, is_in, starts_first, started_by, first_finish, rest_of, after_finish, without}
+use Rattle.child_pipeline.specs.StageSlots.{Slots, slot_in, begun, begun_in, with_progress, put_progress, progress_after, IsStart, IsTicketless, IsDue, order_in, input_in, end_in, finish_in, advanced, advanced_in, is_ready, FinishesFrom, Waits, IsFinish}
+use Rattle.child_pipeline.specs.ChildTraces.{ChildTrace, is_in, starts_first, started_by, first_finish, rest_of, after_finish, without}
 use Rattle.child_pipeline.specs.declared.order.ChildFault.{ChildFault}
 use Rattle.child_pipeline.specs.declared.order.Finish.{Finish}
 use Rattle.child_pipeline.specs.declared.order.Input.TheVariants.{Document}
@@ -35,7 +35,7 @@ use Rattle.child_pipeline.specs.declared.runner.Progress.{Progress}
 use Rattle.child_pipeline.specs.declared.runner.Progress.TheVariants.{Ready, Running, Ended}
 use Rattle.child_pipeline.specs.declared.runner.Slot.{Slot}
 use Rattle.print_rounds.specs.Choice.{slots_for, slots_in, slots_by, readiness}
-use Rattle.print_rounds.specs.Courses.{Course, Launching, IsInput, IsLaunch, AreLaunchings, AreHanded, given, Ending, IsReport, IsEndingOf, AreEndings, is_silent, moved_by}
+use Rattle.print_rounds.specs.RunStates.{RunState, Launching, IsInput, IsLaunch, AreLaunchings, AreHanded, given, Ending, IsReport, IsEndingOf, AreEndings, is_silent, moved_by}
 use Rattle.print_rounds.specs.Finished.{AreDistinct, AllRest, with_number, with_slot, running_in}
 use Rattle.print_rounds.specs.Inputs.{AnsweredOrder, answered, IsOneOf, stage_of, HasGiven, IsRight, AreRight, HaveDocuments, IsKeptFrom, AreKeptFrom}
 use Rattle.print_rounds.specs.declared.outcome.Launch.{Launch}
@@ -253,8 +253,8 @@ own_document xs j slot (Running n) len d wanted is input read first = absurd inp
 own_document xs j slot (Ended finish) len d wanted is input read first = absurd input
 
 -- What the start of a stage does, where these are the finishes to come for it and for later ones.
-pub record IsOneOn (earlier : List AnsweredOrder) (t : Told) (fs : Finishes) (old : Slots) (j : ℕ) (d : Option (List ℕ)) (new : Slots) (told : Option Told) : Type 0 where
-  pub now : Told
+pub record IsOneOn (earlier : List AnsweredOrder) (t : ChildTrace) (fs : Finishes) (old : Slots) (j : ℕ) (d : Option (List ℕ)) (new : Slots) (told : Option ChildTrace) : Type 0 where
+  pub now : ChildTrace
   pub tells : told ≡ Some now
   pub orders : List Placed
   pub added : now.orders ≡ t.orders ++ orders
@@ -271,7 +271,7 @@ pub record IsOneOn (earlier : List AnsweredOrder) (t : Told) (fs : Finishes) (ol
   pub same : SameBut j old new
 
 -- no order was given
-none_on : (earlier : List AnsweredOrder) (t : Told) (fs : Finishes) (old : Slots) (j : ℕ) (d : Option (List ℕ)) (new : Slots) (told : Option Told) → told ≡ Some t → AreKeptFrom earlier new → IsTicketless (finite.get new j) → SameBut j old new → IsOneOn earlier t fs old j d new told
+none_on : (earlier : List AnsweredOrder) (t : ChildTrace) (fs : Finishes) (old : Slots) (j : ℕ) (d : Option (List ℕ)) (new : Slots) (told : Option ChildTrace) → told ≡ Some t → AreKeptFrom earlier new → IsTicketless (finite.get new j) → SameBut j old new → IsOneOn earlier t fs old j d new told
 none_on earlier t fs old j d new told tells kept rests same = record {
   now = t;
   tells = tells;
@@ -290,7 +290,7 @@ none_on earlier t fs old j d new told tells kept rests same = record {
   same = same;
 }
 
-module _ (earlier : List AnsweredOrder) (place : Place) (t : Told) (fs : Finishes) (old own : Slots) (r : Job) (q : QueueRow) (d : Option (List ℕ)) (due : slots_for old r ≡ Some own) (input : IsInput (slot_in own r.id).progress (document_len r) d) (old_kept : AreKeptFrom earlier old) (b : Bool) (n : ℕ) (new : Slots) (put : new ≡ put_progress own r.id (progress_after b n)) where
+module _ (earlier : List AnsweredOrder) (place : Place) (t : ChildTrace) (fs : Finishes) (old own : Slots) (r : Job) (q : QueueRow) (d : Option (List ℕ)) (due : slots_for old r ≡ Some own) (input : IsInput (slot_in own r.id).progress (document_len r) d) (old_kept : AreKeptFrom earlier old) (b : Bool) (n : ℕ) (new : Slots) (put : new ≡ put_progress own r.id (progress_after b n)) where
   abbrev own_slot : Slot ℕ
   own_slot = slot_in own r.id
 
@@ -334,7 +334,7 @@ module _ (earlier : List AnsweredOrder) (place : Place) (t : Told) (fs : Finishe
   right = right_order place r q earlier own_slot (given d) own_slot.progress slot_kept ready
 
   -- by the answers that are to come
-  launched_on : (told : Option Told) (starts : List (Result (Unit {0}) ChildFault)) → t.starts ≡ starts → b ≡ starts_first starts → told ≡ Some (started_by t order starts) → IsOneOn earlier t fs old r.id d new told
+  launched_on : (told : Option ChildTrace) (starts : List (Result (Unit {0}) ChildFault)) → t.starts ≡ starts → b ≡ starts_first starts → told ≡ Some (started_by t order starts) → IsOneOn earlier t fs old r.id d new told
   launched_on told [] e is tells = none_on earlier t fs old r.id d new told tells (subst (λ xs. AreKeptFrom xs new) (append-nil earlier) (new_kept [] false is)) (unstarted_rests is) others
   launched_on told (Ok done ∷ rest) e is tells =
       let x : AnsweredOrder = record { order = order; finish = first_finish fs } in
@@ -376,7 +376,7 @@ module _ (earlier : List AnsweredOrder) (place : Place) (t : Told) (fs : Finishe
       }
 
 module _ (place : Place) (s : State) (numbers : HasNumbers s) where
-  own_on : (earlier : List AnsweredOrder) (t : Told) (fs : Finishes) (old : Slots) (j : ℕ) (d : Option (List ℕ)) (r : Job) (own new : Slots) (told : Option Told) → r.id ≡ j → slots_for old r ≡ Some own → told ≡ Some t → AreKeptFrom earlier old → new ≡ own → IsOneOn earlier t fs old j d new told
+  own_on : (earlier : List AnsweredOrder) (t : ChildTrace) (fs : Finishes) (old : Slots) (j : ℕ) (d : Option (List ℕ)) (r : Job) (own new : Slots) (told : Option ChildTrace) → r.id ≡ j → slots_for old r ≡ Some own → told ≡ Some t → AreKeptFrom earlier old → new ≡ own → IsOneOn earlier t fs old j d new told
   own_on earlier t fs old j d r own new told id due tells kept same =
       let (slot, there, ready) = at_due (finite.get own r.id) r.phase (due_of old r own due) in
       subst (λ i. IsOneOn earlier t fs old i d new told) id
@@ -384,11 +384,11 @@ module _ (place : Place) (s : State) (numbers : HasNumbers s) where
       (subst (λ m. IsTicketless (finite.get m r.id)) (sym same) (ready_rests (finite.get own r.id) slot there ready))
       (λ k other. ap (λ m. finite.get m k) same ∙ (due_own old r own due).same k other))
 
-  same_on : (earlier : List AnsweredOrder) (t : Told) (fs : Finishes) (old : Slots) (j : ℕ) (d : Option (List ℕ)) (new : Slots) (told : Option Told) → told ≡ Some t → AreKeptFrom earlier old → IsTicketless (finite.get old j) → new ≡ old → IsOneOn earlier t fs old j d new told
+  same_on : (earlier : List AnsweredOrder) (t : ChildTrace) (fs : Finishes) (old : Slots) (j : ℕ) (d : Option (List ℕ)) (new : Slots) (told : Option ChildTrace) → told ≡ Some t → AreKeptFrom earlier old → IsTicketless (finite.get old j) → new ≡ old → IsOneOn earlier t fs old j d new told
   same_on earlier t fs old j d new told tells kept rests same =
       none_on earlier t fs old j d new told tells (subst (AreKeptFrom earlier) (sym same) kept) (subst (λ m. IsTicketless (finite.get m j)) (sym same) rests) (λ k other. ap (λ m. finite.get m k) same)
 
-  one_on : (earlier : List AnsweredOrder) (t : Told) (fs : Finishes) (old : Slots) (told : Option Told) (j : ℕ) (d : Option (List ℕ)) (l : Launch) (new : Slots) (told' : Option Told) → IsLaunch place s old told j d l new told' → told ≡ Some t → AreKeptFrom earlier old → IsTicketless (finite.get old j) → IsOneOn earlier t fs old j d new told'
+  one_on : (earlier : List AnsweredOrder) (t : ChildTrace) (fs : Finishes) (old : Slots) (told : Option ChildTrace) (j : ℕ) (d : Option (List ℕ)) (l : Launch) (new : Slots) (told' : Option ChildTrace) → IsLaunch place s old told j d l new told' → told ≡ Some t → AreKeptFrom earlier old → IsTicketless (finite.get old j) → IsOneOn earlier t fs old j d new told'
   one_on earlier t fs old told j d Unlaunched new told' (rest, none, same, tells') tells kept rests = same_on earlier t fs old j d new told' (tells' ∙ tells) kept rests same
   one_on earlier t fs old told j d (Launched b) new told' (r, q, own, due, input, starts) tells kept rests =
       let order : Order = order_in place own r q (given d) in
@@ -403,8 +403,8 @@ module _ (place : Place) (s : State) (numbers : HasNumbers s) where
   one_on earlier t fs old told j d Dead new told' (none, same, tells') tells kept rests = same_on earlier t fs old j d new told' (tells' ∙ tells) kept rests same
 
   -- what all the starts do
-  pub record AreOn (earlier : List AnsweredOrder) (t : Told) (fs : Finishes) (ts : List Launching) (new : Slots) (told : Option Told) : Type 0 where
-    pub now : Told
+  pub record AreOn (earlier : List AnsweredOrder) (t : ChildTrace) (fs : Finishes) (ts : List Launching) (new : Slots) (told : Option ChildTrace) : Type 0 where
+    pub now : ChildTrace
     pub tells : told ≡ Some now
     pub orders : List Placed
     pub added : now.orders ≡ t.orders ++ orders
@@ -422,7 +422,7 @@ module _ (place : Place) (s : State) (numbers : HasNumbers s) where
   due_grown xs ys slots [] fs left due = due
   due_grown xs ys slots (j ∷ js) fs left due = (due_more xs ys j (finite.get slots j) fs due.0, due_grown xs ys slots js (left_at (finite.get slots j) fs) left due.1)
 
-  pub all_on : (earlier : List AnsweredOrder) (t : Told) (fs : Finishes) (old : Slots) (told : Option Told) (ts : List Launching) (new : Slots) (told' : Option Told) → AreLaunchings place s old told ts new told' → told ≡ Some t → AreKeptFrom earlier old → AllRest old (map (λ l. l.job) ts) → AreDistinct (map (λ l. l.job) ts) → AreOn earlier t fs ts new told'
+  pub all_on : (earlier : List AnsweredOrder) (t : ChildTrace) (fs : Finishes) (old : Slots) (told : Option ChildTrace) (ts : List Launching) (new : Slots) (told' : Option ChildTrace) → AreLaunchings place s old told ts new told' → told ≡ Some t → AreKeptFrom earlier old → AllRest old (map (λ l. l.job) ts) → AreDistinct (map (λ l. l.job) ts) → AreOn earlier t fs ts new told'
   all_on earlier t fs old told [] new told' (same, tells') tells kept rests distinct = record {
     now = t;
     tells = tells' ∙ tells;
@@ -497,9 +497,9 @@ module _ {D : Type 0} (device : DiskView D) (xs : List AnsweredOrder) where
   phase_in (replies.Number n) = Completed
   phase_in (replies.Size n) = Completed
 
-  pub report_kept : (old new : Course D) (j : ℕ) (slot : Slot ℕ) (finish : Finish) (report : Report) → IsReport device old j report new → IsLegal old.spool.state → finite.get old.slots j ≡ Some slot → slot.progress ≡ Ended finish → AreKeptFrom xs old.slots → AreKeptFrom xs new.slots
+  pub report_kept : (old new : RunState D) (j : ℕ) (slot : Slot ℕ) (finish : Finish) (report : Report) → IsReport device old j report new → IsLegal old.spool.state → finite.get old.slots j ≡ Some slot → slot.progress ≡ Ended finish → AreKeptFrom xs old.slots → AreKeptFrom xs new.slots
   report_kept old new j slot finish reports.Silent is legal there ended kept = absurd is
-  report_kept old new j slot finish reports.NoMemory is legal there ended kept = subst (λ (c : Course D). AreKeptFrom xs c.slots) (sym is) kept
+  report_kept old new j slot finish reports.NoMemory is legal there ended kept = subst (λ (c : RunState D). AreKeptFrom xs c.slots) (sym is) kept
   report_kept old new j slot finish (reports.Answered (Err fault)) (is, slots, told) legal there ended kept = subst (AreKeptFrom xs) (sym slots) kept
   report_kept old new j slot finish (reports.Answered (Ok reply)) (is, slots, told) legal there ended kept =
       subst (AreKeptFrom xs) (sym slots) (reply_kept old.slots j slot finish there ended kept reply (λ p at goes.
@@ -511,8 +511,8 @@ module _ {D : Type 0} (device : DiskView D) (xs : List AnsweredOrder) where
       sym exit ∙ goes_on_zero old.spool.state legal end accepted (ap (λ r. is_processing (phase_in r)) (replied ∙ at) ∙ goes)))
 
   -- what the end of a stage leaves
-  pub record IsEndOn (t : Told) (old : Course D) (j : ℕ) (js : List ℕ) (new : Course D) : Type 0 where
-    pub now : Told
+  pub record IsEndOn (t : ChildTrace) (old : RunState D) (j : ℕ) (js : List ℕ) (new : RunState D) : Type 0 where
+    pub now : ChildTrace
     pub tells : new.told ≡ Some now
     pub orders : now.orders ≡ t.orders
     pub starts : now.starts ≡ t.starts
@@ -520,22 +520,22 @@ module _ {D : Type 0} (device : DiskView D) (xs : List AnsweredOrder) where
     pub running : now.running ≡ running_in old.slots js
     pub kept : AreKeptFrom xs new.slots
 
-  end_on : (t : Told) (old : Course D) (e : Ending D) (js : List ℕ) → IsEndingOf device old (is_silent (finite.get old.slots e.job)) e → IsLegal old.spool.state → old.told ≡ Some t → t.running ≡ running_in old.slots (e.job ∷ js) → IsDueAt xs e.job (finite.get old.slots e.job) t.finishes → AreKeptFrom xs old.slots → IsEndOn t old e.job js e.next
+  end_on : (t : ChildTrace) (old : RunState D) (e : Ending D) (js : List ℕ) → IsEndingOf device old (is_silent (finite.get old.slots e.job)) e → IsLegal old.spool.state → old.told ≡ Some t → t.running ≡ running_in old.slots (e.job ∷ js) → IsDueAt xs e.job (finite.get old.slots e.job) t.finishes → AreKeptFrom xs old.slots → IsEndOn t old e.job js e.next
   end_on t old e js ends legal tells runs due kept_old = by_slot (finite.get old.slots e.job) refl
     where
       unchanged : with_slot (finite.get old.slots e.job) (running_in old.slots js) ≡ running_in old.slots js → left_at (finite.get old.slots e.job) t.finishes ≡ t.finishes → e.next ≡ old → IsEndOn t old e.job js e.next
       unchanged silent left is = record {
         now = t;
-        tells = ap (λ (c : Course D). c.told) is ∙ tells;
+        tells = ap (λ (c : RunState D). c.told) is ∙ tells;
         orders = refl;
         starts = refl;
         finishes = sym left;
         running = runs ∙ silent;
-        kept = subst (λ (c : Course D). AreKeptFrom xs c.slots) (sym is) kept_old;
+        kept = subst (λ (c : RunState D). AreKeptFrom xs c.slots) (sym is) kept_old;
       }
 
       legal_kept : e.kept.spool ≡ old.spool → IsLegal e.kept.spool.state
-      legal_kept same = subst (λ (x : Standing D). IsLegal x.state) (sym same) legal
+      legal_kept same = subst (λ (x : OpenSpool D). IsLegal x.state) (sym same) legal
 
       by_progress : (slot : Slot ℕ) (p : Progress ℕ) → finite.get old.slots e.job ≡ Some slot → slot.progress ≡ p → IsEndingOf device old (is_ready p) e → IsEndOn t old e.job js e.next
       by_progress slot (Ready input) there is ending =
@@ -581,22 +581,22 @@ module _ {D : Type 0} (device : DiskView D) (xs : List AnsweredOrder) where
       by_slot (Some slot) there = by_progress slot slot.progress there refl (subst (λ o. IsEndingOf device old (is_silent o) e) there ends)
 
   -- what all the ends leave
-  pub record AreEndsOn (t : Told) (left : Finishes) (new : Course D) : Type 0 where
-    pub now : Told
+  pub record AreEndsOn (t : ChildTrace) (left : Finishes) (new : RunState D) : Type 0 where
+    pub now : ChildTrace
     pub tells : new.told ≡ Some now
     pub orders : now.orders ≡ t.orders
     pub starts : now.starts ≡ t.starts
     pub finishes : now.finishes ≡ left
     pub kept : AreKeptFrom xs new.slots
 
-  pub ends_on : ((s : State) (events : List _) → IsLegal s → IsLegal (after_all s events)) → (t : Told) (old : Course D) (es : List (Ending D)) (new : Course D) (left : Finishes) → AreEndings device old es new → IsLegal old.spool.state → old.told ≡ Some t → t.running ≡ running_in old.slots (map (λ e. e.job) es) → AreDistinct (map (λ e. e.job) es) → AreDue xs old.slots (map (λ e. e.job) es) t.finishes left → AreKeptFrom xs old.slots → AreEndsOn t left new
+  pub ends_on : ((s : State) (events : List _) → IsLegal s → IsLegal (after_all s events)) → (t : ChildTrace) (old : RunState D) (es : List (Ending D)) (new : RunState D) (left : Finishes) → AreEndings device old es new → IsLegal old.spool.state → old.told ≡ Some t → t.running ≡ running_in old.slots (map (λ e. e.job) es) → AreDistinct (map (λ e. e.job) es) → AreDue xs old.slots (map (λ e. e.job) es) t.finishes left → AreKeptFrom xs old.slots → AreEndsOn t left new
   ends_on stays t old [] new left same legal tells runs distinct due kept = record {
     now = t;
-    tells = ap (λ (c : Course D). c.told) same ∙ tells;
+    tells = ap (λ (c : RunState D). c.told) same ∙ tells;
     orders = refl;
     starts = refl;
     finishes = due;
-    kept = subst (λ (c : Course D). AreKeptFrom xs c.slots) (sym same) kept;
+    kept = subst (λ (c : RunState D). AreKeptFrom xs c.slots) (sym same) kept;
   }
   ends_on stays t old (e ∷ es) new left (ends, others) legal tells runs distinct due kept =
       let js : List ℕ = map (λ e. e.job) es in

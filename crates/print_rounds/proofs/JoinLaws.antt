@@ -4,19 +4,19 @@ use Rattle.std.proofs.lemmas.Bool.{both_ways}
 use Rattle.std.proofs.lemmas.List.{map-append}
 use Rattle.spool_types.specs.declared.event.Event.{Event}
 use Rattle.spool_types.specs.State.{State}
-use Rattle.job_table.specs.Fold.{after_all, AreAccepted}
+use Rattle.job_table.specs.EventFold.{after_all, AreAccepted}
 use Rattle.job_table.specs.Legal.{IsLegal}
 use Rattle.job_table.specs.Stages.{Key, IsSpent}
-use Rattle.child_pipeline.specs.Told.{Told}
-use Rattle.print_rounds.specs.Courses.{Course}
-use Rattle.print_rounds.specs.World.{key_in, keys_in, IsHeld, IsCallTurn}
-use Rattle.job_table.specs.Turns.{AreOnce, IsAmong, IsReached}
-use Rattle.job_table.specs.Versions.{raised}
+use Rattle.child_pipeline.specs.ChildTraces.{ChildTrace}
+use Rattle.print_rounds.specs.RunStates.{RunState}
+use Rattle.print_rounds.specs.StageHistory.{key_in, keys_in, IsHeld, IsStageCall}
+use Rattle.job_table.specs.TableCalls.{AreOnce, IsAmong, IsReached}
+use Rattle.job_table.specs.TableVersions.{raised}
 use Rattle.print_rounds.proofs.HoldLaws.{Laws}
 use Rattle.print_rounds.proofs.KeyLaws.{accepted_both, among_either, once_both, reached_later, reached_sooner}
 use Rattle.print_rounds.proofs.PrefixLaws.{after_both}
 
-module _ {D : Type 0} (laws : Laws) (old mid new : Course D) (t : Told) (more further : List Event) (one : IsCallTurn t old more mid) (two : IsCallTurn one.now mid further new) where
+module _ {D : Type 0} (laws : Laws) (old mid new : RunState D) (t : ChildTrace) (more further : List Event) (one : IsStageCall t old more mid) (two : IsStageCall one.now mid further new) where
   abbrev first_keys : List Key
   first_keys = keys_in one.orders
 
@@ -62,7 +62,7 @@ module _ {D : Type 0} (laws : Laws) (old mid new : Course D) (t : Told) (more fu
     | inr gone ↦ inr (subst (λ s. IsSpent s k) (sym two.turn.table) (laws.spent between k further legal_between gone))
   ]
 
-  pub joined : IsCallTurn t old (more ++ further) new
+  pub joined : IsStageCall t old (more ++ further) new
   joined = record {
     now = two.now;
     tells = two.tells;

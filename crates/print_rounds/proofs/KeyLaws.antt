@@ -5,14 +5,14 @@ use Rattle.spool_types.specs.declared.event.Event.{Event}
 use Rattle.spool_types.specs.declared.event.Event.TheVariants.{Start, Stage}
 use Rattle.spool_types.specs.State.{State}
 use Rattle.job_table.specs.Attempts.{next_of}
-use Rattle.job_table.specs.Fold.{after_all, after_one, unless_refused, AreAccepted}
+use Rattle.job_table.specs.EventFold.{after_all, after_one, unless_refused, AreAccepted}
 use Rattle.job_table.specs.Stages.{Key, IsIn}
 use Rattle.job_table.specs.Step.{after, refusal_of}
-use Rattle.spool_core.specs.Standing.{Standing, IsAnswer}
-use Rattle.child_pipeline.specs.Slots.{end_in}
+use Rattle.spool_core.specs.OpenSpools.{OpenSpool, IsAnswer}
+use Rattle.child_pipeline.specs.StageSlots.{end_in}
 use Rattle.print_rounds.specs.Counts.{acknowledged_by, start_events, starting_events, report_events, ending_events}
-use Rattle.print_rounds.specs.Courses.{Answer, Course, Starting, IsStartingOf, AreStartings, Ending, IsReport, IsEnding, IsEndingOf, AreEndings, is_silent}
-use Rattle.job_table.specs.Turns.{AreOnce, IsAmong, IsReached}
+use Rattle.print_rounds.specs.RunStates.{Answer, RunState, Starting, IsStartingOf, AreStartings, Ending, IsReport, IsEnding, IsEndingOf, AreEndings, is_silent}
+use Rattle.job_table.specs.TableCalls.{AreOnce, IsAmong, IsReached}
 use Rattle.print_rounds.specs.declared.outcome.Report.{Report}
 use Rattle.print_rounds.specs.declared.outcome.Report.TheVariants as reports
 use Rattle.std.specs.FinMap as finite
@@ -65,41 +65,41 @@ reached_later s es fs k r = record {
 -- ## The events of a round
 
 module _ {D : Type 0} (device : DiskView D) where
-  answer_accepted : (old : Standing D) (e : Event) (a : Answer) (new : Standing D) → IsAnswer device old e a new → AreAccepted old.state (acknowledged_by e a)
+  answer_accepted : (old : OpenSpool D) (e : Event) (a : Answer) (new : OpenSpool D) → IsAnswer device old e a new → AreAccepted old.state (acknowledged_by e a)
   answer_accepted old e (Ok reply) new done = (done.fits.accepted, tt)
   answer_accepted old e (Err fault) new is = tt
 
-  start_accepted : (old : Standing D) (o : Option ℕ) (answer : Option Answer) (new : Standing D) → IsStartingOf device old o answer new → AreAccepted old.state (start_events o answer)
+  start_accepted : (old : OpenSpool D) (o : Option ℕ) (answer : Option Answer) (new : OpenSpool D) → IsStartingOf device old o answer new → AreAccepted old.state (start_events o answer)
   start_accepted old None answer new is = tt
   start_accepted old (Some j) None new is = absurd is
   start_accepted old (Some j) (Some a) new (accepted, is) = answer_accepted old (Start j) a new is.cause
 
-  start_table : (old : Standing D) (o : Option ℕ) (answer : Option Answer) (new : Standing D) → IsStartingOf device old o answer new → new.state ≡ after_all old.state (start_events o answer)
-  start_table old None answer new (none, same) = ap (λ (x : Standing D). x.state) same
+  start_table : (old : OpenSpool D) (o : Option ℕ) (answer : Option Answer) (new : OpenSpool D) → IsStartingOf device old o answer new → new.state ≡ after_all old.state (start_events o answer)
+  start_table old None answer new (none, same) = ap (λ (x : OpenSpool D). x.state) same
   start_table old (Some j) None new is = absurd is
   start_table old (Some j) (Some a) new (accepted, is) = answer_table device old (Start j) a new is.cause
 
-  pub starts_accepted : (old : Standing D) (ts : List (Starting D)) (new : Standing D) → AreStartings device old ts new → AreAccepted old.state (starting_events old ts)
+  pub starts_accepted : (old : OpenSpool D) (ts : List (Starting D)) (new : OpenSpool D) → AreStartings device old ts new → AreAccepted old.state (starting_events old ts)
   starts_accepted old [] new same = tt
   starts_accepted old (t ∷ ts) new (start, starts) =
       let o = next_of old.state t.queue in
       accepted_both old.state (start_events o t.answer) (starting_events t.next ts) (start_accepted old o t.answer t.next start)
       (subst (λ s. AreAccepted s (starting_events t.next ts)) (start_table old o t.answer t.next start) (starts_accepted t.next ts new starts))
 
-  report_accepted : (kept : Course D) (j : ℕ) (r : Report) (next : Course D) → IsReport device kept j r next → AreAccepted kept.spool.state (report_events (Stage (end_in kept.slots j)) r)
+  report_accepted : (kept : RunState D) (j : ℕ) (r : Report) (next : RunState D) → IsReport device kept j r next → AreAccepted kept.spool.state (report_events (Stage (end_in kept.slots j)) r)
   report_accepted kept j reports.Silent next is = tt
   report_accepted kept j reports.NoMemory next is = tt
   report_accepted kept j (reports.Answered a) next is = answer_accepted kept.spool (Stage (end_in kept.slots j)) a next.spool is.0.cause
 
-  end_accepted : (old : Course D) (e : Ending D) → IsEnding device old e → AreAccepted old.spool.state (report_events (Stage (end_in e.kept.slots e.job)) e.report)
+  end_accepted : (old : RunState D) (e : Ending D) → IsEnding device old e → AreAccepted old.spool.state (report_events (Stage (end_in e.kept.slots e.job)) e.report)
   end_accepted old e ends = by_silence (is_silent (finite.get old.slots e.job)) ends
     where
       by_silence : (b : Bool) → IsEndingOf device old b e → AreAccepted old.spool.state (report_events (Stage (end_in e.kept.slots e.job)) e.report)
       by_silence true (silent, kept, next) = subst (λ r. AreAccepted old.spool.state (report_events (Stage (end_in e.kept.slots e.job)) r)) (sym silent) tt
       by_silence false (finishes, same, report) =
-          subst (λ (x : Standing D). AreAccepted x.state (report_events (Stage (end_in e.kept.slots e.job)) e.report)) same (report_accepted e.kept e.job e.report e.next report)
+          subst (λ (x : OpenSpool D). AreAccepted x.state (report_events (Stage (end_in e.kept.slots e.job)) e.report)) same (report_accepted e.kept e.job e.report e.next report)
 
-  pub ends_accepted : (old : Course D) (es : List (Ending D)) (new : Course D) → AreEndings device old es new → AreAccepted old.spool.state (ending_events es)
+  pub ends_accepted : (old : RunState D) (es : List (Ending D)) (new : RunState D) → AreEndings device old es new → AreAccepted old.spool.state (ending_events es)
   ends_accepted old [] new same = tt
   ends_accepted old (e ∷ es) new (ends, others) =
       let events = report_events (Stage (end_in e.kept.slots e.job)) e.report in

@@ -8,13 +8,13 @@ use Rattle.filter_args.specs.declared.place.Place.{Place}
 use Rattle.child_pipeline.specs.declared.order.Order.{Order}
 use Rattle.child_pipeline.specs.declared.order.ChildFault.{ChildFault}
 use Rattle.child_pipeline.specs.declared.order.Placed.{Placed}
-use Rattle.child_pipeline.specs.Told.{Told, is_in, starts_first, started_by, after_start}
-use Rattle.child_pipeline.specs.Slots.{Slots, slot_in, begun, begun_in, with_progress, put_progress, progress_after, IsStart, IsStartOf, IsTicketless, order_in}
+use Rattle.child_pipeline.specs.ChildTraces.{ChildTrace, is_in, starts_first, started_by, after_start}
+use Rattle.child_pipeline.specs.StageSlots.{Slots, slot_in, begun, begun_in, with_progress, put_progress, progress_after, IsStart, IsStartOf, IsTicketless, order_in}
 use Rattle.child_pipeline.specs.declared.runner.Progress.{Progress}
 use Rattle.child_pipeline.specs.declared.runner.Progress.TheVariants.{Ready, Running, Ended}
 use Rattle.child_pipeline.specs.declared.runner.Slot.{Slot}
 use Rattle.print_rounds.specs.Choice.{slots_for, slots_in, slots_by, new_slots, readiness}
-use Rattle.print_rounds.specs.Courses.{Launching, IsLaunch, AreLaunchings, given}
+use Rattle.print_rounds.specs.RunStates.{Launching, IsLaunch, AreLaunchings, given}
 use Rattle.print_rounds.specs.declared.outcome.Launch.{Launch}
 use Rattle.print_rounds.specs.declared.outcome.Launch.TheVariants.{Unlaunched, Launched, NoMemory, Disk, Dead}
 use Rattle.print_rounds.specs.Finished.{AreDistinct, with_number, with_slot, running_in, AreBefore, AreStarted, AllRest, after_starts}
@@ -61,8 +61,8 @@ due_own slots r own due = by_phase r.phase refl due
     by_phase (Aborted reason) is e = absurd (cc)
 
 -- what the start of one stage leaves
-pub record IsOneStart (t : Told) (old : Slots) (j : ℕ) (new : Slots) (told : Option Told) : Type 0 where
-  pub now : Told
+pub record IsOneStart (t : ChildTrace) (old : Slots) (j : ℕ) (new : Slots) (told : Option ChildTrace) : Type 0 where
+  pub now : ChildTrace
   pub tells : told ≡ Some now
   pub asked : List Order
   pub only : now ≡ after_starts t asked
@@ -74,7 +74,7 @@ pub record IsOneStart (t : Told) (old : Slots) (j : ℕ) (new : Slots) (told : O
   pub same : SameBut j old new
 
 -- no child was started
-none_started : (t : Told) (old : Slots) (j : ℕ) (new : Slots) (told : Option Told) → told ≡ Some t → SameBut j old new → with_slot (finite.get new j) [] ≡ [] → IsOneStart t old j new told
+none_started : (t : ChildTrace) (old : Slots) (j : ℕ) (new : Slots) (told : Option ChildTrace) → told ≡ Some t → SameBut j old new → with_slot (finite.get new j) [] ≡ [] → IsOneStart t old j new told
 none_started t old j new told tells same rests = record {
   now = t;
   tells = tells;
@@ -89,7 +89,7 @@ none_started t old j new told tells same rests = record {
 }
 
 -- the answers that were to come say whether it was
-started_one : (t : Told) (order : Order) (b : Bool) (n : ℕ) (old own : Slots) (j : ℕ) (new : Slots) (told : Option Told) → IsOwn old j own → new ≡ put_progress own j (progress_after b n) → IsStartOf t order b n told → IsOneStart t old j new told
+started_one : (t : ChildTrace) (order : Order) (b : Bool) (n : ℕ) (old own : Slots) (j : ℕ) (new : Slots) (told : Option ChildTrace) → IsOwn old j own → new ≡ put_progress own j (progress_after b n) → IsStartOf t order b n told → IsOneStart t old j new told
 started_one t order b n old own j new told is put start = by_answer t.starts refl
   where
     here : finite.get new j ≡ Some (with_progress (slot_in own j) (progress_after b n))
@@ -135,7 +135,7 @@ started_one t order b n old own j new told is put start = by_answer t.starts ref
         }
 
 -- there is a slot for the stage, and no child was started
-own_started : (t : Told) (old : Slots) (j : ℕ) (r : Job) (own new : Slots) (told : Option Told) → r.id ≡ j → IsOwn old r.id own → told ≡ Some t → with_slot (finite.get old j) [] ≡ [] → new ≡ own → IsOneStart t old j new told
+own_started : (t : ChildTrace) (old : Slots) (j : ℕ) (r : Job) (own new : Slots) (told : Option ChildTrace) → r.id ≡ j → IsOwn old r.id own → told ≡ Some t → with_slot (finite.get old j) [] ≡ [] → new ≡ own → IsOneStart t old j new told
 own_started t old j r own new told id is tells rests same =
     subst (λ i. IsOneStart t old i new told) id
     (none_started t old r.id new told tells (λ k other. ap (λ m. finite.get m k) same ∙ is.same k other)
@@ -145,7 +145,7 @@ own_started t old j r own new told id is tells rests same =
 abbrev pub HasNumbers : State → Type 0
 HasNumbers s = (j : ℕ) (r : Job) → job_at s j ≡ Some r → r.id ≡ j
 
-one_launch : (place : Place) (s : State) → HasNumbers s → (t : Told) (old : Slots) (told : Option Told) (j : ℕ) (d : Option (List ℕ)) (l : Launch) (new : Slots) (told' : Option Told) → IsLaunch place s old told j d l new told' → told ≡ Some t → with_slot (finite.get old j) [] ≡ [] → IsOneStart t old j new told'
+one_launch : (place : Place) (s : State) → HasNumbers s → (t : ChildTrace) (old : Slots) (told : Option ChildTrace) (j : ℕ) (d : Option (List ℕ)) (l : Launch) (new : Slots) (told' : Option ChildTrace) → IsLaunch place s old told j d l new told' → told ≡ Some t → with_slot (finite.get old j) [] ≡ [] → IsOneStart t old j new told'
 one_launch place s numbers t old told j d Unlaunched new told' (rests_on, none, same, tells') tells rests =
     none_started t old j new told' (tells' ∙ tells) (λ k other. ap (λ m. finite.get m k) same) (ap (λ m. with_slot (finite.get m j) []) same ∙ rests)
 one_launch place s numbers t old told j d (Launched b) new told' (r, q, own, due, input, starts) tells rests =
@@ -181,19 +181,19 @@ both_before : (f : ℕ) (xs ys : List Placed) → AreBefore f xs → AreBefore f
 both_before f [] ys first second = second
 both_before f (x ∷ xs) ys first second = (first.0, both_before f xs ys first.1 second)
 
-starts_append : (t : Told) (first more : List Order) → after_starts t (first ++ more) ≡ after_starts (after_starts t first) more
+starts_append : (t : ChildTrace) (first more : List Order) → after_starts t (first ++ more) ≡ after_starts (after_starts t first) more
 starts_append t [] more = refl
 starts_append t (order ∷ first) more = starts_append (after_start t order) first more
 
 -- what all the starts leave, also of other jobs
-pub record AreAllStarted (t : Told) (old : Slots) (js : List ℕ) (new : Slots) (told : Option Told) : Type 0 where
-  pub now : Told
+pub record AreAllStarted (t : ChildTrace) (old : Slots) (js : List ℕ) (new : Slots) (told : Option ChildTrace) : Type 0 where
+  pub now : ChildTrace
   pub tells : told ≡ Some now
   pub are : AreStarted t new js now
   pub others : (k : ℕ) → is_in k js ≡ false → finite.get new k ≡ finite.get old k
 
 -- The new orders were all given before the first finish, whatever failed.
-pub all_started : (place : Place) (s : State) → HasNumbers s → (t : Told) (old : Slots) (told : Option Told) (ts : List Launching) (new : Slots) (told' : Option Told) → AreLaunchings place s old told ts new told' → told ≡ Some t → AllRest old (map (λ l. l.job) ts) → AreDistinct (map (λ l. l.job) ts) → AreAllStarted t old (map (λ l. l.job) ts) new told'
+pub all_started : (place : Place) (s : State) → HasNumbers s → (t : ChildTrace) (old : Slots) (told : Option ChildTrace) (ts : List Launching) (new : Slots) (told' : Option ChildTrace) → AreLaunchings place s old told ts new told' → told ≡ Some t → AllRest old (map (λ l. l.job) ts) → AreDistinct (map (λ l. l.job) ts) → AreAllStarted t old (map (λ l. l.job) ts) new told'
 all_started place s numbers t old told [] new told' (same, tells') tells rests distinct = record {
   now = t;
   tells = tells' ∙ tells;
@@ -228,7 +228,7 @@ one_same : (old own new : Slots) (r : Job) (p : Slot ℕ) → IsOwn old r.id own
 one_same old own new r p is put = λ k other. ap (λ m. finite.get m k) put ∙ get_other own r.id k p other ∙ is.same k other
 
 -- the start of a stage changes the slot of its job alone
-launch_same : (place : Place) (s : State) → HasNumbers s → (old : Slots) (told : Option Told) (j : ℕ) (d : Option (List ℕ)) (l : Launch) (new : Slots) (told' : Option Told) → IsLaunch place s old told j d l new told' → SameBut j old new
+launch_same : (place : Place) (s : State) → HasNumbers s → (old : Slots) (told : Option ChildTrace) (j : ℕ) (d : Option (List ℕ)) (l : Launch) (new : Slots) (told' : Option ChildTrace) → IsLaunch place s old told j d l new told' → SameBut j old new
 launch_same place s numbers old told j d Unlaunched new told' (rests_on, none, same, tells) = λ k other. ap (λ m. finite.get m k) same
 launch_same place s numbers old told j d (Launched b) new told' (r, q, own, due, input, starts) = λ k other.
     let id : r.id ≡ j = numbers j r due.row in
@@ -242,7 +242,7 @@ launch_same place s numbers old told j d Disk new told' (r, q, own, due, none, s
 launch_same place s numbers old told j d Dead new told' (none, same, tells) = λ k other. ap (λ m. finite.get m k) same
 
 -- the starts change the slots of their jobs alone
-pub launches_same : (place : Place) (s : State) → HasNumbers s → (old : Slots) (told : Option Told) (ts : List Launching) (new : Slots) (told' : Option Told) → AreLaunchings place s old told ts new told' → (k : ℕ) → is_in k (map (λ l. l.job) ts) ≡ false → finite.get new k ≡ finite.get old k
+pub launches_same : (place : Place) (s : State) → HasNumbers s → (old : Slots) (told : Option ChildTrace) (ts : List Launching) (new : Slots) (told' : Option ChildTrace) → AreLaunchings place s old told ts new told' → (k : ℕ) → is_in k (map (λ l. l.job) ts) ≡ false → finite.get new k ≡ finite.get old k
 launches_same place s numbers old told [] new told' (same, tells) k out = ap (λ m. finite.get m k) same
 launches_same place s numbers old told (l ∷ ts) new told' (launch, launches) k out =
     launches_same place s numbers l.slots l.told ts new told' launches k (not_second (l.job == k) (is_in k (map (λ l. l.job) ts)) out)
@@ -271,7 +271,7 @@ rests_at m (j ∷ js) rests zero lt d = rests.0
 rests_at m (j ∷ js) rests (suc i) lt d = rests_at m js rests.1 i (omega (arith, lt)) d
 
 -- so its slot still runs no child when its turn comes
-pub rests_on : (place : Place) (s : State) → HasNumbers s → (old : Slots) (told : Option Told) (ts : List Launching) (new : Slots) (told' : Option Told) → AreLaunchings place s old told ts new told' → (js : List ℕ) → AreDistinct js → AllRest old js → (i : ℕ) → map (λ l. l.job) ts ≡ take i js → i < length js → (j : ℕ) → j ≡ get_or js i j → IsTicketless (finite.get new j)
+pub rests_on : (place : Place) (s : State) → HasNumbers s → (old : Slots) (told : Option ChildTrace) (ts : List Launching) (new : Slots) (told' : Option ChildTrace) → AreLaunchings place s old told ts new told' → (js : List ℕ) → AreDistinct js → AllRest old js → (i : ℕ) → map (λ l. l.job) ts ≡ take i js → i < length js → (j : ℕ) → j ≡ get_or js i j → IsTicketless (finite.get new j)
 rests_on place s numbers old told ts new told' launches js distinct rests i so_far lt j is =
     let out : is_in j (map (λ l. l.job) ts) ≡ false = ap (λ k. is_in k (map (λ l. l.job) ts)) is ∙ ap (λ ks. is_in (get_or js i j) ks) so_far ∙ not_before js distinct i lt j in
     subst IsTicketless (sym (launches_same place s numbers old told ts new told' launches j out)) (subst (λ k. IsTicketless (finite.get old k)) (sym is) (rests_at old js rests i lt j))

@@ -21,7 +21,7 @@ pub mod ToldLaws
 pub mod KeyLaws
 pub mod HoldLaws
 pub mod VersionLaws
-pub mod WorldLaws
+pub mod StageHistoryLaws
 pub mod JoinLaws
 pub mod RoundLaws
 pub mod WaitLaws

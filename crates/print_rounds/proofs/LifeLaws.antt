@@ -10,20 +10,20 @@ use Rattle.spool_types.specs.declared.phase.Phase.TheVariants.{Incoming, Waiting
 use Rattle.spool_types.specs.Phases.{is_processing}
 use Rattle.spool_types.specs.State.{State, Job, job_at}
 use Rattle.job_table.specs.Attempts.{HasNoProcessing, is_in_stage}
-use Rattle.job_table.specs.Fold.{after_all}
+use Rattle.job_table.specs.EventFold.{after_all}
 use Rattle.job_table.specs.Legal.{IsLegal}
 use Rattle.job_table.specs.Stages.{Key, IsIn, IsSpent}
-use Rattle.job_table.specs.Turns.{IsAmong, AreOnce}
-use Rattle.job_table.specs.Versions.{raised}
-use Rattle.child_pipeline.specs.Slots.{Slots, is_ready}
-use Rattle.child_pipeline.specs.Told.{Told}
+use Rattle.job_table.specs.TableCalls.{IsAmong, AreOnce}
+use Rattle.job_table.specs.TableVersions.{raised}
+use Rattle.child_pipeline.specs.StageSlots.{Slots, is_ready}
+use Rattle.child_pipeline.specs.ChildTraces.{ChildTrace}
 use Rattle.child_pipeline.specs.declared.order.Placed.{Placed}
 use Rattle.child_pipeline.specs.declared.runner.Progress.{Progress}
 use Rattle.child_pipeline.specs.declared.runner.Progress.TheVariants.{Ready, Running, Ended}
 use Rattle.child_pipeline.specs.declared.runner.Slot.{Slot}
-use Rattle.print_rounds.specs.Courses.{Course}
-use Rattle.print_rounds.specs.Lives.{Keys, Has, Turn, IsTurnOf, AreTurns, Life, IsLife, last_table, end_of, AreLives, IsWorld, keys_of_turns, keys_of_life, keys_of, is_in_of, is_begun_of, is_held, turn_of, AreCallTurns, turns_of, life_of, last_left}
-use Rattle.print_rounds.specs.World.{IsBegunSlot, IsHeld, IsCallTurn, key_in, keys_in}
+use Rattle.print_rounds.specs.RunStates.{RunState}
+use Rattle.print_rounds.specs.StageLives.{Keys, Has, StageCall, IsStageCallOf, AreStageCallsOn, Life, IsLife, last_table, end_of, AreLives, IsStageHistory, keys_of_calls, keys_of_life, keys_of, is_in_of, is_begun_of, is_held, stage_call_of, AreStageCalls, stage_calls_of, life_of, last_left}
+use Rattle.print_rounds.specs.StageHistory.{IsBegunSlot, IsHeld, IsStageCall, key_in, keys_in}
 use Rattle.print_rounds.proofs.HoldLaws.{Laws}
 use Rattle.print_rounds.proofs.KeyLaws.{among_either, once_both}
 use Rattle.print_rounds.proofs.PrefixLaws.{after_both}
@@ -43,7 +43,7 @@ module _ (laws : Laws) where
   came_on s k es legal (inr gone) = inr (laws.spent s k es legal gone)
 
   -- The tables of a turn are seen as the newest version has them.
-  module _ (t : Turn) (turn : IsTurnOf t) where
+  module _ (t : StageCall) (turn : IsStageCallOf t) where
     abbrev before : State
     before = raised t.table
 
@@ -84,9 +84,9 @@ module _ (laws : Laws) where
   IsDone s held over k = over ≡ false → Has held k ⊎ IsSpent s k
 
   -- no turn starts what is held or spent before it
-  none_again : (ts : List Turn) (s : State) (held : Keys) (over : Bool) → AreTurns s held over ts → (k : Key) → IsDone s held over k → IsAmong (keys_of_turns ts) k → ⊥
+  none_again : (ts : List StageCall) (s : State) (held : Keys) (over : Bool) → AreStageCallsOn s held over ts → (k : Key) → IsDone s held over k → IsAmong (keys_of_calls ts) k → ⊥
   none_again [] s held over turns k done among = among
-  none_again (t ∷ ts) s held over (same_table, same_held, turn, quiet, turns) k done among = elim (among_either t.keys (keys_of_turns ts) k among) [
+  none_again (t ∷ ts) s held over (same_table, same_held, turn, quiet, turns) k done among = elim (among_either t.keys (keys_of_calls ts) k among) [
     | inl now ↦ here over refl now
     | inr later ↦ none_again ts t.table_after t.held_after (over || t.over) turns k then later
   ]
@@ -108,24 +108,24 @@ module _ (laws : Laws) where
       then lives = let both = or_parts over t.over lives in settled_then t turn both.1 k (at_start both.0)
 
   -- nor what one of them has started
-  turns_once : (ts : List Turn) (s : State) (held : Keys) (over : Bool) → AreTurns s held over ts → AreOnce (keys_of_turns ts)
+  turns_once : (ts : List StageCall) (s : State) (held : Keys) (over : Bool) → AreStageCallsOn s held over ts → AreOnce (keys_of_calls ts)
   turns_once [] s held over turns = tt
   turns_once (t ∷ ts) s held over (same_table, same_held, turn, quiet, turns) =
-      once_both t.keys (keys_of_turns ts) turn.distinct (turns_once ts t.table_after t.held_after (over || t.over) turns)
+      once_both t.keys (keys_of_calls ts) turn.distinct (turns_once ts t.table_after t.held_after (over || t.over) turns)
       (λ k now later. none_again ts t.table_after t.held_after (over || t.over) turns k (λ lives. turn.settled (or_parts over t.over lives).1 k (inr now)) later)
 
-  turns_legal : (ts : List Turn) (s : State) (held : Keys) (over : Bool) → AreTurns s held over ts → IsLegal (raised s) → IsLegal (raised (last_table s ts))
+  turns_legal : (ts : List StageCall) (s : State) (held : Keys) (over : Bool) → AreStageCallsOn s held over ts → IsLegal (raised s) → IsLegal (raised (last_table s ts))
   turns_legal [] s held over turns legal = legal
   turns_legal (t ∷ ts) s held over (same_table, same_held, turn, quiet, turns) legal = turns_legal ts t.table_after t.held_after (over || t.over) turns (legal_then t turn)
 
-  came_through : (ts : List Turn) (s : State) (held : Keys) (over : Bool) → AreTurns s held over ts → (k : Key) → Came (raised s) k → Came (raised (last_table s ts)) k
+  came_through : (ts : List StageCall) (s : State) (held : Keys) (over : Bool) → AreStageCallsOn s held over ts → (k : Key) → Came (raised s) k → Came (raised (last_table s ts)) k
   came_through [] s held over turns k came = came
   came_through (t ∷ ts) s held over (same_table, same_held, turn, quiet, turns) k came =
       came_through ts t.table_after t.held_after (over || t.over) turns k (still_came t turn k (subst (λ u. Came (raised u) k) (sym same_table) came))
 
-  came_in : (ts : List Turn) (s : State) (held : Keys) (over : Bool) → AreTurns s held over ts → (k : Key) → IsAmong (keys_of_turns ts) k → Came (raised (last_table s ts)) k
+  came_in : (ts : List StageCall) (s : State) (held : Keys) (over : Bool) → AreStageCallsOn s held over ts → (k : Key) → IsAmong (keys_of_calls ts) k → Came (raised (last_table s ts)) k
   came_in [] s held over turns k among = absurd among
-  came_in (t ∷ ts) s held over (same_table, same_held, turn, quiet, turns) k among = elim (among_either t.keys (keys_of_turns ts) k among) [
+  came_in (t ∷ ts) s held over (same_table, same_held, turn, quiet, turns) k among = elim (among_either t.keys (keys_of_calls ts) k among) [
     | inl now ↦ came_through ts t.table_after t.held_after (over || t.over) turns k (has_come t turn k now)
     | inr later ↦ came_in ts t.table_after t.held_after (over || t.over) turns k later
   ]
@@ -133,11 +133,11 @@ module _ (laws : Laws) where
   -- ## A life
 
   module _ (l : Life) (life : IsLife l) where
-    abbrev first : Turn
+    abbrev first : StageCall
     first = l.first
 
     life_once : AreOnce (keys_of_life l)
-    life_once = once_both first.keys (keys_of_turns l.later) (life.turn).distinct (turns_once l.later first.table_after first.held_after first.over life.turns)
+    life_once = once_both first.keys (keys_of_calls l.later) (life.turn).distinct (turns_once l.later first.table_after first.held_after first.over life.turns)
         (λ k now later. none_again l.later first.table_after first.held_after first.over life.turns k (λ lives. (life.turn).settled lives k (inr now)) later)
 
     life_legal : IsLegal (raised (end_of l))
@@ -145,7 +145,7 @@ module _ (laws : Laws) where
 
     -- what it has started has come by its end
     life_came : (k : Key) → IsAmong (keys_of_life l) k → Came (raised (end_of l)) k
-    life_came k among = elim (among_either first.keys (keys_of_turns l.later) k among) [
+    life_came k among = elim (among_either first.keys (keys_of_calls l.later) k among) [
       | inl now ↦ came_through l.later first.table_after first.held_after first.over life.turns k (has_come first life.turn k now)
       | inr later ↦ came_in l.later first.table_after first.held_after first.over life.turns k later
     ]
@@ -157,7 +157,7 @@ module _ (laws : Laws) where
 
     -- and isn't started in it
     life_none : (k : Key) → Came (raised first.table) k → IsAmong (keys_of_life l) k → ⊥
-    life_none k came among = elim (among_either first.keys (keys_of_turns l.later) k among) [
+    life_none k came among = elim (among_either first.keys (keys_of_calls l.later) k among) [
       | inl now ↦ not_again first life.turn k (spent_first k came) now
       | inr later ↦ none_again l.later first.table_after first.held_after first.over life.turns k (λ lives. inr (still_spent first life.turn k (spent_first k came))) later
     ]
@@ -182,7 +182,7 @@ module _ (laws : Laws) where
       once_both (keys_of_life l) (keys_of ls) (life_once l life) (lives_once ls (end_of l) lives)
       (λ k now later. lives_none ls (end_of l) (life_legal l life) lives k (life_came l life k now) later)
 
-  pub world_once : (ls : List Life) → IsWorld ls → AreOnce (keys_of ls)
+  pub world_once : (ls : List Life) → IsStageHistory ls → AreOnce (keys_of ls)
   world_once [] world = tt
   world_once (l ∷ ls) (life, lives) =
       once_both (keys_of_life l) (keys_of ls) (life_once l life) (lives_once ls (end_of l) lives)
@@ -236,7 +236,7 @@ module _ (s : State) (slots : Slots) (k : Key) where
       (and_from (kept.slot.attempt == k.attempt) (kept.slot.stage == k.stage) (eq-eqb _ _ kept.attempt) (eq-eqb _ _ kept.stage)) (ap not kept.begun))
 
 -- a call is a turn
-call_turn : {D : Type 0} (t : Told) (old new : Course D) (more : List Event) (call : IsCallTurn t old more new) → IsTurnOf (turn_of old more new (keys_in call.orders))
+call_turn : {D : Type 0} (t : ChildTrace) (old new : RunState D) (more : List Event) (call : IsStageCall t old more new) → IsStageCallOf (stage_call_of old more new (keys_in call.orders))
 call_turn t old new more call = record {
   legal = call.turn.legal;
   accepted = call.turn.accepted;
@@ -254,7 +254,7 @@ call_turn t old new more call = record {
 }
 
 -- calls one after the other are turns
-calls_turns : {D : Type 0} (cs : List (List Event × Course D)) (t : Told) (old : Course D) (calls : AreCallTurns t old cs) → AreTurns old.spool.state (is_held old.spool.state old.slots) old.spool.dead (turns_of t old cs calls)
+calls_turns : {D : Type 0} (cs : List (List Event × RunState D)) (t : ChildTrace) (old : RunState D) (calls : AreStageCalls t old cs) → AreStageCallsOn old.spool.state (is_held old.spool.state old.slots) old.spool.dead (stage_calls_of t old cs calls)
 calls_turns [] t old calls = tt
 calls_turns (c ∷ cs) t old calls =
     let call = calls.0 in (
@@ -262,7 +262,7 @@ calls_turns (c ∷ cs) t old calls =
       refl,
       call_turn t old c.1 c.0 call,
       λ died. ap keys_in (call.after_over died).0,
-      subst (λ b. AreTurns (c.1).spool.state (is_held (c.1).spool.state (c.1).slots) b (turns_of call.now c.1 cs calls.1)) (sym (dead_on old.spool.dead refl (call.after_over)))
+      subst (λ b. AreStageCallsOn (c.1).spool.state (is_held (c.1).spool.state (c.1).slots) b (stage_calls_of call.now c.1 cs calls.1)) (sym (dead_on old.spool.dead refl (call.after_over)))
           (calls_turns cs call.now c.1 calls.1),
     )
   where
@@ -279,7 +279,7 @@ none_held s slots none k is = by_slot (finite.get slots k.job) (ap (λ (m : Slot
     by_slot (Some slot) at begun = absurd (cc)
 
 -- so they are a life
-pub calls_life : {D : Type 0} (t : Told) (old : Course D) (c : List Event × Course D) (cs : List (List Event × Course D)) (calls : AreCallTurns t old (c ∷ cs))
+pub calls_life : {D : Type 0} (t : ChildTrace) (old : RunState D) (c : List Event × RunState D) (cs : List (List Event × RunState D)) (calls : AreStageCalls t old (c ∷ cs))
     → HasNoProcessing old.spool.state → old.slots ≡ finite.empty → IsLife (life_of t old c cs calls)
 calls_life t old c cs calls idle none = record {
   idle = idle;
@@ -288,18 +288,18 @@ calls_life t old c cs calls idle none = record {
   turns = calls_turns cs calls.0.now c.1 calls.1;
 }
 
-calls_end : {D : Type 0} (cs : List (List Event × Course D)) (t : Told) (old : Course D) (calls : AreCallTurns t old cs) → last_table old.spool.state (turns_of t old cs calls) ≡ (last_left old cs).spool.state
+calls_end : {D : Type 0} (cs : List (List Event × RunState D)) (t : ChildTrace) (old : RunState D) (calls : AreStageCalls t old cs) → last_table old.spool.state (stage_calls_of t old cs calls) ≡ (last_left old cs).spool.state
 calls_end [] t old calls = refl
 calls_end (c ∷ cs) t old calls = calls_end cs calls.0.now c.1 calls.1
 
-pub life_end : {D : Type 0} (t : Told) (old : Course D) (c : List Event × Course D) (cs : List (List Event × Course D)) (calls : AreCallTurns t old (c ∷ cs)) → end_of (life_of t old c cs calls) ≡ (last_left c.1 cs).spool.state
+pub life_end : {D : Type 0} (t : ChildTrace) (old : RunState D) (c : List Event × RunState D) (cs : List (List Event × RunState D)) (calls : AreStageCalls t old (c ∷ cs)) → end_of (life_of t old c cs calls) ≡ (last_left c.1 cs).spool.state
 life_end t old c cs calls = calls_end cs calls.0.now c.1 calls.1
 
 -- the orders that come in calls, and their stages
-abbrev HasOrders : {D : Type 0} → Told → List Key → Course D → Type 0
-HasOrders t keys last = (now : Told) × (last.told ≡ Some now) × (orders : List Placed) × (now.orders ≡ t.orders ++ orders) × (keys ≡ keys_in orders)
+abbrev HasOrders : {D : Type 0} → ChildTrace → List Key → RunState D → Type 0
+HasOrders t keys last = (now : ChildTrace) × (last.told ≡ Some now) × (orders : List Placed) × (now.orders ≡ t.orders ++ orders) × (keys ≡ keys_in orders)
 
-calls_orders : {D : Type 0} (cs : List (List Event × Course D)) (t : Told) (old : Course D) → old.told ≡ Some t → (calls : AreCallTurns t old cs) → HasOrders t (keys_of_turns (turns_of t old cs calls)) (last_left old cs)
+calls_orders : {D : Type 0} (cs : List (List Event × RunState D)) (t : ChildTrace) (old : RunState D) → old.told ≡ Some t → (calls : AreStageCalls t old cs) → HasOrders t (keys_of_calls (stage_calls_of t old cs calls)) (last_left old cs)
 calls_orders [] t old tells calls = (t, tells, [], sym (append-nil t.orders), refl)
 calls_orders (c ∷ cs) t old tells calls =
     let call = calls.0 in
@@ -311,12 +311,12 @@ calls_orders (c ∷ cs) t old tells calls =
       ap (λ l. keys_in call.orders ++ l) keys ∙ sym (map-append key_in call.orders rest),
     )
 
-some_told : (x y : Told) → Some x ≡ Some y → x ≡ y
+some_told : (x y : ChildTrace) → Some x ≡ Some y → x ≡ y
 some_told x y e = cc
 
-pub life_keys : {D : Type 0} (t : Told) (old : Course D) (c : List Event × Course D) (cs : List (List Event × Course D)) (calls : AreCallTurns t old (c ∷ cs)) → old.told ≡ Some t
-    → (now : Told) (orders : List Placed) → (last_left c.1 cs).told ≡ Some now → now.orders ≡ t.orders ++ orders → keys_of_life (life_of t old c cs calls) ≡ keys_in orders
+pub life_keys : {D : Type 0} (t : ChildTrace) (old : RunState D) (c : List Event × RunState D) (cs : List (List Event × RunState D)) (calls : AreStageCalls t old (c ∷ cs)) → old.told ≡ Some t
+    → (now : ChildTrace) (orders : List Placed) → (last_left c.1 cs).told ≡ Some now → now.orders ≡ t.orders ++ orders → keys_of_life (life_of t old c cs calls) ≡ keys_in orders
 life_keys t old c cs calls tells now orders tells_then added =
     let (now', tells_now, orders', added', keys) = calls_orders (c ∷ cs) t old tells calls in
     let same : now' ≡ now = some_told now' now (sym tells_now ∙ tells_then) in
-    keys ∙ ap keys_in (append_cancel_left t.orders orders' orders (sym added' ∙ ap (λ (u : Told). u.orders) same ∙ added))
+    keys ∙ ap keys_in (append_cancel_left t.orders orders' orders (sym added' ∙ ap (λ (u : ChildTrace). u.orders) same ∙ added))

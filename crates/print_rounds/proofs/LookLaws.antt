@@ -13,13 +13,13 @@ use Rattle.std.proofs.lemmas.Cmp.{ranked}
 use Rattle.std.proofs.lemmas.List.{map-append}
 use Rattle.std.proofs.lemmas.List.Elements.{filter-append}
 use Rattle.spool_types.specs.State.{State, job_at}
-use Rattle.child_pipeline.specs.Slots.{Slots, IsBehind, IsNextJob, FinishesFrom, FinishesStage, IsEnded, IsTicketless, is_ended, slot_in, with_progress}
-use Rattle.child_pipeline.specs.Told.{Told}
+use Rattle.child_pipeline.specs.StageSlots.{Slots, IsBehind, IsNextJob, FinishesFrom, FinishesStage, IsEnded, IsTicketless, is_ended, slot_in, with_progress}
+use Rattle.child_pipeline.specs.ChildTraces.{ChildTrace}
 use Rattle.child_pipeline.specs.declared.runner.Progress.{Progress}
 use Rattle.child_pipeline.specs.declared.runner.Progress.TheVariants.{Ready, Running, Ended}
 use Rattle.child_pipeline.specs.declared.runner.Slot.{Slot}
-use Rattle.print_rounds.specs.Looks.{Look, IsLook, AreLooks, Dropping, IsDropping, AreDroppings, has_child, is_stray, ripe_in, strays}
-use Rattle.print_rounds.specs.Script.{is_current}
+use Rattle.print_rounds.specs.StageChecks.{Look, IsLook, AreLooks, Dropping, IsDropping, AreDroppings, has_child, is_stray, ripe_in, strays}
+use Rattle.print_rounds.specs.RoundScript.{is_current}
 use Rattle.print_rounds.proofs.EndLaws.{SameBut, get_other, get_left}
 use Rattle.print_rounds.proofs.FreeLaws.{IsWalkedTo, behind_on, walk_begins, walk_goes_on}
 
@@ -190,7 +190,7 @@ next_same old now behind (Some k) same (near, there, least) = (near, subst IsSom
 
 -- ## Looks
 
-pub more_looks : (waits : Bool) (slots : Slots) (told mid : Option Told) (ls : List Look) (l : Look) → AreLooks waits slots told ls mid → IsLook waits slots mid l → AreLooks waits slots told (ls ++ l ∷ []) l.told
+pub more_looks : (waits : Bool) (slots : Slots) (told mid : Option ChildTrace) (ls : List Look) (l : Look) → AreLooks waits slots told ls mid → IsLook waits slots mid l → AreLooks waits slots told (ls ++ l ∷ []) l.told
 more_looks waits slots told mid [] l same is = (subst (λ o. IsLook waits slots o l) same is, refl)
 more_looks waits slots told mid (x ∷ ls) l (first, looks) is = (first, more_looks waits slots x.told mid ls l looks is)
 
@@ -216,7 +216,7 @@ ended_rests (Some slot) ended = by_progress slot.progress ended
     by_progress (Ended finish) ended n is = absurd (cc)
 
 -- the end of a stage leaves the slots of other jobs
-pub finish_same : (told : Option Told) (slots : Slots) (j : ℕ) (new : Slots) (told' : Option Told) → FinishesStage told slots j new told' → SameBut j slots new
+pub finish_same : (told : Option ChildTrace) (slots : Slots) (j : ℕ) (new : Slots) (told' : Option ChildTrace) → FinishesStage told slots j new told' → SameBut j slots new
 finish_same told slots j new told' finishes = by_progress (slot_in slots j).progress finishes
   where
     by_progress : (p : Progress ℕ) → FinishesFrom p told slots j new told' → SameBut j slots new
@@ -224,22 +224,22 @@ finish_same told slots j new told' finishes = by_progress (slot_in slots j).prog
     by_progress (Running n) fin = λ k other. ap (λ m. finite.get m k) fin.slots ∙ get_other slots j k (with_progress (slot_in slots j) (Ended fin.finish)) other
     by_progress (Ended finish) fin = λ k other. ap (λ m. finite.get m k) fin.0
 
-pub more_droppings : (waits : Bool) (slots mid : Slots) (told told' : Option Told) (ds : List Dropping) (d : Dropping) → AreDroppings waits slots told ds mid told' → IsDropping waits mid told' d → AreDroppings waits slots told (ds ++ d ∷ []) d.slots d.told
+pub more_droppings : (waits : Bool) (slots mid : Slots) (told told' : Option ChildTrace) (ds : List Dropping) (d : Dropping) → AreDroppings waits slots told ds mid told' → IsDropping waits mid told' d → AreDroppings waits slots told (ds ++ d ∷ []) d.slots d.told
 more_droppings waits slots mid told told' [] d (same, tells) is = (subst (λ m. IsDropping waits m told d) same (subst (λ o. IsDropping waits mid o d) tells is), (refl, refl))
 more_droppings waits slots mid told told' (x ∷ ds) d (first, drops) is = (first, more_droppings waits x.slots mid x.told told' ds d drops is)
 
 -- The strays up to a job are looked at, and those that have ended are dropped.
-pub record AreDroppedTo (waits : Bool) (s : State) (old : Slots) (told : Option Told) (behind : Option ℕ) (new : Slots) (told' : Option Told) : Type 0 where
+pub record AreDroppedTo (waits : Bool) (s : State) (old : Slots) (told : Option ChildTrace) (behind : Option ℕ) (new : Slots) (told' : Option ChildTrace) : Type 0 where
   pub walked : IsWalkedTo (λ j o. Unit {0}) old behind new
   pub steps : (ds : List Dropping) × AreDroppings waits old told ds new told' × (map (λ d. d.look.job) ds ≡ filter (is_stray s old) (jobs_to behind (finite.keys old)))
 
-pub none_dropped : (waits : Bool) (s : State) (old : Slots) (told : Option Told) → AreDroppedTo waits s old told None old told
+pub none_dropped : (waits : Bool) (s : State) (old : Slots) (told : Option ChildTrace) → AreDroppedTo waits s old told None old told
 none_dropped waits s old told = record {
   walked = walk_begins (λ j o. Unit {0}) old (λ j gone. tt);
   steps = ([], (refl, refl), sym (no_filtered (is_stray s old) old));
 }
 
-module _ (waits : Bool) (s : State) (old : Slots) (told : Option Told) (behind : Option ℕ) (now : Slots) (told' : Option Told) (so_far : AreDroppedTo waits s old told behind now told') where
+module _ (waits : Bool) (s : State) (old : Slots) (told : Option ChildTrace) (behind : Option ℕ) (now : Slots) (told' : Option ChildTrace) (so_far : AreDroppedTo waits s old told behind now told') where
   module _ (k : ℕ) (next : IsNextJob now behind (Some k)) where
     -- the job's slot is as it was at the start
     at_first : is_stray s now k ≡ is_stray s old k
@@ -277,5 +277,5 @@ module _ (waits : Bool) (s : State) (old : Slots) (told : Option Told) (behind :
       (ds, are, jobs ∙ ap (filter (is_stray s old)) (all_jobs old behind (next_same old now behind None so_far.walked.ahead none)))
 
 -- a stray that was dropped leaves the slots of other jobs
-pub dropped_same : (told : Option Told) (slots kept new : Slots) (j : ℕ) (told' : Option Told) → FinishesStage told slots j kept told' → new ≡ finite.remove kept j → SameBut j slots new
+pub dropped_same : (told : Option ChildTrace) (slots kept new : Slots) (j : ℕ) (told' : Option ChildTrace) → FinishesStage told slots j kept told' → new ≡ finite.remove kept j → SameBut j slots new
 dropped_same told slots kept new j told' finishes gone k other = ap (λ m. finite.get m k) gone ∙ get_left kept j k other ∙ finish_same told slots j kept told' finishes k other

@@ -5,7 +5,7 @@ use Rattle.std.specs.Cmp.{first_so, second_so}
 use Rattle.std.proofs.lemmas.Bool.{eqb-true}
 use Rattle.spool_types.specs.declared.phase.Phase.TheVariants.{Processing}
 use Rattle.spool_types.specs.State.{Job}
-use Rattle.child_pipeline.specs.Slots.{Slots, begun, begun_in, is_ready, IsDue}
+use Rattle.child_pipeline.specs.StageSlots.{Slots, begun, begun_in, is_ready, IsDue}
 use Rattle.child_pipeline.specs.declared.runner.Slot.{Slot}
 use Rattle.print_rounds.specs.Choice.{slots_for, slots_in, slots_by, new_slots, readiness}
 use Rattle.print_rounds.proofs.EndLaws.{get_own}

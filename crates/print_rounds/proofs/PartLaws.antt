@@ -7,13 +7,13 @@ use Rattle.spool_types.specs.declared.event.Event.{Event}
 use Rattle.spool_types.specs.declared.event.Event.TheVariants.{Start, Stage}
 use Rattle.spool_types.specs.declared.event.Reply.{Reply}
 use Rattle.job_table.specs.Attempts.{next_of}
-use Rattle.job_table.specs.Fold.{after_one, after_all, unless_refused}
+use Rattle.job_table.specs.EventFold.{after_one, after_all, unless_refused}
 use Rattle.job_table.specs.Step.{refusal_of}
-use Rattle.spool_core.specs.Standing.{Standing, IsAnswer, IsDone}
+use Rattle.spool_core.specs.OpenSpools.{OpenSpool, IsAnswer, IsDone}
 use Rattle.spool_core.specs.declared.spool.apply_fault.ApplyFault.TheVariants as faults
-use Rattle.child_pipeline.specs.Slots.{end_in}
+use Rattle.child_pipeline.specs.StageSlots.{end_in}
 use Rattle.print_rounds.specs.Counts.{AreAcknowledged, acknowledged_by, tried_by, start_events, start_tried, starting_events, starting_tried, report_events, report_tried, ending_events, ending_tried}
-use Rattle.print_rounds.specs.Courses.{Course, Answer, IsApplied, Starting, IsStartingOf, AreStartings, Launching, AreReads, Ending, IsEnding, IsEndingOf, AreEndings, IsReport, is_silent}
+use Rattle.print_rounds.specs.RunStates.{RunState, Answer, IsApplied, Starting, IsStartingOf, AreStartings, Launching, AreReads, Ending, IsEnding, IsEndingOf, AreEndings, IsReport, is_silent}
 use Rattle.print_rounds.specs.declared.outcome.Report.{Report}
 use Rattle.print_rounds.specs.declared.outcome.Report.TheVariants as reports
 use Rattle.print_rounds.proofs.PrefixLaws.{after_both}
@@ -22,7 +22,7 @@ use Rattle.print_rounds.proofs.ReportLaws.{done_state, fault_state}
 
 -- A part of a round, with the events that were tried in it and those that were acknowledged. After a fault of the device
 -- nothing is done.
-pub record IsPart {D : Type 0} (device : DiskView D) (old : Standing D) (tried events : List Event) (new : Standing D) : Type 0 where
+pub record IsPart {D : Type 0} (device : DiskView D) (old : OpenSpool D) (tried events : List Event) (new : OpenSpool D) : Type 0 where
   pub table : new.state ≡ after_all old.state events
   pub acknowledged : new.dead ≡ false → tried ≡ events
   pub in_hand : AreAcknowledged new.dead tried events
@@ -33,29 +33,29 @@ pub record IsPart {D : Type 0} (device : DiskView D) (old : Standing D) (tried e
 
 module _ {D : Type 0} (device : DiskView D) where
   -- nothing is done
-  still : (old new : Standing D) → new ≡ old → IsPart device old [] [] new
+  still : (old new : OpenSpool D) → new ≡ old → IsPart device old [] [] new
   still old new same = record {
-    table = ap (λ (x : Standing D). x.state) same;
+    table = ap (λ (x : OpenSpool D). x.state) same;
     acknowledged = λ lives. refl;
     in_hand = inl refl;
     dead = λ is. same;
     none = λ died. (refl, refl);
-    counted = subst (λ (x : Standing D). device.failures old.disk ≤ device.failures x.disk) (sym same) (omega arith);
-    told = subst (λ (x : Standing D). IsSome (device.bytes x.disk) ↔ IsSome (device.bytes old.disk)) (sym same) (λ k. k, λ k. k);
+    counted = subst (λ (x : OpenSpool D). device.failures old.disk ≤ device.failures x.disk) (sym same) (omega arith);
+    told = subst (λ (x : OpenSpool D). IsSome (device.bytes x.disk) ↔ IsSome (device.bytes old.disk)) (sym same) (λ k. k, λ k. k);
   }
 
   -- what works after a part worked before it
-  pub alive_before : (mid new : Standing D) (tried events : List Event) → IsPart device mid tried events new → new.dead ≡ false → mid.dead ≡ false
+  pub alive_before : (mid new : OpenSpool D) (tried events : List Event) → IsPart device mid tried events new → new.dead ≡ false → mid.dead ≡ false
   alive_before mid new tried events part lives = by_dead mid.dead refl
     where
       by_dead : (b : Bool) → mid.dead ≡ b → mid.dead ≡ false
       by_dead true is =
-          let died : new.dead ≡ true = ap (λ (x : Standing D). x.dead) (part.dead is) ∙ is in
+          let died : new.dead ≡ true = ap (λ (x : OpenSpool D). x.dead) (part.dead is) ∙ is in
           absurd (cc)
       by_dead false is = is
 
   -- a part, and another after it
-  module _ (old mid new : Standing D) (es fs xs ys : List Event) (first : IsPart device old es xs mid) (more : IsPart device mid fs ys new) where
+  module _ (old mid new : OpenSpool D) (es fs xs ys : List Event) (first : IsPart device old es xs mid) (more : IsPart device mid fs ys new) where
     pub both_parts : IsPart device old (es ++ fs) (xs ++ ys) new
     both_parts = record {
       in_hand = elim first.in_hand [
@@ -66,7 +66,7 @@ module _ {D : Type 0} (device : DiskView D) where
         | inr failed ↦
             let over = more.none failed.0 in
             let same : new ≡ mid = more.dead failed.0 in inr (
-              ap (λ (x : Standing D). x.dead) same ∙ failed.0,
+              ap (λ (x : OpenSpool D). x.dead) same ∙ failed.0,
               failed.1,
               ap (λ l. l ++ fs) failed.2
                   ∙ ap (λ l. (xs ++ failed.1 ∷ []) ++ l) over.0
@@ -77,11 +77,11 @@ module _ {D : Type 0} (device : DiskView D) where
       none = λ is.
           let same : mid ≡ old = first.dead is in
           let here = first.none is in
-          let there = more.none (ap (λ (x : Standing D). x.dead) same ∙ is) in
+          let there = more.none (ap (λ (x : OpenSpool D). x.dead) same ∙ is) in
           (ap (λ l. l ++ fs) here.0 ∙ there.0, ap (λ l. l ++ ys) here.1 ∙ there.1);
       table = more.table ∙ ap (λ s. after_all s ys) first.table ∙ sym (after_both old.state xs ys);
       acknowledged = λ lives. ap (λ l. l ++ fs) (first.acknowledged (alive_before mid new fs ys more lives)) ∙ ap (λ l. xs ++ l) (more.acknowledged lives);
-      dead = λ is. let same : mid ≡ old = first.dead is in more.dead (ap (λ (x : Standing D). x.dead) same ∙ is) ∙ same;
+      dead = λ is. let same : mid ≡ old = first.dead is in more.dead (ap (λ (x : OpenSpool D). x.dead) same ∙ is) ∙ same;
       counted = omega (arith, first.counted, more.counted);
       told = (λ k. first.told.0 (more.told.0 k), λ k. more.told.1 (first.told.1 k));
     }
@@ -89,16 +89,16 @@ module _ {D : Type 0} (device : DiskView D) where
 -- ## One event
 
 module _ {D : Type 0} (device : DiskView D) where
-  pub done_one : (old : Standing D) (e : Event) (reply : Reply) (new : Standing D) → IsDone old e reply new → new.state ≡ after_one old.state e
+  pub done_one : (old : OpenSpool D) (e : Event) (reply : Reply) (new : OpenSpool D) → IsDone old e reply new → new.state ≡ after_one old.state e
   done_one old e reply new done =
       sym (ap (unless_refused old.state e) done.fits.accepted
       ∙ (done_state old.state e (refusal_of old.state e) new.state reply refl done.fits.accepted done.step).0)
 
-  pub answer_table : (old : Standing D) (e : Event) (a : Answer) (new : Standing D) → IsAnswer device old e a new → new.state ≡ after_all old.state (acknowledged_by e a)
+  pub answer_table : (old : OpenSpool D) (e : Event) (a : Answer) (new : OpenSpool D) → IsAnswer device old e a new → new.state ≡ after_all old.state (acknowledged_by e a)
   answer_table old e (Ok reply) new done = done_one old e reply new done
   answer_table old e (Err fault) new is = fault_state device old e fault new is
 
-  answer_tried : (old : Standing D) (e : Event) (a : Answer) (new : Standing D) → IsAnswer device old e a new → new.dead ≡ false → tried_by e a ≡ acknowledged_by e a
+  answer_tried : (old : OpenSpool D) (e : Event) (a : Answer) (new : OpenSpool D) → IsAnswer device old e a new → new.dead ≡ false → tried_by e a ≡ acknowledged_by e a
   answer_tried old e (Ok reply) new is lives = refl
   answer_tried old e (Err faults.Dead) new is lives = refl
   answer_tried old e (Err (faults.Refused refusal)) new is lives = refl
@@ -106,7 +106,7 @@ module _ {D : Type 0} (device : DiskView D) where
   answer_tried old e (Err faults.Full) new is lives = refl
   answer_tried old e (Err faults.Disk) new is lives = let died = is.dead in absurd (cc)
 
-  pub answer_dead : (old : Standing D) (e : Event) (a : Answer) (new : Standing D) → IsAnswer device old e a new → old.dead ≡ true → new ≡ old
+  pub answer_dead : (old : OpenSpool D) (e : Event) (a : Answer) (new : OpenSpool D) → IsAnswer device old e a new → old.dead ≡ true → new ≡ old
   answer_dead old e (Ok reply) new is died = let alive = is.fits.alive in absurd (cc)
   answer_dead old e (Err faults.Dead) new is died = is.1
   answer_dead old e (Err (faults.Refused refusal)) new is died = is.2
@@ -114,7 +114,7 @@ module _ {D : Type 0} (device : DiskView D) where
   answer_dead old e (Err faults.Full) new is died = is.1
   answer_dead old e (Err faults.Disk) new is died = let alive = is.fits.alive in absurd (cc)
 
-  answer_hand : (old : Standing D) (e : Event) (a : Answer) (new : Standing D) → IsAnswer device old e a new → AreAcknowledged new.dead (tried_by e a) (acknowledged_by e a)
+  answer_hand : (old : OpenSpool D) (e : Event) (a : Answer) (new : OpenSpool D) → IsAnswer device old e a new → AreAcknowledged new.dead (tried_by e a) (acknowledged_by e a)
   answer_hand old e (Ok reply) new is = inl refl
   answer_hand old e (Err faults.Dead) new is = inl refl
   answer_hand old e (Err (faults.Refused refusal)) new is = inl refl
@@ -122,7 +122,7 @@ module _ {D : Type 0} (device : DiskView D) where
   answer_hand old e (Err faults.Full) new is = inl refl
   answer_hand old e (Err faults.Disk) new is = inr (is.dead, e, refl)
 
-  answer_none : (old : Standing D) (e : Event) (a : Answer) (new : Standing D) → IsAnswer device old e a new → old.dead ≡ true → (tried_by e a ≡ []) × (acknowledged_by e a ≡ [])
+  answer_none : (old : OpenSpool D) (e : Event) (a : Answer) (new : OpenSpool D) → IsAnswer device old e a new → old.dead ≡ true → (tried_by e a ≡ []) × (acknowledged_by e a ≡ [])
   answer_none old e (Ok reply) new is died = let alive = is.fits.alive in absurd (cc)
   answer_none old e (Err faults.Dead) new is died = (refl, refl)
   answer_none old e (Err (faults.Refused refusal)) new is died = (refl, refl)
@@ -130,7 +130,7 @@ module _ {D : Type 0} (device : DiskView D) where
   answer_none old e (Err faults.Full) new is died = (refl, refl)
   answer_none old e (Err faults.Disk) new is died = let alive = is.fits.alive in absurd (cc)
 
-  one_part : (old : Standing D) (e : Event) (a : Answer) (new : Standing D) → IsApplied device old e a new → IsPart device old (tried_by e a) (acknowledged_by e a) new
+  one_part : (old : OpenSpool D) (e : Event) (a : Answer) (new : OpenSpool D) → IsApplied device old e a new → IsPart device old (tried_by e a) (acknowledged_by e a) new
   one_part old e a new is = record {
     table = answer_table old e a new is.cause;
     acknowledged = answer_tried old e a new is.cause;
@@ -144,12 +144,12 @@ module _ {D : Type 0} (device : DiskView D) where
 -- ## The steps
 
 module _ {D : Type 0} (device : DiskView D) where
-  pub start_part : (old : Standing D) (o : Option ℕ) (answer : Option Answer) (new : Standing D) → IsStartingOf device old o answer new → IsPart device old (start_tried o answer) (start_events o answer) new
+  pub start_part : (old : OpenSpool D) (o : Option ℕ) (answer : Option Answer) (new : OpenSpool D) → IsStartingOf device old o answer new → IsPart device old (start_tried o answer) (start_events o answer) new
   start_part old None answer new (none, same) = still device old new same
   start_part old (Some j) None new is = absurd is
   start_part old (Some j) (Some a) new (accepted, is) = one_part device old (Start j) a new is
 
-  pub starts_part : (old : Standing D) (ts : List (Starting D)) (new : Standing D) → AreStartings device old ts new → IsPart device old (starting_tried old ts) (starting_events old ts) new
+  pub starts_part : (old : OpenSpool D) (ts : List (Starting D)) (new : OpenSpool D) → AreStartings device old ts new → IsPart device old (starting_tried old ts) (starting_events old ts) new
   starts_part old [] new same = still device old new same
   starts_part old (t ∷ ts) new (start, starts) =
       let o = next_of old.state t.queue in
@@ -157,7 +157,7 @@ module _ {D : Type 0} (device : DiskView D) where
       (start_part old o t.answer t.next start) (starts_part t.next ts new starts)
 
   -- the reads of documents are one too
-  pub reads_part : (old : Standing D) (ts : List Launching) (new : Standing D) → IsLawful device → AreReads device old ts new → IsPart device old [] [] new
+  pub reads_part : (old : OpenSpool D) (ts : List Launching) (new : OpenSpool D) → IsLawful device → AreReads device old ts new → IsPart device old [] [] new
   reads_part old ts new lawful reads =
       let same : device.bytes new.disk ≡ device.bytes old.disk = (reads_still device lawful old ts new reads).bytes in
       record {
@@ -170,12 +170,12 @@ module _ {D : Type 0} (device : DiskView D) where
         told = (λ k. subst IsSome same k, λ k. subst IsSome (sym same) k);
       }
 
-  report_part : (old : Course D) (j : ℕ) (r : Report) (new : Course D) → IsReport device old j r new → IsPart device old.spool (report_tried (Stage (end_in old.slots j)) r) (report_events (Stage (end_in old.slots j)) r) new.spool
+  report_part : (old : RunState D) (j : ℕ) (r : Report) (new : RunState D) → IsReport device old j r new → IsPart device old.spool (report_tried (Stage (end_in old.slots j)) r) (report_events (Stage (end_in old.slots j)) r) new.spool
   report_part old j reports.Silent new none = absurd none
-  report_part old j reports.NoMemory new same = still device old.spool new.spool (ap (λ (c : Course D). c.spool) same)
+  report_part old j reports.NoMemory new same = still device old.spool new.spool (ap (λ (c : RunState D). c.spool) same)
   report_part old j (reports.Answered a) new report = one_part device old.spool (Stage (end_in old.slots j)) a new.spool report.0
 
-  pub end_part : (old : Course D) (e : Ending D) → IsEnding device old e → IsPart device old.spool (report_tried (Stage (end_in e.kept.slots e.job)) e.report) (report_events (Stage (end_in e.kept.slots e.job)) e.report) e.next.spool
+  pub end_part : (old : RunState D) (e : Ending D) → IsEnding device old e → IsPart device old.spool (report_tried (Stage (end_in e.kept.slots e.job)) e.report) (report_events (Stage (end_in e.kept.slots e.job)) e.report) e.next.spool
   end_part old e ends = by_silence (is_silent (finite.get old.slots e.job)) ends
     where
       event : Event
@@ -184,13 +184,13 @@ module _ {D : Type 0} (device : DiskView D) where
       by_silence : (b : Bool) → IsEndingOf device old b e → IsPart device old.spool (report_tried event e.report) (report_events event e.report) e.next.spool
       by_silence true (silent, kept, same) =
           subst (λ r. IsPart device old.spool (report_tried event r) (report_events event r) e.next.spool) (sym silent)
-          (still device old.spool e.next.spool (ap (λ (c : Course D). c.spool) same))
+          (still device old.spool e.next.spool (ap (λ (c : RunState D). c.spool) same))
       by_silence false (finishes, same, report) =
-          subst (λ (x : Standing D). IsPart device x (report_tried event e.report) (report_events event e.report) e.next.spool) same
+          subst (λ (x : OpenSpool D). IsPart device x (report_tried event e.report) (report_events event e.report) e.next.spool) same
           (report_part e.kept e.job e.report e.next report)
 
-  pub ends_part : (old : Course D) (es : List (Ending D)) (new : Course D) → AreEndings device old es new → IsPart device old.spool (ending_tried es) (ending_events es) new.spool
-  ends_part old [] new same = still device old.spool new.spool (ap (λ (c : Course D). c.spool) same)
+  pub ends_part : (old : RunState D) (es : List (Ending D)) (new : RunState D) → AreEndings device old es new → IsPart device old.spool (ending_tried es) (ending_events es) new.spool
+  ends_part old [] new same = still device old.spool new.spool (ap (λ (c : RunState D). c.spool) same)
   ends_part old (e ∷ es) new ends =
       let event = Stage (end_in e.kept.slots e.job) in
       both_parts device old.spool e.next.spool new.spool (report_tried event e.report) (ending_tried es) (report_events event e.report) (ending_events es)

@@ -22,9 +22,9 @@ use Rattle.spool_types.specs.State.{State, Job, Jobs, Queues, job_at, queue_at}
 use Rattle.backend_codes.specs.declared.verdicts.Verdict.{Verdict}
 use Rattle.backend_codes.specs.declared.verdicts.Verdict.TheVariants as verdicts
 use Rattle.backend_codes.specs.Verdicts.{by_policy, filter_exit, backend_exit, limited, unless_spent, verdict_of}
-use Rattle.row_effects.specs.Fold.{queue_after}
+use Rattle.row_effects.specs.EffectFold.{queue_after}
 use Rattle.job_table.specs.Attempts.{is_in_stage, with_pages, with_effects, rule, rule_by, rule_found, ruled, stage_verdict, is_last_stage}
-use Rattle.job_table.specs.Changes.{change_found, change_own_queue, change_found_queue, change_queue_of}
+use Rattle.job_table.specs.EventChanges.{change_found, change_own_queue, change_found_queue, change_queue_of}
 use Rattle.job_table.specs.Legal.{IsLegal}
 use Rattle.job_table.specs.Shapes.{passes}
 use Rattle.job_table.specs.Step.{after, first_cause, phase_found, refusal_of}

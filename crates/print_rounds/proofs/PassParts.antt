@@ -5,16 +5,16 @@ use Rattle.std.specs.FinMap as finite
 use Rattle.spool_disk.specs.Disk.{DiskView}
 use Rattle.spool_types.specs.declared.rows.QueueRow.{QueueRow}
 use Rattle.spool_types.specs.State.{State}
-use Rattle.spool_core.specs.Standing.{Standing}
+use Rattle.spool_core.specs.OpenSpools.{OpenSpool}
 use Rattle.filter_args.specs.declared.place.Place.{Place}
-use Rattle.child_pipeline.specs.Slots.{Slots}
-use Rattle.child_pipeline.specs.Told.{Told}
-use Rattle.child_pipeline.specs.declared.children.Places.{Places}
+use Rattle.child_pipeline.specs.StageSlots.{Slots}
+use Rattle.child_pipeline.specs.ChildTraces.{ChildTrace}
+use Rattle.child_pipeline.specs.declared.children.StartRoom.{StartRoom}
 use Rattle.print_rounds.specs.Counts.{counts_of, result_of, starting_fault, stages_fault}
-use Rattle.print_rounds.specs.Courses.{Course, course, Starting, AreStartings, Launching, AreLaunchings, AreReads, Ending, AreEndings}
-use Rattle.print_rounds.specs.Looks.{Look, AreLooks, Dropping, AreDroppings, idle_slots, tended_jobs, idle_among, ripe_in, strays}
+use Rattle.print_rounds.specs.RunStates.{RunState, run_state, Starting, AreStartings, Launching, AreLaunchings, AreReads, Ending, AreEndings}
+use Rattle.print_rounds.specs.StageChecks.{Look, AreLooks, Dropping, AreDroppings, idle_slots, tended_jobs, idle_among, ripe_in, strays}
 use Rattle.print_rounds.specs.Passes.{IsPassBy, unblocked, jobs_tended, jobs_left}
-use Rattle.print_rounds.specs.Places.{AreChosen, in_turn}
+use Rattle.print_rounds.specs.StartLimits.{AreChosen, rotated}
 use Rattle.print_rounds.specs.declared.outcome.Round.{Round}
 use Rattle.print_rounds.specs.declared.outcome.RoundFault.{RoundFault}
 use Rattle.print_rounds.proofs.PlaceLaws.{in_turn_none}
@@ -22,7 +22,7 @@ use Rattle.print_rounds.proofs.RoundLaws.{or_none}
 use Rattle.print_rounds.proofs.StartLaws.{queue_count, starts_keys}
 
 -- a list with room for each queue has room for each after the starts
-pub room_left : {D : Type 0} (device : DiskView D) (old : Standing D) (ts : List (Starting D)) (mid : Standing D) → AreStartings device old ts mid → (t : State) → t ≡ old.state → (rows : List QueueRow) → map (λ row. row.name) rows ≡ finite.keys t.queues
+pub room_left : {D : Type 0} (device : DiskView D) (old : OpenSpool D) (ts : List (Starting D)) (mid : OpenSpool D) → AreStartings device old ts mid → (t : State) → t ≡ old.state → (rows : List QueueRow) → map (λ row. row.name) rows ≡ finite.keys t.queues
     → (capacity : ℕ) → length rows ≤ capacity → (now : State) → now ≡ mid.state → length (finite.keys now.queues) ≤ capacity
 room_left device old ts mid starts t same rows names capacity few now later =
     subst (λ n. n ≤ capacity)
@@ -30,30 +30,30 @@ room_left device old ts mid starts t same rows names capacity few now later =
     few
 
 -- the queues that aren't marked are those that are chosen
-pub queues_chosen : (places : Option Places) (names : List (List ℕ)) (slots : Slots) (now old : State) → now ≡ old → (given flags : List Bool) → given ≡ flags → AreChosen places now slots (unblocked flags (finite.keys now.queues)) → names ≡ unblocked given (finite.keys old.queues) → AreChosen places old slots names
-queues_chosen places names slots now old same given flags are value is =
-    subst (AreChosen places old slots) (sym (is ∙ ap (λ fs. unblocked fs (finite.keys old.queues)) are))
-    (subst (λ (s : State). AreChosen places s slots (unblocked flags (finite.keys s.queues))) same value)
+pub queues_chosen : (start_room : Option StartRoom) (names : List (List ℕ)) (slots : Slots) (now old : State) → now ≡ old → (given flags : List Bool) → given ≡ flags → AreChosen start_room now slots (unblocked flags (finite.keys now.queues)) → names ≡ unblocked given (finite.keys old.queues) → AreChosen start_room old slots names
+queues_chosen start_room names slots now old same given flags are value is =
+    subst (AreChosen start_room old slots) (sym (is ∙ ap (λ fs. unblocked fs (finite.keys old.queues)) are))
+    (subst (λ (s : State). AreChosen start_room s slots (unblocked flags (finite.keys s.queues))) same value)
 
 -- the slots are those that stay
-module _ {D : Type 0} (device : DiskView D) (place : Place) (waits : Bool) (places : Option Places) (old : Course D) (alive : old.spool.dead ≡ false) (slots : Slots) (stay : slots ≡ idle_slots old.spool.state old.slots)
-    (mid : Standing D) (ts : List (Starting D)) (starts : AreStartings device old.spool ts mid) (queues : AreChosen places old.spool.state slots (map (λ t. t.queue) ts)) where
+module _ {D : Type 0} (device : DiskView D) (place : Place) (waits : Bool) (start_room : Option StartRoom) (old : RunState D) (alive : old.spool.dead ≡ false) (slots : Slots) (stay : slots ≡ idle_slots old.spool.state old.slots)
+    (mid : OpenSpool D) (ts : List (Starting D)) (starts : AreStartings device old.spool ts mid) (queues : AreChosen start_room old.spool.state slots (map (λ t. t.queue) ts)) where
   abbrev idle : Slots
   idle = idle_slots old.spool.state old.slots
 
-  queues_free : AreChosen places old.spool.state idle (map (λ t. t.queue) ts)
-  queues_free = subst (λ m. AreChosen places old.spool.state m (map (λ t. t.queue) ts)) stay queues
+  queues_free : AreChosen start_room old.spool.state idle (map (λ t. t.queue) ts)
+  queues_free = subst (λ m. AreChosen start_room old.spool.state m (map (λ t. t.queue) ts)) stay queues
 
   -- the device failed at a start
-  pub failed_pass : mid.dead ≡ true → (result : Result Round RoundFault) → result ≡ result_of (record { started = 0; finished = 0 }) (starting_fault ts) → IsPassBy device place waits places old old.spool.dead (course mid slots old.told) result
+  pub failed_pass : mid.dead ≡ true → (result : Result Round RoundFault) → result ≡ result_of (record { started = 0; finished = 0 }) (starting_fault ts) → IsPassBy device place waits start_room old old.spool.dead (run_state mid slots old.told) result
   failed_pass dead result answer =
-      subst (λ b. IsPassBy device place waits places old b (course mid slots old.told) result) (sym alive)
+      subst (λ b. IsPassBy device place waits start_room old b (run_state mid slots old.told) result) (sym alive)
       (inr (record {
         steps = record {
           parts = record { startings = ts; mid = mid; launchings = []; read = mid; slots = slots; told = old.told; endings = [] };
           looks = [];
           looked = old.told;
-          ended = course mid slots old.told;
+          ended = run_state mid slots old.told;
           droppings = [];
         };
         made = record {
@@ -61,13 +61,13 @@ module _ {D : Type 0} (device : DiskView D) (place : Place) (waits : Bool) (plac
           queues = queues_free;
           launches = (stay, refl);
           reads = refl;
-          launched = sym (in_turn_none places (idle_among idle (jobs_tended mid mid.dead idle)) (ap (λ b. idle_among idle (jobs_tended mid b idle)) dead));
+          launched = sym (in_turn_none start_room (idle_among idle (jobs_tended mid mid.dead idle)) (ap (λ b. idle_among idle (jobs_tended mid b idle)) dead));
           looks = refl;
           seen = sym (ap (λ b. jobs_tended mid b idle) dead);
           ends = refl;
           told = refl;
           drops = (refl, refl);
-          left = sym (ap (λ b. jobs_left b (course mid slots old.told)) dead);
+          left = sym (ap (λ b. jobs_left b (run_state mid slots old.told)) dead);
           spool = refl;
         };
         answer = answer ∙ ap (result_of (record { started = 0; finished = 0 })) (sym (or_none (starting_fault ts)));
@@ -78,13 +78,13 @@ module _ {D : Type 0} (device : DiskView D) (place : Place) (waits : Bool) (plac
     tended : js ≡ jobs_tended mid mid.dead idle
     tended = jobs ∙ ap (λ m. tended_jobs mid.state m (finite.keys mid.state.queues)) stay ∙ sym (ap (λ b. jobs_tended mid b idle) lives)
 
-    pub whole_pass : (ls : List Launching) (read : Standing D) (slots' : Slots) (told' : Option Told) → AreLaunchings place mid.state slots old.told ls slots' told' → AreReads device mid ls read → map (λ l. l.job) ls ≡ in_turn places (idle_among slots js)
-        → (looks : List Look) (looked : Option Told) → AreLooks waits slots' told' looks looked → map (λ l. l.job) looks ≡ js
-        → (es : List (Ending D)) (ended : Course D) → AreEndings device (course read slots' looked) es ended → map (λ e. e.job) es ≡ ripe_in looks
-        → (ds : List Dropping) (new : Course D) → AreDroppings waits ended.slots ended.told ds new.slots new.told → map (λ d. d.look.job) ds ≡ strays ended.spool.state ended.slots → new.spool ≡ ended.spool
-        → (result : Result Round RoundFault) → result ≡ result_of (counts_of ls es) (option_or (starting_fault ts) (stages_fault ls es)) → IsPassBy device place waits places old old.spool.dead new result
+    pub whole_pass : (ls : List Launching) (read : OpenSpool D) (slots' : Slots) (told' : Option ChildTrace) → AreLaunchings place mid.state slots old.told ls slots' told' → AreReads device mid ls read → map (λ l. l.job) ls ≡ rotated start_room (idle_among slots js)
+        → (looks : List Look) (looked : Option ChildTrace) → AreLooks waits slots' told' looks looked → map (λ l. l.job) looks ≡ js
+        → (es : List (Ending D)) (ended : RunState D) → AreEndings device (run_state read slots' looked) es ended → map (λ e. e.job) es ≡ ripe_in looks
+        → (ds : List Dropping) (new : RunState D) → AreDroppings waits ended.slots ended.told ds new.slots new.told → map (λ d. d.look.job) ds ≡ strays ended.spool.state ended.slots → new.spool ≡ ended.spool
+        → (result : Result Round RoundFault) → result ≡ result_of (counts_of ls es) (option_or (starting_fault ts) (stages_fault ls es)) → IsPassBy device place waits start_room old old.spool.dead new result
     whole_pass ls read slots' told' launches reads launched looks looked look seen es ended ends ripe ds new drops left spool result answer =
-        subst (λ b. IsPassBy device place waits places old b new result) (sym alive)
+        subst (λ b. IsPassBy device place waits start_room old b new result) (sym alive)
         (inr (record {
           steps = record {
             parts = record { startings = ts; mid = mid; launchings = ls; read = read; slots = slots'; told = told'; endings = es };
@@ -98,7 +98,7 @@ module _ {D : Type 0} (device : DiskView D) (place : Place) (waits : Bool) (plac
             queues = queues_free;
             launches = subst (λ m. AreLaunchings place mid.state m old.told ls slots' told') stay launches;
             reads = reads;
-            launched = launched ∙ ap (λ m. in_turn places (idle_among m js)) stay ∙ ap (λ ks. in_turn places (idle_among idle ks)) tended;
+            launched = launched ∙ ap (λ m. rotated start_room (idle_among m js)) stay ∙ ap (λ ks. rotated start_room (idle_among idle ks)) tended;
             looks = look;
             seen = seen ∙ tended;
             ends = ends;

@@ -7,13 +7,13 @@ use Rattle.std.specs.List.{filter}
 use Rattle.std.proofs.lemmas.Bool.{cases_eq}
 use Rattle.std.proofs.lemmas.List.{get_or-set_other, get_or-set_same, length-append, length-take}
 use Rattle.spool_types.specs.State.{State}
-use Rattle.child_pipeline.specs.Slots.{Slots, IsTicketless}
-use Rattle.child_pipeline.specs.Told.{is_in}
-use Rattle.child_pipeline.specs.declared.children.Places.{Places}
+use Rattle.child_pipeline.specs.StageSlots.{Slots, IsTicketless}
+use Rattle.child_pipeline.specs.ChildTraces.{is_in}
+use Rattle.child_pipeline.specs.declared.children.StartRoom.{StartRoom}
 use Rattle.print_rounds.specs.Finished.{AreDistinct, AllRest}
-use Rattle.print_rounds.specs.Looks.{free_queues}
+use Rattle.print_rounds.specs.StageChecks.{free_queues}
 use Rattle.print_rounds.specs.Passes.{unblocked}
-use Rattle.print_rounds.specs.Places.{AreChosen, can_start, has_next, HasPlacesFor, IsPartOf, opened_in, waiting_jobs, window, in_turn}
+use Rattle.print_rounds.specs.StartLimits.{AreChosen, can_start, has_next, HasStartRoomFor, IsPartOf, opened_in, waiting_jobs, window, rotated}
 use Rattle.print_rounds.proofs.EndLaws.{not_first, not_second}
 
 -- ## Parts
@@ -70,7 +70,7 @@ within : (m n : ℕ) → nat_le m n ≡ true → m ≤ n
 within m n on = grind (arith, nat_tests)
 
 module _ {X : Type 0} where
-  in_turn_fits : (p : Places) (xs : List X) → IsPartOf (in_turn (Some p) xs) xs × (length (in_turn (Some p) xs) ≤ p.count)
+  in_turn_fits : (p : StartRoom) (xs : List X) → IsPartOf (rotated (Some p) xs) xs × (length (rotated (Some p) xs) ≤ p.count)
   in_turn_fits p xs = by_fit (nat_le (length xs) p.count) refl
     where
       first : ℕ
@@ -85,17 +85,17 @@ module _ {X : Type 0} where
             omega (arith, length-append (take again xs) (take (p.count - again) (drop first xs)), length-take again xs, length-take (p.count - again) (drop first xs)),
           )
 
-  pub in_turn_part : (places : Option Places) (xs : List X) → IsPartOf (in_turn places xs) xs
+  pub in_turn_part : (start_room : Option StartRoom) (xs : List X) → IsPartOf (rotated start_room xs) xs
   in_turn_part None xs = part_all xs
   in_turn_part (Some p) xs = (in_turn_fits p xs).0
 
-  pub in_turn_few : (places : Option Places) (xs : List X) → HasPlacesFor places (length (in_turn places xs))
+  pub in_turn_few : (start_room : Option StartRoom) (xs : List X) → HasStartRoomFor start_room (length (rotated start_room xs))
   in_turn_few None xs = tt
   in_turn_few (Some p) xs = (in_turn_fits p xs).1
 
-  pub in_turn_none : (places : Option Places) (xs : List X) → xs ≡ [] → in_turn places xs ≡ []
+  pub in_turn_none : (start_room : Option StartRoom) (xs : List X) → xs ≡ [] → rotated start_room xs ≡ []
   in_turn_none None xs none = none
-  in_turn_none (Some p) xs none = nothing (in_turn (Some p) xs) (subst (IsPartOf (in_turn (Some p) xs)) none (in_turn_fits p xs).0)
+  in_turn_none (Some p) xs none = nothing (rotated (Some p) xs) (subst (IsPartOf (rotated (Some p) xs)) none (in_turn_fits p xs).0)
     where
       nothing : (ys : List X) → IsPartOf ys [] → ys ≡ []
       nothing [] part = refl
@@ -184,25 +184,25 @@ module _ (closed : List Bool) (at : ℕ) (lt : at < length closed) where
 
 -- ## Queues that are chosen
 
-pub all_chosen : (places : Option Places) (s : State) (slots : Slots) (names : List (List ℕ)) → names ≡ free_queues s slots → HasPlacesFor places (length (finite.keys s.queues)) → AreChosen places s slots names
-all_chosen places s slots names are fits = record {
+pub all_chosen : (start_room : Option StartRoom) (s : State) (slots : Slots) (names : List (List ℕ)) → names ≡ free_queues s slots → HasStartRoomFor start_room (length (finite.keys s.queues)) → AreChosen start_room s slots names
+all_chosen start_room s slots names are fits = record {
   all = λ _. are;
   part = subst (λ ns. IsPartOf ns (free_queues s slots)) (sym are) (part_all (free_queues s slots));
-  few = by_places places fits;
-  full = full_by places fits;
+  few = by_places start_room fits;
+  full = full_by start_room fits;
 }
   where
-    by_places : (places : Option Places) → HasPlacesFor places (length (finite.keys s.queues)) → IfSome places (λ p. p.count < length (finite.keys s.queues) → length names ≤ p.count - length (waiting_jobs s slots))
+    by_places : (start_room : Option StartRoom) → HasStartRoomFor start_room (length (finite.keys s.queues)) → IfSome start_room (λ p. p.count < length (finite.keys s.queues) → length names ≤ p.count - length (waiting_jobs s slots))
     by_places None fits = tt
     by_places (Some p) fits = λ more. absurd (omega arith)
 
-    full_by : (places : Option Places) → HasPlacesFor places (length (finite.keys s.queues)) →
-        IfSome places (λ p. p.count < length (finite.keys s.queues) → length names < p.count - length (waiting_jobs s slots) → names ≡ filter (has_next s) (free_queues s slots))
+    full_by : (start_room : Option StartRoom) → HasStartRoomFor start_room (length (finite.keys s.queues)) →
+        IfSome start_room (λ p. p.count < length (finite.keys s.queues) → length names < p.count - length (waiting_jobs s slots) → names ≡ filter (has_next s) (free_queues s slots))
     full_by None fits = tt
     full_by (Some p) fits = λ more fewer. absurd (omega arith)
 
 -- a few, if there are fewer places than queues
-module _ (p : Places) (s : State) (slots : Slots) (blocked closed : List Bool) (left : ℕ)
+module _ (p : StartRoom) (s : State) (slots : Slots) (blocked closed : List Bool) (left : ℕ)
     (more : p.count < length (finite.keys s.queues)) (free : unblocked blocked (finite.keys s.queues) ≡ free_queues s slots) (long : length blocked ≡ length (finite.keys s.queues)) (too : length closed ≡ length (finite.keys s.queues))
     (starts : (i : ℕ) → get_or closed i true ≡ false → can_start s blocked i ≡ true) (all : 0 < left → (i : ℕ) → i < length (finite.keys s.queues) → can_start s blocked i ≡ true → get_or closed i true ≡ false)
     (taken : opened_in closed + left ≡ p.count - length (waiting_jobs s slots)) where

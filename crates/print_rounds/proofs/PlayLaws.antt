@@ -3,34 +3,34 @@ use Rattle.std.proofs.Common.{◌≡◌, ℕ, ◌+◌, Bool, true, false, cond, 
 use Rattle.spool_types.specs.declared.rows.QueueRow.{QueueRow}
 use Rattle.spool_types.specs.State.{Job, job_at, queue_at}
 use Rattle.filter_args.specs.declared.place.Place.{Place}
-use Rattle.child_pipeline.specs.Told.{Told, starts_next, after_start}
-use Rattle.job_table.specs.Documents.{document_len}
+use Rattle.child_pipeline.specs.ChildTraces.{ChildTrace, starts_next, after_start}
+use Rattle.job_table.specs.DocumentLengths.{document_len}
 use Rattle.child_pipeline.specs.Orders.{order_of}
-use Rattle.child_pipeline.specs.Slots.{Slots, put_progress, progress_after, IsStartOf, input_in, order_in, slot_in}
+use Rattle.child_pipeline.specs.StageSlots.{Slots, put_progress, progress_after, IsStartOf, input_in, order_in, slot_in}
 use Rattle.child_pipeline.specs.declared.order.Order.{Order}
 use Rattle.child_pipeline.specs.declared.runner.Progress.{Progress}
 use Rattle.child_pipeline.specs.declared.runner.Progress.TheVariants.{Ready, Running, Ended}
 use Rattle.print_rounds.specs.Choice.{slots_for}
 use Rattle.print_rounds.specs.Counts.{started_by}
-use Rattle.print_rounds.specs.Courses.{Launching, IsToStart, IsToRest, IsInput, IsLaunch, AreLaunchings, AreHanded, given}
+use Rattle.print_rounds.specs.RunStates.{Launching, IsToStart, IsToRest, IsInput, IsLaunch, AreLaunchings, AreHanded, given}
 use Rattle.print_rounds.specs.declared.outcome.Launch.{Launch}
 use Rattle.print_rounds.specs.declared.outcome.Launch.TheVariants.{Unlaunched, Launched, NoMemory, Disk, Dead}
 use Rattle.print_rounds.specs.Faultless.{IsServed, AllServed}
-use Rattle.print_rounds.specs.Script.{Play, play_launch, launched_for, launched_in, launched_by, launched_on, plays}
+use Rattle.print_rounds.specs.RoundScript.{Play, play_launch, launched_for, launched_in, launched_by, launched_on, plays}
 use Rattle.print_rounds.proofs.LaunchLaws.{HasNumbers}
 
-same_progress : (t : Told) (b : Bool) (n : ℕ) → b ≡ starts_next t → (IsTrue b → n ≡ length t.orders) → progress_after b n ≡ progress_after (starts_next t) (length t.orders)
+same_progress : (t : ChildTrace) (b : Bool) (n : ℕ) → b ≡ starts_next t → (IsTrue b → n ≡ length t.orders) → progress_after b n ≡ progress_after (starts_next t) (length t.orders)
 same_progress t true n is number = ap (progress_after true) (number refl) ∙ ap (λ b. progress_after b (length t.orders)) is
 same_progress t false n is number = ap (λ b. progress_after b (length t.orders)) is
 
 -- the play after a launch, where the spool has stayed
-abbrev pub play_to : Play → Slots → Told → ℕ → Play
+abbrev pub play_to : Play → Slots → ChildTrace → ℕ → Play
 play_to p slots told more = record p { slots = slots; told = told; started = p.started + more }
 
 abbrev pub counted : ℕ → List Launching → ℕ
 counted n ls = fold (λ a l. a + started_by l.launch) n ls
 
-abbrev pub play_at : Play → Slots → Told → ℕ → Play
+abbrev pub play_at : Play → Slots → ChildTrace → ℕ → Play
 play_at p slots told n = record p { slots = slots; told = told; started = n }
 
 -- an order for a stage is the same with the document that was read and with the one that it is
@@ -63,7 +63,7 @@ module _ (place : Place) (documents : ℕ → List ℕ) where
       ∙ ap (launched_in place documents p r) due.queue
       ∙ ap (launched_by place documents p r q) due.due
 
-  one_play : (p : Play) → HasNumbers p.state → (j : ℕ) (d : Option (List ℕ)) (l : Launch) (new : Slots) (told' : Option Told) → IsLaunch place p.state p.slots (Some p.told) j d l new told' → IsServed l → ((read : List ℕ) → d ≡ Some read → read ≡ documents j) → (t' : Told) × (told' ≡ Some t') × (play_launch place documents p j ≡ play_to p new t' (started_by l))
+  one_play : (p : Play) → HasNumbers p.state → (j : ℕ) (d : Option (List ℕ)) (l : Launch) (new : Slots) (told' : Option ChildTrace) → IsLaunch place p.state p.slots (Some p.told) j d l new told' → IsServed l → ((read : List ℕ) → d ≡ Some read → read ≡ documents j) → (t' : ChildTrace) × (told' ≡ Some t') × (play_launch place documents p j ≡ play_to p new t' (started_by l))
   one_play p numbers j d Unlaunched new told' (rests, none, same, tells) served own_is = (p.told, tells, undue p j rests ∙ sym (ap (λ k. record p { started = k }) (add-zero p.started)) ∙ ap (λ s. play_to p s p.told 0) (sym same))
   one_play p numbers j d (Launched b) new told' (r, q, own, due, input, starts) served own_is =
       let order = order_in place own r q (documents r.id) in
@@ -82,7 +82,7 @@ module _ (place : Place) (documents : ℕ → List ℕ) where
   one_play p numbers j d Dead new told' is served own_is = absurd served
 
   -- The starts of stages, where there was memory for each, are those of Script: the orders, the slots and the count.
-  pub all_played : (p : Play) → HasNumbers p.state → (told : Option Told) (ls : List Launching) (new : Slots) (told' : Option Told) → told ≡ Some p.told → AreLaunchings place p.state p.slots told ls new told' → AllServed ls → AreHanded documents ls → (t' : Told) × (told' ≡ Some t') × (plays (play_launch place documents) p (map (λ l. l.job) ls) ≡ play_at p new t' (counted p.started ls))
+  pub all_played : (p : Play) → HasNumbers p.state → (told : Option ChildTrace) (ls : List Launching) (new : Slots) (told' : Option ChildTrace) → told ≡ Some p.told → AreLaunchings place p.state p.slots told ls new told' → AllServed ls → AreHanded documents ls → (t' : ChildTrace) × (told' ≡ Some t') × (plays (play_launch place documents) p (map (λ l. l.job) ls) ≡ play_at p new t' (counted p.started ls))
   all_played p numbers told [] new told' tells (same, tells') served handed = (p.told, tells' ∙ tells, ap (λ s. record p { slots = s }) (sym same))
   all_played p numbers told (l ∷ ls) new told' tells (launch, launches) (served, others) (here, handed) =
       let (t1, tells1, one) = one_play p numbers l.job l.document l.launch l.slots l.told (subst (λ o. IsLaunch place p.state p.slots o l.job l.document l.launch l.slots l.told) tells launch) served here in

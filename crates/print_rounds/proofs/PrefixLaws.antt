@@ -4,7 +4,7 @@ use Rattle.std.proofs.Math.Seq.{take-append-add}
 use Rattle.std.proofs.lemmas.List.{take-append-le}
 use Rattle.spool_types.specs.declared.event.Event.{Event}
 use Rattle.spool_types.specs.State.{State}
-use Rattle.job_table.specs.Fold.{after_one, after_all}
+use Rattle.job_table.specs.EventFold.{after_one, after_all}
 use Rattle.spool_core.specs.Image.{HasTable, HasBeforeOrAfterEvent}
 use Rattle.print_rounds.specs.Rounds.{HasSomeOf}
 

@@ -4,12 +4,12 @@ use Rattle.std.specs.Prelude.{IfOk, OnErr}
 use Rattle.std.specs.FinMap as finite
 use Rattle.spool_types.specs.declared.rows.QueueRow.{QueueRow}
 use Rattle.spool_types.specs.State.{State, Job, job_at, queue_at}
-use Rattle.job_table.specs.Documents.{document_len}
+use Rattle.job_table.specs.DocumentLengths.{document_len}
 use Rattle.filter_args.specs.declared.place.Place.{Place}
-use Rattle.child_pipeline.specs.Slots.{Slots, IsDue, slot_in}
-use Rattle.child_pipeline.specs.Told.{Told}
+use Rattle.child_pipeline.specs.StageSlots.{Slots, IsDue, slot_in}
+use Rattle.child_pipeline.specs.ChildTraces.{ChildTrace}
 use Rattle.print_rounds.specs.Choice.{slots_for}
-use Rattle.print_rounds.specs.Courses.{IsToStart, IsToRest, IsInput, IsLaunch, given}
+use Rattle.print_rounds.specs.RunStates.{IsToStart, IsToRest, IsInput, IsLaunch, given}
 use Rattle.print_rounds.specs.Launches.{IsMade, IsUnmade, IsPrepared, IsUnprepared, IsStarted}
 use Rattle.print_rounds.specs.declared.outcome.Launch.{Launch}
 use Rattle.print_rounds.specs.declared.outcome.Launch.TheVariants.{Unlaunched, Launched, NoMemory, Disk, Dead}
@@ -39,7 +39,7 @@ module _ (s : State) (slots : Slots) (j : ℕ) where
   unprepared r q row queue new unmade = (r, q, unmade.own, record { row = row; queue = queue; due = unmade.due }, unmade.same)
 
 -- the child of a stage that is prepared was started, or there was no memory
-pub launched_as : (place : Place) (s : State) (slots : Slots) (told : Option Told) (j : ℕ) (r : Job) (q : QueueRow) (own : Slots) (document : Option (List ℕ)) (l : Launch) (new : Slots) (told' : Option Told) → IsToStart s slots j r q own → IsInput (slot_in own r.id).progress (document_len r) document → IsStarted place told own r q (given document) l new told' → IsLaunch place s slots told j document l new told'
+pub launched_as : (place : Place) (s : State) (slots : Slots) (told : Option ChildTrace) (j : ℕ) (r : Job) (q : QueueRow) (own : Slots) (document : Option (List ℕ)) (l : Launch) (new : Slots) (told' : Option ChildTrace) → IsToStart s slots j r q own → IsInput (slot_in own r.id).progress (document_len r) document → IsStarted place told own r q (given document) l new told' → IsLaunch place s slots told j document l new told'
 launched_as place s slots told j r q own document Unlaunched new told' start input started = absurd started
 launched_as place s slots told j r q own document (Launched b) new told' start input started = (r, q, own, start, input, started)
 launched_as place s slots told j r q own document NoMemory new told' start input (same, tells) = (r, q, own, start, inr same, tells)
@@ -55,12 +55,12 @@ on_err (Ok x) weaker holds = holds
 on_err (Err e) weaker holds = weaker holds
 
 -- a launch for which there was no memory: for the slot, or for what comes behind it
-pub unprepared_as : (place : Place) (s : State) (slots : Slots) (told : Option Told) (j : ℕ) (new : Slots) → IsUnprepared s slots j new → IsLaunch place s slots told j None NoMemory new told
+pub unprepared_as : (place : Place) (s : State) (slots : Slots) (told : Option ChildTrace) (j : ℕ) (new : Slots) → IsUnprepared s slots j new → IsLaunch place s slots told j None NoMemory new told
 unprepared_as place s slots told j new (r, q, own, start, same) = (r, q, own, start, inl same, refl)
 
-pub prepared_as : (place : Place) (s : State) (slots : Slots) (told : Option Told) (j : ℕ) (new : Slots) → IsPrepared s slots j true new → IsLaunch place s slots told j None NoMemory new told
+pub prepared_as : (place : Place) (s : State) (slots : Slots) (told : Option ChildTrace) (j : ℕ) (new : Slots) → IsPrepared s slots j true new → IsLaunch place s slots told j None NoMemory new told
 prepared_as place s slots told j new (r, q, start, due, id) = (r, q, new, start, inr refl, refl)
 
 -- a launch at which the device failed
-pub broken_as : (place : Place) (s : State) (slots : Slots) (told : Option Told) (j : ℕ) (new : Slots) → IsPrepared s slots j true new → IsLaunch place s slots told j None Disk new told
+pub broken_as : (place : Place) (s : State) (slots : Slots) (told : Option ChildTrace) (j : ℕ) (new : Slots) → IsPrepared s slots j true new → IsLaunch place s slots told j None Disk new told
 broken_as place s slots told j new (r, q, start, due, id) = (r, q, new, start, refl, refl, refl)

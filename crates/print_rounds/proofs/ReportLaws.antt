@@ -8,22 +8,22 @@ use Rattle.spool_types.specs.declared.event.Reply.{Reply}
 use Rattle.spool_types.specs.declared.refusal.Refusal.{Refusal}
 use Rattle.spool_types.specs.State.{State}
 use Rattle.job_table.specs.Step.{after, reply_to, step, refusal_of, answered}
-use Rattle.spool_core.specs.Standing.{Standing, IsAnswer}
+use Rattle.spool_core.specs.OpenSpools.{OpenSpool, IsAnswer}
 use Rattle.spool_core.specs.declared.spool.apply_fault.ApplyFault.{ApplyFault}
 use Rattle.spool_core.specs.declared.spool.apply_fault.ApplyFault.TheVariants as faults
 use Rattle.child_pipeline.specs.Tickets.{IsRunningAs}
-use Rattle.child_pipeline.specs.Told.{Told, is_in, after_finish}
-use Rattle.child_pipeline.specs.Slots.{Slots, slot_in, begun, put_progress, end_in, FinishesFrom, Waits, is_ready}
+use Rattle.child_pipeline.specs.ChildTraces.{ChildTrace, is_in, after_finish}
+use Rattle.child_pipeline.specs.StageSlots.{Slots, slot_in, begun, put_progress, end_in, FinishesFrom, Waits, is_ready}
 use Rattle.child_pipeline.specs.declared.runner.Progress.{Progress}
 use Rattle.child_pipeline.specs.declared.runner.Progress.TheVariants.{Ready, Running, Ended}
 use Rattle.child_pipeline.specs.declared.runner.Slot.{Slot}
-use Rattle.print_rounds.specs.Courses.{Course, course, AreEndings, Ending, IsReport, IsEnding, IsEndingOf, is_silent, moved_by}
+use Rattle.print_rounds.specs.RunStates.{RunState, run_state, AreEndings, Ending, IsReport, IsEnding, IsEndingOf, is_silent, moved_by}
 use Rattle.print_rounds.specs.Counts.{report_events, told_by, ending_events}
 use Rattle.print_rounds.specs.declared.outcome.Report.{Report}
 use Rattle.print_rounds.specs.declared.outcome.Report.TheVariants as reports
 use Rattle.print_rounds.specs.Finished.{AreDistinct, with_number, with_slot, running_in}
 use Rattle.print_rounds.specs.Faultless.{IsTold, AllTold}
-use Rattle.print_rounds.specs.Script.{Play, play_end, ended_if, waited, waited_by, reported, plays}
+use Rattle.print_rounds.specs.RoundScript.{Play, play_end, ended_if, waited, waited_by, reported, plays}
 use Rattle.print_rounds.proofs.EndLaws.{in_head, report_same, one_end, running_same}
 
 -- an accepted event leaves the table and the reply of the step
@@ -37,21 +37,21 @@ done_state s e o new reply is none stepped =
     pair_of (Err r) = (s, reply)
 
 -- the child of the first job is told to be running
-head_runs : (t : Told) (slots : Slots) (j : ℕ) (js : List ℕ) → t.running ≡ running_in slots (j ∷ js) → (n : ℕ) → IsRunningAs slots j n → is_in n t.running ≡ true
+head_runs : (t : ChildTrace) (slots : Slots) (j : ℕ) (js : List ℕ) → t.running ≡ running_in slots (j ∷ js) → (n : ℕ) → IsRunningAs slots j n → is_in n t.running ≡ true
 head_runs t slots j js runs n r =
     let first : running_in slots (j ∷ js) ≡ n ∷ running_in slots js = ap (λ o. with_slot o (running_in slots js)) r.there ∙ ap (λ v. with_number v (running_in slots js)) r.runs in
     ap (λ ns. is_in n ns) (runs ∙ first) ∙ in_head n (running_in slots js)
 
 module _ {D : Type 0} (device : DiskView D) where
   -- an event that isn't acknowledged leaves the table
-  pub fault_state : (old : Standing D) (e : Event) (fault : ApplyFault) (new : Standing D) → IsAnswer device old e (Err fault) new → new.state ≡ old.state
-  fault_state old e faults.Dead new (dead, same) = ap (λ (x : Standing D). x.state) same
-  fault_state old e (faults.Refused refusal) new (alive, refused, same) = ap (λ (x : Standing D). x.state) same
-  fault_state old e faults.Memory new (alive, accepted, same) = ap (λ (x : Standing D). x.state) same
-  fault_state old e faults.Full new (full, same) = ap (λ (x : Standing D). x.state) same
+  pub fault_state : (old : OpenSpool D) (e : Event) (fault : ApplyFault) (new : OpenSpool D) → IsAnswer device old e (Err fault) new → new.state ≡ old.state
+  fault_state old e faults.Dead new (dead, same) = ap (λ (x : OpenSpool D). x.state) same
+  fault_state old e (faults.Refused refusal) new (alive, refused, same) = ap (λ (x : OpenSpool D). x.state) same
+  fault_state old e faults.Memory new (alive, accepted, same) = ap (λ (x : OpenSpool D). x.state) same
+  fault_state old e faults.Full new (full, same) = ap (λ (x : OpenSpool D). x.state) same
   fault_state old e faults.Disk new failed = failed.state
 
-  told_play : (p : Play) (mid next : Course D) (j : ℕ) (report : Report) → IsReport device mid j report next → IsTold report → mid.spool.state ≡ p.state → mid.slots ≡ p.slots → reported p j ≡ record p { state = next.spool.state; slots = next.slots; events = p.events ++ report_events (Stage (end_in mid.slots j)) report; ended = p.ended + told_by report }
+  told_play : (p : Play) (mid next : RunState D) (j : ℕ) (report : Report) → IsReport device mid j report next → IsTold report → mid.spool.state ≡ p.state → mid.slots ≡ p.slots → reported p j ≡ record p { state = next.spool.state; slots = next.slots; events = p.events ++ report_events (Stage (end_in mid.slots j)) report; ended = p.ended + told_by report }
   told_play p mid next j reports.Silent report told state slots = absurd report
   told_play p mid next j reports.NoMemory report told state slots = absurd told
   told_play p mid next j (reports.Answered (Err fault)) report told state slots = absurd told
@@ -67,7 +67,7 @@ module _ {D : Type 0} (device : DiskView D) where
       ∙ ap (λ k. record p { state = next.spool.state; slots = next.slots; events = p.events ++ Stage k ∷ []; ended = p.ended + 1 }) (sym at)
 
   -- the play after the end of a stage
-  abbrev pub play_past : Play → Ending D → Told → Play
+  abbrev pub play_past : Play → Ending D → ChildTrace → Play
   play_past p e told = record p {
     state = e.next.spool.state;
     slots = e.next.slots;
@@ -78,12 +78,12 @@ module _ {D : Type 0} (device : DiskView D) where
 
   -- what the end of one stage leaves of a play
   pub record IsOnePlayed (p : Play) (e : Ending D) : Type 0 where
-    pub told : Told
+    pub told : ChildTrace
     pub tells : e.next.told ≡ Some told
     pub played : play_end p e.job ≡ play_past p e told
 
   -- a stage that is reported: its child is finished first, if it is running
-  spoken_play : (p : Play) (e : Ending D) (t' : Told) → is_silent (finite.get p.slots e.job) ≡ false → waited p e.job ≡ record p { slots = e.kept.slots; told = t' } → e.kept.spool.state ≡ p.state → e.next.told ≡ Some t' → IsReport device e.kept e.job e.report e.next → IsTold e.report → IsOnePlayed p e
+  spoken_play : (p : Play) (e : Ending D) (t' : ChildTrace) → is_silent (finite.get p.slots e.job) ≡ false → waited p e.job ≡ record p { slots = e.kept.slots; told = t' } → e.kept.spool.state ≡ p.state → e.next.told ≡ Some t' → IsReport device e.kept e.job e.report e.next → IsTold e.report → IsOnePlayed p e
   spoken_play p e t' spoken waits state tells report told =
       let mid : Play = record p { slots = e.kept.slots; told = t' } in
       record {
@@ -125,18 +125,18 @@ module _ {D : Type 0} (device : DiskView D) where
       )
 
   -- one end of a stage, where its event was acknowledged
-  pub one_ended : (p : Play) (sp : Standing D) (e : Ending D) → sp.state ≡ p.state → ((n : ℕ) → IsRunningAs p.slots e.job n → is_in n p.told.running ≡ true) → IsEnding device (course sp p.slots (Some p.told)) e → IsTold e.report → IsOnePlayed p e
+  pub one_ended : (p : Play) (sp : OpenSpool D) (e : Ending D) → sp.state ≡ p.state → ((n : ℕ) → IsRunningAs p.slots e.job n → is_in n p.told.running ≡ true) → IsEnding device (run_state sp p.slots (Some p.told)) e → IsTold e.report → IsOnePlayed p e
   one_ended p sp e state runs ends served = by_slot (finite.get p.slots e.job) refl
     where
-      old : Course D
-      old = course sp p.slots (Some p.told)
+      old : RunState D
+      old = run_state sp p.slots (Some p.told)
 
       silent : is_silent (finite.get p.slots e.job) ≡ true → e.report ≡ reports.Silent → e.next ≡ old → IsOnePlayed p e
-      silent is report same = silent_play p e is report (ap (λ (c : Course D). c.spool.state) same ∙ state) (ap (λ (c : Course D). c.slots) same) (ap (λ (c : Course D). c.told) same)
+      silent is report same = silent_play p e is report (ap (λ (c : RunState D). c.spool.state) same ∙ state) (ap (λ (c : RunState D). c.slots) same) (ap (λ (c : RunState D). c.told) same)
 
-      spoken : is_silent (finite.get p.slots e.job) ≡ false → (t : Told) → waited p e.job ≡ record p { slots = e.kept.slots; told = t } → e.kept.told ≡ Some t → e.kept.spool ≡ sp → IsReport device e.kept e.job e.report e.next → IsOnePlayed p e
+      spoken : is_silent (finite.get p.slots e.job) ≡ false → (t : ChildTrace) → waited p e.job ≡ record p { slots = e.kept.slots; told = t } → e.kept.told ≡ Some t → e.kept.spool ≡ sp → IsReport device e.kept e.job e.report e.next → IsOnePlayed p e
       spoken is t waits tells same report =
-          spoken_play p e t is waits (ap (λ (x : Standing D). x.state) same ∙ state) ((report_same device e.kept e.job e.report e.next report).0 ∙ tells) report served
+          spoken_play p e t is waits (ap (λ (x : OpenSpool D). x.state) same ∙ state) ((report_same device e.kept e.job e.report e.next report).0 ∙ tells) report served
 
       by_progress : (slot : Slot ℕ) (v : Progress ℕ) → finite.get p.slots e.job ≡ Some slot → slot.progress ≡ v → IsEndingOf device old (is_ready v) e → IsOnePlayed p e
       by_progress slot (Ready input) there is ending = silent (ap is_silent there ∙ ap is_ready is) ending.0 ending.2
@@ -154,11 +154,11 @@ module _ {D : Type 0} (device : DiskView D) where
       by_slot None there = let is = subst (λ o. IsEndingOf device old (is_silent o) e) there ends in silent (ap is_silent there) is.0 is.2
       by_slot (Some slot) there = by_progress slot slot.progress there refl (subst (λ o. IsEndingOf device old (is_silent o) e) there ends)
 
-  some_told : (a b : Told) → Some a ≡ Some b → a ≡ b
+  some_told : (a b : ChildTrace) → Some a ≡ Some b → a ≡ b
   some_told a b e = ap (λ o. unwrap_or o a) e
 
   -- the play after the ends of stages
-  abbrev pub play_after : Play → List (Ending D) → Course D → Told → Play
+  abbrev pub play_after : Play → List (Ending D) → RunState D → ChildTrace → Play
   play_after p es new told = record p {
     state = new.spool.state;
     slots = new.slots;
@@ -168,22 +168,22 @@ module _ {D : Type 0} (device : DiskView D) where
   }
 
   -- The ends of stages, where each event was acknowledged, are those of Script.
-  pub all_ended : (p : Play) (sp : Standing D) (es : List (Ending D)) (new : Course D) → sp.state ≡ p.state → p.told.running ≡ running_in p.slots (map (λ e. e.job) es) → AreDistinct (map (λ e. e.job) es) → AreEndings device (course sp p.slots (Some p.told)) es new → AllTold es → (t' : Told) × (new.told ≡ Some t') × (plays play_end p (map (λ e. e.job) es) ≡ play_after p es new t')
+  pub all_ended : (p : Play) (sp : OpenSpool D) (es : List (Ending D)) (new : RunState D) → sp.state ≡ p.state → p.told.running ≡ running_in p.slots (map (λ e. e.job) es) → AreDistinct (map (λ e. e.job) es) → AreEndings device (run_state sp p.slots (Some p.told)) es new → AllTold es → (t' : ChildTrace) × (new.told ≡ Some t') × (plays play_end p (map (λ e. e.job) es) ≡ play_after p es new t')
   all_ended p sp [] new state runs distinct same told = (
     p.told,
-    ap (λ (c : Course D). c.told) same,
+    ap (λ (c : RunState D). c.told) same,
     ap (λ s. record p { state = s }) (sym state)
-        ∙ ap (λ (c : Course D). record p { state = c.spool.state; slots = c.slots }) (sym same)
+        ∙ ap (λ (c : RunState D). record p { state = c.spool.state; slots = c.slots }) (sym same)
         ∙ ap (λ es. record p { state = new.spool.state; slots = new.slots; events = es }) (sym (append-nil p.events)),
   )
   all_ended p sp (e ∷ es) new state runs distinct ends told =
       let js : List ℕ = map (λ e. e.job) es in
       let one = one_ended p sp e state (head_runs p.told p.slots e.job js runs) ends.0 told.0 in
-      let left = one_end device p.told (course sp p.slots (Some p.told)) e js ends.0 refl runs in
+      let left = one_end device p.told (run_state sp p.slots (Some p.told)) e js ends.0 refl runs in
       let rest : running_in e.next.slots js ≡ running_in p.slots js = running_same e.job p.slots e.next.slots left.same js distinct.0 in
-      let runs_on : one.told.running ≡ running_in e.next.slots js = ap (λ (t : Told). t.running) (some_told one.told left.told (sym one.tells ∙ left.tells)) ∙ left.running ∙ sym rest in
+      let runs_on : one.told.running ≡ running_in e.next.slots js = ap (λ (t : ChildTrace). t.running) (some_told one.told left.told (sym one.tells ∙ left.tells)) ∙ left.running ∙ sym rest in
       let p1 : Play = play_past p e one.told in
-      let on : AreEndings device (course e.next.spool p1.slots (Some p1.told)) es new = subst (λ o. AreEndings device (course e.next.spool e.next.slots o) es new) one.tells ends.1 in
+      let on : AreEndings device (run_state e.next.spool p1.slots (Some p1.told)) es new = subst (λ o. AreEndings device (run_state e.next.spool e.next.slots o) es new) one.tells ends.1 in
       let (t', tells, more) = all_ended p1 e.next.spool es new refl runs_on distinct.1 on told.1 in (
         t',
         tells,

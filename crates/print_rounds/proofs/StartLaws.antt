@@ -7,29 +7,29 @@ use Rattle.spool_disk.specs.Disk.{DiskView}
 use Rattle.spool_types.specs.declared.event.Event.TheVariants.{Start}
 use Rattle.spool_types.specs.declared.rows.QueueRow.{QueueRow}
 use Rattle.spool_types.specs.State.{State, Job, job_at}
-use Rattle.job_table.specs.Changes.{change_found}
+use Rattle.job_table.specs.EventChanges.{change_found}
 use Rattle.job_table.specs.Attempts.{next_of, started}
 use Rattle.job_table.specs.Step.{refusal_of}
-use Rattle.spool_core.specs.Standing.{Standing}
+use Rattle.spool_core.specs.OpenSpools.{OpenSpool}
 use Rattle.print_rounds.specs.Counts.{start_events, starting_events}
-use Rattle.print_rounds.specs.Courses.{Answer, Starting, IsStarting, IsStartingOf, AreStartings}
+use Rattle.print_rounds.specs.RunStates.{Answer, Starting, IsStarting, IsStartingOf, AreStartings}
 use Rattle.print_rounds.specs.Faultless.{IsBegun, AllBegun}
-use Rattle.print_rounds.specs.Script.{Play, plays, play_start, start_of}
+use Rattle.print_rounds.specs.RoundScript.{Play, plays, play_start, start_of}
 use Rattle.print_rounds.proofs.ReportLaws.{done_state, fault_state}
 
 module _ {D : Type 0} (device : DiskView D) where
-  one_start : (p : Play) (old : Standing D) (o : Option ℕ) (answer : Option Answer) (new : Standing D) → IsStartingOf device old o answer new → IsBegun answer → start_of (record p { state = old.state }) o ≡ record p { state = new.state; events = p.events ++ start_events o answer }
+  one_start : (p : Play) (old : OpenSpool D) (o : Option ℕ) (answer : Option Answer) (new : OpenSpool D) → IsStartingOf device old o answer new → IsBegun answer → start_of (record p { state = old.state }) o ≡ record p { state = new.state; events = p.events ++ start_events o answer }
   one_start p old None answer new (none, same) begun =
-      ap (λ (s : Standing D). record p { state = s.state }) (sym same)
+      ap (λ (s : OpenSpool D). record p { state = s.state }) (sym same)
       ∙ ap (λ es. record p { state = new.state; events = es }) (sym (append-nil p.events))
   one_start p old (Some j) None new is begun = absurd is
   one_start p old (Some j) (Some (Err fault)) new is begun = absurd begun
   one_start p old (Some j) (Some (Ok reply)) new (accepted, is) begun =
       ap (λ s. record p { state = s; events = p.events ++ Start j ∷ [] }) (done_state old.state (Start j) (refusal_of old.state (Start j)) new.state reply refl accepted is.cause.step).0
 
-  pub starts_played : (old : Standing D) (ts : List (Starting D)) (new : Standing D) → AreStartings device old ts new → (p : Play) → AllBegun ts → plays play_start (record p { state = old.state }) (map (λ t. t.queue) ts) ≡ record p { state = new.state; events = p.events ++ starting_events old ts }
+  pub starts_played : (old : OpenSpool D) (ts : List (Starting D)) (new : OpenSpool D) → AreStartings device old ts new → (p : Play) → AllBegun ts → plays play_start (record p { state = old.state }) (map (λ t. t.queue) ts) ≡ record p { state = new.state; events = p.events ++ starting_events old ts }
   starts_played old [] new same p begun =
-      ap (λ (s : Standing D). record p { state = s.state }) (sym same)
+      ap (λ (s : OpenSpool D). record p { state = s.state }) (sym same)
       ∙ ap (λ es. record p { state = new.state; events = es }) (sym (append-nil p.events))
   starts_played old (t ∷ ts) new (start, starts) p (first, others) =
       let es = start_events (next_of old.state t.queue) t.answer in
@@ -43,8 +43,8 @@ started_keys s j None = refl
 started_keys s j (Some r) = refl
 
 module _ {D : Type 0} (device : DiskView D) where
-  one_keys : (old : Standing D) (o : Option ℕ) (answer : Option Answer) (new : Standing D) → IsStartingOf device old o answer new → finite.keys new.state.queues ≡ finite.keys old.state.queues
-  one_keys old None answer new (none, same) = ap (λ (s : Standing D). finite.keys s.state.queues) same
+  one_keys : (old : OpenSpool D) (o : Option ℕ) (answer : Option Answer) (new : OpenSpool D) → IsStartingOf device old o answer new → finite.keys new.state.queues ≡ finite.keys old.state.queues
+  one_keys old None answer new (none, same) = ap (λ (s : OpenSpool D). finite.keys s.state.queues) same
   one_keys old (Some j) None new is = absurd is
   one_keys old (Some j) (Some (Ok reply)) new (accepted, is) =
       ap (λ (s : State). finite.keys s.queues) (sym (done_state old.state (Start j) (refusal_of old.state (Start j)) new.state reply refl accepted is.cause.step).0)
@@ -52,8 +52,8 @@ module _ {D : Type 0} (device : DiskView D) where
   one_keys old (Some j) (Some (Err fault)) new (accepted, is) = ap (λ (s : State). finite.keys s.queues) (fault_state device old (Start j) fault new is.cause)
 
   -- the starts change no queue
-  pub starts_keys : (old : Standing D) (ts : List (Starting D)) (new : Standing D) → AreStartings device old ts new → finite.keys new.state.queues ≡ finite.keys old.state.queues
-  starts_keys old [] new same = ap (λ (s : Standing D). finite.keys s.state.queues) same
+  pub starts_keys : (old : OpenSpool D) (ts : List (Starting D)) (new : OpenSpool D) → AreStartings device old ts new → finite.keys new.state.queues ≡ finite.keys old.state.queues
+  starts_keys old [] new same = ap (λ (s : OpenSpool D). finite.keys s.state.queues) same
   starts_keys old (t ∷ ts) new (start, starts) = starts_keys t.next ts new starts ∙ one_keys old (next_of old.state t.queue) t.answer t.next start
 
 -- the name of the queue at a place
@@ -68,7 +68,7 @@ queue_count rows names are = sym (length-map rows (λ (q : QueueRow). q.name)) �
 
 module _ {D : Type 0} (device : DiskView D) where
   -- the start of the queue at a place
-  pub starting_at : (old : Standing D) (t : State) → t ≡ old.state → (at : ℕ) (name : List ℕ) → name ≡ get_or (finite.keys t.queues) at name → (o : Option ℕ) → o ≡ next_of t name → (answer : Option Answer) (new : Standing D) → IsStartingOf device old o answer new
+  pub starting_at : (old : OpenSpool D) (t : State) → t ≡ old.state → (at : ℕ) (name : List ℕ) → name ≡ get_or (finite.keys t.queues) at name → (o : Option ℕ) → o ≡ next_of t name → (answer : Option Answer) (new : OpenSpool D) → IsStartingOf device old o answer new
       → (n : List ℕ) × (n ≡ get_or (finite.keys old.state.queues) at n) × IsStarting device old (record { queue = n; answer = answer; next = new })
   starting_at old t same at name there o next answer new start =
       (name, there ∙ ap (λ (s : State). get_or (finite.keys s.queues) at name) same, subst (λ p. IsStartingOf device old p answer new) (next ∙ ap (λ s. next_of s name) same) start)

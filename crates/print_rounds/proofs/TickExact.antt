@@ -13,25 +13,25 @@ use Rattle.std.specs.FinMap.Entries.{below_all}
 use Rattle.spool_disk.specs.Disk.{DiskView}
 use Rattle.spool_types.specs.declared.event.Event.{Event}
 use Rattle.spool_types.specs.State.{State, Job, job_at}
-use Rattle.spool_core.specs.Standing.{Standing}
+use Rattle.spool_core.specs.OpenSpools.{OpenSpool}
 use Rattle.job_table.specs.Legal.{IsLegal}
 use Rattle.filter_args.specs.declared.place.Place.{Place}
-use Rattle.child_pipeline.specs.Slots.{Slots}
+use Rattle.child_pipeline.specs.StageSlots.{Slots}
 use Rattle.child_pipeline.specs.Tickets.{HasTickets, AreKeptBy}
-use Rattle.child_pipeline.specs.Told.{Told, is_in}
-use Rattle.child_pipeline.specs.declared.children.Places.{Places}
+use Rattle.child_pipeline.specs.ChildTraces.{ChildTrace, is_in}
+use Rattle.child_pipeline.specs.declared.children.StartRoom.{StartRoom}
 use Rattle.child_pipeline.specs.declared.runner.Slot.{Slot}
 use Rattle.print_rounds.specs.Choice.{busy_jobs}
 use Rattle.print_rounds.specs.Counts.{starting_events, starting_fault, stages_fault, launching_fault, ending_fault, started_in}
-use Rattle.print_rounds.specs.Courses.{Course, course, Starting, AreStartings, Launching, AreEndings, AreHanded}
+use Rattle.print_rounds.specs.RunStates.{RunState, run_state, Starting, AreStartings, Launching, AreEndings, AreHanded}
 use Rattle.print_rounds.specs.Faultless.{AllBegun, AllTold}
 use Rattle.print_rounds.specs.Finished.{AreDistinct, AllRest}
-use Rattle.print_rounds.specs.Looks.{has_child, runs, idle_slots, is_stray, strays, free_queues, tended_jobs, idle_among, ripe_in, AreDroppings}
+use Rattle.print_rounds.specs.StageChecks.{has_child, runs, idle_slots, is_stray, strays, free_queues, tended_jobs, idle_among, ripe_in, AreDroppings}
 use Rattle.print_rounds.specs.Passes.{PassSteps, IsPass, jobs_tended, jobs_left}
-use Rattle.print_rounds.specs.Places.{HasPlacesFor, in_turn}
+use Rattle.print_rounds.specs.StartLimits.{HasStartRoomFor, rotated}
 use Rattle.print_rounds.specs.Rounds.{IsScriptRound, fault_in}
-use Rattle.print_rounds.specs.Script.{Play, plays, play_start, play_launch, play_end, play_from, is_current, current_slots}
-use Rattle.print_rounds.specs.Ticks.{ripe_by, looked_by, ripe_among, looked_among, play_ripe, play_tended, play_drop, drop_strays, tend_queues, tick_of}
+use Rattle.print_rounds.specs.RoundScript.{Play, plays, play_start, play_launch, play_end, play_from, is_current, current_slots}
+use Rattle.print_rounds.specs.RoundTicks.{ripe_by, looked_by, ripe_among, looked_among, play_ripe, play_tended, play_drop, drop_strays, tend_queues, tick_of}
 use Rattle.print_rounds.proofs.AcceptLaws.{all_begun, all_served, or_first, or_second}
 use Rattle.print_rounds.proofs.BusyLaws.{all_distinct, idle_rests, part_distinct}
 use Rattle.print_rounds.proofs.CurrentLaws.{Suits, current_suit, starts_suit, launches_suit_at}
@@ -94,7 +94,7 @@ legal_rows s legal r there =
 
 -- ## Jobs whose ends are to be told
 
-ripe_out : (slots : Slots) (t : Told) (j : ℕ) (js : List ℕ) → is_in j js ≡ false → is_in j (ripe_among slots t js) ≡ false
+ripe_out : (slots : Slots) (t : ChildTrace) (j : ℕ) (js : List ℕ) → is_in j js ≡ false → is_in j (ripe_among slots t js) ≡ false
 ripe_out slots t j [] out = refl
 ripe_out slots t j (k ∷ js) out =
     by_ripe (ripe_by (runs slots k) t) (ripe_among slots (looked_by (runs slots k) t) js) (ripe_out slots (looked_by (runs slots k) t) j js (not_second (k == j) (is_in j js) out))
@@ -103,7 +103,7 @@ ripe_out slots t j (k ∷ js) out =
     by_ripe true ks rest = ap (λ c. c || is_in j ks) (not_first (k == j) (is_in j js) out) ∙ rest
     by_ripe false ks rest = rest
 
-ripe_distinct : (slots : Slots) (t : Told) (js : List ℕ) → AreDistinct js → AreDistinct (ripe_among slots t js)
+ripe_distinct : (slots : Slots) (t : ChildTrace) (js : List ℕ) → AreDistinct js → AreDistinct (ripe_among slots t js)
 ripe_distinct slots t [] distinct = tt
 ripe_distinct slots t (j ∷ js) (first, others) =
     let next = looked_by (runs slots j) t in
@@ -114,7 +114,7 @@ ripe_distinct slots t (j ∷ js) (first, others) =
     by_ripe false ks out rest = rest
 
 module _ {D : Type 0} (device : DiskView D) where
-  ripe_suit : (s : State) (m slots : Slots) (t : Told) (js : List ℕ) → SuitIn device s m js → SuitIn device s m (ripe_among slots t js)
+  ripe_suit : (s : State) (m slots : Slots) (t : ChildTrace) (js : List ℕ) → SuitIn device s m js → SuitIn device s m (ripe_among slots t js)
   ripe_suit s m slots t [] suits = tt
   ripe_suit s m slots t (j ∷ js) (first, others) = by_ripe (ripe_by (runs slots j) t) (ripe_among slots (looked_by (runs slots j) t) js) (ripe_suit s m slots (looked_by (runs slots j) t) js others)
     where
@@ -146,7 +146,7 @@ running_suits row (Some slot) runs tended = by_current (is_current row (Some slo
     by_current true is tended = is
     by_current false is tended = absurd (cc)
 
-module _ {D : Type 0} (device : DiskView D) (old : Standing D) (slots : Slots) (mid : Standing D) (ts : List (Starting D)) (starts : AreStartings device old ts mid) where
+module _ {D : Type 0} (device : DiskView D) (old : OpenSpool D) (slots : Slots) (mid : OpenSpool D) (ts : List (Starting D)) (starts : AreStartings device old ts mid) where
   tended_suits : (j : ℕ) → is_stray mid.state (idle_slots old.state slots) j ≡ false → Suits (job_at mid.state j) (finite.get (idle_slots old.state slots) j)
   tended_suits j tended = by_child (runs (idle_slots old.state slots) j) refl
     where
@@ -177,12 +177,12 @@ module _ {D : Type 0} (device : DiskView D) (old : Standing D) (slots : Slots) (
 
 -- ## The whole
 
-module _ {D : Type 0} (device : DiskView D) (laws : Laws) (kept : TicketLaws) (place : Place) (places : Option Places) (old new : Course D) (steps : PassSteps D) (made : IsPass device place false places old steps new) (legal : IsLegal old.spool.state) (alive : old.spool.dead ≡ false) (always : IsSome old.told → places ≡ None) (none : fault_in steps.parts ≡ None)
-    (t : Told) (documents : ℕ → List ℕ) (tells : old.told ≡ Some t) (has : HasTickets old.slots t) (handed : AreHanded documents steps.parts.launchings) where
+module _ {D : Type 0} (device : DiskView D) (laws : Laws) (kept : TicketLaws) (place : Place) (start_room : Option StartRoom) (old new : RunState D) (steps : PassSteps D) (made : IsPass device place false start_room old steps new) (legal : IsLegal old.spool.state) (alive : old.spool.dead ≡ false) (always : IsSome old.told → start_room ≡ None) (none : fault_in steps.parts ≡ None)
+    (t : ChildTrace) (documents : ℕ → List ℕ) (tells : old.told ≡ Some t) (has : HasTickets old.slots t) (handed : AreHanded documents steps.parts.launchings) where
   abbrev s : State
   s = old.spool.state
 
-  abbrev mid : Standing D
+  abbrev mid : OpenSpool D
   mid = steps.parts.mid
 
   abbrev idle : Slots
@@ -203,7 +203,7 @@ module _ {D : Type 0} (device : DiskView D) (laws : Laws) (kept : TicketLaws) (p
   begun : AllBegun steps.parts.startings
   begun = all_begun device old.spool steps.parts.startings mid made.starts (or_first (starting_fault steps.parts.startings) (stages_fault launchings steps.parts.endings) none)
 
-  unbound : places ≡ None
+  unbound : start_room ≡ None
   unbound = always (ap (λ o. is_some o) tells)
 
   mid_alive : mid.dead ≡ false
@@ -232,13 +232,13 @@ module _ {D : Type 0} (device : DiskView D) (laws : Laws) (kept : TicketLaws) (p
 
   started : plays play_start (play_from s idle t) (free_queues s idle) ≡ p1
   started =
-      ap (λ names. plays play_start (play_from s idle t) names) (sym (made.queues.all (subst (λ o. HasPlacesFor o (length (finite.keys s.queues))) (sym unbound) tt)))
+      ap (λ names. plays play_start (play_from s idle t) names) (sym (made.queues.all (subst (λ o. HasStartRoomFor o (length (finite.keys s.queues))) (sym unbound) tt)))
       ∙ starts_played device old.spool steps.parts.startings mid made.starts (play_from s idle t) begun
 
   -- ### The starts of stages
 
   launched_are : map (λ l. l.job) launchings ≡ idle_among idle js
-  launched_are = made.launched ∙ ap (λ ks. in_turn places (idle_among idle ks)) tended ∙ ap (λ o. in_turn o (idle_among idle js)) unbound
+  launched_are = made.launched ∙ ap (λ ks. rotated start_room (idle_among idle ks)) tended ∙ ap (λ o. rotated o (idle_among idle js)) unbound
 
   launched : AreKeptBy t (started_in launchings) slots steps.parts.told
   launched = launches_keep kept place mid.state numbers t idle old.told launchings slots steps.parts.told made.launches
@@ -246,7 +246,7 @@ module _ {D : Type 0} (device : DiskView D) (laws : Laws) (kept : TicketLaws) (p
       (subst AreDistinct (sym launched_are) (part_distinct (λ j. not (runs idle j)) js distinct))
       tells (idle_tickets s old.slots t has)
 
-  abbrev t1 : Told
+  abbrev t1 : ChildTrace
   t1 = launched.now
 
   abbrev p2 : Play
@@ -264,7 +264,7 @@ module _ {D : Type 0} (device : DiskView D) (laws : Laws) (kept : TicketLaws) (p
   seen : map (λ l. l.job) steps.looks ≡ js
   seen = made.seen ∙ tended
 
-  abbrev t2 : Told
+  abbrev t2 : ChildTrace
   t2 = looked_among slots t1 js
 
   looked : (ripe_in steps.looks ≡ ripe_among slots t1 js) × (steps.looked ≡ Some t2)
@@ -292,14 +292,14 @@ module _ {D : Type 0} (device : DiskView D) (laws : Laws) (kept : TicketLaws) (p
       (all_tended_suit device old.spool old.slots mid steps.parts.startings made.starts (busy_jobs mid.state (finite.keys mid.state.queues)))
 
   acknowledged : AllTold steps.parts.endings
-  acknowledged = all_told device laws.legal (course steps.parts.read slots steps.looked) steps.parts.endings steps.ended made.ends (subst IsLegal (sym same) legal_mid)
+  acknowledged = all_told device laws.legal (run_state steps.parts.read slots steps.looked) steps.parts.endings steps.ended made.ends (subst IsLegal (sym same) legal_mid)
       (subst (λ ks. SuitIn device steps.parts.read.state slots ks) (sym told_are) (subst (λ u. SuitIn device u slots (ripe_among slots t1 js)) (sym same) (ripe_suit device mid.state slots slots t1 js suits)))
       (subst AreDistinct (sym told_are) (ripe_distinct slots t1 js distinct))
       (or_second (launching_fault launchings) (ending_fault steps.parts.endings) later)
 
-  ended : (t3 : Told) × (steps.ended.told ≡ Some t3) × HasTickets steps.ended.slots t3 × (plays play_end p3 (map (λ e. e.job) steps.parts.endings) ≡ play_after device p3 steps.parts.endings steps.ended t3)
+  ended : (t3 : ChildTrace) × (steps.ended.told ≡ Some t3) × HasTickets steps.ended.slots t3 × (plays play_end p3 (map (λ e. e.job) steps.parts.endings) ≡ play_after device p3 steps.parts.endings steps.ended t3)
   ended = ends_played kept device p3 steps.parts.read steps.parts.endings steps.ended same looked_has
-      (subst (λ o. AreEndings device (course steps.parts.read slots o) steps.parts.endings steps.ended) looked.1 made.ends) acknowledged
+      (subst (λ o. AreEndings device (run_state steps.parts.read slots o) steps.parts.endings steps.ended) looked.1 made.ends) acknowledged
 
   abbrev p4 : Play
   p4 = play_after device p3 steps.parts.endings steps.ended ended.0
@@ -309,7 +309,7 @@ module _ {D : Type 0} (device : DiskView D) (laws : Laws) (kept : TicketLaws) (p
   left : map (λ d. d.look.job) steps.droppings ≡ strays p4.state p4.slots
   left = made.left ∙ ap (λ b. jobs_left b steps.ended) mid_alive
 
-  dropped : (t4 : Told) × (new.told ≡ Some t4) × (plays play_drop p4 (map (λ d. d.look.job) steps.droppings) ≡ record p4 { slots = new.slots; told = t4 })
+  dropped : (t4 : ChildTrace) × (new.told ≡ Some t4) × (plays play_drop p4 (map (λ d. d.look.job) steps.droppings) ≡ record p4 { slots = new.slots; told = t4 })
   dropped = drops_played kept p4 steps.droppings new.slots new.told ended.2 (subst (λ o. AreDroppings false steps.ended.slots o steps.droppings new.slots new.told) ended.1 made.drops)
 
   abbrev p5 : Play
@@ -329,7 +329,7 @@ module _ {D : Type 0} (device : DiskView D) (laws : Laws) (kept : TicketLaws) (p
 
   is_script : IsScriptRound old steps.parts new (tick_of place documents s old.slots t)
   is_script = subst (IsScriptRound old steps.parts new) (sym whole) (record {
-    state = ap (λ (x : Standing D). x.state) made.spool;
+    state = ap (λ (x : OpenSpool D). x.state) made.spool;
     slots = refl;
     told = dropped.1;
     events = refl;
@@ -338,9 +338,9 @@ module _ {D : Type 0} (device : DiskView D) (laws : Laws) (kept : TicketLaws) (p
   })
 
 -- the tables, slots, what is told, events and counts are those of Script's tick with the documents that were read
-pub tick_exact : {D : Type 0} (device : DiskView D) (laws : Laws) (kept : TicketLaws) (place : Place) (places : Option Places) (old new : Course D) (steps : PassSteps D)
-    → IsPass device place false places old steps new → IsLegal old.spool.state → old.spool.dead ≡ false → (IsSome old.told → places ≡ None) → fault_in steps.parts ≡ None
-    → (t : Told) (documents : ℕ → List ℕ) → old.told ≡ Some t → HasTickets old.slots t → AreHanded documents steps.parts.launchings
+pub tick_exact : {D : Type 0} (device : DiskView D) (laws : Laws) (kept : TicketLaws) (place : Place) (start_room : Option StartRoom) (old new : RunState D) (steps : PassSteps D)
+    → IsPass device place false start_room old steps new → IsLegal old.spool.state → old.spool.dead ≡ false → (IsSome old.told → start_room ≡ None) → fault_in steps.parts ≡ None
+    → (t : ChildTrace) (documents : ℕ → List ℕ) → old.told ≡ Some t → HasTickets old.slots t → AreHanded documents steps.parts.launchings
     → IsScriptRound old steps.parts new (tick_of place documents old.spool.state old.slots t)
-tick_exact device laws kept place places old new steps made legal alive always none t documents tells has handed =
-    is_script device laws kept place places old new steps made legal alive always none t documents tells has handed
+tick_exact device laws kept place start_room old new steps made legal alive always none t documents tells has handed =
+    is_script device laws kept place start_room old new steps made legal alive always none t documents tells has handed

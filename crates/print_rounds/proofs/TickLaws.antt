@@ -1,4 +1,4 @@
--- A tick is a turn of World, and whole.
+-- A tick is a turn of StageHistory, and whole.
 use Rattle.std.proofs.Common.{◌≡◌, ◌⊎◌, inl, inr, ℕ, ◌≤◌, Bool, not, ◌&&◌, ◌||◌, true, false, cond, ◌==◌, List, [], ◌∷◌, length, map, Option, Some, None, Result, refl, sym, ap, subst, ◌∙◌, append-nil, arith}
 use Rattle.std.specs.Prelude.{◌↔◌, IsSome}
 use Rattle.std.specs.FinMap as finite
@@ -6,28 +6,28 @@ use Rattle.std.proofs.lemmas.Bool.{both_ways}
 use Rattle.std.proofs.lemmas.List.{length-map}
 use Rattle.spool_disk.specs.Disk.{DiskView, IsLawful, LeavesOnly}
 use Rattle.spool_types.specs.State.{State}
-use Rattle.job_table.specs.Fold.{after_all, AreAccepted}
+use Rattle.job_table.specs.EventFold.{after_all, AreAccepted}
 use Rattle.job_table.specs.Legal.{IsLegal}
 use Rattle.job_table.specs.Stages.{Key, IsIn, IsSpent}
 use Rattle.spool_core.specs.Image.{HasDocuments}
-use Rattle.spool_core.specs.Standing.{Standing}
+use Rattle.spool_core.specs.OpenSpools.{OpenSpool}
 use Rattle.filter_args.specs.declared.place.Place.{Place}
-use Rattle.child_pipeline.specs.Slots.{Slots, FinishesFrom, slot_in, with_progress}
+use Rattle.child_pipeline.specs.StageSlots.{Slots, FinishesFrom, slot_in, with_progress}
 use Rattle.child_pipeline.specs.Tickets.{HasTickets, AreKeptBy}
-use Rattle.child_pipeline.specs.Told.{Told, is_in}
-use Rattle.child_pipeline.specs.declared.children.Places.{Places}
+use Rattle.child_pipeline.specs.ChildTraces.{ChildTrace, is_in}
+use Rattle.child_pipeline.specs.declared.children.StartRoom.{StartRoom}
 use Rattle.child_pipeline.specs.declared.runner.Progress.{Progress}
 use Rattle.child_pipeline.specs.declared.runner.Progress.TheVariants.{Ready, Running, Ended}
 use Rattle.print_rounds.specs.Choice.{busy_jobs}
 use Rattle.print_rounds.specs.Counts.{counts_of, result_of, started_in, starting_fault, launching_fault, ending_fault, stages_fault, starting_events, ending_events}
-use Rattle.print_rounds.specs.Courses.{Course, course, Launching, AreHanded}
+use Rattle.print_rounds.specs.RunStates.{RunState, run_state, Launching, AreHanded}
 use Rattle.print_rounds.specs.Finished.{AreDistinct, AllRest}
-use Rattle.print_rounds.specs.Looks.{Dropping, IsDropped, AreDroppings, has_child, idle_slots, idle_among, is_stray, runs}
+use Rattle.print_rounds.specs.StageChecks.{Dropping, IsDropped, AreDroppings, has_child, idle_slots, idle_among, is_stray, runs}
 use Rattle.print_rounds.specs.Passes.{PassSteps, IsPass, IsPassBy, jobs_tended, jobs_left}
-use Rattle.print_rounds.specs.Places.{HasPlacesFor, in_turn}
+use Rattle.print_rounds.specs.StartLimits.{HasStartRoomFor, rotated}
 use Rattle.print_rounds.specs.Rounds.{HasSomeOf, HasSomeWhole, LeavesDocuments, RoundSteps, events_in, tried_in, fault_in}
-use Rattle.print_rounds.specs.Ticks.{IsTickOf, IsTickAsked, Finishing, AreFinishings}
-use Rattle.print_rounds.specs.World.{keys_in, IsBegunSlot, IsHeld, IsCallTurn}
+use Rattle.print_rounds.specs.RoundTicks.{IsTickOf, IsTickAsked, Finishing, AreFinishings}
+use Rattle.print_rounds.specs.StageHistory.{keys_in, IsBegunSlot, IsHeld, IsStageCall}
 use Rattle.print_rounds.specs.declared.outcome.Round.{Round}
 use Rattle.print_rounds.specs.declared.outcome.RoundFault.{RoundFault}
 use Rattle.print_rounds.proofs.AcceptLaws.{all_begun, or_first, or_second}
@@ -49,24 +49,24 @@ use Rattle.print_rounds.proofs.TickTickets.{TicketLaws, IsKeptTo, idle_tickets, 
 use Rattle.print_rounds.proofs.VersionLaws.{raised_turn}
 
 -- no job is tended twice
-tended_distinct : {D : Type 0} (s : Standing D) (slots : Slots) (b : Bool) → IsLegal s.state → AreDistinct (jobs_tended s b slots)
+tended_distinct : {D : Type 0} (s : OpenSpool D) (slots : Slots) (b : Bool) → IsLegal s.state → AreDistinct (jobs_tended s b slots)
 tended_distinct s slots true legal = tt
 tended_distinct s slots false legal = part_distinct (λ j. not (is_stray s.state slots j)) (busy_jobs s.state (finite.keys s.state.queues)) (all_distinct s.state (legal_rows s.state legal))
 
 -- ## Droppings
 
 module _ (k : ℕ) where
-  finish_same : (slots : Slots) (told : Option Told) (j : ℕ) (kept : Slots) (told' : Option Told) (p : Progress ℕ) → FinishesFrom p told slots j kept told' → (k == j) ≡ false → finite.get kept k ≡ finite.get slots k
+  finish_same : (slots : Slots) (told : Option ChildTrace) (j : ℕ) (kept : Slots) (told' : Option ChildTrace) (p : Progress ℕ) → FinishesFrom p told slots j kept told' → (k == j) ≡ false → finite.get kept k ≡ finite.get slots k
   finish_same slots told j kept told' (Ready input) finishes other = absurd finishes
   finish_same slots told j kept told' (Running n) finishes other = ap (λ m. finite.get m k) finishes.slots ∙ get_other slots j k (with_progress (slot_in slots j) (Ended finishes.finish)) other
   finish_same slots told j kept told' (Ended finish) (same, told_same) other = ap (λ m. finite.get m k) same
 
-  drop_same : (slots : Slots) (told : Option Told) (j : ℕ) (b : Bool) (new : Slots) (told' : Option Told) → IsDropped b slots j told new told' → (k == j) ≡ false → finite.get new k ≡ finite.get slots k
+  drop_same : (slots : Slots) (told : Option ChildTrace) (j : ℕ) (b : Bool) (new : Slots) (told' : Option ChildTrace) → IsDropped b slots j told new told' → (k == j) ≡ false → finite.get new k ≡ finite.get slots k
   drop_same slots told j false new told' (same, told_same) other = ap (λ m. finite.get m k) same
   drop_same slots told j true new told' (kept, finishes, gone) other = ap (λ m. finite.get m k) gone ∙ get_left kept j k other ∙ finish_same slots told j kept told' (slot_in slots j).progress finishes other
 
   -- the slots of other jobs are as they were
-  drops_same : (waits : Bool) (slots : Slots) (told : Option Told) (ds : List Dropping) (new : Slots) (told' : Option Told) → AreDroppings waits slots told ds new told' → is_in k (map (λ d. d.look.job) ds) ≡ false → finite.get new k ≡ finite.get slots k
+  drops_same : (waits : Bool) (slots : Slots) (told : Option ChildTrace) (ds : List Dropping) (new : Slots) (told' : Option ChildTrace) → AreDroppings waits slots told ds new told' → is_in k (map (λ d. d.look.job) ds) ≡ false → finite.get new k ≡ finite.get slots k
   drops_same waits slots told [] new told' (same, told_same) out = ap (λ m. finite.get m k) same
   drops_same waits slots told (d ∷ ds) new told' ((look, dropped), drops) out =
       drops_same waits d.slots d.told ds new told' drops (not_second (d.look.job == k) (is_in k (map (λ d. d.look.job) ds)) out)
@@ -80,7 +80,7 @@ held_out s slots k held = ap (λ b. runs slots k.job && not b) (held_current s s
     no true = refl
     no false = refl
 
-left_out : {D : Type 0} (b : Bool) (c : Course D) (k : Key) → IsHeld c.spool.state c.slots k → is_in k.job (jobs_left b c) ≡ false
+left_out : {D : Type 0} (b : Bool) (c : RunState D) (k : Key) → IsHeld c.spool.state c.slots k → is_in k.job (jobs_left b c) ≡ false
 left_out true c k held = refl
 left_out false c k held = fails_out (is_stray c.spool.state c.slots) k.job (finite.keys c.slots) (held_out c.spool.state c.slots k held)
 
@@ -96,7 +96,7 @@ none_handed : (documents : ℕ → List ℕ) (ts : List Launching) → map (λ t
 none_handed documents [] none = tt
 none_handed documents (t ∷ ts) none = absurd (cc)
 
-module _ {D : Type 0} (device : DiskView D) (laws : Laws) (tickets : TicketLaws) (place : Place) (places : Option Places) (old new : Course D) (steps : PassSteps D) (made : IsPass device place false places old steps new) (legal : IsLegal old.spool.state) where
+module _ {D : Type 0} (device : DiskView D) (laws : Laws) (tickets : TicketLaws) (place : Place) (start_room : Option StartRoom) (old new : RunState D) (steps : PassSteps D) (made : IsPass device place false start_room old steps new) (legal : IsLegal old.spool.state) where
   abbrev parts : RoundSteps D
   parts = steps.parts
 
@@ -104,8 +104,8 @@ module _ {D : Type 0} (device : DiskView D) (laws : Laws) (tickets : TicketLaws)
   idle = idle_slots old.spool.state old.slots
 
   -- where the looks have been taken
-  abbrev seen : Course D
-  seen = course parts.read parts.slots steps.looked
+  abbrev seen : RunState D
+  seen = run_state parts.read parts.slots steps.looked
 
   first : parts.mid.state ≡ after_all old.spool.state (starting_events old.spool parts.startings)
   first = (starts_part device old.spool parts.startings parts.mid made.starts).table
@@ -120,21 +120,21 @@ module _ {D : Type 0} (device : DiskView D) (laws : Laws) (tickets : TicketLaws)
   still = reads_state device parts.mid parts.launchings parts.read made.reads
 
   last : new.spool.state ≡ after_all parts.mid.state (ending_events parts.endings)
-  last = ap (λ (x : Standing D). x.state) made.spool ∙ (ends_part device seen parts.endings steps.ended made.ends).table ∙ ap (λ s. after_all s (ending_events parts.endings)) still
+  last = ap (λ (x : OpenSpool D). x.state) made.spool ∙ (ends_part device seen parts.endings steps.ended made.ends).table ∙ ap (λ s. after_all s (ending_events parts.endings)) still
 
   -- no job's stage is started twice, and none beside a child
   abbrev resting : List ℕ
   resting = idle_among idle (jobs_tended parts.mid parts.mid.dead idle)
 
   once : AreDistinct (map (λ t. t.job) parts.launchings)
-  once = subst AreDistinct (sym made.launched) (part_once (in_turn places resting) resting (in_turn_part places resting)
+  once = subst AreDistinct (sym made.launched) (part_once (rotated start_room resting) resting (in_turn_part start_room resting)
       (part_distinct (λ j. not (runs idle j)) (jobs_tended parts.mid parts.mid.dead idle) (tended_distinct parts.mid idle parts.mid.dead legal_mid)))
 
   rest : AllRest idle (map (λ t. t.job) parts.launchings)
-  rest = subst (AllRest idle) (sym made.launched) (part_rest idle (in_turn places resting) resting (in_turn_part places resting) (idle_rests idle (jobs_tended parts.mid parts.mid.dead idle)))
+  rest = subst (AllRest idle) (sym made.launched) (part_rest idle (rotated start_room resting) resting (in_turn_part start_room resting) (idle_rests idle (jobs_tended parts.mid parts.mid.dead idle)))
 
-  few : HasPlacesFor places (length parts.launchings)
-  few = subst (HasPlacesFor places) (ap length (sym made.launched) ∙ length-map parts.launchings (λ t. t.job)) (in_turn_few places resting)
+  few : HasStartRoomFor start_room (length parts.launchings)
+  few = subst (HasStartRoomFor start_room) (ap length (sym made.launched) ∙ length-map parts.launchings (λ t. t.job)) (in_turn_few start_room resting)
 
   accepted : AreAccepted old.spool.state (events_in old parts)
   accepted = accepted_both old.spool.state (starting_events old.spool parts.startings) (ending_events parts.endings) (starts_accepted device old.spool parts.startings parts.mid made.starts)
@@ -143,7 +143,7 @@ module _ {D : Type 0} (device : DiskView D) (laws : Laws) (tickets : TicketLaws)
   whole_table : new.spool.state ≡ after_all old.spool.state (events_in old parts)
   whole_table = last ∙ ap (λ s. after_all s (ending_events parts.endings)) first ∙ sym (after_both old.spool.state (starting_events old.spool parts.startings) (ending_events parts.endings))
 
-  module _ (t : Told) (tells : old.told ≡ Some t) (has : HasTickets old.slots t) where
+  module _ (t : ChildTrace) (tells : old.told ≡ Some t) (has : HasTickets old.slots t) where
     launched : AreKeptBy t (started_in parts.launchings) parts.slots parts.told
     launched = launches_keep tickets place parts.mid.state numbers t idle old.told parts.launchings parts.slots parts.told made.launches rest once tells (idle_tickets old.spool.state old.slots t has)
 
@@ -171,14 +171,14 @@ module _ {D : Type 0} (device : DiskView D) (laws : Laws) (tickets : TicketLaws)
     going_on : (k : Key) → IsHeld parts.mid.state parts.slots k ⊎ IsSpent parts.mid.state k → IsHeld new.spool.state new.slots k ⊎ IsSpent new.spool.state k
     going_on k going = elim (ends_going device laws k seen parts.endings steps.ended made.ends (subst IsLegal (sym still) legal_mid) (subst (λ s. IsHeld s parts.slots k ⊎ IsSpent s k) (sym still) going)) [
       | inl held ↦ inl (
-        subst (λ (x : Standing D). IsIn x.state k) (sym made.spool) held.0,
+        subst (λ (x : OpenSpool D). IsIn x.state k) (sym made.spool) held.0,
         begun_same steps.ended.slots new.slots k
             (drops_same k.job false steps.ended.slots steps.ended.told steps.droppings new.slots new.told made.drops (ap (is_in k.job) made.left ∙ left_out parts.mid.dead steps.ended k held)) held.1,
       )
-      | inr gone ↦ inr (subst (λ (x : Standing D). IsSpent x.state k) (sym made.spool) gone)
+      | inr gone ↦ inr (subst (λ (x : OpenSpool D). IsSpent x.state k) (sym made.spool) gone)
     ]
 
-    tick_turn : old.spool.dead ≡ false → IsCallTurn t old (events_in old parts) new
+    tick_turn : old.spool.dead ≡ false → IsStageCall t old (events_in old parts) new
     tick_turn alive =
         let begun = launches_begun place parts.mid.state numbers t idle old.told parts.launchings parts.slots parts.told made.launches tells in
         let same : launched.now ≡ begun.now = some_of launched.now begun.now (sym launched.tells ∙ begun.tells) in
@@ -186,7 +186,7 @@ module _ {D : Type 0} (device : DiskView D) (laws : Laws) (tickets : TicketLaws)
           now = dropped.now;
           tells = dropped.tells;
           orders = begun.orders;
-          added = dropped.orders ∙ ended.orders ∙ looked.orders ∙ ap (λ (u : Told). u.orders) same ∙ begun.added;
+          added = dropped.orders ∙ ended.orders ∙ looked.orders ∙ ap (λ (u : ChildTrace). u.orders) same ∙ begun.added;
           turn = raised_turn laws old.spool.state (events_in old parts) accepted
               (IsHeld old.spool.state old.slots) (keys_in begun.orders) new.spool.state (IsHeld new.spool.state new.slots) new.spool.dead legal whole_table begun.once
               (λ k among held. elim (held_going k held) [
@@ -209,7 +209,7 @@ module _ {D : Type 0} (device : DiskView D) (laws : Laws) (tickets : TicketLaws)
   lives_on none alive =
       let later = or_second (starting_fault parts.startings) (stages_fault parts.launchings parts.endings) none in
       let begun = all_begun device old.spool parts.startings parts.mid made.starts (or_first (starting_fault parts.startings) (stages_fault parts.launchings parts.endings) none) in
-      ap (λ (x : Standing D). x.dead) made.spool
+      ap (λ (x : OpenSpool D). x.dead) made.spool
       ∙ ends_alive device seen parts.endings steps.ended made.ends (or_second (launching_fault parts.launchings) (ending_fault parts.endings) later)
       (reads_work device parts.mid parts.launchings parts.read made.reads (or_first (launching_fault parts.launchings) (ending_fault parts.endings) later)
       (starts_alive device old.spool parts.startings parts.mid made.starts begun alive))
@@ -224,15 +224,15 @@ module _ {D : Type 0} (device : DiskView D) (laws : Laws) (tickets : TicketLaws)
     own_handed bytes documents is given = by_dead parts.mid.dead refl
       where
         by_dead : (b : Bool) → parts.mid.dead ≡ b → AreHanded documents parts.launchings
-        by_dead true died = none_handed documents parts.launchings (made.launched ∙ in_turn_none places resting (ap (λ b. idle_among idle (jobs_tended parts.mid b idle)) died))
+        by_dead true died = none_handed documents parts.launchings (made.launched ∙ in_turn_none start_room resting (ap (λ b. idle_among idle (jobs_tended parts.mid b idle)) died))
         by_dead false lives =
             handed device lawful old.spool parts.mid parts.startings made.starts parts.launchings parts.read made.reads parts.slots steps.looked parts.endings steps.ended made.ends lives bytes documents is given
             place idle parts.slots old.told parts.told made.launches
 
-    whole_tick : IsKept device old.spool → old.spool.dead ≡ false → (IsSome old.told → places ≡ None) → (result : Result Round RoundFault) → result ≡ result_of (counts_of parts.launchings parts.endings) (fault_in parts) → (tick : IsTickOf device place old new result) × (tick.places ≡ places)
+    whole_tick : IsKept device old.spool → old.spool.dead ≡ false → (IsSome old.told → start_room ≡ None) → (result : Result Round RoundFault) → result ≡ result_of (counts_of parts.launchings parts.endings) (fault_in parts) → (tick : IsTickOf device place old new result) × (tick.start_room ≡ start_room)
     whole_tick kept alive always result answer = (
       record {
-        places = places;
+        start_room = start_room;
         always = always;
         few = few;
         steps = steps;
@@ -240,13 +240,13 @@ module _ {D : Type 0} (device : DiskView D) (laws : Laws) (tickets : TicketLaws)
         answer = answer;
         accepted = accepted;
         table = whole_table;
-        any_moment = λ lived tells. subst (λ (x : Standing D). LeavesOnly device old.spool.disk x.disk (HasSomeOf old.spool.state (tried_in old parts))) (sym made.spool)
+        any_moment = λ lived tells. subst (λ (x : OpenSpool D). LeavesOnly device old.spool.disk x.disk (HasSomeOf old.spool.state (tried_in old parts))) (sym made.spool)
             (any_moment device lawful old.spool parts.mid parts.startings made.starts parts.launchings parts.read made.reads parts.slots steps.looked parts.endings steps.ended made.ends kept lived tells);
-        any_whole = λ lived tells documents leaves. subst (λ (x : Standing D). LeavesOnly device old.spool.disk x.disk (HasSomeWhole old.spool.state documents (tried_in old parts))) (sym made.spool)
+        any_whole = λ lived tells documents leaves. subst (λ (x : OpenSpool D). LeavesOnly device old.spool.disk x.disk (HasSomeWhole old.spool.state documents (tried_in old parts))) (sym made.spool)
             (any_whole device lawful old.spool parts.mid parts.startings made.starts parts.launchings parts.read made.reads parts.slots steps.looked parts.endings steps.ended made.ends kept lived tells documents leaves);
         lasting = λ lives tells documents leaves. subst (LeavesDocuments device documents) (sym made.spool)
             (lasting device lawful old.spool parts.mid parts.startings made.starts parts.launchings parts.read made.reads parts.slots steps.looked parts.endings steps.ended made.ends
-            (ap (λ (x : Standing D). x.dead) (sym made.spool) ∙ lives) tells documents leaves);
+            (ap (λ (x : OpenSpool D). x.dead) (sym made.spool) ∙ lives) tells documents leaves);
         works = lives_on;
         all_acknowledged = part.acknowledged;
         in_hand = part.in_hand;
@@ -254,48 +254,48 @@ module _ {D : Type 0} (device : DiskView D) (laws : Laws) (tickets : TicketLaws)
         turn = λ t tells has. tick_turn t tells has alive;
         read = some_handed parts.launchings once;
         handed = own_handed;
-        exact = λ none t documents tells has given. tick_exact device laws tickets place places old new steps made legal alive always none t documents tells has given;
+        exact = λ none t documents tells has given. tick_exact device laws tickets place start_room old new steps made legal alive always none t documents tells has given;
       },
       refl,
     )
 
 -- ## A tick
 
-module _ {D : Type 0} (device : DiskView D) (lawful : IsLawful device) (laws : Laws) (tickets : TicketLaws) (place : Place) (places : Option Places) (old new : Course D) (result : Result Round RoundFault) (legal : IsLegal old.spool.state) where
+module _ {D : Type 0} (device : DiskView D) (lawful : IsLawful device) (laws : Laws) (tickets : TicketLaws) (place : Place) (start_room : Option StartRoom) (old new : RunState D) (result : Result Round RoundFault) (legal : IsLegal old.spool.state) where
   abbrev still_part : IsPart device old.spool [] [] old.spool
   still_part = starts_part device old.spool [] old.spool refl
 
   -- the pass is a tick
-  module _ (always : IsSome old.told → places ≡ None) (asked : Option Places → Type 0) (has : asked places) (kept : IsKept device old.spool) where
-    by_pass : (b : Bool) → old.spool.dead ≡ b → IsPassBy device place false places old b new result → IsTickAsked asked device place old b new result
+  module _ (always : IsSome old.told → start_room ≡ None) (asked : Option StartRoom → Type 0) (has : asked start_room) (kept : IsKept device old.spool) where
+    by_pass : (b : Bool) → old.spool.dead ≡ b → IsPassBy device place false start_room old b new result → IsTickAsked asked device place old b new result
     by_pass true died pass = pass
     by_pass false alive (inl unbegun) = inl unbegun
     by_pass false alive (inr passed) =
-        let whole = whole_tick device laws tickets place places old new passed.steps passed.made legal lawful kept alive always result passed.answer in
+        let whole = whole_tick device laws tickets place start_room old new passed.steps passed.made legal lawful kept alive always result passed.answer in
         inr (whole.0, subst asked (sym whole.1) has)
 
-    pub passed_tick : IsPassBy device place false places old old.spool.dead new result → IsTickAsked asked device place old old.spool.dead new result
+    pub passed_tick : IsPassBy device place false start_room old old.spool.dead new result → IsTickAsked asked device place old old.spool.dead new result
     passed_tick pass = by_pass old.spool.dead refl pass
 
   unmoved : new ≡ old → (device.failures old.spool.disk ≤ device.failures new.spool.disk) × (IsSome (device.bytes new.spool.disk) ↔ IsSome (device.bytes old.spool.disk))
-  unmoved same = subst (λ (c : Course D). (device.failures old.spool.disk ≤ device.failures c.spool.disk) × (IsSome (device.bytes c.spool.disk) ↔ IsSome (device.bytes old.spool.disk))) (sym same) (still_part.counted, still_part.told)
+  unmoved same = subst (λ (c : RunState D). (device.failures old.spool.disk ≤ device.failures c.spool.disk) × (IsSome (device.bytes c.spool.disk) ↔ IsSome (device.bytes old.spool.disk))) (sym same) (still_part.counted, still_part.told)
 
   -- and what it leaves of the device
-  pub passed_device : (b : Bool) → IsPassBy device place false places old b new result → (device.failures old.spool.disk ≤ device.failures new.spool.disk) × (IsSome (device.bytes new.spool.disk) ↔ IsSome (device.bytes old.spool.disk))
+  pub passed_device : (b : Bool) → IsPassBy device place false start_room old b new result → (device.failures old.spool.disk ≤ device.failures new.spool.disk) × (IsSome (device.bytes new.spool.disk) ↔ IsSome (device.bytes old.spool.disk))
   passed_device true pass = unmoved pass.1
   passed_device false (inl unbegun) = unmoved unbegun.1
-  passed_device false (inr passed) = let all = part device laws tickets place places old new passed.steps passed.made legal lawful in (all.counted, all.told)
+  passed_device false (inr passed) = let all = part device laws tickets place start_room old new passed.steps passed.made legal lawful in (all.counted, all.told)
 
 -- ## Finishes alone
 
 -- what was begun stays so
-finishings_begun : (slots : Slots) (told : Option Told) (fs : List Finishing) (new : Slots) (told' : Option Told) → AreFinishings slots told fs new told' → (k : Key) → IsBegunSlot slots k → IsBegunSlot new k
+finishings_begun : (slots : Slots) (told : Option ChildTrace) (fs : List Finishing) (new : Slots) (told' : Option ChildTrace) → AreFinishings slots told fs new told' → (k : Key) → IsBegunSlot slots k → IsBegunSlot new k
 finishings_begun slots told [] new told' (same, told_same) k has = subst (λ m. IsBegunSlot m k) (sym same) has
 finishings_begun slots told (f ∷ fs) new told' (finishes, others) k has =
     finishings_begun f.slots f.told fs new told' others k (waited_begun slots f.slots f.job told f.told (slot_in slots f.job).progress refl finishes k has)
 
 -- no stage is started, and no event comes
-pub finishes_turn : {D : Type 0} (laws : Laws) (tickets : TicketLaws) (t : Told) (old new : Course D) (fs : List Finishing) → IsLegal old.spool.state → HasTickets old.slots t → old.told ≡ Some t → AreFinishings old.slots old.told fs new.slots new.told → new.spool ≡ old.spool → IsCallTurn t old [] new
+pub finishes_turn : {D : Type 0} (laws : Laws) (tickets : TicketLaws) (t : ChildTrace) (old new : RunState D) (fs : List Finishing) → IsLegal old.spool.state → HasTickets old.slots t → old.told ≡ Some t → AreFinishings old.slots old.told fs new.slots new.told → new.spool ≡ old.spool → IsStageCall t old [] new
 finishes_turn {D} laws tickets t old new fs legal has tells finishings same =
     let kept = finishings_keep tickets t old.slots old.told fs new.slots new.told finishings tells has in
     record {
@@ -303,12 +303,12 @@ finishes_turn {D} laws tickets t old new fs legal has tells finishings same =
       tells = kept.tells;
       orders = [];
       added = kept.orders ∙ sym (append-nil t.orders);
-      turn = raised_turn laws old.spool.state [] tt (IsHeld old.spool.state old.slots) [] new.spool.state (IsHeld new.spool.state new.slots) new.spool.dead legal (ap (λ (x : Standing D). x.state) same) tt
+      turn = raised_turn laws old.spool.state [] tt (IsHeld old.spool.state old.slots) [] new.spool.state (IsHeld new.spool.state new.slots) new.spool.dead legal (ap (λ (x : OpenSpool D). x.state) same) tt
           (λ k among. absurd among)
           (λ k among. absurd among)
           (λ goes_on k some. elim some [
-            | inl held ↦ inl (subst (λ (x : Standing D). IsIn x.state k) (sym same) held.0, finishings_begun old.slots old.told fs new.slots new.told finishings k held.1)
+            | inl held ↦ inl (subst (λ (x : OpenSpool D). IsIn x.state k) (sym same) held.0, finishings_begun old.slots old.told fs new.slots new.told finishings k held.1)
             | inr none ↦ absurd none
           ]);
-      after_over = λ died. (refl, ap (λ (x : Standing D). x.dead) same ∙ died);
+      after_over = λ died. (refl, ap (λ (x : OpenSpool D). x.dead) same ∙ died);
     }

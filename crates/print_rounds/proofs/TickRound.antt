@@ -7,24 +7,24 @@ use Rattle.spool_types.specs.declared.event.Event.TheVariants.{Stage}
 use Rattle.spool_types.specs.declared.rows.QueueRow.{QueueRow}
 use Rattle.spool_types.specs.State.{State, Job, job_at, queue_at}
 use Rattle.job_table.specs.Attempts.{next_of, started}
-use Rattle.job_table.specs.Changes.{change_found}
+use Rattle.job_table.specs.EventChanges.{change_found}
 use Rattle.job_table.specs.Legal.{IsLegal}
 use Rattle.job_table.specs.Step.{reply_to}
 use Rattle.filter_args.specs.declared.place.Place.{Place}
 use Rattle.child_pipeline.specs.Finishes.{kept}
-use Rattle.child_pipeline.specs.Slots.{Slots, IsTicketless, slot_in, end_in, with_progress, progress_after, order_in, is_ready}
-use Rattle.child_pipeline.specs.Told.{Told, starts_next, started_by, first_finish, first_look, later_looks, is_in}
+use Rattle.child_pipeline.specs.StageSlots.{Slots, IsTicketless, slot_in, end_in, with_progress, progress_after, order_in, is_ready}
+use Rattle.child_pipeline.specs.ChildTraces.{ChildTrace, starts_next, started_by, first_finish, first_look, later_looks, is_in}
 use Rattle.child_pipeline.specs.declared.order.ChildFault.{ChildFault}
 use Rattle.child_pipeline.specs.declared.order.Order.{Order}
 use Rattle.child_pipeline.specs.declared.runner.Progress.{Progress}
 use Rattle.child_pipeline.specs.declared.runner.Progress.TheVariants.{Ready, Running, Ended}
 use Rattle.child_pipeline.specs.declared.runner.Slot.{Slot}
 use Rattle.print_rounds.specs.Choice.{busy_jobs, slots_for}
-use Rattle.print_rounds.specs.Courses.{is_silent}
+use Rattle.print_rounds.specs.RunStates.{is_silent}
 use Rattle.print_rounds.specs.Finished.{HasNoneRunning}
-use Rattle.print_rounds.specs.Looks.{runs, free_queues}
-use Rattle.print_rounds.specs.Script.{Play, plays, play_start, start_of, play_launch, launched_for, launched_in, launched_by, launched_on, play_end, ended_if, waited, waited_by, current_slots, play_from, fresh_play, play_busy, round_of}
-use Rattle.print_rounds.specs.Ticks.{ripe_by, looked_by, ripe_among, looked_among, play_ripe, play_tended, play_drop, drop_strays, tend_queues, tick_of}
+use Rattle.print_rounds.specs.StageChecks.{runs, free_queues}
+use Rattle.print_rounds.specs.RoundScript.{Play, plays, play_start, start_of, play_launch, launched_for, launched_in, launched_by, launched_on, play_end, ended_if, waited, waited_by, current_slots, play_from, fresh_play, play_busy, round_of}
+use Rattle.print_rounds.specs.RoundTicks.{ripe_by, looked_by, ripe_among, looked_among, play_ripe, play_tended, play_drop, drop_strays, tend_queues, tick_of}
 use Rattle.print_rounds.proofs.EndLaws.{SameBut, get_other, moved_same, not_first, not_second, reply_rests, turned}
 use Rattle.print_rounds.proofs.FreeLaws.{current_rests}
 use Rattle.print_rounds.proofs.LaunchLaws.{HasNumbers, due_own}
@@ -33,7 +33,7 @@ use Rattle.print_rounds.proofs.WaitLaws.{idle_current, all_free, all_tended, all
 -- ## Looks
 
 -- where no look is to come, each says yes and changes nothing
-module _ (t : Told) (none : t.looks ≡ []) where
+module _ (t : ChildTrace) (none : t.looks ≡ []) where
   each_ripe : (b : Bool) → ripe_by b t ≡ true
   each_ripe true = ap first_look none
   each_ripe false = refl
@@ -93,7 +93,7 @@ starts_still p (name ∷ names) still = starts_still (play_start p name) names (
 -- ## Starts of stages
 
 -- a start takes no look
-start_looks : (t : Told) (order : Order) (answers : List (Result (Unit {0}) ChildFault)) → (started_by t order answers).looks ≡ t.looks
+start_looks : (t : ChildTrace) (order : Order) (answers : List (Result (Unit {0}) ChildFault)) → (started_by t order answers).looks ≡ t.looks
 start_looks t order [] = refl
 start_looks t order (Ok done ∷ rest) = refl
 start_looks t order (Err fault ∷ rest) = refl
@@ -196,7 +196,7 @@ module _ (place : Place) (documents : ℕ → List ℕ) where
       ∙ ap (λ ks. plays play_drop last ks) (no_strays last.state last.slots rests)
 
   -- From slots without a running child, where every look says yes, the tick is the round.
-  pub round_is_tick : (s : State) (slots : Slots) (t : Told) → IsLegal s → HasNoneRunning slots → t.looks ≡ [] → tick_of place documents s slots t ≡ round_of place documents s slots t
+  pub round_is_tick : (s : State) (slots : Slots) (t : ChildTrace) → IsLegal s → HasNoneRunning slots → t.looks ≡ [] → tick_of place documents s slots t ≡ round_of place documents s slots t
   round_is_tick s slots t legal rests looks =
       let names = finite.keys s.queues in
       let now : Slots = current_slots s slots in

@@ -15,15 +15,15 @@ use Rattle.child_pipeline.specs.declared.order.Order.{Order}
 use Rattle.child_pipeline.specs.declared.runner.Progress.{Progress}
 use Rattle.child_pipeline.specs.declared.runner.Progress.TheVariants.{Ready, Running, Ended}
 use Rattle.child_pipeline.specs.declared.runner.Slot.{Slot}
-use Rattle.child_pipeline.specs.Slots.{Slots, slot_in, begun, begun_in, advanced, advanced_in, with_progress, put_progress, progress_after, order_in, is_ready, is_running, IsStart, IsTicketless, IsDue, FinishesFrom, Waits}
+use Rattle.child_pipeline.specs.StageSlots.{Slots, slot_in, begun, begun_in, advanced, advanced_in, with_progress, put_progress, progress_after, order_in, is_ready, is_running, IsStart, IsTicketless, IsDue, FinishesFrom, Waits}
 use Rattle.child_pipeline.specs.Tickets.{IsRunningAs, HasTickets, IsBalanced, AreKeptBy}
-use Rattle.child_pipeline.specs.Told.{Told, is_in, after_finish, after_look, Looks}
+use Rattle.child_pipeline.specs.ChildTraces.{ChildTrace, is_in, after_finish, after_look, Looks}
 use Rattle.print_rounds.specs.Choice.{slots_for, slots_in, slots_by, new_slots, readiness}
 use Rattle.print_rounds.specs.Counts.{started_by, started_in}
-use Rattle.print_rounds.specs.Courses.{Answer, Course, Launching, IsLaunch, AreLaunchings, given, Ending, IsEndingOf, AreEndings, IsReport, is_silent, moved}
+use Rattle.print_rounds.specs.RunStates.{Answer, RunState, Launching, IsLaunch, AreLaunchings, given, Ending, IsEndingOf, AreEndings, IsReport, is_silent, moved}
 use Rattle.print_rounds.specs.Finished.{AreDistinct, AllRest}
-use Rattle.print_rounds.specs.Looks.{Look, is_looked_at, IsLookBy, AreLooks, Dropping, IsDropped, AreDroppings, is_kept, idle_slots}
-use Rattle.print_rounds.specs.Ticks.{Finishing, AreFinishings}
+use Rattle.print_rounds.specs.StageChecks.{Look, is_looked_at, IsLookBy, AreLooks, Dropping, IsDropped, AreDroppings, is_kept, idle_slots}
+use Rattle.print_rounds.specs.RoundTicks.{Finishing, AreFinishings}
 use Rattle.print_rounds.specs.declared.outcome.Launch.{Launch}
 use Rattle.print_rounds.specs.declared.outcome.Launch.TheVariants.{Unlaunched, Launched, NoMemory, Disk, Dead}
 use Rattle.print_rounds.specs.declared.outcome.Report.{Report}
@@ -35,18 +35,18 @@ use Rattle.print_rounds.proofs.LaunchLaws.{HasNumbers, launches_same, rest_same,
 
 -- what is so of all tickets
 pub record TicketLaws : Type 0 where
-  pub starts : (slots : Slots) (j : ℕ) (t : Told) (order : Order) (b : Bool) (n : ℕ) (told : Option Told) → HasTickets slots t → IsTicketless (finite.get slots j) → IsStart (Some t) order b n told → AreKeptBy t (cond b 1 0) (put_progress slots j (progress_after b n)) told
-  pub finishes : (slots : Slots) (j n : ℕ) (t : Told) (new : Slots) (told : Option Told) → HasTickets slots t → IsRunningAs slots j n → Waits (Some t) n slots j new told → AreKeptBy t 0 new told
-  pub looks : (slots : Slots) (t : Told) (ended : Bool) (told : Option Told) → HasTickets slots t → Looks (Some t) ended told → AreKeptBy t 0 slots told
-  pub releases : (slots : Slots) (j : ℕ) (t : Told) → HasTickets slots t → IsTicketless (finite.get slots j) → HasTickets (finite.remove slots j) t
+  pub starts : (slots : Slots) (j : ℕ) (t : ChildTrace) (order : Order) (b : Bool) (n : ℕ) (told : Option ChildTrace) → HasTickets slots t → IsTicketless (finite.get slots j) → IsStart (Some t) order b n told → AreKeptBy t (cond b 1 0) (put_progress slots j (progress_after b n)) told
+  pub finishes : (slots : Slots) (j n : ℕ) (t : ChildTrace) (new : Slots) (told : Option ChildTrace) → HasTickets slots t → IsRunningAs slots j n → Waits (Some t) n slots j new told → AreKeptBy t 0 new told
+  pub looks : (slots : Slots) (t : ChildTrace) (ended : Bool) (told : Option ChildTrace) → HasTickets slots t → Looks (Some t) ended told → AreKeptBy t 0 slots told
+  pub releases : (slots : Slots) (j : ℕ) (t : ChildTrace) → HasTickets slots t → IsTicketless (finite.get slots j) → HasTickets (finite.remove slots j) t
 
-none_lost : (t : Told) → IsBalanced t 0 t
+none_lost : (t : ChildTrace) → IsBalanced t 0 t
 none_lost t = omega arith
 
 -- ## Slots
 
 -- slots that are freed have no child
-pub idle_tickets : (s : State) (slots : Slots) (t : Told) → HasTickets slots t → HasTickets (idle_slots s slots) t
+pub idle_tickets : (s : State) (slots : Slots) (t : ChildTrace) → HasTickets slots t → HasTickets (idle_slots s slots) t
 idle_tickets s slots t has = record {
   running = λ j n r. has.running j n (back j n r);
   owned = λ n is. let (j, r) = has.owned n is in (j, record { slot = r.slot; there = stays j n r; runs = r.runs });
@@ -87,7 +87,7 @@ module _ (m : Slots) (j : ℕ) (x : Slot ℕ) (quiet : (n : ℕ) → ¬ (x.progr
           absurd (quiet n (ap (λ (s : Slot ℕ). s.progress) own ∙ r.runs))
       by_test false is = record { slot = r.slot; there = sym (get_other m j k x is) ∙ r.there; runs = r.runs }
 
-  quiet_put : (t : Told) → HasTickets m t → HasTickets (finite.insert m j x) t
+  quiet_put : (t : ChildTrace) → HasTickets m t → HasTickets (finite.insert m j x) t
   quiet_put t has = record {
     running = λ k n r. has.running k n (back k n r);
     owned = λ n is. let (k, r) = has.owned n is in (k, record { slot = r.slot; there = get_other m j k x (other_job k n r) ∙ r.there; runs = r.runs });
@@ -114,7 +114,7 @@ fails_out p j (k ∷ js) fails = by_test (fails_out p j js fails) (p k) refl
 -- ## Starts
 
 -- the slots for a stage, before its start
-module _ (slots : Slots) (r : Job) (own : Slots) (t : Told) (rests : IsTicketless (finite.get slots r.id)) (has : HasTickets slots t) where
+module _ (slots : Slots) (r : Job) (own : Slots) (t : ChildTrace) (rests : IsTicketless (finite.get slots r.id)) (has : HasTickets slots t) where
   begun_has : (attempt stage stages : ℕ) → HasTickets (begun_in slots r.id (Processing attempt stage stages)) t
   begun_has attempt stage stages = quiet_put slots r.id (begun attempt stage) (λ n is. absurd (cc)) rests t has
 
@@ -151,11 +151,11 @@ due_rests (Some slot) p due = by_progress slot.progress due.0
     by_progress (Running k) ready n is = absurd (cc)
     by_progress (Ended finish) ready n is = absurd (cc)
 
-same_kept : (t : Told) (slots new : Slots) (told told' : Option Told) → told ≡ Some t → told' ≡ told → new ≡ slots → HasTickets slots t → AreKeptBy t 0 new told'
+same_kept : (t : ChildTrace) (slots new : Slots) (told told' : Option ChildTrace) → told ≡ Some t → told' ≡ told → new ≡ slots → HasTickets slots t → AreKeptBy t 0 new told'
 same_kept t slots new told told' tells same is has = record { now = t; tells = same ∙ tells; tickets = subst (λ m. HasTickets m t) (sym is) has; balanced = none_lost t }
 
 module _ (laws : TicketLaws) (place : Place) (s : State) (numbers : HasNumbers s) where
-  launch_keeps : (t : Told) (old : Slots) (told : Option Told) (j : ℕ) (d : Option (List ℕ)) (l : Launch) (new : Slots) (told' : Option Told) → IsLaunch place s old told j d l new told' → told ≡ Some t → IsTicketless (finite.get old j) → HasTickets old t → AreKeptBy t (started_by l) new told'
+  launch_keeps : (t : ChildTrace) (old : Slots) (told : Option ChildTrace) (j : ℕ) (d : Option (List ℕ)) (l : Launch) (new : Slots) (told' : Option ChildTrace) → IsLaunch place s old told j d l new told' → told ≡ Some t → IsTicketless (finite.get old j) → HasTickets old t → AreKeptBy t (started_by l) new told'
   launch_keeps t old told j d Unlaunched new told' (rests_on, none, same, tells') tells rests has = same_kept t old new told told' tells tells' same has
   launch_keeps t old told j d (Launched b) new told' (r, q, own, due, input, starts) tells rests has =
       let own_has = due_has old r own t (subst (λ i. IsTicketless (finite.get old i)) (sym (numbers j r due.row)) rests) has due.due in
@@ -171,11 +171,11 @@ module _ (laws : TicketLaws) (place : Place) (s : State) (numbers : HasNumbers s
   launch_keeps t old told j d Dead new told' (none, same, tells') tells rests has = same_kept t old new told told' tells tells' same has
 
   -- the start of a stage changes the slot of its job alone
-  one_same : (old : Slots) (told : Option Told) (l : Launching) → IsLaunch place s old told l.job l.document l.launch l.slots l.told → SameBut l.job old l.slots
+  one_same : (old : Slots) (told : Option ChildTrace) (l : Launching) → IsLaunch place s old told l.job l.document l.launch l.slots l.told → SameBut l.job old l.slots
   one_same old told l launch = λ k other. launches_same place s numbers old told (l ∷ []) l.slots l.told (launch, (refl, refl)) k (ap (λ b. b || false) (turned k l.job other))
 
   -- stages of jobs of which no child runs
-  pub launches_keep : (t : Told) (old : Slots) (told : Option Told) (ts : List Launching) (new : Slots) (told' : Option Told) → AreLaunchings place s old told ts new told' → AllRest old (map (λ l. l.job) ts) → AreDistinct (map (λ l. l.job) ts) → told ≡ Some t → HasTickets old t → AreKeptBy t (started_in ts) new told'
+  pub launches_keep : (t : ChildTrace) (old : Slots) (told : Option ChildTrace) (ts : List Launching) (new : Slots) (told' : Option ChildTrace) → AreLaunchings place s old told ts new told' → AllRest old (map (λ l. l.job) ts) → AreDistinct (map (λ l. l.job) ts) → told ≡ Some t → HasTickets old t → AreKeptBy t (started_in ts) new told'
   launches_keep t old told [] new told' (same, tells') rest distinct tells has = same_kept t old new told told' tells tells' same has
   launches_keep t old told (l ∷ ts) new told' (launch, launches) (rests, rest) (first, distinct) tells has =
       let one = launch_keeps t old told l.job l.document l.launch l.slots l.told launch tells rests has in
@@ -187,17 +187,17 @@ module _ (laws : TicketLaws) (place : Place) (s : State) (numbers : HasNumbers s
 -- ## Looks, ends and droppings
 
 -- what such a step leaves: the orders as they were, and every ticket
-pub record IsKeptTo (t : Told) (slots : Slots) (told : Option Told) : Type 0 where
-  pub now : Told
+pub record IsKeptTo (t : ChildTrace) (slots : Slots) (told : Option ChildTrace) : Type 0 where
+  pub now : ChildTrace
   pub tells : told ≡ Some now
   pub orders : now.orders ≡ t.orders
   pub tickets : HasTickets slots now
   pub balanced : IsBalanced t 0 now
 
-unchanged : (t : Told) (slots : Slots) (told : Option Told) → told ≡ Some t → HasTickets slots t → IsKeptTo t slots told
+unchanged : (t : ChildTrace) (slots : Slots) (told : Option ChildTrace) → told ≡ Some t → HasTickets slots t → IsKeptTo t slots told
 unchanged t slots told tells has = record { now = t; tells = tells; orders = refl; tickets = has; balanced = none_lost t }
 
-kept_on : (t : Told) (mid new : Slots) (told told' : Option Told) (one : IsKeptTo t mid told) → IsKeptTo one.now new told' → IsKeptTo t new told'
+kept_on : (t : ChildTrace) (mid new : Slots) (told told' : Option ChildTrace) (one : IsKeptTo t mid told) → IsKeptTo one.now new told' → IsKeptTo t new told'
 kept_on t mid new told told' one more = record { now = more.now; tells = more.tells; orders = more.orders ∙ one.orders; tickets = more.tickets; balanced = omega (arith, one.balanced, more.balanced) }
 
 -- a job whose slot says so has the child
@@ -216,7 +216,7 @@ ended_rests slots j q is quiet = by_slot (finite.get slots j) refl
     by_slot None there = subst IsTicketless (sym there) tt
     by_slot (Some slot) there = ticketless _ slot q there (sym (ap (λ o. (unwrap_or o (begun 0 0)).progress) there) ∙ is) quiet
 
-moved_keeps : (laws : TicketLaws) (slots : Slots) (j : ℕ) (a : Answer) (t : Told) → IsTicketless (finite.get slots j) → HasTickets slots t → HasTickets (moved slots j a) t
+moved_keeps : (laws : TicketLaws) (slots : Slots) (j : ℕ) (a : Answer) (t : ChildTrace) → IsTicketless (finite.get slots j) → HasTickets slots t → HasTickets (moved slots j a) t
 moved_keeps laws slots j (Err fault) t rests has = has
 moved_keeps laws slots j (Ok replies.Done) t rests has = laws.releases slots j t has rests
 moved_keeps laws slots j (Ok (replies.Number n)) t rests has = laws.releases slots j t has rests
@@ -229,27 +229,27 @@ moved_keeps laws slots j (Ok (replies.Phase p)) t rests has = by_phase (is_proce
 
 module _ (laws : TicketLaws) where
   -- a look takes an answer, and nothing else
-  look_keeps : (t : Told) (slots : Slots) (b : Bool) (told : Option Told) (l : Look) → IsLookBy b told l → told ≡ Some t → HasTickets slots t → IsKeptTo t slots l.told
+  look_keeps : (t : ChildTrace) (slots : Slots) (b : Bool) (told : Option ChildTrace) (l : Look) → IsLookBy b told l → told ≡ Some t → HasTickets slots t → IsKeptTo t slots l.told
   look_keeps t slots true told l look tells has =
       let looked : Looks (Some t) l.ripe l.told = subst (λ o. Looks o l.ripe l.told) tells look in
       let keeps = laws.looks slots t l.ripe l.told has looked in
       record {
         now = keeps.now;
         tells = keeps.tells;
-        orders = ap (λ (u : Told). u.orders) (some_of keeps.now (after_look t) (sym keeps.tells ∙ looked.told));
+        orders = ap (λ (u : ChildTrace). u.orders) (some_of keeps.now (after_look t) (sym keeps.tells ∙ looked.told));
         tickets = keeps.tickets;
         balanced = keeps.balanced;
       }
   look_keeps t slots false told l (ripe, same) tells has = unchanged t slots l.told (same ∙ tells) has
 
-  pub looks_keep : (t : Told) (waits : Bool) (slots : Slots) (told : Option Told) (ls : List Look) (told' : Option Told) → AreLooks waits slots told ls told' → told ≡ Some t → HasTickets slots t → IsKeptTo t slots told'
+  pub looks_keep : (t : ChildTrace) (waits : Bool) (slots : Slots) (told : Option ChildTrace) (ls : List Look) (told' : Option ChildTrace) → AreLooks waits slots told ls told' → told ≡ Some t → HasTickets slots t → IsKeptTo t slots told'
   looks_keep t waits slots told [] told' same tells has = unchanged t slots told' (same ∙ tells) has
   looks_keep t waits slots told (l ∷ ls) told' (look, looks) tells has =
       let one = look_keeps t slots (is_looked_at waits slots l.job) told l look tells has in
       kept_on t slots slots l.told told' one (looks_keep one.now waits slots l.told ls told' looks one.tells one.tickets)
 
   -- a child is finished, or has been
-  finish_keeps : (t : Told) (slots : Slots) (told : Option Told) (j : ℕ) (kept : Slots) (told' : Option Told) (p : Progress ℕ) → (slot_in slots j).progress ≡ p → FinishesFrom p told slots j kept told' → told ≡ Some t → HasTickets slots t → IsKeptTo t kept told' × IsTicketless (finite.get kept j)
+  finish_keeps : (t : ChildTrace) (slots : Slots) (told : Option ChildTrace) (j : ℕ) (kept : Slots) (told' : Option ChildTrace) (p : Progress ℕ) → (slot_in slots j).progress ≡ p → FinishesFrom p told slots j kept told' → told ≡ Some t → HasTickets slots t → IsKeptTo t kept told' × IsTicketless (finite.get kept j)
   finish_keeps t slots told j kept told' (Ready input) at finishes tells has = absurd finishes
   finish_keeps t slots told j kept told' (Running n) at finishes tells has =
       let waits : Waits (Some t) n slots j kept told' = subst (λ o. Waits o n slots j kept told') tells finishes in
@@ -259,7 +259,7 @@ module _ (laws : TicketLaws) where
         record {
           now = keeps.now;
           tells = keeps.tells;
-          orders = ap (λ (u : Told). u.orders) (some_of keeps.now (after_finish t n) (sym keeps.tells ∙ (waits.answer (has.running j n runs)).1));
+          orders = ap (λ (u : ChildTrace). u.orders) (some_of keeps.now (after_finish t n) (sym keeps.tells ∙ (waits.answer (has.running j n runs)).1));
           tickets = keeps.tickets;
           balanced = keeps.balanced;
         },
@@ -271,9 +271,9 @@ module _ (laws : TicketLaws) where
   )
 
   module _ {D : Type 0} (device : DiskView D) where
-    report_keeps : (t : Told) (kept : Course D) (j : ℕ) (r : Report) (next : Course D) → IsReport device kept j r next → IsTicketless (finite.get kept.slots j) → IsKeptTo t kept.slots kept.told → IsKeptTo t next.slots next.told
+    report_keeps : (t : ChildTrace) (kept : RunState D) (j : ℕ) (r : Report) (next : RunState D) → IsReport device kept j r next → IsTicketless (finite.get kept.slots j) → IsKeptTo t kept.slots kept.told → IsKeptTo t next.slots next.told
     report_keeps t kept j reports.Silent next none rests held = absurd none
-    report_keeps t kept j reports.NoMemory next same rests held = subst (λ (c : Course D). IsKeptTo t c.slots c.told) (sym same) held
+    report_keeps t kept j reports.NoMemory next same rests held = subst (λ (c : RunState D). IsKeptTo t c.slots c.told) (sym same) held
     report_keeps t kept j (reports.Answered a) next report rests held = record {
       now = held.now;
       tells = report.2 ∙ held.tells;
@@ -282,19 +282,19 @@ module _ (laws : TicketLaws) where
       balanced = held.balanced;
     }
 
-    end_keeps : (t : Told) (old : Course D) (e : Ending D) (b : Bool) → IsEndingOf device old b e → old.told ≡ Some t → HasTickets old.slots t → IsKeptTo t e.next.slots e.next.told
-    end_keeps t old e true (silent, kept, next) tells has = subst (λ (c : Course D). IsKeptTo t c.slots c.told) (sym next) (unchanged t old.slots old.told tells has)
+    end_keeps : (t : ChildTrace) (old : RunState D) (e : Ending D) (b : Bool) → IsEndingOf device old b e → old.told ≡ Some t → HasTickets old.slots t → IsKeptTo t e.next.slots e.next.told
+    end_keeps t old e true (silent, kept, next) tells has = subst (λ (c : RunState D). IsKeptTo t c.slots c.told) (sym next) (unchanged t old.slots old.told tells has)
     end_keeps t old e false (finishes, same, report) tells has =
         let one = finish_keeps t old.slots old.told e.job e.kept.slots e.kept.told (slot_in old.slots e.job).progress refl finishes tells has in
         report_keeps t e.kept e.job e.report e.next report one.1 one.0
 
-    pub ends_keep : (t : Told) (old : Course D) (es : List (Ending D)) (new : Course D) → AreEndings device old es new → old.told ≡ Some t → HasTickets old.slots t → IsKeptTo t new.slots new.told
-    ends_keep t old [] new same tells has = subst (λ (c : Course D). IsKeptTo t c.slots c.told) (sym same) (unchanged t old.slots old.told tells has)
+    pub ends_keep : (t : ChildTrace) (old : RunState D) (es : List (Ending D)) (new : RunState D) → AreEndings device old es new → old.told ≡ Some t → HasTickets old.slots t → IsKeptTo t new.slots new.told
+    ends_keep t old [] new same tells has = subst (λ (c : RunState D). IsKeptTo t c.slots c.told) (sym same) (unchanged t old.slots old.told tells has)
     ends_keep t old (e ∷ es) new (ends, others) tells has =
         let one = end_keeps t old e (is_silent (finite.get old.slots e.job)) ends tells has in
         kept_on t e.next.slots new.slots e.next.told new.told one (ends_keep one.now e.next es new others one.tells one.tickets)
 
-  drop_keeps : (t : Told) (slots : Slots) (told : Option Told) (j : ℕ) (b : Bool) (new : Slots) (told' : Option Told) → IsDropped b slots j told new told' → told ≡ Some t → HasTickets slots t → IsKeptTo t new told'
+  drop_keeps : (t : ChildTrace) (slots : Slots) (told : Option ChildTrace) (j : ℕ) (b : Bool) (new : Slots) (told' : Option ChildTrace) → IsDropped b slots j told new told' → told ≡ Some t → HasTickets slots t → IsKeptTo t new told'
   drop_keeps t slots told j false new told' (same, told_same) tells has = unchanged t new told' (told_same ∙ tells) (subst (λ m. HasTickets m t) (sym same) has)
   drop_keeps t slots told j true new told' (kept, finishes, gone) tells has =
       let (one, rests) = finish_keeps t slots told j kept told' (slot_in slots j).progress refl finishes tells has in
@@ -306,7 +306,7 @@ module _ (laws : TicketLaws) where
         balanced = one.balanced;
       }
 
-  pub drops_keep : (t : Told) (waits : Bool) (slots : Slots) (told : Option Told) (ds : List Dropping) (new : Slots) (told' : Option Told) → AreDroppings waits slots told ds new told' → told ≡ Some t → HasTickets slots t → IsKeptTo t new told'
+  pub drops_keep : (t : ChildTrace) (waits : Bool) (slots : Slots) (told : Option ChildTrace) (ds : List Dropping) (new : Slots) (told' : Option ChildTrace) → AreDroppings waits slots told ds new told' → told ≡ Some t → HasTickets slots t → IsKeptTo t new told'
   drops_keep t waits slots told [] new told' (same, told_same) tells has = unchanged t new told' (told_same ∙ tells) (subst (λ m. HasTickets m t) (sym same) has)
   drops_keep t waits slots told (d ∷ ds) new told' ((look, dropped), drops) tells has =
       let looked = look_keeps t slots (is_looked_at waits slots d.look.job) told d.look look tells has in
@@ -314,7 +314,7 @@ module _ (laws : TicketLaws) where
       kept_on t d.slots new d.told told' one (drops_keep one.now waits d.slots d.told ds new told' drops one.tells one.tickets)
 
   -- children are only finished
-  pub finishings_keep : (t : Told) (slots : Slots) (told : Option Told) (fs : List Finishing) (new : Slots) (told' : Option Told) → AreFinishings slots told fs new told' → told ≡ Some t → HasTickets slots t → IsKeptTo t new told'
+  pub finishings_keep : (t : ChildTrace) (slots : Slots) (told : Option ChildTrace) (fs : List Finishing) (new : Slots) (told' : Option ChildTrace) → AreFinishings slots told fs new told' → told ≡ Some t → HasTickets slots t → IsKeptTo t new told'
   finishings_keep t slots told [] new told' (same, told_same) tells has = unchanged t new told' (told_same ∙ tells) (subst (λ m. HasTickets m t) (sym same) has)
   finishings_keep t slots told (f ∷ fs) new told' (finishes, others) tells has =
       let (one, rests) = finish_keeps t slots told f.job f.slots f.told (slot_in slots f.job).progress refl finishes tells has in

@@ -9,10 +9,10 @@ use Rattle.std.specs.Option.{option_or}
 use Rattle.std.proofs.lemmas.List.Sums.{fold-append}
 use Rattle.spool_types.specs.State.{State}
 use Rattle.filter_args.specs.declared.place.Place.{Place}
-use Rattle.spool_core.specs.Standing.{Standing}
-use Rattle.child_pipeline.specs.Told.{Told}
-use Rattle.child_pipeline.specs.Slots.{Slots, FinishesStage}
-use Rattle.print_rounds.specs.Courses.{Course, Starting, IsStarting, AreStartings, Launching, IsLaunch, AreLaunchings, IsReadFor, AreReads, Ending, IsEnding, IsEndingOf, AreEndings, IsReport, is_silent}
+use Rattle.spool_core.specs.OpenSpools.{OpenSpool}
+use Rattle.child_pipeline.specs.ChildTraces.{ChildTrace}
+use Rattle.child_pipeline.specs.StageSlots.{Slots, FinishesStage}
+use Rattle.print_rounds.specs.RunStates.{RunState, Starting, IsStarting, AreStartings, Launching, IsLaunch, AreLaunchings, IsReadFor, AreReads, Ending, IsEnding, IsEndingOf, AreEndings, IsReport, is_silent}
 use Rattle.print_rounds.specs.Counts.{first_fault}
 use Rattle.print_rounds.specs.declared.outcome.Report.{Report}
 use Rattle.print_rounds.specs.declared.outcome.Report.TheVariants as reports
@@ -28,29 +28,29 @@ one_further f xs x ys i y so_far lt at is =
     ∙ ap (λ k. take k ys) (sym (add-one i))
 
 module _ {D : Type 0} (device : DiskView D) where
-  pub more_ends : (old mid : Course D) (es : List (Ending D)) (e : Ending D) → AreEndings device old es mid → IsEnding device mid e → AreEndings device old (es ++ e ∷ []) e.next
+  pub more_ends : (old mid : RunState D) (es : List (Ending D)) (e : Ending D) → AreEndings device old es mid → IsEnding device mid e → AreEndings device old (es ++ e ∷ []) e.next
   more_ends old mid [] e same is = (subst (λ c. IsEnding device c e) same is, refl)
   more_ends old mid (x ∷ es) e ends is = (ends.0, more_ends x.next mid es e ends.1 is)
 
-  pub more_starts : (old mid : Standing D) (ts : List (Starting D)) (t : Starting D) → AreStartings device old ts mid → IsStarting device mid t → AreStartings device old (ts ++ t ∷ []) t.next
+  pub more_starts : (old mid : OpenSpool D) (ts : List (Starting D)) (t : Starting D) → AreStartings device old ts mid → IsStarting device mid t → AreStartings device old (ts ++ t ∷ []) t.next
   more_starts old mid [] t same is = (subst (λ s. IsStarting device s t) same is, refl)
   more_starts old mid (x ∷ ts) t starts is = (starts.0, more_starts x.next mid ts t starts.1 is)
 
-pub more_launches : (place : Place) (s : State) (old mid : Slots) (told told' : Option Told) (ts : List Launching) (t : Launching) → AreLaunchings place s old told ts mid told' → IsLaunch place s mid told' t.job t.document t.launch t.slots t.told → AreLaunchings place s old told (ts ++ t ∷ []) t.slots t.told
+pub more_launches : (place : Place) (s : State) (old mid : Slots) (told told' : Option ChildTrace) (ts : List Launching) (t : Launching) → AreLaunchings place s old told ts mid told' → IsLaunch place s mid told' t.job t.document t.launch t.slots t.told → AreLaunchings place s old told (ts ++ t ∷ []) t.slots t.told
 more_launches place s old mid told told' [] t (same, tells) is = (subst (λ m. IsLaunch place s m told t.job t.document t.launch t.slots t.told) same (subst (λ o. IsLaunch place s mid o t.job t.document t.launch t.slots t.told) tells is), (refl, refl))
 more_launches place s old mid told told' (x ∷ ts) t launches is = (launches.0, more_launches place s x.slots mid x.told told' ts t launches.1 is)
 
 module _ {D : Type 0} (device : DiskView D) where
-  pub more_reads : (old mid new : Standing D) (ts : List Launching) (t : Launching) → AreReads device old ts mid → IsReadFor device mid t.job t.document t.launch new → AreReads device old (ts ++ t ∷ []) new
+  pub more_reads : (old mid new : OpenSpool D) (ts : List Launching) (t : Launching) → AreReads device old ts mid → IsReadFor device mid t.job t.document t.launch new → AreReads device old (ts ++ t ∷ []) new
   more_reads old mid new [] t same is = (new, subst (λ s. IsReadFor device s t.job t.document t.launch new) same is, refl)
   more_reads old mid new (x ∷ ts) t (next, first, reads) is = (next, first, more_reads next mid new ts t reads is)
 
-  pub silent_end : (old : Course D) (j : ℕ) → is_silent (finite.get old.slots j) ≡ true → IsEnding device old (record { job = j; kept = old; report = reports.Silent; next = old })
+  pub silent_end : (old : RunState D) (j : ℕ) → is_silent (finite.get old.slots j) ≡ true → IsEnding device old (record { job = j; kept = old; report = reports.Silent; next = old })
   silent_end old j silent =
       let end : Ending D = record { job = j; kept = old; report = reports.Silent; next = old } in
       subst (λ b. IsEndingOf device old b end) (sym silent) (refl, refl, refl)
 
-  pub spoken_end : (old kept next : Course D) (j : ℕ) (report : Report) → is_silent (finite.get old.slots j) ≡ false → FinishesStage old.told old.slots j kept.slots kept.told → kept.spool ≡ old.spool → IsReport device kept j report next → IsEnding device old (record { job = j; kept = kept; report = report; next = next })
+  pub spoken_end : (old kept next : RunState D) (j : ℕ) (report : Report) → is_silent (finite.get old.slots j) ≡ false → FinishesStage old.told old.slots j kept.slots kept.told → kept.spool ≡ old.spool → IsReport device kept j report next → IsEnding device old (record { job = j; kept = kept; report = report; next = next })
   spoken_end old kept next j report spoken finishes same told =
       let end : Ending D = record { job = j; kept = kept; report = report; next = next } in
       subst (λ b. IsEndingOf device old b end) (sym spoken) (finishes, same, told)

@@ -2,12 +2,12 @@
 use Rattle.std.proofs.Common.{◌≡◌, ◌⊎◌, Bool, false, List, [], ◌∷◌, ◌++◌, sym, ap, subst, ◌∙◌}
 use Rattle.spool_types.specs.declared.event.Event.{Event}
 use Rattle.spool_types.specs.State.{State}
-use Rattle.job_table.specs.Fold.{after_all, AreAccepted}
+use Rattle.job_table.specs.EventFold.{after_all, AreAccepted}
 use Rattle.job_table.specs.Legal.{IsLegal}
 use Rattle.job_table.specs.Stages.{Key, IsIn, IsSpent}
 use Rattle.job_table.specs.Step.{after}
-use Rattle.job_table.specs.Turns.{AreOnce, IsAmong, IsReached, IsTurn}
-use Rattle.job_table.specs.Versions.{raised}
+use Rattle.job_table.specs.TableCalls.{AreOnce, IsAmong, IsReached, IsTableCall}
+use Rattle.job_table.specs.TableVersions.{raised}
 use Rattle.print_rounds.proofs.HoldLaws.{Laws}
 
 -- the first of some events that are accepted in turn
@@ -31,7 +31,7 @@ module _ (laws : Laws) (s : State) (more : List Event) (taken : AreAccepted s mo
 
   pub raised_turn : (Held : Key → Type 0) (keys : List Key) (s' : State) (Held' : Key → Type 0) (over : Bool) → IsLegal s → s' ≡ after_all s more → AreOnce keys
       → ((k : Key) → IsAmong keys k → ¬ (Held k)) → ((k : Key) → IsAmong keys k → IsReached s more k)
-      → (over ≡ false → (k : Key) → Held k ⊎ IsAmong keys k → Held' k ⊎ IsSpent s' k) → IsTurn s Held more keys s' Held' over
+      → (over ≡ false → (k : Key) → Held k ⊎ IsAmong keys k → Held' k ⊎ IsSpent s' k) → IsTableCall s Held more keys s' Held' over
   raised_turn Held keys s' Held' over legal table distinct outside reached settled =
       let risen = laws.rises s more taken in
       record {

@@ -6,19 +6,19 @@ use Rattle.std.specs.FinMap as finite
 use Rattle.spool_disk.specs.Disk.{DiskView, IsLawful}
 use Rattle.spool_types.specs.State.{State, job_at}
 use Rattle.job_table.specs.Legal.{IsLegal}
-use Rattle.spool_core.specs.Standing.{Standing}
+use Rattle.spool_core.specs.OpenSpools.{OpenSpool}
 use Rattle.filter_args.specs.declared.place.Place.{Place}
-use Rattle.child_pipeline.specs.Slots.{Slots}
-use Rattle.child_pipeline.specs.Told.{Told}
+use Rattle.child_pipeline.specs.StageSlots.{Slots}
+use Rattle.child_pipeline.specs.ChildTraces.{ChildTrace}
 use Rattle.print_rounds.specs.Choice.{busy_jobs}
 use Rattle.print_rounds.specs.Counts.{counts_of, result_of, starting_fault, starting_events, stages_fault}
-use Rattle.print_rounds.specs.Courses.{Course, course, Launching, AreLaunchings, AreReads, Ending, AreEndings, IsRunOfStages}
+use Rattle.print_rounds.specs.RunStates.{RunState, run_state, Launching, AreLaunchings, AreReads, Ending, AreEndings, IsRunOfStages}
 use Rattle.print_rounds.specs.Faultless.{AreExactStarts}
 use Rattle.print_rounds.specs.Finished.{AreDistinct, EachFinishedOnce, HasNoneRunning}
-use Rattle.print_rounds.specs.Looks.{Look, AreLooks, Dropping, AreDroppings, has_child, runs, idle_slots, is_stray, strays, is_of_queue, is_blocked, free_queues, tended_jobs, idle_among, ripe_in}
+use Rattle.print_rounds.specs.StageChecks.{Look, AreLooks, Dropping, AreDroppings, has_child, runs, idle_slots, is_stray, strays, is_of_queue, is_blocked, free_queues, tended_jobs, idle_among, ripe_in}
 use Rattle.print_rounds.specs.Passes.{IsPassed, IsPassBy, jobs_tended, jobs_left}
 use Rattle.print_rounds.specs.Rounds.{RoundSteps, IsRoundBy}
-use Rattle.print_rounds.specs.Script.{current_slots, is_current, plays, play_start, play_from}
+use Rattle.print_rounds.specs.RoundScript.{current_slots, is_current, plays, play_start, play_from}
 use Rattle.print_rounds.specs.declared.outcome.Round.{Round}
 use Rattle.print_rounds.specs.declared.outcome.RoundFault.{RoundFault}
 use Rattle.print_rounds.proofs.BusyLaws.{all_distinct, all_rest}
@@ -79,42 +79,42 @@ module _ (s : State) (slots : Slots) (rests : HasNoneRunning slots) where
 -- ## Steps
 
 -- where each child is waited for each look says yes, and changes nothing
-waited_looks : (slots : Slots) (told : Option Told) (ls : List Look) (told' : Option Told) → AreLooks true slots told ls told' → (told' ≡ told) × (ripe_in ls ≡ map (λ l. l.job) ls)
+waited_looks : (slots : Slots) (told : Option ChildTrace) (ls : List Look) (told' : Option ChildTrace) → AreLooks true slots told ls told' → (told' ≡ told) × (ripe_in ls ≡ map (λ l. l.job) ls)
 waited_looks slots told [] told' same = (same, refl)
 waited_looks slots told (l ∷ ls) told' (look, looks) =
     let (same, ripe) = waited_looks slots l.told ls told' looks in
     (same ∙ look.1, ap (λ b. cond b (l.job ∷ ripe_in ls) (ripe_in ls)) look.0 ∙ ap (λ js. l.job ∷ js) ripe)
 
-none_dropped : (waits : Bool) (slots : Slots) (told : Option Told) (ds : List Dropping) (new : Slots) (told' : Option Told) → AreDroppings waits slots told ds new told' → map (λ d. d.look.job) ds ≡ [] → (new ≡ slots) × (told' ≡ told)
+none_dropped : (waits : Bool) (slots : Slots) (told : Option ChildTrace) (ds : List Dropping) (new : Slots) (told' : Option ChildTrace) → AreDroppings waits slots told ds new told' → map (λ d. d.look.job) ds ≡ [] → (new ≡ slots) × (told' ≡ told)
 none_dropped waits slots told [] new told' same none = same
 none_dropped waits slots told (d ∷ ds) new told' are none = absurd (cc)
 
-none_launched : (place : Place) (s : State) (slots : Slots) (told : Option Told) (ls : List Launching) (new : Slots) (told' : Option Told) → AreLaunchings place s slots told ls new told' → map (λ l. l.job) ls ≡ [] → (ls ≡ []) × (new ≡ slots) × (told' ≡ told)
+none_launched : (place : Place) (s : State) (slots : Slots) (told : Option ChildTrace) (ls : List Launching) (new : Slots) (told' : Option ChildTrace) → AreLaunchings place s slots told ls new told' → map (λ l. l.job) ls ≡ [] → (ls ≡ []) × (new ≡ slots) × (told' ≡ told)
 none_launched place s slots told [] new told' same none = (refl, same.0, same.1)
 none_launched place s slots told (l ∷ ls) new told' are none = absurd (cc)
 
 module _ {D : Type 0} (device : DiskView D) where
-  none_read : (old : Standing D) (ls : List Launching) (new : Standing D) → AreReads device old ls new → ls ≡ [] → new ≡ old
+  none_read : (old : OpenSpool D) (ls : List Launching) (new : OpenSpool D) → AreReads device old ls new → ls ≡ [] → new ≡ old
   none_read old [] new same none = same
   none_read old (l ∷ ls) new are none = absurd (cc)
 
-  none_ended : (old : Course D) (es : List (Ending D)) (new : Course D) → AreEndings device old es new → map (λ e. e.job) es ≡ [] → (es ≡ []) × (new ≡ old)
+  none_ended : (old : RunState D) (es : List (Ending D)) (new : RunState D) → AreEndings device old es new → map (λ e. e.job) es ≡ [] → (es ≡ []) × (new ≡ old)
   none_ended old [] new same none = (refl, same)
   none_ended old (e ∷ es) new are none = absurd (cc)
 
-same_course : {D : Type 0} (a b : Course D) → a.spool ≡ b.spool → a.slots ≡ b.slots → a.told ≡ b.told → a ≡ b
-same_course a b spool slots told = λ i. record { spool = spool i; slots = slots i; told = told i }
+same_run_state : {D : Type 0} (a b : RunState D) → a.spool ≡ b.spool → a.slots ≡ b.slots → a.told ≡ b.told → a ≡ b
+same_run_state a b spool slots told = λ i. record { spool = spool i; slots = slots i; told = told i }
 
 -- ## The round
 
 -- what a round leaves, whatever was answered
-pub record LeavesNone {D : Type 0} (device : DiskView D) (old new : Course D) : Type 0 where
+pub record LeavesNone {D : Type 0} (device : DiskView D) (old new : RunState D) : Type 0 where
   pub later : device.failures old.spool.disk ≤ device.failures new.spool.disk
   pub told : IsSome (device.bytes new.spool.disk) ↔ IsSome (device.bytes old.spool.disk)
-  pub finished : (t : Told) → old.told ≡ Some t → t.running ≡ [] → (js : List ℕ) × EachFinishedOnce t new.told js
+  pub finished : (t : ChildTrace) → old.told ≡ Some t → t.running ≡ [] → (js : List ℕ) × EachFinishedOnce t new.told js
   pub rest : HasNoneRunning new.slots
 
-module _ {D : Type 0} (device : DiskView D) (lawful : IsLawful device) (place : Place) (old : Course D) (kept : IsKept device old.spool) (laws : Laws) (legal : IsLegal old.spool.state) (rests : HasNoneRunning old.slots) (new : Course D) (result : Result Round RoundFault) where
+module _ {D : Type 0} (device : DiskView D) (lawful : IsLawful device) (place : Place) (old : RunState D) (kept : IsKept device old.spool) (laws : Laws) (legal : IsLegal old.spool.state) (rests : HasNoneRunning old.slots) (new : RunState D) (result : Result Round RoundFault) where
   abbrev Leaves : Type 0
   Leaves = IsRoundBy device place old old.spool.dead new result × LeavesNone device old new
 
@@ -155,16 +155,16 @@ module _ {D : Type 0} (device : DiskView D) (lawful : IsLawful device) (place : 
     ended b is = passed.made.told ∙ looked.1 ∙ passed.made.seen ∙ ap (λ c. jobs_tended parts.mid c idle) is
 
     -- behind the last start of a stage
-    abbrev between : Course D
-    between = course parts.read parts.slots parts.told
+    abbrev between : RunState D
+    between = run_state parts.read parts.slots parts.told
 
     ends : AreEndings device between parts.endings passed.steps.ended
-    ends = subst (λ o. AreEndings device (course parts.read parts.slots o) parts.endings passed.steps.ended) looked.0 passed.made.ends
+    ends = subst (λ o. AreEndings device (run_state parts.read parts.slots o) parts.endings passed.steps.ended) looked.0 passed.made.ends
 
     new_is : (b : Bool) → parts.mid.dead ≡ b → jobs_left b passed.steps.ended ≡ [] → new ≡ passed.steps.ended
     new_is b is none =
         let (slots, told) = none_dropped true passed.steps.ended.slots passed.steps.ended.told passed.steps.droppings new.slots new.told passed.made.drops (passed.made.left ∙ ap (λ c. jobs_left c passed.steps.ended) is ∙ none) in
-        same_course new passed.steps.ended passed.made.spool slots told
+        same_run_state new passed.steps.ended passed.made.spool slots told
 
     -- the device failed at a start
     failed_leaves : parts.mid.dead ≡ true → Leaves
@@ -172,7 +172,7 @@ module _ {D : Type 0} (device : DiskView D) (lawful : IsLawful device) (place : 
         let (no_launch, slots, told) = none_launched place parts.mid.state idle old.told parts.launchings parts.slots parts.told passed.made.launches (launched true dead) in
         let read = none_read device parts.mid parts.launchings parts.read passed.made.reads no_launch in
         let (no_end, same) = none_ended device between parts.endings passed.steps.ended ends (ended true dead) in
-        let is : new ≡ course parts.mid idle old.told = new_is true dead refl ∙ same ∙ same_course between (course parts.mid idle old.told) read slots told in
+        let is : new ≡ run_state parts.mid idle old.told = new_is true dead refl ∙ same ∙ same_run_state between (run_state parts.mid idle old.told) read slots told in
         let first = starting_fault parts.startings in
         let answer : result ≡ result_of (record { started = 0; finished = 0 }) first =
         passed.answer
@@ -194,8 +194,8 @@ module _ {D : Type 0} (device : DiskView D) (lawful : IsLawful device) (place : 
       abbrev jobs : List ℕ
       jobs = busy_jobs parts.mid.state (finite.keys parts.mid.state.queues)
 
-      abbrev mid : Course D
-      mid = course parts.mid idle old.told
+      abbrev mid : RunState D
+      mid = run_state parts.mid idle old.told
 
       mid_legal : IsLegal parts.mid.state
       mid_legal = subst IsLegal (sym (starts_part device old.spool parts.startings parts.mid passed.made.starts).table) (laws.legal old.spool.state (starting_events old.spool parts.startings) legal)
@@ -209,7 +209,7 @@ module _ {D : Type 0} (device : DiskView D) (lawful : IsLawful device) (place : 
       tended : jobs_tended parts.mid false idle ≡ jobs
       tended = all_tended parts.mid.state idle idle_rests (finite.keys parts.mid.state.queues)
 
-      abbrev run : (c : Course D) → AreEndings device between parts.endings c → IsRunOfStages device place mid jobs c
+      abbrev run : (c : RunState D) → AreEndings device between parts.endings c → IsRunOfStages device place mid jobs c
       run c are = record {
         slots = parts.slots;
         told = parts.told;
@@ -231,7 +231,7 @@ module _ {D : Type 0} (device : DiskView D) (lawful : IsLawful device) (place : 
       same = new_is false lives (no_strays passed.steps.ended.spool.state passed.steps.ended.slots ended_rests)
 
       new_rests : HasNoneRunning new.slots
-      new_rests = subst (λ (c : Course D). HasNoneRunning c.slots) (sym same) ended_rests
+      new_rests = subst (λ (c : RunState D). HasNoneRunning c.slots) (sym same) ended_rests
 
       abbrev new_run : IsRunOfStages device place mid jobs new
       new_run = run new (subst (AreEndings device between parts.endings) (sym same) ends)

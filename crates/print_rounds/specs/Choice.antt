@@ -5,7 +5,7 @@ use Rattle.spool_types.specs.declared.phase.Phase.{Phase}
 use Rattle.spool_types.specs.declared.phase.Phase.TheVariants.{Incoming, Waiting, Processing, Completed, Canceled, Aborted}
 use Rattle.spool_types.specs.State.{State, Job}
 use Rattle.job_table.specs.Attempts.{busy_of}
-use Rattle.child_pipeline.specs.Slots.{Slots, begun_in, is_ready}
+use Rattle.child_pipeline.specs.StageSlots.{Slots, begun_in, is_ready}
 use Rattle.child_pipeline.specs.declared.runner.Slot.{Slot}
 
 abbrev pub with_busy : Option ℕ → List ℕ → List ℕ

@@ -6,11 +6,11 @@ use Rattle.std.specs.Option.{option_or}
 use Rattle.spool_types.specs.declared.event.Event.{Event}
 use Rattle.spool_types.specs.declared.event.Event.TheVariants.{Start, Stage}
 use Rattle.job_table.specs.Attempts.{next_of}
-use Rattle.spool_core.specs.Standing.{Standing}
+use Rattle.spool_core.specs.OpenSpools.{OpenSpool}
 use Rattle.spool_core.specs.declared.spool.apply_fault.ApplyFault.{ApplyFault}
 use Rattle.spool_core.specs.declared.spool.apply_fault.ApplyFault.TheVariants as faults
-use Rattle.child_pipeline.specs.Slots.{end_in}
-use Rattle.print_rounds.specs.Courses.{Answer, Starting, Launching, Ending}
+use Rattle.child_pipeline.specs.StageSlots.{end_in}
+use Rattle.print_rounds.specs.RunStates.{Answer, Starting, Launching, Ending}
 use Rattle.print_rounds.specs.declared.outcome.Launch.{Launch}
 use Rattle.print_rounds.specs.declared.outcome.Launch.TheVariants as launches
 use Rattle.print_rounds.specs.declared.outcome.Report.{Report}
@@ -107,7 +107,7 @@ start_events (Some j) None = []
 start_events (Some j) (Some a) = acknowledged_by (Start j) a
 
 -- the events that were acknowledged among the starts
-abbrev pub starting_events : {D : Type 0} → Standing D → List (Starting D) → List Event
+abbrev pub starting_events : {D : Type 0} → OpenSpool D → List (Starting D) → List Event
 starting_events s [] = []
 starting_events s (t ∷ ts) = start_events (next_of s.state t.queue) t.answer ++ starting_events t.next ts
 
@@ -140,7 +140,7 @@ start_tried (Some j) None = []
 start_tried (Some j) (Some a) = tried_by (Start j) a
 
 -- the events that were tried among the starts
-abbrev pub starting_tried : {D : Type 0} → Standing D → List (Starting D) → List Event
+abbrev pub starting_tried : {D : Type 0} → OpenSpool D → List (Starting D) → List Event
 starting_tried s [] = []
 starting_tried s (t ∷ ts) = start_tried (next_of s.state t.queue) t.answer ++ starting_tried t.next ts
 

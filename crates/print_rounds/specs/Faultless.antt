@@ -3,12 +3,12 @@ use Rattle.std.specs.Prelude.{◌≡◌, ℕ, List, [], ◌∷◌, ◌++◌, Opt
 use Rattle.spool_disk.specs.Disk.{DiskView}
 use Rattle.spool_types.specs.declared.event.Event.{Event}
 use Rattle.filter_args.specs.declared.place.Place.{Place}
-use Rattle.child_pipeline.specs.Slots.{Slots}
-use Rattle.child_pipeline.specs.Told.{Told}
-use Rattle.spool_core.specs.Standing.{Standing}
-use Rattle.print_rounds.specs.Courses.{Course, Answer, Starting, Launching, Ending, IsRunOfStages, AreHanded}
+use Rattle.child_pipeline.specs.StageSlots.{Slots}
+use Rattle.child_pipeline.specs.ChildTraces.{ChildTrace}
+use Rattle.spool_core.specs.OpenSpools.{OpenSpool}
+use Rattle.print_rounds.specs.RunStates.{RunState, Answer, Starting, Launching, Ending, IsRunOfStages, AreHanded}
 use Rattle.print_rounds.specs.Counts.{started_in, told_in, ending_events, starting_events}
-use Rattle.print_rounds.specs.Script.{Play, play_from, play_stages, plays, play_start}
+use Rattle.print_rounds.specs.RoundScript.{Play, play_from, play_stages, plays, play_start}
 use Rattle.print_rounds.specs.declared.outcome.Launch.{Launch}
 use Rattle.print_rounds.specs.declared.outcome.Launch.TheVariants.{Unlaunched, Launched, NoMemory, Disk, Dead}
 use Rattle.print_rounds.specs.declared.outcome.Report.{Report}
@@ -25,9 +25,9 @@ AllBegun [] = Unit {0}
 AllBegun (t ∷ ts) = IsBegun t.answer × AllBegun ts
 
 -- these starts, where nothing failed in them, are Script's
-abbrev pub AreExactStarts : {D : Type 0} → Standing D → List (List ℕ) → Standing D → List (Starting D) → Type 0
+abbrev pub AreExactStarts : {D : Type 0} → OpenSpool D → List (List ℕ) → OpenSpool D → List (Starting D) → Type 0
 AreExactStarts old queues new ts =
-    (slots : Slots) (told : Told) → AllBegun ts → plays play_start (play_from old.state slots told) queues ≡ record (play_from new.state slots told) { events = starting_events old ts }
+    (slots : Slots) (told : ChildTrace) → AllBegun ts → plays play_start (play_from old.state slots told) queues ≡ record (play_from new.state slots told) { events = starting_events old ts }
 
 -- there was memory, and the device worked
 abbrev pub IsServed : Launch → Type 0
@@ -53,7 +53,7 @@ AllTold [] = Unit {0}
 AllTold (e ∷ es) = IsTold e.report × AllTold es
 
 -- the table, the slots, what is told, the events behind earlier ones, and the counts are those of a play
-pub record IsPlayed {D : Type 0} (device : DiskView D) (place : Place) (old : Course D) (jobs : List ℕ) (new : Course D) (runs : IsRunOfStages device place old jobs new) (before : List Event) (p : Play) : Type 0 where
+pub record IsPlayed {D : Type 0} (device : DiskView D) (place : Place) (old : RunState D) (jobs : List ℕ) (new : RunState D) (runs : IsRunOfStages device place old jobs new) (before : List Event) (p : Play) : Type 0 where
   pub state : new.spool.state ≡ p.state
   pub slots : new.slots ≡ p.slots
   pub told : new.told ≡ Some p.told
@@ -62,7 +62,7 @@ pub record IsPlayed {D : Type 0} (device : DiskView D) (place : Place) (old : Co
   pub ended : told_in runs.endings ≡ p.ended
 
 -- these steps, where nothing failed in them and the children tell, are Script's with the documents that were read
-abbrev pub AreExact : {D : Type 0} (device : DiskView D) (place : Place) (old : Course D) (jobs : List ℕ) (new : Course D) → IsRunOfStages device place old jobs new → Type 0
+abbrev pub AreExact : {D : Type 0} (device : DiskView D) (place : Place) (old : RunState D) (jobs : List ℕ) (new : RunState D) → IsRunOfStages device place old jobs new → Type 0
 AreExact device place old jobs new runs =
-    (t : Told) (before : List Event) (documents : ℕ → List ℕ) → old.told ≡ Some t → t.running ≡ [] → AllServed runs.launchings → AllTold runs.endings → AreHanded documents runs.launchings
+    (t : ChildTrace) (before : List Event) (documents : ℕ → List ℕ) → old.told ≡ Some t → t.running ≡ [] → AllServed runs.launchings → AllTold runs.endings → AreHanded documents runs.launchings
     → IsPlayed device place old jobs new runs before (play_stages place documents (record (play_from old.spool.state old.slots t) { events = before }) jobs)

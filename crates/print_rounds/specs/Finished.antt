@@ -1,8 +1,8 @@
 -- Every child that a round starts is finished in it, once, and every start comes before the first finish.
 use Rattle.std.specs.Prelude.{◌≡◌, ℕ, ◌+◌, false, List, [], ◌∷◌, ◌++◌, length, Option, None, Some}
 use Rattle.std.specs.FinMap as finite
-use Rattle.child_pipeline.specs.Told.{Told, is_in, after_start, after_finish}
-use Rattle.child_pipeline.specs.Slots.{Slots, IsTicketless}
+use Rattle.child_pipeline.specs.ChildTraces.{ChildTrace, is_in, after_start, after_finish}
+use Rattle.child_pipeline.specs.StageSlots.{Slots, IsTicketless}
 use Rattle.child_pipeline.specs.declared.order.Order.{Order}
 use Rattle.child_pipeline.specs.declared.order.Placed.{Placed}
 use Rattle.child_pipeline.specs.declared.runner.Progress.{Progress}
@@ -39,11 +39,11 @@ abbrev pub HasNoneRunning : Slots → Type 0
 HasNoneRunning slots = (j : ℕ) → IsTicketless (finite.get slots j)
 
 -- what is told after starts of these orders, and after finishes of the children of these numbers
-abbrev pub after_starts : Told → List Order → Told
+abbrev pub after_starts : ChildTrace → List Order → ChildTrace
 after_starts t [] = t
 after_starts t (order ∷ orders) = after_starts (after_start t order) orders
 
-abbrev pub after_finishes : Told → List ℕ → Told
+abbrev pub after_finishes : ChildTrace → List ℕ → ChildTrace
 after_finishes t [] = t
 after_finishes t (n ∷ ns) = after_finishes (after_finish t n) ns
 
@@ -54,7 +54,7 @@ AreBefore finished (p ∷ ps) = (p.before ≡ finished) × AreBefore finished ps
 
 -- There were only starts. The new orders were all given before the first finish, and the children that were started are
 -- the ones that are running.
-pub record AreStarted (old : Told) (slots : Slots) (js : List ℕ) (new : Told) : Type 0 where
+pub record AreStarted (old : ChildTrace) (slots : Slots) (js : List ℕ) (new : ChildTrace) : Type 0 where
   pub asked : List Order
   pub only : new ≡ after_starts old asked
   pub orders : List Placed
@@ -64,18 +64,18 @@ pub record AreStarted (old : Told) (slots : Slots) (js : List ℕ) (new : Told) 
   pub running : new.running ≡ old.running ++ running_in slots js
 
 -- There were only finishes: each child that was running has been finished, and no other.
-pub record AreFinished (old : Told) (slots : Slots) (js : List ℕ) (new : Told) : Type 0 where
+pub record AreFinished (old : ChildTrace) (slots : Slots) (js : List ℕ) (new : ChildTrace) : Type 0 where
   pub only : new ≡ after_finishes old (running_in slots js)
   pub orders : new.orders ≡ old.orders
   pub running : new.running ≡ []
   pub finished : new.finished ≡ old.finished + length (running_in slots js)
 
 -- Every child that was started has been finished once, none else, and every start came before the first finish.
-pub record EachFinishedOnce (old : Told) (told : Option Told) (js : List ℕ) : Type 0 where
+pub record EachFinishedOnce (old : ChildTrace) (told : Option ChildTrace) (js : List ℕ) : Type 0 where
   -- what was told, and the slots, between the last start and the first finish
-  pub between : Told
+  pub between : ChildTrace
   pub slots : Slots
   pub started : AreStarted old slots js between
-  pub now : Told
+  pub now : ChildTrace
   pub tells : told ≡ Some now
   pub finished : AreFinished between slots js now

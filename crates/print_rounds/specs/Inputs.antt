@@ -4,8 +4,8 @@ use Rattle.std.specs.FinMap as finite
 use Rattle.spool_types.specs.declared.effect.Exit.TheVariants.{Code}
 use Rattle.spool_types.specs.Limits.{longest_document}
 use Rattle.job_table.specs.Stages.{Key}
-use Rattle.child_pipeline.specs.Slots.{Slots}
-use Rattle.child_pipeline.specs.Told.{Told, first_finish, rest_of}
+use Rattle.child_pipeline.specs.StageSlots.{Slots}
+use Rattle.child_pipeline.specs.ChildTraces.{ChildTrace, first_finish, rest_of}
 use Rattle.child_pipeline.specs.declared.order.ChildFault.{ChildFault}
 use Rattle.child_pipeline.specs.declared.order.Finish.{Finish}
 use Rattle.child_pipeline.specs.declared.order.Input.TheVariants.{Document, Bytes}
@@ -14,7 +14,7 @@ use Rattle.child_pipeline.specs.declared.order.Placed.{Placed}
 use Rattle.child_pipeline.specs.declared.runner.Progress.{Progress}
 use Rattle.child_pipeline.specs.declared.runner.Progress.TheVariants.{Ready, Running, Ended}
 use Rattle.child_pipeline.specs.declared.runner.Slot.{Slot}
-use Rattle.print_rounds.specs.Courses.{Course, Launching, AreHanded}
+use Rattle.print_rounds.specs.RunStates.{RunState, Launching, AreHanded}
 use Rattle.print_rounds.specs.Finished.{HasNoneRunning}
 
 -- ## Orders and their answers
@@ -93,8 +93,8 @@ AreKeptFrom orders slots = (j : ℕ) (slot : Slot ℕ) → finite.get slots j �
 -- ## A round
 
 -- A round whose children told this before it: its orders with their answers, behind the earlier ones.
-pub record HandsOn {D : Type 0} (earlier : List AnsweredOrder) (t : Told) (launchings : List Launching) (new : Course D) : Type 0 where
-  pub now : Told
+pub record HandsOn {D : Type 0} (earlier : List AnsweredOrder) (t : ChildTrace) (launchings : List Launching) (new : RunState D) : Type 0 where
+  pub now : ChildTrace
   pub tells : new.told ≡ Some now
   pub orders : List Placed
   pub added : now.orders ≡ t.orders ++ orders

@@ -5,19 +5,19 @@ use Rattle.std.specs.Option.{option_or}
 use Rattle.spool_disk.specs.Disk.{DiskView, LeavesOnly}
 use Rattle.spool_types.specs.declared.event.Event.{Event}
 use Rattle.spool_types.specs.State.{State}
-use Rattle.job_table.specs.Fold.{AreAccepted, after_all}
+use Rattle.job_table.specs.EventFold.{AreAccepted, after_all}
 use Rattle.spool_core.specs.Driving.{HasPrefixTable}
 use Rattle.spool_core.specs.Image.{HasDocuments, HasWhole}
-use Rattle.spool_core.specs.Standing.{Standing}
+use Rattle.spool_core.specs.OpenSpools.{OpenSpool}
 use Rattle.filter_args.specs.declared.place.Place.{Place}
-use Rattle.child_pipeline.specs.Slots.{Slots}
-use Rattle.child_pipeline.specs.Told.{Told}
+use Rattle.child_pipeline.specs.StageSlots.{Slots}
+use Rattle.child_pipeline.specs.ChildTraces.{ChildTrace}
 use Rattle.print_rounds.specs.Choice.{busy_jobs}
-use Rattle.print_rounds.specs.Courses.{Course, course, Starting, AreStartings, Launching, Ending, AreLaunchings, AreReads, AreHanded, AreEndings}
+use Rattle.print_rounds.specs.RunStates.{RunState, run_state, Starting, AreStartings, Launching, Ending, AreLaunchings, AreReads, AreHanded, AreEndings}
 use Rattle.print_rounds.specs.Counts.{AreAcknowledged, starting_fault, stages_fault, counts_of, started_in, told_in, result_of, starting_events, ending_events, starting_tried, ending_tried}
 use Rattle.print_rounds.specs.Finished.{AreDistinct}
-use Rattle.print_rounds.specs.Script.{Play, current_slots, round_of}
-use Rattle.print_rounds.specs.World.{IsCallTurn}
+use Rattle.print_rounds.specs.RoundScript.{Play, current_slots, round_of}
+use Rattle.print_rounds.specs.StageHistory.{IsStageCall}
 use Rattle.print_rounds.specs.declared.outcome.Round.{Round}
 use Rattle.print_rounds.specs.declared.outcome.RoundFault.{RoundFault}
 use Rattle.print_rounds.specs.declared.outcome.RoundFault.TheVariants as ends
@@ -31,34 +31,34 @@ abbrev pub HasSomeWhole : State → (ℕ → List ℕ) → List Event → List �
 HasSomeWhole s documents events image = (k : ℕ) × (k ≤ length events) × HasWhole (after_all s (take k events)) documents image
 
 -- a crash leaves these documents
-abbrev pub LeavesDocuments : {D : Type 0} → DiskView D → (ℕ → List ℕ) → Standing D → Type 0
+abbrev pub LeavesDocuments : {D : Type 0} → DiskView D → (ℕ → List ℕ) → OpenSpool D → Type 0
 LeavesDocuments device documents s = (c : List ℕ) → device.image s.disk c → HasDocuments s.state documents c
 
 -- the steps of a round: the slots that aren't current are freed, the next jobs started, and unless the device has failed
 -- by then a stage of each processing job is run
 pub record RoundSteps (D : Type 0) : Type 0 where
   pub startings : List (Starting D)
-  pub mid : Standing D
+  pub mid : OpenSpool D
   pub launchings : List Launching
   -- behind the last start of a stage
-  pub read : Standing D
+  pub read : OpenSpool D
   pub slots : Slots
-  pub told : Option Told
+  pub told : Option ChildTrace
   pub endings : List (Ending D)
 
 -- the jobs of which a stage is run: after a fault of the device none, else each that is processing, in queue order
-abbrev pub jobs_run : {D : Type 0} → Standing D → Bool → List ℕ
+abbrev pub jobs_run : {D : Type 0} → OpenSpool D → Bool → List ℕ
 jobs_run s true = []
 jobs_run s false = busy_jobs s.state (finite.keys s.state.queues)
 
-pub record IsRound {D : Type 0} (device : DiskView D) (place : Place) (old : Course D) (steps : RoundSteps D) (new : Course D) : Type 0 where
+pub record IsRound {D : Type 0} (device : DiskView D) (place : Place) (old : RunState D) (steps : RoundSteps D) (new : RunState D) : Type 0 where
   pub starts : AreStartings device old.spool steps.startings steps.mid
   pub queues : map (λ t. t.queue) steps.startings ≡ finite.keys old.spool.state.queues
   pub launches : AreLaunchings place steps.mid.state (current_slots old.spool.state old.slots) old.told steps.launchings steps.slots steps.told
   pub reads : AreReads device steps.mid steps.launchings steps.read
   pub launched : map (λ t. t.job) steps.launchings ≡ jobs_run steps.mid steps.mid.dead
   pub once : AreDistinct (map (λ t. t.job) steps.launchings)
-  pub ends : AreEndings device (course steps.read steps.slots steps.told) steps.endings new
+  pub ends : AreEndings device (run_state steps.read steps.slots steps.told) steps.endings new
   pub ended : map (λ e. e.job) steps.endings ≡ jobs_run steps.mid steps.mid.dead
 
 -- the first fault in time
@@ -66,15 +66,15 @@ abbrev pub fault_in : {D : Type 0} → RoundSteps D → Option RoundFault
 fault_in steps = option_or (starting_fault steps.startings) (stages_fault steps.launchings steps.endings)
 
 -- the events acknowledged in a round
-abbrev pub events_in : {D : Type 0} → Course D → RoundSteps D → List Event
+abbrev pub events_in : {D : Type 0} → RunState D → RoundSteps D → List Event
 events_in old steps = starting_events old.spool steps.startings ++ ending_events steps.endings
 
 -- the events tried in a round: the acknowledged ones and, behind them, the one at which the device failed, if it did
-abbrev pub tried_in : {D : Type 0} → Course D → RoundSteps D → List Event
+abbrev pub tried_in : {D : Type 0} → RunState D → RoundSteps D → List Event
 tried_in old steps = starting_tried old.spool steps.startings ++ ending_tried steps.endings
 
 -- The round is Script's; children that tell go on to tell.
-pub record IsScriptRound {D : Type 0} (old : Course D) (steps : RoundSteps D) (new : Course D) (p : Play) : Type 0 where
+pub record IsScriptRound {D : Type 0} (old : RunState D) (steps : RoundSteps D) (new : RunState D) (p : Play) : Type 0 where
   pub state : new.spool.state ≡ p.state
   pub slots : new.slots ≡ p.slots
   pub told : new.told ≡ Some p.told
@@ -82,7 +82,7 @@ pub record IsScriptRound {D : Type 0} (old : Course D) (steps : RoundSteps D) (n
   pub started : started_in steps.launchings ≡ p.started
   pub ended : told_in steps.endings ≡ p.ended
 
-pub record IsRoundOf {D : Type 0} (device : DiskView D) (place : Place) (old new : Course D) (result : Result Round RoundFault) : Type 0 where
+pub record IsRoundOf {D : Type 0} (device : DiskView D) (place : Place) (old new : RunState D) (result : Result Round RoundFault) : Type 0 where
   pub steps : RoundSteps D
   pub made : IsRound device place old steps new
   pub answer : result ≡ result_of (counts_of steps.launchings steps.endings) (fault_in steps)
@@ -104,20 +104,20 @@ pub record IsRoundOf {D : Type 0} (device : DiskView D) (place : Place) (old new
   pub all_acknowledged : new.spool.dead ≡ false → tried_in old steps ≡ events_in old steps
   -- and else all but the one in hand
   pub in_hand : AreAcknowledged new.spool.dead (tried_in old steps) (events_in old steps)
-  -- where the children tell it is a turn of World
-  pub turn : (t : Told) → old.told ≡ Some t → t.running ≡ [] → IsCallTurn t old (events_in old steps) new
+  -- where the children tell it is a turn of StageHistory
+  pub turn : (t : ChildTrace) → old.told ≡ Some t → t.running ≡ [] → IsStageCall t old (events_in old steps) new
   -- What was read are documents of jobs, and where the disk tells its bytes they are those that the bytes have.
   pub read : (documents : ℕ → List ℕ) × AreHanded documents steps.launchings
   pub handed : (bytes : List ℕ) (documents : ℕ → List ℕ) → device.bytes old.spool.disk ≡ Some bytes → HasDocuments old.spool.state documents bytes → AreHanded documents steps.launchings
   -- where nothing failed, and the children tell, it is Script's with the documents that were read
-  pub exact : fault_in steps ≡ None → (t : Told) (documents : ℕ → List ℕ) → old.told ≡ Some t → t.running ≡ [] → AreHanded documents steps.launchings →
+  pub exact : fault_in steps ≡ None → (t : ChildTrace) (documents : ℕ → List ℕ) → old.told ≡ Some t → t.running ≡ [] → AreHanded documents steps.launchings →
       IsScriptRound old steps new (round_of place documents old.spool.state old.slots t)
 
 -- without memory for the list of the jobs nothing is done
-abbrev pub IsUnbegun : {D : Type 0} → Course D → Course D → Result Round RoundFault → Type 0
+abbrev pub IsUnbegun : {D : Type 0} → RunState D → RunState D → Result Round RoundFault → Type 0
 IsUnbegun old new result = (result ≡ Err ends.Memory) × (new ≡ old)
 
 -- a spool that has met a fault of the device does nothing
-abbrev pub IsRoundBy : {D : Type 0} → DiskView D → Place → Course D → Bool → Course D → Result Round RoundFault → Type 0
+abbrev pub IsRoundBy : {D : Type 0} → DiskView D → Place → RunState D → Bool → RunState D → Result Round RoundFault → Type 0
 IsRoundBy device place old true new result = (result ≡ Err ends.Dead) × (new ≡ old)
 IsRoundBy device place old false new result = IsUnbegun old new result ⊎ IsRoundOf device place old new result

@@ -2,9 +2,9 @@
 ghost use Rattle.std.specs.Prelude.{◌≡◌, ◌≤◌, [], length, vec_capacity, None, Some, IfSome, IsNone};
 ghost use Rattle.std.specs.FinMap as finite;
 ghost use Rattle.spool_types.specs.State.{Job, job_at};
-ghost use Rattle.job_table.specs.Places.{IsNameAt};
+ghost use Rattle.job_table.specs.QueuePositions.{IsNameAt};
 ghost use Rattle.print_rounds.specs.Finished.{AreDistinct, AllRest};
-ghost use Rattle.print_rounds.specs.Looks.{free_queues, idle_among, tended_jobs};
+ghost use Rattle.print_rounds.specs.StageChecks.{free_queues, idle_among, tended_jobs};
 ghost use Rattle.print_rounds.specs.Passes.{unblocked};
 
 use crate::slots::{has_child, is_stray};
@@ -13,7 +13,7 @@ use job_table::Table;
 use spool_types::JobId;
 
 // Where the queue of a job stands among the queues.
-fn queue_place(table: &Table, job: JobId) -> Option<usize>
+fn queue_position(table: &Table, job: JobId) -> Option<usize>
     ensures place { IfSome result (λ at. (r : Job) × (job_at table.now.state job ≡ Some r) × IsNameAt (finite.keys table.now.state.queues) r.queue at) }
     ensures none { IsNone result → job_at table.now.state job ≡ None }
 {
@@ -38,7 +38,7 @@ pub(crate) fn mark_blocked<C: Children>(table: &Table, runner: &Runner<C>, block
     let mut behind = None;
     while let Some(job) = runner.next_job(behind) {
         if has_child(runner, job) {
-            if let Some(place) = queue_place(table, job) {
+            if let Some(place) = queue_position(table, job) {
                 blocked[place] = true;
             }
         }

@@ -1,9 +1,9 @@
 //! The third part of a round: each child is finished, and the event of its end applied.
 ghost use Rattle.std.specs.Prelude.{◌≡◌, List, ℕ, map, nat_lt};
 ghost use Rattle.std.specs.FinMap as finite;
-ghost use Rattle.child_pipeline.specs.Slots.{IsEnded, slot_in};
+ghost use Rattle.child_pipeline.specs.StageSlots.{IsEnded, slot_in};
 ghost use Rattle.print_rounds.specs.Counts.{ending_fault, told_in};
-ghost use Rattle.print_rounds.specs.Courses.{Course, course, Ending, IsApplied, IsEnding, AreEndings, is_silent, moved, moved_by};
+ghost use Rattle.print_rounds.specs.RunStates.{RunState, run_state, Ending, IsApplied, IsEnding, AreEndings, is_silent, moved, moved_by};
 
 use crate::outcome::{Report, RoundFault};
 use child_pipeline::{Children, Runner};
@@ -95,8 +95,8 @@ fn end_stage<D: Disk, C: Children>(
     children: &mut C,
     job: JobId,
 ) -> Report
-    ensures { (kept : Course D) × IsEnding D.device (course spool.old runner.old (C.tells children.old))
-        (record { job = job; kept = kept; report = result; next = course spool.new runner.new (C.tells children.new) }) }
+    ensures { (kept : RunState D) × IsEnding D.device (run_state spool.old runner.old (C.tells children.old))
+        (record { job = job; kept = kept; report = result; next = run_state spool.new runner.new (C.tells children.new) }) }
 {
     if is_silent(runner, job) {
         return Report::Silent;
@@ -117,8 +117,8 @@ pub(crate) fn end_stages<D: Disk, C: Children>(
     children: &mut C,
     jobs: &[JobId],
 ) -> Ends
-    ensures { (es : List (Ending D)) × AreEndings D.device (course spool.old runner.old (C.tells children.old)) es
-        (course spool.new runner.new (C.tells children.new)) × (map (λ e. e.job) es ≡ jobs.now)
+    ensures { (es : List (Ending D)) × AreEndings D.device (run_state spool.old runner.old (C.tells children.old)) es
+        (run_state spool.new runner.new (C.tells children.new)) × (map (λ e. e.job) es ≡ jobs.now)
         × (result.told ≡ told_in es) × (result.fault ≡ ending_fault es) }
 {
     let mut told = 0;

@@ -4,10 +4,10 @@ ghost use Rattle.std.specs.FinMap as finite;
 ghost use Rattle.spool_types.specs.State.{Job, job_at, queue_at};
 ghost use Rattle.spool_types.specs.declared.rows.QueueRow.{QueueRow as QueueOf};
 ghost use Rattle.job_table.specs.Legal.{Fits};
-ghost use Rattle.child_pipeline.specs.Slots.{IsDue, IsTicketless, slot_in};
+ghost use Rattle.child_pipeline.specs.StageSlots.{IsDue, IsTicketless, slot_in};
 ghost use Rattle.print_rounds.specs.Choice.{readiness};
 ghost use Rattle.print_rounds.specs.Counts.{launching_fault, started_in};
-ghost use Rattle.print_rounds.specs.Courses.{Launching, IsLaunch, AreLaunchings, IsReadFor, AreReads};
+ghost use Rattle.print_rounds.specs.RunStates.{Launching, IsLaunch, AreLaunchings, IsReadFor, AreReads};
 ghost use Rattle.print_rounds.specs.Launches.{IsMade, IsUnmade, IsPrepared, IsUnprepared, IsStarted, IsDocumentFor, has_output};
 ghost use Rattle.print_rounds.specs.Finished.{AreDistinct, AllRest};
 

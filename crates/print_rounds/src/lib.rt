@@ -15,7 +15,7 @@
 //!    its queue starts nothing. So no second backend writes to its device. Its end is told to nobody.
 //!
 //! Where the children have places for a few starts (`Children::places`), a tick starts no more, so that no job loses an attempt
-//! (`specs/Places.antt`). Jobs that wait for a child have theirs first, then queues with a next job, in turn. A round bounds
+//! (`specs/StartRoom.antt`). Jobs that wait for a child have theirs first, then queues with a next job, in turn. A round bounds
 //! nothing, and asks that no child runs when it begins: [`finish_children`] waits for those that a tick has left.
 //!
 //! # Promises
@@ -25,7 +25,7 @@
 //!   which are accepted in turn (`accepted`, `table`). So no pass changes the version of the area. Where there is a place for
 //!   each queue, the queues that start in a tick are exactly those of which no child runs, and the stages those of the processing
 //!   jobs of which none runs. The ends are those of the children that a look found ended, and of the finishes that were kept (`made`).
-//! - *Places*: a tick goes by the places that it asked for (`IsTickAsked`), and calls `start` no more often than there are (`few`).
+//! - *StartRoom*: a tick goes by the places that it asked for (`IsTickAsked`), and calls `start` no more often than there are (`few`).
 //! - *A crash in a pass*: unless the device had failed before, a crash at any moment of it leaves the table after the first of
 //!   the events that were tried in it, some or all (`any_moment`). These are the acknowledged ones and, behind them, the one at
 //!   which the device failed, if it did (`tried_in`, `all_acknowledged`, `in_hand`). The documents stay as they are, in a crash
@@ -38,11 +38,11 @@
 //!   before the first finish (`finished`). After a round no child runs (`rest`), which the next one asks for. Over ticks the
 //!   children that are told to run are exactly those whose tickets the slots have: each that was started runs or has been
 //!   finished once (`tickets`). After [`finish_children`] none runs.
-//! - *NoStageTwice*: where the children tell, a pass is a turn of World (`turn`, `IsCallTurn`), and two calls one after the other
-//!   are one turn ([`calls_join`]); finishes alone are one too ([`finishes_are_a_turn`]). What is held between calls was begun and
+//! - *NoStageTwice*: where the children tell, a pass is a turn of StageHistory (`turn`, `IsStageCall`), and two calls one after the other
+//!   are one turn ([`calls_join`]); finishes alone are one too ([`finishes_are_a_call`]). What is held between calls was begun and
 //!   isn't told: its child runs, or its finish is kept. So no stage of an attempt that was ordered is ordered again. Over any
 //!   number of lives it is a law of every world (`Lives`, [`no_stage_comes_twice`]), and calls one after the other are a life
-//!   of one ([`calls_make_a_life`]). World sees each table as the newest version has it (`raised`), so that a checkpoint may come
+//!   of one ([`calls_make_a_life`]). StageHistory sees each table as the newest version has it (`raised`), so that a checkpoint may come
 //!   between calls.
 //! - *RightInput*: each start's order is exactly `order_in` of the job's slot, with the document that was read in a first stage
 //!   and the output in the slot in a later one (`Launched`). What was read is as long as the table says (`IsInput`), and where
@@ -72,14 +72,14 @@ mod laws;
 mod looks;
 mod outcome;
 mod passes;
-mod places;
 mod rounds;
 mod slots;
+mod start_room;
 mod starts;
 mod ticks;
 
 pub use laws::{
-    calls_join, calls_make_a_life, finishes_are_a_turn, no_stage_comes_twice, rounds_are_ticks,
+    calls_join, calls_make_a_life, finishes_are_a_call, no_stage_comes_twice, rounds_are_ticks,
     rounds_hand_on, ticks_hand_on,
 };
 pub use outcome::{Launch, Report, Round, RoundFault};

@@ -1,8 +1,8 @@
 //! Looks at children, of those that have ended and of those whose jobs have left their stages.
 ghost use Rattle.std.specs.Prelude.{◌≡◌, ◌≤◌, true, [], length, map, List, vec_capacity};
 ghost use Rattle.std.specs.FinMap as finite;
-ghost use Rattle.child_pipeline.specs.Slots.{IsRunning};
-ghost use Rattle.print_rounds.specs.Looks.{Look, IsLook, AreLooks, Dropping, IsDropped, AreDroppings, ripe_in, strays};
+ghost use Rattle.child_pipeline.specs.StageSlots.{IsRunning};
+ghost use Rattle.print_rounds.specs.StageChecks.{Look, IsLook, AreLooks, Dropping, IsDropped, AreDroppings, ripe_in, strays};
 
 use crate::slots::{has_child, is_stray};
 use child_pipeline::{Children, Runner};

@@ -1,6 +1,6 @@
 //! A pass over the queues: what a round and a tick have in common.
 ghost use Rattle.std.specs.Prelude.{◌≡◌, ◌≤◌, [], vec_capacity, IfOk};
-ghost use Rattle.print_rounds.specs.Courses.{course};
+ghost use Rattle.print_rounds.specs.RunStates.{run_state};
 ghost use Rattle.print_rounds.specs.Passes.{IsPassBy};
 
 use crate::busy::{list_idle, list_tended, mark_blocked};
@@ -8,10 +8,10 @@ use crate::ends::end_stages;
 use crate::launches::launch_all;
 use crate::looks::{drop_strays, list_ripe};
 use crate::outcome::{Round, RoundFault};
-use crate::places::{choose_jobs, hold_back};
 use crate::slots::free_idle;
+use crate::start_room::{choose_jobs, hold_back};
 use crate::starts::start_free;
-use child_pipeline::{Children, Places, Runner};
+use child_pipeline::{Children, Runner, StartRoom};
 use filter_args::Place;
 use spool_core::Spool;
 use spool_disk::Disk;
@@ -66,9 +66,9 @@ pub(crate) fn pass<D: Disk, C: Children>(
     runner: &mut Runner<C>,
     children: &mut C,
     waits: bool,
-    places: Option<Places>,
+    start_room: Option<StartRoom>,
 ) -> Result<Round, RoundFault>
-    ensures { IsPassBy D.device place.now waits places (course spool.old runner.old (C.tells children.old)) spool.old.dead (course spool.new runner.new (C.tells children.new)) result }
+    ensures { IsPassBy D.device place.now waits start_room (run_state spool.old runner.old (C.tells children.old)) spool.old.dead (run_state spool.new runner.new (C.tells children.new)) result }
 {
     if spool.is_dead() {
         return Err(RoundFault::Dead);
@@ -80,14 +80,20 @@ pub(crate) fn pass<D: Disk, C: Children>(
     let table = spool.table();
     free_idle(table, runner);
     mark_blocked(table, runner, &mut lists.blocked);
-    hold_back(places, table, runner, &mut lists.blocked, &mut lists.spare);
+    hold_back(
+        start_room,
+        table,
+        runner,
+        &mut lists.blocked,
+        &mut lists.spare,
+    );
     let fault = start_free(spool, &lists.blocked);
     if spool.is_dead() {
         return Round::NONE.unless(fault);
     }
     list_tended(spool.table(), runner, &mut lists.tended);
     list_idle(runner, &lists.tended, &mut lists.idle);
-    choose_jobs(places, &lists.idle, &mut lists.chosen);
+    choose_jobs(start_room, &lists.idle, &mut lists.chosen);
     let launches = launch_all(alloc, place, spool, runner, children, &lists.chosen);
     lists.chosen.clear();
     list_ripe(waits, runner, children, &lists.tended, &mut lists.chosen);

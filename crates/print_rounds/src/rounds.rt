@@ -1,7 +1,7 @@
 //! A whole round.
 ghost use Rattle.std.specs.Prelude.{◌≡◌, ◌≤◌, ◌↔◌, List, ℕ, IsSome, Some, []};
-ghost use Rattle.child_pipeline.specs.Told.{Told};
-ghost use Rattle.print_rounds.specs.Courses.{course};
+ghost use Rattle.child_pipeline.specs.ChildTraces.{ChildTrace};
+ghost use Rattle.print_rounds.specs.RunStates.{run_state};
 ghost use Rattle.print_rounds.specs.Finished.{EachFinishedOnce, HasNoneRunning};
 ghost use Rattle.print_rounds.specs.Rounds.{IsRoundBy};
 
@@ -27,13 +27,13 @@ pub fn round<D: Disk, C: Children>(
     requires { HasNoneRunning runner.old }
 
     // What was done, step by step, and its answer. A crash at any moment of it leaves the table after the first of its events.
-    // Where the children tell it is a turn of World, and where nothing failed it is what Script says.
-    ensures round { IsRoundBy D.device place.now (course spool.old runner.old (C.tells children.old)) spool.old.dead (course spool.new runner.new (C.tells children.new)) result }
+    // Where the children tell it is a turn of StageHistory, and where nothing failed it is what Script says.
+    ensures round { IsRoundBy D.device place.now (run_state spool.old runner.old (C.tells children.old)) spool.old.dead (run_state spool.new runner.new (C.tells children.new)) result }
     ensures later { D.device.failures spool.old.disk ≤ D.device.failures spool.new.disk }
     ensures told { IsSome (D.device.bytes spool.new.disk) ↔ IsSome (D.device.bytes spool.old.disk) }
 
     // Whatever failed, each child that was started is finished once, and every start came before the first finish.
-    ensures finished { (t : Told) → C.tells children.old ≡ Some t → t.running ≡ [] → (js : List ℕ) × EachFinishedOnce t (C.tells children.new) js }
+    ensures finished { (t : ChildTrace) → C.tells children.old ≡ Some t → t.running ≡ [] → (js : List ℕ) × EachFinishedOnce t (C.tells children.new) js }
     ensures rest { HasNoneRunning runner.new }
 {
     // The table is legal, and stays so.

@@ -2,8 +2,8 @@
 ghost use Rattle.std.specs.Prelude.{◌≡◌};
 ghost use Rattle.std.specs.FinMap as finite;
 ghost use Rattle.spool_types.specs.State.{job_at};
-ghost use Rattle.print_rounds.specs.Looks.{idle_slots, is_kept, is_stray, runs};
-ghost use Rattle.print_rounds.specs.Script.{is_current};
+ghost use Rattle.print_rounds.specs.StageChecks.{idle_slots, is_kept, is_stray, runs};
+ghost use Rattle.print_rounds.specs.RoundScript.{is_current};
 
 use child_pipeline::{Children, Runner};
 use job_table::{Table, is_in_stage};

@@ -4,7 +4,7 @@ ghost use Rattle.std.specs.FinMap as finite;
 ghost use Rattle.job_table.specs.Attempts.{next_of};
 ghost use Rattle.job_table.specs.Step.{refusal_of};
 ghost use Rattle.print_rounds.specs.Counts.{start_fault, starting_fault};
-ghost use Rattle.print_rounds.specs.Courses.{Starting, AreStartings, IsStarting};
+ghost use Rattle.print_rounds.specs.RunStates.{Starting, AreStartings, IsStarting};
 ghost use Rattle.print_rounds.specs.Passes.{unblocked};
 
 use crate::outcome::{RoundFault, answer_fault};

@@ -1,10 +1,10 @@
 //! A tick: what a round does, for whoever waits for no child.
 ghost use Rattle.std.specs.Prelude.{◌≡◌, ◌≤◌, ◌↔◌, List, map, IsSome, Some};
 ghost use Rattle.child_pipeline.specs.Tickets.{HasTickets};
-ghost use Rattle.child_pipeline.specs.Told.{Told};
-ghost use Rattle.print_rounds.specs.Courses.{course};
+ghost use Rattle.child_pipeline.specs.ChildTraces.{ChildTrace};
+ghost use Rattle.print_rounds.specs.RunStates.{run_state};
 ghost use Rattle.print_rounds.specs.Finished.{HasNoneRunning};
-ghost use Rattle.print_rounds.specs.Ticks.{AreFinishings, Finishing, IsFinishedOff, IsTickAsked, running_jobs};
+ghost use Rattle.print_rounds.specs.RoundTicks.{AreFinishings, Finishing, IsFinishedOff, IsTickAsked, running_jobs};
 
 use crate::outcome::{Round, RoundFault};
 use crate::passes::pass;
@@ -27,7 +27,7 @@ pub fn tick<D: Disk, C: Children>(
     runner: &mut Runner<C>,
     children: &mut C,
 ) -> Result<Round, RoundFault>
-    ensures tick { IsTickAsked (λ places. (then : C) × C.rooms children.old places then) D.device place.now (course spool.old runner.old (C.tells children.old)) spool.old.dead (course spool.new runner.new (C.tells children.new)) result }
+    ensures tick { IsTickAsked (λ start_room. (then : C) × C.rooms children.old start_room then) D.device place.now (run_state spool.old runner.old (C.tells children.old)) spool.old.dead (run_state spool.new runner.new (C.tells children.new)) result }
     ensures later { D.device.failures spool.old.disk ≤ D.device.failures spool.new.disk }
     ensures told { IsSome (D.device.bytes spool.new.disk) ↔ IsSome (D.device.bytes spool.old.disk) }
 {
@@ -37,8 +37,8 @@ pub fn tick<D: Disk, C: Children>(
     spent_stages_stay_spent();
     versions_rise();
     tickets_stay();
-    let places = children.places();
-    pass(alloc, place, spool, runner, children, false, places)
+    let start_room = children.start_room();
+    pass(alloc, place, spool, runner, children, false, start_room)
 }
 
 /// Waits for each child that is running. Their finishes stay in their slots, and no event is applied. So each child that was
@@ -46,7 +46,7 @@ pub fn tick<D: Disk, C: Children>(
 pub fn finish_children<C: Children>(runner: &mut Runner<C>, children: &mut C)
     ensures steps { (fs : List Finishing) × AreFinishings runner.old (C.tells children.old) fs runner.new (C.tells children.new) × (map (λ f. f.job) fs ≡ running_jobs runner.old) }
     ensures rest { HasNoneRunning runner.new }
-    ensures finished { (t : Told) → C.tells children.old ≡ Some t → HasTickets runner.old t → IsFinishedOff t (C.tells children.new) }
+    ensures finished { (t : ChildTrace) → C.tells children.old ≡ Some t → HasTickets runner.old t → IsFinishedOff t (C.tells children.new) }
 {
     // No ticket is lost on the way.
     tickets_stay();

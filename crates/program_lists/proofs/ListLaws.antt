@@ -7,7 +7,7 @@ use Rattle.std.proofs.lemmas.Grind.{flat_map-append}
 use Rattle.std.proofs.lemmas.Simd.{map-map}
 use Rattle.std.proofs.lemmas.List.{take_more, take-append-drop, drop_more, map-append, append-nil, length-append}
 use Rattle.std.proofs.lemmas.List.Folds.{list_any-append, list_all-append}
-use Rattle.program_lists.specs.Lines.{lines_of, words_of, said_by, said_in}
+use Rattle.program_lists.specs.ProgramLines.{lines_of, words_of, said_by, said_in}
 use Rattle.program_lists.specs.Programs.{Programs, programs_of, filters_said, backends_said, sides_said, first, is_read, is_named, are_distinct, is_at_most_one, reads_of, program_of, program_named, fits, with_said}
 use Rattle.spool_types.specs.declared.kinds.FilterNameKind.{FilterNameKind}
 use Rattle.program_lists.specs.declared.kinds.BackendNameKind.{BackendNameKind}

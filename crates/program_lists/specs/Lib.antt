@@ -1,3 +1,3 @@
-pub mod Values
-pub mod Lines
+pub mod ProgramWords
+pub mod ProgramLines
 pub mod Programs

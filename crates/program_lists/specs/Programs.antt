@@ -3,7 +3,7 @@ use Rattle.std.specs.Prelude.{ℕ, Bool, true, false, ◌&&◌, not, nat_le, Lis
 use Rattle.std.specs.List.{list_all, list_any, flat_map, find}
 use Rattle.std.specs.Option.{option_map}
 use Rattle.std.specs.Coded.{Coded, code_by, coded×, coded_list, coded_option, coded_ℕ}
-use Rattle.program_lists.specs.Lines.{same, said_in}
+use Rattle.program_lists.specs.ProgramLines.{same, said_in}
 use Rattle.spool_types.specs.declared.kinds.FilterNameKind.{FilterNameKind}
 use Rattle.program_lists.specs.declared.kinds.BackendNameKind.{BackendNameKind}
 use Rattle.program_lists.specs.declared.line.Listed.{Listed}

@@ -1,7 +1,7 @@
 //! What the words of a line may be.
 ghost use Rattle.std.specs.Prelude.{◌≡◌};
 ghost use Rattle.std.specs.List.{list_all};
-ghost use Rattle.program_lists.specs.Values.{is_path, is_path_byte, is_word, is_scheme, is_scheme_byte, is_small_letter};
+ghost use Rattle.program_lists.specs.ProgramWords.{is_path, is_path_byte, is_word, is_scheme, is_scheme_byte, is_small_letter};
 
 use line_words::is_blank;
 use spool_types::{Text, TextKind};

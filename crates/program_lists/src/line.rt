@@ -1,6 +1,6 @@
 //! What a line says.
 ghost use Rattle.std.specs.Prelude.{◌≡◌, IfOk, map};
-ghost use Rattle.program_lists.specs.Lines.{words_of, said_by, listed_in, program_in, word_in, begins_remark, as_filter, as_backend, as_side};
+ghost use Rattle.program_lists.specs.ProgramLines.{words_of, said_by, listed_in, program_in, word_in, begins_remark, as_filter, as_backend, as_side};
 
 use crate::kinds::{BackendNameKind, ProgramPath, ProgramWord};
 use line_words::is_blank;

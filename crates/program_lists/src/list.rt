@@ -2,7 +2,7 @@
 ghost use Rattle.std.specs.Prelude.{◌≡◌, ◌∷◌, ◌++◌, [], not, false, map, IfOk, OnOk, IsErrOf, IsTrue};
 ghost use Rattle.std.specs.List.{list_any};
 ghost use Rattle.std.specs.Option.{option_map};
-ghost use Rattle.program_lists.specs.Lines.{lines_of};
+ghost use Rattle.program_lists.specs.ProgramLines.{lines_of};
 ghost use Rattle.program_lists.specs.Programs.{no_programs, programs_in, reads, program_named, is_named, fits, with_said};
 
 use crate::line::{Listed, ListedBackend, ListedFilter, ListedProgram, Said, read_line};

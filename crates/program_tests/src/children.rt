@@ -1,7 +1,7 @@
 use child_pipeline::{Children, Content, Input, Order, Program, Scheme, Texts};
 use log::{Level, Logged};
 use program_lists::ProgramList;
-use spool_host::{LogLines, launcher_in};
+use spool_runtime::{LogLines, launcher_in};
 use spool_types::{AttemptNumber, Exit, JobId, StageNumber};
 use std::alloc::Global;
 use std::test::Fail;
@@ -66,8 +66,8 @@ fn ends_with<C: Children>(children: &mut C, ticket: C::Ticket, status: u8) -> bo
 }
 
 // Whether four children may be started.
-fn has_four_places<C: Children>(children: &mut C) -> bool {
-    matches!(children.places(), Some(places) if places.count == 4)
+fn has_room_for_four<C: Children>(children: &mut C) -> bool {
+    matches!(children.start_room(), Some(start_room) if start_room.count == 4)
 }
 
 // Whether a look at a child waits for nobody, and looks then see its end.
@@ -108,9 +108,9 @@ fn launcher_is_looked_at(rt: HostRuntime) -> Result<bool, Fail> {
     };
     let (mut launcher, place) = launcher_in(&logged, &rt, DIR, list)?;
     drop(place);
-    let before = has_four_places(&mut launcher);
+    let before = has_room_for_four(&mut launcher);
     let seen = two_are_seen_to_end(&rt, rt.alloc(), &mut launcher)?;
-    Ok(before && seen && has_four_places(&mut launcher))
+    Ok(before && seen && has_room_for_four(&mut launcher))
 }
 
 #[test]

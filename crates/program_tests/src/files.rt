@@ -1,6 +1,6 @@
 use log::{Level, Logged};
 use spool_disk::Disk;
-use spool_host::{LogLines, ShellWords, memory_device, run, tell_end};
+use spool_runtime::{LogLines, ShellWords, memory_device, report_end, run};
 use std::cell::RefCell;
 use std::fmt::Display;
 use std::io::Write;
@@ -56,7 +56,7 @@ fn told(rt: HostRuntime, named: Named) -> Result<Vec<u8>, Fail> {
         },
     );
     let ended = run(&logged, &rt, words, &mut b"queues\n".as_slice(), &mut told);
-    let _ = tell_end(&errors, ended);
+    let _ = report_end(&errors, ended);
     let Kept { text } = errors;
     told.extend_from_slice(text.into_inner().as_slice())?;
     Ok(told)

@@ -1,5 +1,5 @@
 use spool_disk::Disk;
-use spool_host::{ShellFault, SpoolFolder};
+use spool_runtime::{ShellFault, SpoolFolder};
 use std::fs;
 use std::fs::{File, Files};
 use std::os::unix::fs::{MetadataExt, PermissionsExt, symlink};

@@ -8,9 +8,9 @@ mod files;
 #[cfg(test)]
 mod folders;
 #[cfg(test)]
-mod places;
-#[cfg(test)]
 mod runs;
+#[cfg(test)]
+mod start_room;
 #[cfg(test)]
 mod tools;
 #[cfg(test)]

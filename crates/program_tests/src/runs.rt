@@ -5,7 +5,7 @@ use log::{Level, Logged};
 use mime_costs::Convs;
 use mime_rules::Types;
 use spool_disk::FuseDisk;
-use spool_host::{LogLines, ShellFault, ShellWords, memory_device, place_in, run, serve};
+use spool_runtime::{LogLines, ShellFault, ShellWords, memory_device, place_in, run, serve};
 use std::alloc::{AllocError, Global};
 use std::io;
 use std::io::{ErrorKind, Read};

@@ -1,6 +1,6 @@
 ghost use Rattle.std.specs.Prelude.{Some};
 
-use stage_tools::{
+use builtin_stages::{
     Form, Source, ToolFault, ask_id, end_session, exit_of, id_in, partner_of, read_device,
     turns_of, write_copies,
 };

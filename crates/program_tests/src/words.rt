@@ -1,4 +1,4 @@
-use spool_host::{DiskCause, ShellFault, ShellWords, WordsFault, read_words};
+use spool_runtime::{DiskCause, ShellFault, ShellWords, WordsFault, read_words};
 use std::alloc::{AllocError, Global};
 use std::test::Fail;
 

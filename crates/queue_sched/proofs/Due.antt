@@ -8,7 +8,7 @@ use Rattle.std.proofs.lemmas.List.Elements.{Contains-push_cases}
 use Rattle.std.specs.List.{Contains, filter}
 use Rattle.spool_types.specs.declared.phase.Hold.{Hold}
 use Rattle.spool_types.specs.declared.phase.Hold.TheVariants.{Free, Indefinite, Until}
-use Rattle.queue_sched.specs.Index.{is_startable}
+use Rattle.queue_sched.specs.WaitingIndex.{is_startable}
 use Rattle.queue_sched.specs.Next.{may_start}
 use Rattle.queue_sched.specs.Lists.{IsBefore, IsSameUntil}
 use Rattle.queue_sched.specs.declared.entry.Entry.{Entry}

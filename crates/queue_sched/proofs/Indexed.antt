@@ -11,7 +11,7 @@ use Rattle.spool_types.specs.declared.phase.Phase.TheVariants.{Incoming, Waiting
 use Rattle.spool_types.specs.Busy.{is_of}
 use Rattle.spool_types.specs.Phases.{is_waiting, hold_of}
 use Rattle.spool_types.specs.State.{Job}
-use Rattle.queue_sched.specs.Index.{Waits, InOrder, IsFirstStartable, NoneIsStartable, IsIndexOf, entry_of, goes_before, is_startable, not_before_of}
+use Rattle.queue_sched.specs.WaitingIndex.{Waits, InOrder, IsFirstStartable, NoneIsStartable, IsIndexOf, entry_of, goes_before, is_startable, not_before_of}
 use Rattle.queue_sched.specs.Next.{may_start, is_ready, is_free, is_ready_of, is_eligible, IsNextJob}
 use Rattle.queue_sched.specs.declared.entry.Entry.{Entry}
 use Rattle.queue_sched.proofs.More.{has_passed}

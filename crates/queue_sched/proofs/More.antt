@@ -8,8 +8,8 @@ use Rattle.std.proofs.lemmas.List.Elements.{filter-append, filter_passes, All-co
 use Rattle.std.proofs.lemmas.List.Kept.{AllPairs-filter}
 use Rattle.std.proofs.lemmas.List.Sums.{length-filter, count_by-le-length}
 use Rattle.std.specs.List.{Contains, filter, insert, remove}
-use Rattle.queue_sched.specs.Index.{goes_before, InOrder}
-use Rattle.queue_sched.specs.Turned.{IsMore, IsExchange}
+use Rattle.queue_sched.specs.WaitingIndex.{goes_before, InOrder}
+use Rattle.queue_sched.specs.OrderedEntries.{IsMore, IsExchange}
 use Rattle.queue_sched.specs.declared.entry.Entry.{Entry}
 use Rattle.queue_sched.proofs.Ordered.{single}
 use Rattle.queue_sched.proofs.TurnOrder.{itself, onward, has_more, has_less, in_order_remove}

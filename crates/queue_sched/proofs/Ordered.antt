@@ -67,7 +67,7 @@ module _ {A : Type 0} (before_it : A → A → Bool) (itself : (e : A) → befor
       Goes f g = IsTrue (before_it f g)
 
       pub in_order_insert : InOrder xs → ((f : A) → Contains xs f → before_it f e ≡ false → before_it e f ≡ true) → AreBefore at → AreBehind at → InOrder (insert xs at e)
-      in_order_insert order turns before behind i j d lt inside =
+      in_order_insert order waiting_entries before behind i j d lt inside =
           let long : length (insert xs at e) ≡ length xs + 1 = length-insert xs at e le in
           ⊎_elim
           (λ (low : (i < at) × ((d : A) → get_or (insert xs at e) i d ≡ get_or xs i d)).
@@ -94,7 +94,7 @@ module _ {A : Type 0} (before_it : A → A → Bool) (itself : (e : A) → befor
           let within : up.0 < length xs = omega (arith, inside, long, up.1) in
           subst (λ f. Goes f (get_or (insert xs at e) j d)) (sym (here.1 d))
           (subst (λ g. Goes e g) (sym (up.3 d))
-          (turns (get_or xs up.0 d) (Contains-get_or xs up.0 d within) (behind up.0 d up.2 within))))
+          (waiting_entries (get_or xs up.0 d) (Contains-get_or xs up.0 d within) (behind up.0 d up.2 within))))
           rest)
           (comes j))
           (λ (up : (m : ℕ) × (i ≡ m + 1) × (at ≤ m) × ((d : A) → get_or (insert xs at e) i d ≡ get_or xs m d)).

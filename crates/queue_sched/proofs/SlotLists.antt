@@ -8,10 +8,10 @@ use Rattle.std.proofs.lemmas.List.Kept.{AllPairs-filter}
 use Rattle.std.proofs.lemmas.List.Sums.{length-filter, count_by-le-length}
 use Rattle.std.specs.List.{AllWithin, Contains, filter, insert}
 use Rattle.std.specs.List.Sorted.{IsPartitionedBy}
-use Rattle.queue_sched.specs.Index.{goes_before, InOrder, LacksJob}
+use Rattle.queue_sched.specs.WaitingIndex.{goes_before, InOrder, LacksJob}
 use Rattle.queue_sched.specs.Next.{goes_first}
-use Rattle.queue_sched.specs.Slots.{is_there, items_of, there_of, InSlotOrder, IsFirstThere}
-use Rattle.queue_sched.specs.Turned.{IsMore, IsExchange}
+use Rattle.queue_sched.specs.OrderSlots.{is_there, items_of, there_of, InSlotOrder, IsFirstThere}
+use Rattle.queue_sched.specs.OrderedEntries.{IsMore, IsExchange}
 use Rattle.queue_sched.specs.declared.entry.Entry.{Entry}
 use Rattle.queue_sched.specs.declared.slots.Slot.{Slot}
 use Rattle.queue_sched.proofs.Ordered as ordered

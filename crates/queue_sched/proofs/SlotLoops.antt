@@ -5,9 +5,9 @@ use Rattle.std.proofs.Math.Logic.{⊎_elim}
 use Rattle.std.proofs.lemmas.Bool.{both_ways}
 use Rattle.std.proofs.lemmas.List.Elements.{Contains-append_left, Contains-append_right, Contains-append_cases, Contains-push}
 use Rattle.std.specs.List.{Contains}
-use Rattle.queue_sched.specs.Index.{is_startable, LacksJob}
+use Rattle.queue_sched.specs.WaitingIndex.{is_startable, LacksJob}
 use Rattle.queue_sched.specs.Lists.{IsBefore}
-use Rattle.queue_sched.specs.Slots.{is_there, items_of}
+use Rattle.queue_sched.specs.OrderSlots.{is_there, items_of}
 use Rattle.queue_sched.specs.declared.entry.Entry.{Entry}
 use Rattle.queue_sched.specs.declared.slots.Slot.{Slot}
 use Rattle.queue_sched.proofs.Due.{IsSameSoFar, IsStart, one_ready, one_waiting}

@@ -2,7 +2,7 @@
 use Rattle.std.proofs.Common.{List}
 use Rattle.std.specs.Cmp.{IsStrictWeakOrder}
 use Rattle.std.specs.List.Sorted.{IsPermutation, IsSortedBy}
-use Rattle.queue_sched.specs.Index.{goes_before, HasEachOnce, InOrder}
+use Rattle.queue_sched.specs.WaitingIndex.{goes_before, HasEachOnce, InOrder}
 use Rattle.queue_sched.specs.declared.entry.Entry.{Entry}
 use Rattle.queue_sched.proofs.Numbered as numbered
 use Rattle.queue_sched.proofs.TurnOrder.{itself, onward, not_onward, other_way}

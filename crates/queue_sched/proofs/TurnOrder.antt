@@ -1,7 +1,7 @@
 -- Entries in the order of their turns, with one more and with one less.
 use Rattle.std.proofs.Common.{◌≡◌, ℕ, ◌<◌, ◌⊎◌, ◌↔◌, true, false, List, length, get_or}
 use Rattle.std.specs.List.{Contains, insert, remove}
-use Rattle.queue_sched.specs.Index.{goes_before, InOrder}
+use Rattle.queue_sched.specs.WaitingIndex.{goes_before, InOrder}
 use Rattle.queue_sched.specs.declared.entry.Entry.{Entry}
 use Rattle.queue_sched.proofs.Order.{first_itself, first_on, first_not_on, first_other_way}
 use Rattle.queue_sched.proofs.Ordered as ordered

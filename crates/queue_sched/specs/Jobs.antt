@@ -1,7 +1,7 @@
 -- What an iterator over the numbers of waiting jobs has left.
 use Rattle.std.specs.Prelude.{ℕ, List, map}
 use Rattle.std.specs.VecDeque.Iter.{deque_iter_rest}
-use Rattle.queue_sched.specs.Slots.{items_of}
+use Rattle.queue_sched.specs.OrderSlots.{items_of}
 use Rattle.queue_sched.specs.declared.jobs.Jobs.TheInside.{Inside}
 
 abbrev pub numbers_left : Inside → List ℕ

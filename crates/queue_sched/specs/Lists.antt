@@ -1,7 +1,7 @@
 -- What the fields of an index mean.
 use Rattle.std.specs.Prelude.{◌≡◌, ℕ, ◌<◌, ◌≤◌, List, length, Option, None, Some}
 use Rattle.std.specs.List.{Contains, filter}
-use Rattle.queue_sched.specs.Index.{Waits, InOrder, is_startable}
+use Rattle.queue_sched.specs.WaitingIndex.{Waits, InOrder, is_startable}
 use Rattle.queue_sched.specs.declared.entry.Entry.{Entry}
 use Rattle.queue_sched.specs.declared.index.Index.TheInside.{Inside}
 

@@ -2,7 +2,7 @@
 ghost use Rattle.std.specs.Prelude.{◌≡◌, ◌↔◌, ℕ, false, nat_le, IsTrue, IsSome, IfSome, MatchOption};
 ghost use Rattle.std.specs.Ordering.{is_lt};
 ghost use Rattle.spool_types.specs.Phases.{is_waiting};
-ghost use Rattle.queue_sched.specs.Index.{entry_of, goes_before, is_startable};
+ghost use Rattle.queue_sched.specs.WaitingIndex.{entry_of, goes_before, is_startable};
 
 use spool_types::{Hold, Job, JobId, Moment, Phase, Priority};
 use std::cmp::Ordering;

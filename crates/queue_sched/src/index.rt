@@ -2,13 +2,13 @@
 ghost use Rattle.std.specs.Prelude.{◌≡◌, ◌<◌, ◌≤◌, ◌+◌, ◌↔◌, ◌⊎◌, [], length, map, vec_capacity, IsOk, OnOk, OnErr, IfOk, IfSome};
 ghost use Rattle.std.specs.Option.{IsNone, option_copied};
 ghost use Rattle.std.specs.List.{Contains};
-ghost use Rattle.queue_sched.specs.Index.{InOrder, LacksJob, HasEachOnce, IsFirstStartable, NoneIsStartable};
+ghost use Rattle.queue_sched.specs.WaitingIndex.{InOrder, LacksJob, HasEachOnce, IsFirstStartable, NoneIsStartable};
 ghost use Rattle.queue_sched.specs.declared.entry.Entry.{Entry};
 
 use crate::entry::Entry;
 use crate::jobs::Jobs;
 use crate::lists::{is_before, sooner, sort};
-use crate::turns::Turns;
+use crate::waiting_entries::WaitingEntries;
 use spool_types::{JobId, Moment};
 use std::alloc::{AllocError, Global};
 use std::marker::Model;
@@ -16,9 +16,9 @@ use std::marker::Model;
 /// The waiting jobs of one queue in the order of their turns, at a moment.
 #[derive(Drop)]
 pub struct Index {
-    entries: Turns,
+    entries: WaitingEntries,
     // Those that may be started now.
-    ready: Turns,
+    ready: WaitingEntries,
     // Each of the two has room for so many, the ready ones too: all could be ready.
     room: usize,
     // Until this moment no other one may be started.
@@ -27,7 +27,7 @@ pub struct Index {
 }
 
 impl Model for Index {
-    ghost use Rattle.queue_sched.specs.Index.{Waits};
+    ghost use Rattle.queue_sched.specs.WaitingIndex.{Waits};
 
     ghost Value = { Waits };
 
@@ -46,8 +46,8 @@ impl Index {
         ensures room { result.room ≡ 0 }
     {
         Index {
-            entries: Turns::new(alloc),
-            ready: Turns::new(alloc),
+            entries: WaitingEntries::new(alloc),
+            ready: WaitingEntries::new(alloc),
             room: 0,
             due: None,
             moment: Moment::ZERO,
@@ -65,14 +65,14 @@ impl Index {
     {
         let alloc = *entries.allocator();
         let room = entries.capacity();
-        let mut turns = Turns::with_room(alloc, room)?;
-        let mut ready = Turns::with_room(alloc, room)?;
+        let mut waiting_entries = WaitingEntries::with_room(alloc, room)?;
+        let mut ready = WaitingEntries::with_room(alloc, room)?;
         sort(&mut entries);
-        turns.fill(&entries);
-        ready.fill_ready(&turns, moment);
-        let due = turns.due(moment);
+        waiting_entries.fill(&entries);
+        ready.fill_ready(&waiting_entries, moment);
+        let due = waiting_entries.due(moment);
         Ok(Index {
-            entries: turns,
+            entries: waiting_entries,
             ready,
             room,
             due,

@@ -1,7 +1,7 @@
 //! The numbers of a queue's waiting jobs.
 ghost use Rattle.std.specs.Prelude.{◌≡◌, map};
 ghost use Rattle.std.specs.Iterator.{item_count, YieldsFirst};
-ghost use Rattle.queue_sched.specs.Slots.{items_of};
+ghost use Rattle.queue_sched.specs.OrderSlots.{items_of};
 
 use crate::slots::Slot;
 use spool_types::JobId;

@@ -64,7 +64,7 @@ mod jobs;
 mod laws;
 mod lists;
 mod slots;
-mod turns;
+mod waiting_entries;
 
 pub use choice::{beats, next_job};
 pub use deadlines::{Deadline, Deadlines};

@@ -1,7 +1,7 @@
 //! What the lists of an index share.
 ghost use Rattle.std.specs.Prelude.{◌≡◌, ◌↔◌, ℕ, IsTrue, vec_capacity};
 ghost use Rattle.std.specs.List.Sorted.{IsPermutation};
-ghost use Rattle.queue_sched.specs.Index.{HasEachOnce, InOrder};
+ghost use Rattle.queue_sched.specs.WaitingIndex.{HasEachOnce, InOrder};
 ghost use Rattle.queue_sched.specs.Lists.{IsBefore};
 
 use crate::entry::Entry;

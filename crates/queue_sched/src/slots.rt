@@ -3,10 +3,10 @@ ghost use Rattle.std.specs.Prelude.{◌≡◌, ◌<◌, ◌≤◌, ◌+◌, ◌*
 ghost use Rattle.std.specs.Option.{IsNone, option_copied};
 ghost use Rattle.std.specs.List.{filter, AllWithin, Contains};
 ghost use Rattle.std.specs.VecDeque.{deque_capacity};
-ghost use Rattle.queue_sched.specs.Index.{goes_before, is_startable, LacksJob};
+ghost use Rattle.queue_sched.specs.WaitingIndex.{goes_before, is_startable, LacksJob};
 ghost use Rattle.queue_sched.specs.Lists.{IsSameUntil};
-ghost use Rattle.queue_sched.specs.Slots.{is_there, items_of, there_of, InSlotOrder, IsFirstThere};
-ghost use Rattle.queue_sched.specs.Turned.{IsExchange, IsMore};
+ghost use Rattle.queue_sched.specs.OrderSlots.{is_there, items_of, there_of, InSlotOrder, IsFirstThere};
+ghost use Rattle.queue_sched.specs.OrderedEntries.{IsExchange, IsMore};
 ghost use Rattle.queue_sched.specs.declared.slots.Slot.{Slot};
 ghost use Rattle.queue_sched.specs.declared.entry.Entry.{Entry};
 

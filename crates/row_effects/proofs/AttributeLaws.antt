@@ -9,7 +9,7 @@ use Rattle.std.proofs.lemmas.Bool.{false_from_ne_true}
 use Rattle.std.proofs.lemmas.Slice.Eq.{bytes_eq-Decides}
 use Rattle.spool_types.specs.declared.effect.Attribute.{Attribute}
 use Rattle.row_effects.specs.Keys.{most_kept, has_key, with_item}
-use Rattle.row_effects.specs.Attributes.{name_of, set_attribute, value_at}
+use Rattle.row_effects.specs.QueueAttributes.{name_of, set_attribute, value_at}
 use Rattle.row_effects.proofs.Keys.{compare, same, one_key, apart}
 use Rattle.row_effects.proofs.Kept.{kept_there, kept_below}
 

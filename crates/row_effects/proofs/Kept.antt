@@ -3,7 +3,7 @@ use Rattle.std.proofs.Common.{◌≡◌, ℕ, suc, ◌<◌, ◌≤◌, Bool, tru
 use Rattle.std.specs.Prelude.{nat_lt}
 use Rattle.std.specs.List.{insert, filter}
 use Rattle.std.proofs.lemmas.Bool.{lt-ltb, le-ltb, ltb-true, or_right, or_from}
-use Rattle.row_effects.specs.Keys.{most_kept, is_ascending, has_key, with_item, with_kept, IsPlace, IsGap}
+use Rattle.row_effects.specs.Keys.{most_kept, is_ascending, has_key, with_item, with_kept, IsPosition, IsGap}
 use Rattle.row_effects.proofs.Keys.{ascends_with, length_with, with_gap, with_place, has_place, has_gap}
 
 module _ {Y : Type 0} (key : Y → List ℕ) where
@@ -19,7 +19,7 @@ module _ {Y : Type 0} (key : Y → List ℕ) where
   pub kept_full : (y : Y) (ys : List Y) → has_key key (key y) ys ≡ false → most_kept ≤ length ys → with_kept key y ys ≡ ys
   kept_full y ys new le = ap (chosen y ys) (or_from (has_key key (key y) ys) _ new (le-ltb _ _ le))
 
-  pub kept_place : (ys : List Y) → is_ascending key ys ≡ true → (y : Y) (i : ℕ) → IsPlace key ys (key y) i → with_kept key y ys ≡ set ys i y
+  pub kept_place : (ys : List Y) → is_ascending key ys ≡ true → (y : Y) (i : ℕ) → IsPosition key ys (key y) i → with_kept key y ys ≡ set ys i y
   kept_place ys h y i at = kept_there y ys (has_place key ys (key y) i at) ∙ with_place key ys h y i at
 
   pub kept_gap : (ys : List Y) (y : Y) (i : ℕ) → IsGap key ys (key y) i → length ys < most_kept → with_kept key y ys ≡ insert ys i y

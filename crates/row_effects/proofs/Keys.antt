@@ -15,7 +15,7 @@ use Rattle.std.proofs.lemmas.List.Folds.{list_any_at, list_any_none}
 use Rattle.std.proofs.lemmas.List.Sorted.{searchable_from_sorted}
 use Rattle.std.proofs.lemmas.List.Sums.{AllPass-from_list_all}
 use Rattle.std.proofs.lemmas.Slice.Eq.{bytes_eq-Decides}
-use Rattle.row_effects.specs.Keys.{is_ascending, has_key, with_item, IsPlace, IsGap}
+use Rattle.row_effects.specs.Keys.{is_ascending, has_key, with_item, IsPosition, IsGap}
 
 abbrev pub compare : List ℕ → List ℕ → Ordering
 compare = slice_cmp nat_cmp
@@ -154,7 +154,7 @@ module _ {Y : Type 0} (key : Y → List ℕ) where
   searchable ys h k = searchable_from_sorted nat_list_cmp_total key ys k (λ i d low high. ap is_lt (turned (key (get_or ys i d)) (key (get_or ys (i + 1) d)) Less (rise ys h i (i + 1) d (omega arith) high)))
 
   -- what it answers is the key's place, or the gap for it
-  pub searched : (ys : List Y) → is_ascending key ys ≡ true → (k : List ℕ) (r : Result ℕ ℕ) → IsSearchInRange r (length ys) → IsBinarySearchResult (λ y. compare (key y) k) ys r → record { found : IfOk r (IsPlace key ys k); absent : IfErr r (IsGap key ys k) }
+  pub searched : (ys : List Y) → is_ascending key ys ≡ true → (k : List ℕ) (r : Result ℕ ℕ) → IsSearchInRange r (length ys) → IsBinarySearchResult (λ y. compare (key y) k) ys r → record { found : IfOk r (IsPosition key ys k); absent : IfErr r (IsGap key ys k) }
   searched ys h k (Ok at) in_range equal = record { found = record { in_range = in_range; same = λ d. one_key _ _ (equal d) }; absent = tt }
   searched ys h k (Err at) in_range parted = record {
     found = tt;
@@ -164,7 +164,7 @@ module _ {Y : Type 0} (key : Y → List ℕ) where
   }
 
   -- a key that has a place is there
-  pub has_place : (ys : List Y) (k : List ℕ) (i : ℕ) → IsPlace key ys k i → has_key key k ys ≡ true
+  pub has_place : (ys : List Y) (k : List ℕ) (i : ℕ) → IsPosition key ys k i → has_key key k ys ≡ true
   has_place [] k i at = absurd (omega (arith, at.in_range))
   has_place (y ∷ ys) k i at = list_any_at (λ z. same (key z) k) (y ∷ ys) i y at.in_range ((bytes_eq-Decides _ _).1 (at.same y))
 
@@ -195,7 +195,7 @@ module _ {Y : Type 0} (key : Y → List ℕ) where
       ∙ ap (λ ws. z ∷ ws) (place_from zs y i d (omega arith) is (λ j l. before (suc j) (omega arith)))
 
   -- an item whose key is there takes its place
-  pub with_place : (ys : List Y) → is_ascending key ys ≡ true → (y : Y) (i : ℕ) → IsPlace key ys (key y) i → with_item key y ys ≡ set ys i y
+  pub with_place : (ys : List Y) → is_ascending key ys ≡ true → (y : Y) (i : ℕ) → IsPosition key ys (key y) i → with_item key y ys ≡ set ys i y
   with_place ys h y i at = place_from ys y i y at.in_range (at.same y) (λ j lt. turned (key (get_or ys j y)) (key y) Less (subst (λ k. compare (key (get_or ys j y)) k ≡ Less) (at.same y) (rise ys h j i y lt at.in_range)))
 
   -- leaving out a key that isn't there changes nothing
@@ -207,7 +207,7 @@ module _ {Y : Type 0} (key : Y → List ℕ) where
       ∙ ap (λ ws. z ∷ ws) (without_absent k zs both.1)
 
   -- leaving out one that is there removes the item at its place
-  pub without_place : (ys : List Y) → is_ascending key ys ≡ true → (k : List ℕ) (i : ℕ) → IsPlace key ys k i → filter (λ y. not (same (key y) k)) ys ≡ remove ys i
+  pub without_place : (ys : List Y) → is_ascending key ys ≡ true → (k : List ℕ) (i : ℕ) → IsPosition key ys k i → filter (λ y. not (same (key y) k)) ys ≡ remove ys i
   without_place [] h k i at = absurd (omega (arith, at.in_range))
   without_place (y ∷ ys) h k zero at =
       let own : same (key y) k ≡ true = (bytes_eq-Decides _ _).1 (at.same y) in

@@ -5,9 +5,9 @@ use Rattle.spool_types.specs.declared.effect.Effect.{Effect}
 use Rattle.spool_types.specs.declared.effect.Effect.TheVariants.{Pages, TotalPages, SetReasons, AddReasons, DropReasons, Attribute, Message}
 use Rattle.spool_types.specs.declared.rows.QueueRow.{QueueRow}
 use Rattle.row_effects.specs.Keys.{most_kept, is_ascending}
-use Rattle.row_effects.specs.Reasons.{word_of}
-use Rattle.row_effects.specs.Attributes.{name_of}
-use Rattle.row_effects.specs.Fold.{reasons_by, attributes_by, reasons_after, attributes_after, queue_after, IsInOrder}
+use Rattle.row_effects.specs.QueueReasons.{word_of}
+use Rattle.row_effects.specs.QueueAttributes.{name_of}
+use Rattle.row_effects.specs.EffectFold.{reasons_by, attributes_by, reasons_after, attributes_after, queue_after, IsInOrder}
 use Rattle.row_effects.proofs.Kept.{ascends_kept, few_kept, few_filter}
 use Rattle.row_effects.proofs.ReasonSteps.{ascends_added, few_added, ascends_dropped}
 

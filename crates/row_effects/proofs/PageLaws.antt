@@ -4,7 +4,7 @@ use Rattle.std.proofs.lemmas.List.Sums.{sum_by-cons}
 use Rattle.std.specs.List.{list_all, sum_by}
 use Rattle.spool_types.specs.declared.effect.Effect.{Effect}
 use Rattle.spool_types.specs.declared.effect.Effect.TheVariants.{Pages, TotalPages, SetReasons, AddReasons, DropReasons, Attribute, Message}
-use Rattle.row_effects.specs.Fold.{greatest_pages, pages_after, is_pages, copies_of}
+use Rattle.row_effects.specs.EffectFold.{greatest_pages, pages_after, is_pages, copies_of}
 
 abbrev summed : List Effect → ℕ → ℕ
 summed effects pages = min (pages + sum_by copies_of effects) greatest_pages

@@ -6,7 +6,7 @@ use Rattle.std.proofs.lemmas.Bool.{cases_Bool, cases_lt, and_parts, both_ways}
 use Rattle.std.proofs.lemmas.Map.Views.{any-filter_same}
 use Rattle.std.proofs.lemmas.Slice.Eq.{bytes_eq-Decides}
 use Rattle.row_effects.specs.Keys.{most_kept, is_ascending, with_item}
-use Rattle.row_effects.specs.Reasons.{word_of, has_word, add_reasons, drop_reasons, new_words}
+use Rattle.row_effects.specs.QueueReasons.{word_of, has_word, add_reasons, drop_reasons, new_words}
 use Rattle.row_effects.proofs.Keys.{compare, same, one_key, apart, below_less, absent_below, has_with, length_with, ascends_with}
 use Rattle.row_effects.proofs.Kept.{kept_there, kept_below, kept_full}
 

@@ -4,13 +4,13 @@ use Rattle.std.specs.List.{remove, filter}
 use Rattle.std.specs.Cmp.Lexicographic.{nat_list_eq_equiv}
 use Rattle.std.proofs.lemmas.List.{set-get_or}
 use Rattle.std.proofs.lemmas.List.Folds.{list_any_more}
-use Rattle.row_effects.specs.Keys.{most_kept, is_ascending, with_kept, IsPlace, IsGap}
-use Rattle.row_effects.specs.Reasons.{word_of, has_word, add_reason, add_reasons, drop_reasons}
+use Rattle.row_effects.specs.Keys.{most_kept, is_ascending, with_kept, IsPosition, IsGap}
+use Rattle.row_effects.specs.QueueReasons.{word_of, has_word, add_reason, add_reasons, drop_reasons}
 use Rattle.row_effects.proofs.Keys.{same, has_gap, ascends_filter, without_absent, without_place}
 use Rattle.row_effects.proofs.Kept.{kept_place, ascends_kept, few_kept}
 
 -- a word that is there stays as it is
-pub kept_word : (words : List (List ℕ)) → is_ascending word_of words ≡ true → (word : List ℕ) (i : ℕ) → IsPlace word_of words word i → with_kept word_of word words ≡ words
+pub kept_word : (words : List (List ℕ)) → is_ascending word_of words ≡ true → (word : List ℕ) (i : ℕ) → IsPosition word_of words word i → with_kept word_of word words ≡ words
 kept_word words h word i at = kept_place word_of words h word i at ∙ ap (λ w. set words i w) (sym (at.same word)) ∙ set-get_or words i word
 
 pub ascends_added : (words reasons : List (List ℕ)) → is_ascending word_of reasons ≡ true → is_ascending word_of (add_reasons words reasons) ≡ true
@@ -43,7 +43,7 @@ or_false false = refl
 one_dropped : (word : List ℕ) (reasons : List (List ℕ)) → drop_reasons (word ∷ []) reasons ≡ filter (λ reason. not (same (word_of reason) word)) reasons
 one_dropped word = filter_alike (λ reason. not (has_word reason (word ∷ []))) (λ reason. not (same (word_of reason) word)) (λ reason. ap not (or_false (same word reason) ∙ nat_list_eq_equiv.symm word reason))
 
-pub dropped_place : (reasons : List (List ℕ)) → is_ascending word_of reasons ≡ true → (word : List ℕ) (i : ℕ) → IsPlace word_of reasons word i → drop_reasons (word ∷ []) reasons ≡ remove reasons i
+pub dropped_place : (reasons : List (List ℕ)) → is_ascending word_of reasons ≡ true → (word : List ℕ) (i : ℕ) → IsPosition word_of reasons word i → drop_reasons (word ∷ []) reasons ≡ remove reasons i
 dropped_place reasons h word i at = one_dropped word reasons ∙ without_place word_of reasons h word i at
 
 pub dropped_absent : (reasons : List (List ℕ)) (word : List ℕ) (i : ℕ) → IsGap word_of reasons word i → drop_reasons (word ∷ []) reasons ≡ reasons

@@ -29,7 +29,7 @@ abbrev pub with_kept : {Y : Type 0} → (Y → List ℕ) → Y → List Y → Li
 with_kept key y ys = cond (has_key key (key y) ys || nat_lt (length ys) most_kept) (with_item key y ys) ys
 
 -- the item at place i has the key
-pub record IsPlace {Y : Type 0} (key : Y → List ℕ) (ys : List Y) (k : List ℕ) (i : ℕ) : Type 0 where
+pub record IsPosition {Y : Type 0} (key : Y → List ℕ) (ys : List Y) (k : List ℕ) (i : ℕ) : Type 0 where
   pub in_range : i < length ys
   pub same : (d : Y) → key (slice_index_or ys i d) ≡ k
 

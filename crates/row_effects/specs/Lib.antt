@@ -1,6 +1,6 @@
 pub mod Keys
-pub mod Reasons
-pub mod Attributes
-pub mod Fold
+pub mod QueueReasons
+pub mod QueueAttributes
+pub mod EffectFold
 pub mod Room
-pub mod Drafts
+pub mod QueueDrafts

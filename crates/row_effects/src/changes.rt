@@ -1,24 +1,24 @@
 //! Changes of reasons and of attributes, in place.
 ghost use Rattle.std.specs.Prelude.{◌≡◌, ◌≤◌, [], ◌∷◌, IsTrue, IfOk, IfErr, vec_capacity};
-ghost use Rattle.row_effects.specs.Keys.{IsPlace, IsGap, is_ascending, most_kept};
-ghost use Rattle.row_effects.specs.Reasons.{word_of, set_reasons, add_reason, add_reasons, drop_reasons};
-ghost use Rattle.row_effects.specs.Attributes.{name_of, set_attribute};
+ghost use Rattle.row_effects.specs.Keys.{IsPosition, IsGap, is_ascending, most_kept};
+ghost use Rattle.row_effects.specs.QueueReasons.{word_of, set_reasons, add_reason, add_reasons, drop_reasons};
+ghost use Rattle.row_effects.specs.QueueAttributes.{name_of, set_attribute};
 
 use spool_types::{Attribute, AttributeName, MOST_KEPT, Reason, Words};
 
 // Where the reason stands, or would go.
-fn reason_place(reasons: &[Reason], word: &Reason) -> Result<usize, usize>
+fn reason_position(reasons: &[Reason], word: &Reason) -> Result<usize, usize>
     requires { IsTrue (is_ascending word_of reasons.now) }
-    ensures found { IfOk result (IsPlace word_of reasons.now word.now) }
+    ensures found { IfOk result (IsPosition word_of reasons.now word.now) }
     ensures absent { IfErr result (IsGap word_of reasons.now word.now) }
 {
     reasons.binary_search(word)
 }
 
 // Where the attribute of this name stands, or would go.
-fn attribute_place(attributes: &[Attribute], name: &AttributeName) -> Result<usize, usize>
+fn attribute_position(attributes: &[Attribute], name: &AttributeName) -> Result<usize, usize>
     requires { IsTrue (is_ascending name_of attributes.now) }
-    ensures found { IfOk result (IsPlace name_of attributes.now name.now) }
+    ensures found { IfOk result (IsPosition name_of attributes.now name.now) }
     ensures absent { IfErr result (IsGap name_of attributes.now name.now) }
 {
     attributes.binary_search_by(|attribute| attribute.name.as_str().cmp(name.as_str()))
@@ -55,7 +55,7 @@ fn add_reason(reasons: &mut Vec<Reason>, word: Reason)
     ensures ascending { IsTrue (is_ascending word_of reasons.new.items) }
     ensures room { vec_capacity reasons.old ≤ vec_capacity reasons.new }
 {
-    if let Err(at) = reason_place(reasons, &word) {
+    if let Err(at) = reason_position(reasons, &word) {
         if reasons.len() < MOST_KEPT {
             reasons.insert(at, word).unwrap();
         }
@@ -80,7 +80,7 @@ fn drop_reason(reasons: &mut Vec<Reason>, word: &Reason)
     ensures ascending { IsTrue (is_ascending word_of reasons.new.items) }
     ensures room { vec_capacity reasons.old ≤ vec_capacity reasons.new }
 {
-    if let Ok(at) = reason_place(reasons, word) {
+    if let Ok(at) = reason_position(reasons, word) {
         reasons.remove(at);
     }
 }
@@ -93,7 +93,7 @@ pub(super) fn set_attribute(attributes: &mut Vec<Attribute>, attribute: Attribut
     ensures ascending { IsTrue (is_ascending name_of attributes.new.items) }
     ensures room { vec_capacity attributes.old ≤ vec_capacity attributes.new }
 {
-    match attribute_place(attributes, &attribute.name) {
+    match attribute_position(attributes, &attribute.name) {
         Ok(at) => attributes[at] = attribute,
         Err(at) => {
             if attributes.len() < MOST_KEPT {

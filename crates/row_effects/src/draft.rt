@@ -1,8 +1,8 @@
 //! What effects change of a queue, while they are folded into it.
 ghost use Rattle.std.specs.Prelude.{◌≡◌, ◌≤◌, [], ◌∷◌};
-ghost use Rattle.row_effects.specs.Fold.{reasons_by, attributes_by, message_by, reasons_after, attributes_after, message_after};
+ghost use Rattle.row_effects.specs.EffectFold.{reasons_by, attributes_by, message_by, reasons_after, attributes_after, message_after};
 ghost use Rattle.row_effects.specs.Room.{HasRoom};
-ghost use Rattle.row_effects.specs.Drafts.{IsAscendingDraft, room_of};
+ghost use Rattle.row_effects.specs.QueueDrafts.{IsAscendingDraft, room_of};
 
 use crate::changes::{add_reasons, drop_reasons, set_attribute, set_reasons};
 use spool_types::{Attribute, Effect, Message, Reason};

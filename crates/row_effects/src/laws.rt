@@ -7,9 +7,9 @@ ghost use Rattle.spool_types.specs.declared.effect.Effect.TheVariants.{TotalPage
 ghost use Rattle.spool_types.specs.declared.effect.Level.{Level};
 ghost use Rattle.spool_types.specs.declared.rows.QueueRow.{QueueRow};
 ghost use Rattle.row_effects.specs.Keys.{most_kept, has_key, is_ascending};
-ghost use Rattle.row_effects.specs.Reasons.{word_of, has_word, add_reasons, set_reasons, drop_reasons, new_words};
-ghost use Rattle.row_effects.specs.Attributes.{name_of, set_attribute, value_at};
-ghost use Rattle.row_effects.specs.Fold.{greatest_pages, is_pages, copies_of, pages_after, queue_after, IsInOrder};
+ghost use Rattle.row_effects.specs.QueueReasons.{word_of, has_word, add_reasons, set_reasons, drop_reasons, new_words};
+ghost use Rattle.row_effects.specs.QueueAttributes.{name_of, set_attribute, value_at};
+ghost use Rattle.row_effects.specs.EffectFold.{greatest_pages, is_pages, copies_of, pages_after, queue_after, IsInOrder};
 
 /// A queue's reasons and attributes stay in ascending order, each once, and never more than are kept.
 pub fn queues_stay_in_order()

@@ -1,6 +1,6 @@
 //! The pages of a job.
 ghost use Rattle.std.specs.Prelude.{◌≡◌};
-ghost use Rattle.row_effects.specs.Fold.{pages_after, pages_by};
+ghost use Rattle.row_effects.specs.EffectFold.{pages_after, pages_by};
 
 use spool_types::Effect;
 

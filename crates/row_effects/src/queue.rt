@@ -1,7 +1,7 @@
 //! The queue of a job.
 ghost use Rattle.std.specs.Prelude.{◌≡◌, ◌≤◌, [], vec_len, vec_capacity};
 ghost use Rattle.row_effects.specs.Keys.{most_kept};
-ghost use Rattle.row_effects.specs.Fold.{queue_after, IsInOrder};
+ghost use Rattle.row_effects.specs.EffectFold.{queue_after, IsInOrder};
 ghost use Rattle.row_effects.specs.Room.{HasRoom};
 
 use crate::draft::Draft;

@@ -6,22 +6,22 @@ use Rattle.slab.specs.Slab.{Slab, get}
 use Rattle.spool_types.specs.State.{State}
 use Rattle.spool_types.specs.declared.event.Event.TheVariants.{Purge}
 use Rattle.spool_disk.specs.Disk.{DiskView, LeavesOnly}
-use Rattle.job_table.specs.Fold.{after_all}
-use Rattle.job_table.specs.Turns.{AreOnce}
-use Rattle.job_table.specs.Versions.{raised}
+use Rattle.job_table.specs.EventFold.{after_all}
+use Rattle.job_table.specs.TableCalls.{AreOnce}
+use Rattle.job_table.specs.TableVersions.{raised}
 use Rattle.command_lines.specs.declared.command.Command.{Command}
 use Rattle.command_lines.specs.declared.command.Command.TheVariants.{Apply}
-use Rattle.print_rounds.specs.Courses.{Course}
-use Rattle.print_rounds.specs.World.{keys_in}
-use Rattle.spool_engine.specs.Calls.{Call, tick_call, run_call, left_by, AreCalls, IsAlongCalls, last_by}
-use Rattle.spool_engine.specs.EventTurns.{Setting, setting}
-use Rattle.spool_engine.specs.Lives.{EngineLife, IsEngineLife, AreEngineLives, IsEngineWorld, keys_told, last_of}
-use Rattle.spool_engine.specs.Runs.{Engine, Serves, Turn}
-use Rattle.spool_engine.specs.Ticks.{Ticked, IsTicked}
+use Rattle.print_rounds.specs.RunStates.{RunState}
+use Rattle.print_rounds.specs.StageHistory.{keys_in}
+use Rattle.spool_engine.specs.EngineCalls.{Call, tick_call, run_call, left_by, AreCalls, IsAlongCalls, last_by}
+use Rattle.spool_engine.specs.EventSteps.{Setting, setting}
+use Rattle.spool_engine.specs.EngineLives.{EngineLife, IsEngineLife, AreEngineLives, IsEngineHistory, keys_told, last_of}
+use Rattle.spool_engine.specs.EngineRuns.{Engine, Serves, CommandStep}
+use Rattle.spool_engine.specs.EngineTicks.{Ticked, IsTicked}
 use Rattle.spool_engine.specs.declared.fault.RunFault.{RunFault}
-use Rattle.service_loop.specs.Calls.{GoesByCalls, HasAnswered, HasAnsweredAll, purges, ServiceLife, IsServiceLife, AreServiceLives, IsServiceWorld, keys_ordered}
-use Rattle.service_loop.specs.Lines.{LineView}
-use Rattle.service_loop.specs.Places.{HaveTurns, PlaceHadTurn}
+use Rattle.service_loop.specs.ServiceCalls.{GoesByCalls, HasAnswered, HasAnsweredAll, purges, ServiceLife, IsServiceLife, AreServiceLives, IsServiceHistory, keys_ordered}
+use Rattle.service_loop.specs.ConnectionViews.{ConnectionView}
+use Rattle.service_loop.specs.ClientSlots.{HaveTurns, SlotHadTurn}
 use Rattle.service_loop.specs.declared.client.Client.{Client}
 use Rattle.service_loop.specs.declared.client.Turn as client_turn
 
@@ -29,12 +29,12 @@ module _ {D : Type 0} (device : DiskView D) where
   pub no_calls : (e : Engine D) → GoesByCalls device e e
   no_calls e = record { mime = refl; place = refl; calls = []; are = tt; last = refl }
 
-  are_then : (v : Setting D) (s : Course D) (first later : List (Call D)) (mid : Course D) → last_by s first ≡ mid → AreCalls v s first → AreCalls v mid later → AreCalls v s (first ++ later)
-  are_then v s [] later mid is one other = subst (λ (x : Course D). AreCalls v x later) (sym is) other
+  are_then : (v : Setting D) (s : RunState D) (first later : List (Call D)) (mid : RunState D) → last_by s first ≡ mid → AreCalls v s first → AreCalls v mid later → AreCalls v s (first ++ later)
+  are_then v s [] later mid is one other = subst (λ (x : RunState D). AreCalls v x later) (sym is) other
   are_then v s (c ∷ first) later mid is one other = (one.0, are_then v (left_by s c) first later mid is one.1 other)
 
-  last_then : (s : Course D) (first later : List (Call D)) (mid : Course D) → last_by s first ≡ mid → last_by s (first ++ later) ≡ last_by mid later
-  last_then s [] later mid is = ap (λ (x : Course D). last_by x later) is
+  last_then : (s : RunState D) (first later : List (Call D)) (mid : RunState D) → last_by s first ≡ mid → last_by s (first ++ later) ≡ last_by mid later
+  last_then s [] later mid is = ap (λ (x : RunState D). last_by x later) is
   last_then s (c ∷ first) later mid is = last_then (left_by s c) first later mid is
 
   -- calls, and then further ones
@@ -44,10 +44,10 @@ module _ {D : Type 0} (device : DiskView D) where
     place = other.place ∙ one.place;
     calls = one.calls ++ other.calls;
     are =
-        are_then (setting device e.mime e.place) e.course one.calls other.calls e1.course one.last one.are
-        (subst (λ m. AreCalls (setting device m e.place) e1.course other.calls) one.mime
-        (subst (λ p. AreCalls (setting device e1.mime p) e1.course other.calls) one.place other.are));
-    last = last_then e.course one.calls other.calls e1.course one.last ∙ other.last;
+        are_then (setting device e.mime e.place) e.run_state one.calls other.calls e1.run_state one.last one.are
+        (subst (λ m. AreCalls (setting device m e.place) e1.run_state other.calls) one.mime
+        (subst (λ p. AreCalls (setting device e1.mime p) e1.run_state other.calls) one.place other.are));
+    last = last_then e.run_state one.calls other.calls e1.run_state one.last ∙ other.last;
   }
 
   -- what a turn of the loop does with its engine: nothing before its clients, and then three rows of calls
@@ -64,8 +64,8 @@ module _ {D : Type 0} (device : DiskView D) where
   calls_none e e1 same = subst (λ (x : Engine D). GoesByCalls device e x) (sym same) (no_calls e)
 
   -- a command that was answered
-  pub by_turn : (e e1 : Engine D) (command : Command) (t : Turn D) (result : Result (Unit {0}) RunFault) (before after : Option (List ℕ)) → e1.mime ≡ e.mime → e1.place ≡ e.place →
-      Serves (setting device e.mime e.place) e.course command t e1.course result before after → GoesByCalls device e e1
+  pub by_turn : (e e1 : Engine D) (command : Command) (t : CommandStep D) (result : Result (Unit {0}) RunFault) (before after : Option (List ℕ)) → e1.mime ≡ e.mime → e1.place ≡ e.place →
+      Serves (setting device e.mime e.place) e.run_state command t e1.run_state result before after → GoesByCalls device e e1
   by_turn e e1 command t result before after mime place served = record {
     mime = mime;
     place = place;
@@ -75,12 +75,12 @@ module _ {D : Type 0} (device : DiskView D) where
   }
 
   -- a tick
-  pub by_tick : (e e1 : Engine D) (t : Ticked D) → e1.mime ≡ e.mime → e1.place ≡ e.place → IsTicked (setting device e.mime e.place) e.course t → t.next ≡ e1.course → GoesByCalls device e e1
+  pub by_tick : (e e1 : Engine D) (t : Ticked D) → e1.mime ≡ e.mime → e1.place ≡ e.place → IsTicked (setting device e.mime e.place) e.run_state t → t.next ≡ e1.run_state → GoesByCalls device e e1
   by_tick e e1 t mime place ticked next = record { mime = mime; place = place; calls = tick_call t ∷ []; are = (ticked, tt); last = next }
 
   -- a command was answered as it is served
-  pub answered_by : (e e1 : Engine D) (command : Command) (t : Turn D) (result : Result (Unit {0}) RunFault) (before after : Option (List ℕ)) → GoesByCalls device e e1 →
-      Serves (setting device e.mime e.place) e.course command t e1.course result before after → HasAnswered device e command e1
+  pub answered_by : (e e1 : Engine D) (command : Command) (t : CommandStep D) (result : Result (Unit {0}) RunFault) (before after : Option (List ℕ)) → GoesByCalls device e e1 →
+      Serves (setting device e.mime e.place) e.run_state command t e1.run_state result before after → HasAnswered device e command e1
   answered_by e e1 command t result before after goes served = record {
     mime = goes.mime;
     place = goes.place;
@@ -90,7 +90,7 @@ module _ {D : Type 0} (device : DiskView D) where
 
   -- so it was, if there was memory
   pub answered_as : (e e1 : Engine D) (command : Command) (result : Result (Unit {0}) AllocError) (before after : List ℕ) → GoesByCalls device e e1 →
-      OnOk result ((t : Turn D) × Serves (setting device e.mime e.place) e.course command t e1.course (Ok tt) (Some before) (Some after)) → OnOk result (HasAnswered device e command e1)
+      OnOk result ((t : CommandStep D) × Serves (setting device e.mime e.place) e.run_state command t e1.run_state (Ok tt) (Some before) (Some after)) → OnOk result (HasAnswered device e command e1)
   answered_as e e1 command (Ok done) before after goes served = answered_by e e1 command served.0 (Ok tt) (Some before) (Some after) goes served.1
   answered_as e e1 command (Err error) before after goes served = tt
 
@@ -101,27 +101,27 @@ module _ {D : Type 0} (device : DiskView D) where
 
   -- ## The turns of all clients
 
-  module _ {L : Type 0} (view : LineView L) where
-    by_place : (e : Engine D) (was : Option (Client L)) (turn : Option client_turn.Turn) (e1 : Engine D) (left : Option (Client L)) → PlaceHadTurn device view e was turn e1 left → GoesByCalls device e e1
+  module _ {L : Type 0} (view : ConnectionView L) where
+    by_place : (e : Engine D) (was : Option (Client L)) (turn : Option client_turn.Turn) (e1 : Engine D) (left : Option (Client L)) → SlotHadTurn device view e was turn e1 left → GoesByCalls device e e1
     by_place e None None e1 left had = calls_none e e1 had.0
     by_place e None (Some turn) e1 left had = absurd had
     by_place e (Some was) None e1 left had = absurd had
     by_place e (Some was) (Some turn) e1 left had = had.calls
 
-    pub by_turns : (e : Engine D) (places : Slab (Client L)) (n : ℕ) (e1 : Engine D) (left : Slab (Client L)) → HaveTurns device view e places n e1 left → GoesByCalls device e e1
+    pub by_turns : (e : Engine D) (slots : Slab (Client L)) (n : ℕ) (e1 : Engine D) (left : Slab (Client L)) → HaveTurns device view e slots n e1 left → GoesByCalls device e e1
     unfolding HaveTurns
-    by_turns e places zero e1 left (same, kept) = calls_none e e1 same
-    by_turns e places (suc n) e1 left (between, mid, turn, so_far, next) =
-        calls_then e between e1 (by_turns e places n between mid so_far) (by_place between (get mid n) turn e1 (get left n) next.own)
+    by_turns e slots zero e1 left (same, kept) = calls_none e e1 same
+    by_turns e slots (suc n) e1 left (between, mid, turn, so_far, next) =
+        calls_then e between e1 (by_turns e slots n between mid so_far) (by_place between (get mid n) turn e1 (get left n) next.own)
 
   -- ## What a crash leaves
 
   -- what is so of the disk after the last call is so of the one that is left
   pub along_service : (e e1 : Engine D) (goes : GoesByCalls device e e1) →
-      LeavesOnly device e.course.spool.disk (last_by e.course goes.calls).spool.disk (IsAlongCalls e.mime e.course goes.calls) →
-      LeavesOnly device e.course.spool.disk e1.course.spool.disk (IsAlongCalls e.mime e.course goes.calls)
+      LeavesOnly device e.run_state.spool.disk (last_by e.run_state goes.calls).spool.disk (IsAlongCalls e.mime e.run_state goes.calls) →
+      LeavesOnly device e.run_state.spool.disk e1.run_state.spool.disk (IsAlongCalls e.mime e.run_state goes.calls)
   along_service e e1 goes run =
-      subst (λ (s : Course D). LeavesOnly device e.course.spool.disk s.spool.disk (IsAlongCalls e.mime e.course goes.calls)) goes.last run
+      subst (λ (s : RunState D). LeavesOnly device e.run_state.spool.disk s.spool.disk (IsAlongCalls e.mime e.run_state goes.calls)) goes.last run
 
   -- ## Lives
 
@@ -130,7 +130,7 @@ module _ {D : Type 0} (device : DiskView D) where
   as_engine l is = record {
     mime = (l.start).mime;
     place = (l.start).place;
-    start = (l.start).course;
+    start = (l.start).run_state;
     told = l.told;
     first = run_call [];
     later = is.goes.calls;
@@ -147,7 +147,7 @@ module _ {D : Type 0} (device : DiskView D) where
     quiet = is.quiet;
     calls = (tt, is.goes.are);
     now = is.now;
-    tells_then = ap (λ (s : Course D). s.told) is.goes.last ∙ is.tells_then;
+    tells_then = ap (λ (s : RunState D). s.told) is.goes.last ∙ is.tells_then;
     added = is.added;
   }
 
@@ -155,15 +155,15 @@ module _ {D : Type 0} (device : DiskView D) where
   unfolding as_engine
   as_engines [] s u same are = ([], tt, refl)
   as_engines (l ∷ ls) s u same (is, further, others) =
-      let (es, lives, keys) = as_engines ls (l.last).course.spool.state (last_of (as_engine l is)).spool.state (ap (λ (c : Course D). c.spool.state) is.goes.last) others in (
+      let (es, lives, keys) = as_engines ls (l.last).run_state.spool.state (last_of (as_engine l is)).spool.state (ap (λ (c : RunState D). c.spool.state) is.goes.last) others in (
         as_engine l is ∷ es,
         (is_engine l is, (further.0, further.1 ∙ ap (λ w. after_all (raised w) further.0) (sym same)), lives),
         ap (λ k. keys_in l.orders ++ k) keys,
       )
 
-  pub services_once : ((es : List (EngineLife D)) → IsEngineWorld device es → AreOnce (keys_told es)) → (ls : List (ServiceLife D)) → IsServiceWorld device ls → AreOnce (keys_ordered ls)
+  pub services_once : ((es : List (EngineLife D)) → IsEngineHistory device es → AreOnce (keys_told es)) → (ls : List (ServiceLife D)) → IsServiceHistory device ls → AreOnce (keys_ordered ls)
   unfolding as_engine
   services_once once [] world = tt
   services_once once (l ∷ ls) (is, others) =
-      let (es, lives, keys) = as_engines ls (l.last).course.spool.state (last_of (as_engine l is)).spool.state (ap (λ (c : Course D). c.spool.state) is.goes.last) others in
+      let (es, lives, keys) = as_engines ls (l.last).run_state.spool.state (last_of (as_engine l is)).spool.state (ap (λ (c : RunState D). c.spool.state) is.goes.last) others in
       subst AreOnce (ap (λ k. keys_in l.orders ++ k) keys) (once (as_engine l is ∷ es) (is_engine l is, lives))

@@ -17,8 +17,8 @@ use Rattle.spool_types.specs.Limits.{greatest_moment}
 use Rattle.spool_types.specs.Phases.{hold_word, is_in_force, is_waiting, job_reason, job_state, waiting_word}
 use Rattle.spool_types.specs.State.{State, Job, job_at, queue_at}
 use Rattle.queue_sched.specs.Next.{is_eligible, is_ready, may_start}
-use Rattle.service_rules.specs.Looks.{earlier}
-use Rattle.job_table.specs.Changes.{at_moment, change_jobs, is_passed}
+use Rattle.service_rules.specs.ChildPolling.{earlier}
+use Rattle.job_table.specs.EventChanges.{at_moment, change_jobs, is_passed}
 use Rattle.job_table.specs.Step.{step}
 use Rattle.job_table.proofs.Choice.{value_there}
 use Rattle.job_table.proofs.Clocked.{none_late}

@@ -4,4 +4,4 @@ pub mod EndingLaws
 pub mod PlaceLaws
 pub mod ProgressLaws
 pub mod TurnLaws
-pub mod VisitLaws
+pub mod ClientStepLaws

@@ -3,9 +3,9 @@ use Rattle.std.proofs.Common.{◌≡◌, ◌⊎◌, inl, inr, ℕ, ◌<◌, ◌�
 use Rattle.std.proofs.lemmas.Bool.Decides.{nat_tests}
 use Rattle.spool_types.specs.State.{State}
 use Rattle.service_rules.specs.Bounds.{most_unread}
-use Rattle.service_loop.specs.Clients.{unread}
-use Rattle.service_loop.specs.Lines.{LineView}
-use Rattle.service_loop.specs.Progress.{HasLeft, IsAtRest, IsBrimful, IsUnheard, as_given, heard_after}
+use Rattle.service_loop.specs.AdmissionViews.{unread}
+use Rattle.service_loop.specs.ConnectionViews.{ConnectionView}
+use Rattle.service_loop.specs.Progress.{HasLeft, IsAtRest, IsBacklogged, IsUnheard, as_given, heard_after}
 use Rattle.service_loop.specs.declared.client.Client.{Client}
 
 pub given_then : {L : Type 0} (a b c : Client L) → b ≡ as_given a b → c ≡ as_given b c → c ≡ as_given a c
@@ -22,8 +22,8 @@ heard_of : (x y z now was mid new : ℕ) → y ≤ x → z ≤ y → mid ≡ con
 heard_of x y z now was mid new fewer less one two =
     later_of now was mid new (nat_lt y x) (nat_lt z y) (nat_lt z x) (λ e. grind (arith, nat_tests)) (λ e. grind (arith, nat_tests)) (λ e f. grind (arith, nat_tests)) one two
 
-pub heard_then : {L : Type 0} (now : ℕ) (a b c : Client L) → unread b ≤ unread a → unread c ≤ unread b → b.stirred ≡ heard_after a now b → c.stirred ≡ heard_after b now c → c.stirred ≡ heard_after a now c
-heard_then now a b c fewer less one two = heard_of (unread a) (unread b) (unread c) now a.stirred b.stirred c.stirred fewer less one two
+pub heard_then : {L : Type 0} (now : ℕ) (a b c : Client L) → unread b ≤ unread a → unread c ≤ unread b → b.last_active ≡ heard_after a now b → c.last_active ≡ heard_after b now c → c.last_active ≡ heard_after a now c
+heard_then now a b c fewer less one two = heard_of (unread a) (unread b) (unread c) now a.last_active b.last_active c.last_active fewer less one two
 
 pub fewer_by : (old new : ℕ) (P : Type 0) → (new < old) ⊎ (P × (new ≡ old)) → new ≤ old
 fewer_by old new P (inl less) = omega arith
@@ -35,25 +35,25 @@ at_rest_still : {L : Type 0} (s : State) (mid new : Client L) → new ≡ as_giv
 at_rest_still s mid new kept (inl waiting) = inl (waiting.0, ap (λ x. x.waits) kept ∙ waiting.1, waiting.2)
 at_rest_still s mid new kept (inr none) = inr (ap (λ x. x.readable) kept ∙ none)
 
-brimful_still : (b more : Bool) (n : ℕ) → b ≡ true → (more || (b && nat_lt n most_unread)) ≡ false → most_unread ≤ n
-brimful_still b more n full none = grind (arith, nat_tests)
+backlogged_still : (b more : Bool) (n : ℕ) → b ≡ true → (more || (b && nat_lt n most_unread)) ≡ false → most_unread ≤ n
+backlogged_still b more n full none = grind (arith, nat_tests)
 
-rests_by : {L : Type 0} (s : State) (mid new : Client L) (brimful more : Bool) → new ≡ as_given mid new → IsAtRest s mid ⊎ (brimful ≡ true) →
-    (more || (brimful && nat_lt (unread new) most_unread)) ≡ false → IsAtRest s new ⊎ IsBrimful new
-rests_by s mid new brimful more kept (inl rest) none = inl (at_rest_still s mid new kept rest)
-rests_by s mid new brimful more kept (inr full) none = inr (brimful_still brimful more (unread new) full none)
+rests_by : {L : Type 0} (s : State) (mid new : Client L) (is_backlogged more : Bool) → new ≡ as_given mid new → IsAtRest s mid ⊎ (is_backlogged ≡ true) →
+    (more || (is_backlogged && nat_lt (unread new) most_unread)) ≡ false → IsAtRest s new ⊎ IsBacklogged new
+rests_by s mid new is_backlogged more kept (inl rest) none = inl (at_rest_still s mid new kept rest)
+rests_by s mid new is_backlogged more kept (inr full) none = inr (backlogged_still is_backlogged more (unread new) full none)
 
 no_more : (more other : Bool) → (more || other) ≡ false → more ≡ false
 no_more false other none = refl
 no_more true other none = cc
 
 -- where there is nothing more to be done behind what was written, there was nothing before that
-pub ends_at_rest : {L : Type 0} (s : State) (mid new : Client L) (more brimful : Bool) → new ≡ as_given mid new → (more ≡ false → IsAtRest s mid ⊎ (brimful ≡ true)) →
-    (more || (brimful && nat_lt (unread new) most_unread)) ≡ false → IsAtRest s new ⊎ IsBrimful new
-ends_at_rest s mid new more brimful kept rests none =
-    rests_by s mid new brimful more kept (rests (no_more more (brimful && nat_lt (unread new) most_unread) none)) none
+pub ends_at_rest : {L : Type 0} (s : State) (mid new : Client L) (more is_backlogged : Bool) → new ≡ as_given mid new → (more ≡ false → IsAtRest s mid ⊎ (is_backlogged ≡ true)) →
+    (more || (is_backlogged && nat_lt (unread new) most_unread)) ≡ false → IsAtRest s new ⊎ IsBacklogged new
+ends_at_rest s mid new more is_backlogged kept rests none =
+    rests_by s mid new is_backlogged more kept (rests (no_more more (is_backlogged && nat_lt (unread new) most_unread) none)) none
 
 -- it goes behind what was written for the same causes
-pub has_left : {L : Type 0} (view : LineView L) (c : Client L) → IsUnheard view c ⊎ ((c.over ≡ true) × (unread c ≡ 0)) → HasLeft view c
+pub has_left : {L : Type 0} (view : ConnectionView L) (c : Client L) → IsUnheard view c ⊎ ((c.over ≡ true) × (unread c ≡ 0)) → HasLeft view c
 has_left view c (inl unheard) = inl unheard
 has_left view c (inr ended) = inr (inr (inr ended))

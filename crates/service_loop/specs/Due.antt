@@ -9,10 +9,10 @@ use Rattle.spool_types.specs.declared.rows.QueueRow.{QueueRow}
 use Rattle.spool_types.specs.Limits.{greatest_moment}
 use Rattle.spool_types.specs.Phases.{has_ended, is_in_force}
 use Rattle.spool_types.specs.State.{State, Job, queue_at, job_at}
-use Rattle.service_rules.specs.Looks.{earlier}
+use Rattle.service_rules.specs.ChildPolling.{earlier}
 use Rattle.service_rules.specs.declared.clocks.Clocks.{Clocks}
 use Rattle.service_rules.specs.declared.purges.Candidate.{Candidate}
-use Rattle.service_loop.specs.declared.house.House.{House}
+use Rattle.service_loop.specs.declared.maintenance.Maintenance.{Maintenance}
 
 -- the moment after this one, if there is one
 abbrev pub next_moment : ℕ → Option ℕ
@@ -109,9 +109,9 @@ pub record IsQuietUntil (s : State) (m : ℕ) : Type 0 where
   pub none_due : (j : ℕ) (r : Job) → job_at s j ≡ Some r → IfSome (due_of s r) (λ due. m < due)
 
 -- what a house knows of the time, over a table, in a second of the system's clock
-abbrev pub clocks_of : House → State → ℕ → Clocks
-clocks_of house s system = record { system = system; table = s.moment; told = house.told; due = house.due }
+abbrev pub clocks_of : Maintenance → State → ℕ → Clocks
+clocks_of maintenance s system = record { system = system; table = s.moment; told = maintenance.told; due = maintenance.due }
 
 -- the same behind a look at the table
-abbrev pub clocks_found : House → State → ℕ → Clocks
-clocks_found house s system = record { system = system; table = s.moment; told = house.told; due = next_due s }
+abbrev pub clocks_found : Maintenance → State → ℕ → Clocks
+clocks_found maintenance s system = record { system = system; table = s.moment; told = maintenance.told; due = next_due s }

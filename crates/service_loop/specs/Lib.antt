@@ -1,10 +1,10 @@
-pub mod Calls
-pub mod Clients
-pub mod Deeds
+pub mod ServiceCalls
+pub mod AdmissionViews
+pub mod ClientActions
 pub mod Due
 pub mod Endings
-pub mod Lines
-pub mod Places
+pub mod ConnectionViews
+pub mod ClientSlots
 pub mod Progress
-pub mod Turns
-pub mod Visits
+pub mod ServiceTurns
+pub mod ClientSteps

@@ -6,12 +6,12 @@ use Rattle.service_rules.specs.Bounds.{most_unread}
 use Rattle.service_texts.specs.Shown.{has_settled}
 use Rattle.service_texts.specs.declared.own_words.OwnWord.{OwnWord}
 use Rattle.service_texts.specs.declared.own_words.OwnWord.TheVariants.{Shutdown, Watch}
-use Rattle.client_reader.specs.Reading.{Awaits}
+use Rattle.client_reader.specs.AwaitedRequests.{Awaits}
 use Rattle.client_reader.specs.declared.ask.Ask.{Ask}
-use Rattle.service_loop.specs.Clients.{unread, watches}
-use Rattle.service_loop.specs.Lines.{LineView, has_no_more, is_cut, takes_later, takes_no_more}
+use Rattle.service_loop.specs.AdmissionViews.{unread, watches}
+use Rattle.service_loop.specs.ConnectionViews.{ConnectionView, has_no_more, is_cut, takes_later, takes_no_more}
 use Rattle.service_loop.specs.declared.client.Client.{Client}
-use Rattle.service_loop.specs.declared.client.Parting.TheVariants.{Left}
+use Rattle.service_loop.specs.declared.client.Disconnect.TheVariants.{Left}
 use Rattle.service_loop.specs.declared.client.Step.{Step}
 use Rattle.service_loop.specs.declared.client.Step.TheVariants.{Served, Goes, Rests, Lost}
 use Rattle.service_loop.specs.declared.client.Turn.{Turn}
@@ -20,11 +20,11 @@ use Rattle.service_loop.specs.declared.client.Turn.{Turn}
 
 -- a client, with what writing to its line made of another
 abbrev pub as_given : {L : Type 0} → Client L → Client L → Client L
-as_given old new = record old { line = new.line; replies = new.replies; taken = new.taken; writable = new.writable; stirred = new.stirred }
+as_given old new = record old { connection = new.connection; replies = new.replies; taken = new.taken; writable = new.writable; last_active = new.last_active }
 
 -- a client, with what reading of its line made of another
 abbrev pub as_read : {L : Type 0} → Client L → Client L → Client L
-as_read old new = record old { line = new.line; reader = new.reader; readable = new.readable; over = new.over; stirred = new.stirred }
+as_read old new = record old { connection = new.connection; reader = new.reader; readable = new.readable; over = new.over; last_active = new.last_active }
 
 -- a client, with what telling it something made of another
 abbrev pub as_told : {L : Type 0} → Client L → Client L → Client L
@@ -37,17 +37,17 @@ abbrev pub signed : {L : Type 0} → Client L → Bool → Bool → Client L
 signed c writable gone = record c { readable = true; writable = c.writable || writable; gone = c.gone || gone }
 
 -- It isn't read, or not written to, only where its line has said last that nothing comes now, or ever, or that it takes nothing now.
-pub record IsMarked {L : Type 0} (view : LineView L) (c : Client L) : Type 0 where
-  pub readable : c.readable ≡ false → IfSome (view.gave c.line) (λ last. has_no_more last ≡ true)
-  pub writable : c.writable ≡ false → IfSome (view.took c.line) (λ last. takes_later last ≡ true)
+pub record IsMarked {L : Type 0} (view : ConnectionView L) (c : Client L) : Type 0 where
+  pub readable : c.readable ≡ false → IfSome (view.gave c.connection) (λ last. has_no_more last ≡ true)
+  pub writable : c.writable ≡ false → IfSome (view.took c.connection) (λ last. takes_later last ≡ true)
 
 -- its line has said that it takes nothing any more
-abbrev pub IsUnheard : {L : Type 0} → LineView L → Client L → Type 0
-IsUnheard view c = IfSome (view.took c.line) (λ last. takes_no_more last ≡ true)
+abbrev pub IsUnheard : {L : Type 0} → ConnectionView L → Client L → Type 0
+IsUnheard view c = IfSome (view.took c.connection) (λ last. takes_no_more last ≡ true)
 
 -- its line has said that it can't be read
-abbrev pub IsCut : {L : Type 0} → LineView L → Client L → Type 0
-IsCut view c = IfSome (view.gave c.line) (λ last. is_cut last ≡ true)
+abbrev pub IsCut : {L : Type 0} → ConnectionView L → Client L → Type 0
+IsCut view c = IfSome (view.gave c.connection) (λ last. is_cut last ≡ true)
 
 -- ## What it was told is written
 
@@ -57,39 +57,39 @@ IsGiven c = (unread c ≡ 0) ⊎ (c.writable ≡ false)
 
 -- it was heard now if it has taken something
 abbrev pub heard_after : {L : Type 0} → Client L → ℕ → Client L → ℕ
-heard_after old now new = cond (nat_lt (unread new) (unread old)) now old.stirred
+heard_after old now new = cond (nat_lt (unread new) (unread old)) now old.last_active
 
 -- ## What it sent is read
 
 -- a piece came of its line, and its reader took it
-pub record IsRead {L : Type 0} (view : LineView L) (old : Client L) (piece : List ℕ) (new : Client L) : Type 0 where
-  pub consumed : Consumes (view.remaining old.line) (view.remaining new.line) piece
-  pub kept : Keeps (view.contents old.line) (view.contents new.line)
+pub record IsRead {L : Type 0} (view : ConnectionView L) (old : Client L) (piece : List ℕ) (new : Client L) : Type 0 where
+  pub consumed : Consumes (view.remaining old.connection) (view.remaining new.connection) piece
+  pub kept : Keeps (view.contents old.connection) (view.contents new.connection)
   pub took : (asks : List ℕ → List Ask) → Awaits old.reader asks → Awaits new.reader (λ more. asks (piece ++ more))
   pub taken : new.taken ≡ old.taken
   pub replies : new.replies.items ≡ old.replies.items
 
 -- some bytes came, and it was heard now
-pub record HasPiece {L : Type 0} (view : LineView L) (old : Client L) (now : ℕ) (new : Client L) : Type 0 where
+pub record HasPiece {L : Type 0} (view : ConnectionView L) (old : Client L) (now : ℕ) (new : Client L) : Type 0 where
   pub piece : List ℕ
   pub some : 0 < length piece
   pub read : IsRead view old piece new
   pub over : new.over ≡ old.over
-  pub heard : new.stirred ≡ now
+  pub heard : new.last_active ≡ now
 
 -- nothing comes now, or its text has ended
-pub record HasNoMore {L : Type 0} (view : LineView L) (old new : Client L) : Type 0 where
+pub record HasNoMore {L : Type 0} (view : ConnectionView L) (old new : Client L) : Type 0 where
   pub readable : new.readable ≡ false
   pub reader : new.reader ≡ old.reader
-  pub over : (new.over ≡ old.over) ⊎ ((new.over ≡ true) × IfSome (view.gave new.line) (λ last. last ≡ Ok 0))
-  pub heard : new.stirred ≡ old.stirred
+  pub over : (new.over ≡ old.over) ⊎ ((new.over ≡ true) × IfSome (view.gave new.connection) (λ last. last ≡ Ok 0))
+  pub heard : new.last_active ≡ old.last_active
 
 -- what a read came to
-abbrev pub HasRead : {L : Type 0} → LineView L → Client L → ℕ → Client L → Type 0
+abbrev pub HasRead : {L : Type 0} → ConnectionView L → Client L → ℕ → Client L → Type 0
 HasRead view old now new = HasPiece view old now new ⊎ HasNoMore view old new
 
 -- and where there is nothing to be read there was none
-abbrev pub IsReadAs : {L : Type 0} → LineView L → Client L → ℕ → Step → Client L → Type 0
+abbrev pub IsReadAs : {L : Type 0} → ConnectionView L → Client L → ℕ → Step → Client L → Type 0
 IsReadAs view old now Served new = ⊥
 IsReadAs view old now Goes new = HasRead view old now new
 IsReadAs view old now Rests new = (new ≡ old) × (old.readable ≡ false)
@@ -125,17 +125,17 @@ abbrev pub IsAtRest : {L : Type 0} → State → Client L → Type 0
 IsAtRest s c = ((job : ℕ) × (c.waits ≡ Some job) × (has_settled s job ≡ false)) ⊎ (c.readable ≡ false)
 
 -- it has left too much unread
-abbrev pub IsBrimful : {L : Type 0} → Client L → Type 0
-IsBrimful c = most_unread ≤ unread c
+abbrev pub IsBacklogged : {L : Type 0} → Client L → Type 0
+IsBacklogged c = most_unread ≤ unread c
 
 -- its line is lost, or it has gone and waits for an end, or its text has ended and it has all replies
-abbrev pub HasLeft : {L : Type 0} → LineView L → Client L → Type 0
+abbrev pub HasLeft : {L : Type 0} → ConnectionView L → Client L → Type 0
 HasLeft view c = IsUnheard view c ⊎ IsCut view c ⊎ ((c.gone ≡ true) × (is_some c.waits ≡ true)) ⊎ ((c.over ≡ true) × (unread c ≡ 0))
 
 -- How a turn ends, over the table that it leaves. One who stays was given what its line takes, and unless there is more to be
 -- done at once it is at rest, or has left too much unread.
-pub record EndsTurn {L : Type 0} (view : LineView L) (s : State) (was : Client L) (turn : Turn) (is : Client L) : Type 0 where
-  pub given : turn.parting ≡ None → IsGiven is
-  pub rests : turn.parting ≡ None → turn.more ≡ false → IsAtRest s is ⊎ IsBrimful is
-  pub leaves : turn.parting ≡ Some Left → HasLeft view is
+pub record EndsTurn {L : Type 0} (view : ConnectionView L) (s : State) (was : Client L) (turn : Turn) (is : Client L) : Type 0 where
+  pub given : turn.disconnect ≡ None → IsGiven is
+  pub rests : turn.disconnect ≡ None → turn.more ≡ false → IsAtRest s is ⊎ IsBacklogged is
+  pub leaves : turn.disconnect ≡ Some Left → HasLeft view is
   pub marked : IsMarked view was → IsMarked view is

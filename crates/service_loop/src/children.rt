@@ -1,7 +1,7 @@
 //! Children of which no more than so many run at once, and whose starts and ends are told.
 ghost use Rattle.std.specs.Prelude.{◌≡◌, ◌≤◌, ◌+◌, ◌-◌, None, IsSomeAnd, OnOk, OnErr};
 
-use child_pipeline::{ChildFault, Children, Finish, Grouped, Order, Places, Program};
+use child_pipeline::{ChildFault, Children, Finish, Grouped, Order, Program, StartRoom};
 use log::{Log, debug, error, info};
 use service_rules::starts_left;
 use spool_types::{Exit, JobId};
@@ -168,7 +168,7 @@ impl<'a, L: Log, C: Children> WatchedChildren<'a, L, C> {
         }
     }
 
-    fn tell_end(&self, name: &str, finish: &Finish) {
+    fn log_end(&self, name: &str, finish: &Finish) {
         match finish.exit {
             Exit::Code(0) => info!(self.log; "{name}: ended"),
             Exit::Code(code) => error!(self.log; "{name}: ended with status {code}"),
@@ -176,13 +176,13 @@ impl<'a, L: Log, C: Children> WatchedChildren<'a, L, C> {
             Exit::NoStart | Exit::Lost => {}
         }
         if finish.exit != Exit::Code(0) {
-            tell_last_lines(self.log, name, finish.errors.as_slice());
+            log_last_lines(self.log, name, finish.errors.as_slice());
         }
     }
 }
 
 // Shows the last lines of what a child told.
-fn tell_last_lines<L: Log>(log: &L, name: &str, errors: &[u8]) {
+fn log_last_lines<L: Log>(log: &L, name: &str, errors: &[u8]) {
     let from = errors.len().saturating_sub(LAST_BYTES);
     for line in errors[from..].split(|b| *b == b'\n') {
         if let Ok(line) = str::from_utf8(line) {
@@ -215,7 +215,7 @@ where
     ghost number = { λ _. 0 };
 
     // There are no more places than there are children fewer than the most.
-    ghost rooms = { λ old places new. IsSomeAnd places (λ p. p.count ≤ old.most - old.running) × (new.most ≡ old.most) × (new.running ≡ old.running) };
+    ghost rooms = { λ old start_room new. IsSomeAnd start_room (λ p. p.count ≤ old.most - old.running) × (new.most ≡ old.most) × (new.running ≡ old.running) };
 
     fn start(&mut self, order: Order) -> Result<WatchedTicket<C::Ticket>, ChildFault>
         ensures most { self.new.most ≡ self.old.most }
@@ -253,7 +253,7 @@ where
         self.running = self.running.saturating_sub(1);
         self.watch.remove(job);
         let finish = self.inner.finish(inner)?;
-        self.tell_end(name.as_str(), &finish);
+        self.log_end(name.as_str(), &finish);
         Ok(finish)
     }
 
@@ -262,18 +262,18 @@ where
     }
 
     // Those that the others have, as far as so many may run. The queues take turns as the loop says.
-    fn places(&mut self) -> Option<Places> {
+    fn start_room(&mut self) -> Option<StartRoom> {
         let left = self
             .watch
             .bounded(starts_left(true, self.running, self.most));
         if left == 0 {
-            return Some(Places { count: 0, first: 0 });
+            return Some(StartRoom { count: 0, first: 0 });
         }
-        let count = match self.inner.places() {
-            Some(places) => left.min(places.count),
+        let count = match self.inner.start_room() {
+            Some(start_room) => left.min(start_room.count),
             None => left,
         };
         let first = self.watch.first();
-        Some(Places { count, first })
+        Some(StartRoom { count, first })
     }
 }

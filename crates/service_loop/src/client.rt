@@ -4,15 +4,15 @@
 //! (`client_reader`), in order.
 ghost use Rattle.std.specs.Prelude.{◌≡◌, ◌⊎◌, ◌<◌, ◌&&◌, ◌||◌, ℕ, nat_lt, vec_len, is_some, true, false, List, [], None, Some, IfOk, OnOk};
 ghost use Rattle.service_rules.specs.Bounds.{most_unread};
-ghost use Rattle.service_loop.specs.Calls.{GoesByCalls};
-ghost use Rattle.service_loop.specs.Clients.{listens, unread, watches};
-ghost use Rattle.service_loop.specs.Deeds.{Deed};
-ghost use Rattle.service_loop.specs.Progress.{EndsTurn, HasLeft, HasRead, IsAtRest, IsBrimful, IsCut, IsGiven, IsMarked, IsReadAs, IsUnheard, as_given, as_read, as_served, as_told, heard_after, is_shutdown, is_watch, misses, signed, text_for};
-ghost use Rattle.service_loop.specs.Visits.{Goes, GivesNext, IsAdded, IsAnswered, IsEntry, IsToldOf, IsVisit, is_starved};
+ghost use Rattle.service_loop.specs.ServiceCalls.{GoesByCalls};
+ghost use Rattle.service_loop.specs.AdmissionViews.{listens, unread, watches};
+ghost use Rattle.service_loop.specs.ClientActions.{Action};
+ghost use Rattle.service_loop.specs.Progress.{EndsTurn, HasLeft, HasRead, IsAtRest, IsBacklogged, IsCut, IsGiven, IsMarked, IsReadAs, IsUnheard, as_given, as_read, as_served, as_told, heard_after, is_shutdown, is_watch, misses, signed, text_for};
+ghost use Rattle.service_loop.specs.ClientSteps.{Goes, GivesNext, IsAdded, IsAnswered, IsEntry, IsNotified, IsClientStep, is_starved};
 
 use crate::bounds::{MOST_STEPS, PIECE};
 use crate::connection::{Connection, read_of, write_to};
-use crate::office::Office;
+use crate::shared::Shared;
 use child_pipeline::Children;
 use client_reader::{Ask, Next, Reader};
 use command_lines::Command;
@@ -35,7 +35,7 @@ const MISSED: &[u8] = b"missed\n";
 
 /// Why a client goes.
 #[derive(Clone, Copy, Debug, PartialEq, Eq)]
-pub enum Parting {
+pub enum Disconnect {
     /// It has gone, or its text has ended and it has all replies.
     Left,
     /// There was no memory for its text or a reply.
@@ -69,22 +69,22 @@ pub struct Turn {
     /// Whether there is more to be served at once.
     pub more: bool,
     // Whether nothing more was served because too much of its replies was unread.
-    brimful: bool,
+    is_backlogged: bool,
     /// Whether it said that the service is to end.
     pub shutdown: bool,
-    pub parting: Option<Parting>,
+    pub disconnect: Option<Disconnect>,
 }
 
 impl Turn {
     fn new() -> Turn
-        ensures { result ≡ record { served = false; more = false; brimful = false; shutdown = false; parting = None } }
+        ensures { result ≡ record { served = false; more = false; is_backlogged = false; shutdown = false; disconnect = None } }
     {
         Turn {
             served: false,
             more: false,
-            brimful: false,
+            is_backlogged: false,
             shutdown: false,
-            parting: None,
+            disconnect: None,
         }
     }
 }
@@ -104,7 +104,7 @@ enum Step {
 
 #[derive(Drop)]
 pub struct Client<L: Connection> {
-    line: L,
+    connection: L,
     // Of what was read of it.
     reader: Reader,
     // The replies, of which so many bytes were taken.
@@ -121,19 +121,19 @@ pub struct Client<L: Connection> {
     watches: bool,
     missed: bool,
     // When something of it came or went.
-    stirred: u64,
+    last_active: u64,
 }
 
 impl<L: Connection> Client<L> {
     /// A client of this line.
-    pub fn new(alloc: Global, line: L, now: u64) -> Client<L>
-        ensures entry { IsEntry line result }
-        ensures line { (result.readable ≡ true) × (result.writable ≡ true) × (result.over ≡ false) × (result.gone ≡ false) }
+    pub fn new(alloc: Global, connection: L, now: u64) -> Client<L>
+        ensures entry { IsEntry connection result }
+        ensures connection { (result.readable ≡ true) × (result.writable ≡ true) × (result.over ≡ false) × (result.gone ≡ false) }
         ensures told { (result.waits ≡ None) × (result.watches ≡ false) × (result.missed ≡ false) }
-        ensures heard { result.stirred ≡ now }
+        ensures heard { result.last_active ≡ now }
     {
         Client {
-            line,
+            connection,
             reader: Reader::new(alloc),
             replies: Vec::new(alloc),
             taken: 0,
@@ -144,15 +144,15 @@ impl<L: Connection> Client<L> {
             waits: None,
             watches: false,
             missed: false,
-            stirred: now,
+            last_active: now,
         }
     }
 
     /// When something of it came or went last.
-    pub fn stirred(&self) -> u64
-        ensures { result ≡ self.now.stirred }
+    pub fn last_active(&self) -> u64
+        ensures { result ≡ self.now.last_active }
     {
-        self.stirred
+        self.last_active
     }
 
     /// Whether it waits for a job's end, or watches, and has taken all that it was told.
@@ -180,20 +180,20 @@ impl<L: Connection> Client<L> {
     }
 
     /// Serves some commands of it.
-    pub fn serve<D: Disk, C: Children>(&mut self, office: &mut Office<'_, D, C>, now: u64) -> Turn
+    pub fn serve<D: Disk, C: Children>(&mut self, shared: &mut Shared<'_, D, C>, now: u64) -> Turn
         // Unless there was no memory for it, what it asked for was done, and it was told that, in order, and nothing else.
-        ensures visit { is_starved result.parting ≡ false → (deeds : List (Deed D)) ×
-            IsVisit D.device L.view office.old.engine self.old deeds office.new.engine self.new }
+        ensures client_step { is_starved result.disconnect ≡ false → (actions : List (Action D)) ×
+            IsClientStep D.device L.view shared.old.engine self.old actions shared.new.engine self.new }
 
         // What its line takes was written to it, and unless there is more to be done at once nothing can be done for it now.
-        ensures ends { EndsTurn L.view office.new.engine.course.spool.state self.old result self.new }
-        ensures calls { GoesByCalls D.device office.old.engine office.new.engine }
+        ensures ends { EndsTurn L.view shared.new.engine.run_state.spool.state self.old result self.new }
+        ensures calls { GoesByCalls D.device shared.old.engine shared.new.engine }
     {
         let mut turn = Turn::new();
-        match self.try_serve(office, now, &mut turn) {
+        match self.try_serve(shared, now, &mut turn) {
             Ok(true) => {}
-            Ok(false) => turn.parting = Some(Parting::Left),
-            Err(ClientFault::Memory) => turn.parting = Some(Parting::Memory),
+            Ok(false) => turn.disconnect = Some(Disconnect::Left),
+            Err(ClientFault::Memory) => turn.disconnect = Some(Disconnect::Memory),
         }
         turn
     }
@@ -201,19 +201,19 @@ impl<L: Connection> Client<L> {
     // The same. Whether it is still there.
     fn try_serve<D: Disk, C: Children>(
         &mut self,
-        office: &mut Office<'_, D, C>,
+        shared: &mut Shared<'_, D, C>,
         now: u64,
         turn: &mut Turn,
     ) -> Result<bool, ClientFault>
-        requires { turn.old.brimful ≡ false }
-        ensures visit { OnOk result ((deeds : List (Deed D)) ×
-            IsVisit D.device L.view office.old.engine self.old deeds office.new.engine self.new) }
+        requires { turn.old.is_backlogged ≡ false }
+        ensures client_step { OnOk result ((actions : List (Action D)) ×
+            IsClientStep D.device L.view shared.old.engine self.old actions shared.new.engine self.new) }
         ensures given { IfOk result (λ there. there ≡ true → IsGiven self.new) }
-        ensures rests { IfOk result (λ there. there ≡ true → turn.new.more ≡ false → IsAtRest office.new.engine.course.spool.state self.new ⊎ IsBrimful self.new) }
+        ensures rests { IfOk result (λ there. there ≡ true → turn.new.more ≡ false → IsAtRest shared.new.engine.run_state.spool.state self.new ⊎ IsBacklogged self.new) }
         ensures leaves { IfOk result (λ there. there ≡ false → HasLeft L.view self.new) }
         ensures marked { IsMarked L.view self.old → IsMarked L.view self.new }
-        ensures parting { turn.new.parting ≡ turn.old.parting }
-        ensures calls { GoesByCalls D.device office.old.engine office.new.engine }
+        ensures disconnect { turn.new.disconnect ≡ turn.old.disconnect }
+        ensures calls { GoesByCalls D.device shared.old.engine shared.new.engine }
     {
         if !self.give(now) {
             return Ok(false);
@@ -221,7 +221,7 @@ impl<L: Connection> Client<L> {
         if self.has_left_waiting() {
             return Ok(false);
         }
-        if !self.serve_some(office, now, turn)? {
+        if !self.serve_some(shared, now, turn)? {
             return Ok(false);
         }
         Ok(self.end_turn(now, turn))
@@ -240,43 +240,43 @@ impl<L: Connection> Client<L> {
         ensures waits { self.new.waits ≡ self.old.waits }
         ensures given { result ≡ true → IsGiven self.new }
         ensures leaves { result ≡ false → IsUnheard L.view self.new ⊎ ((self.new.over ≡ true) × (unread self.new ≡ 0)) }
-        ensures more { turn.new ≡ record turn.old { more = turn.old.more || (turn.old.brimful && nat_lt (unread self.new) most_unread) } }
+        ensures more { turn.new ≡ record turn.old { more = turn.old.more || (turn.old.is_backlogged && nat_lt (unread self.new) most_unread) } }
         ensures marked { IsMarked L.view self.old → IsMarked L.view self.new }
         ensures kept { self.new ≡ as_given self.old self.new }
     {
         // A line that its text ends in is no command: a client that was killed may have been in the middle of another one.
-        let ended = self.over && !turn.more && !turn.brimful && self.waits.is_none();
+        let ended = self.over && !turn.more && !turn.is_backlogged && self.waits.is_none();
         let there = self.give(now);
         // It took so much that there is something to be served again, and perhaps no sign of it comes.
-        turn.more = turn.more || turn.brimful && self.unread() < MOST_UNREAD;
+        turn.more = turn.more || turn.is_backlogged && self.unread() < MOST_UNREAD;
         there && (!ended || 0 < self.unread())
     }
 
     // Serves the commands that are whole, up to the bounds. Whether it is still there.
     fn serve_some<D: Disk, C: Children>(
         &mut self,
-        office: &mut Office<'_, D, C>,
+        shared: &mut Shared<'_, D, C>,
         now: u64,
         turn: &mut Turn,
     ) -> Result<bool, ClientFault>
-        requires { turn.old.brimful ≡ false }
-        ensures visit { OnOk result ((deeds : List (Deed D)) ×
-            IsVisit D.device L.view office.old.engine self.old deeds office.new.engine self.new) }
-        ensures rests { IfOk result (λ there. there ≡ true → turn.new.more ≡ false → IsAtRest office.new.engine.course.spool.state self.new ⊎ (turn.new.brimful ≡ true)) }
+        requires { turn.old.is_backlogged ≡ false }
+        ensures client_step { OnOk result ((actions : List (Action D)) ×
+            IsClientStep D.device L.view shared.old.engine self.old actions shared.new.engine self.new) }
+        ensures rests { IfOk result (λ there. there ≡ true → turn.new.more ≡ false → IsAtRest shared.new.engine.run_state.spool.state self.new ⊎ (turn.new.is_backlogged ≡ true)) }
         ensures leaves { IfOk result (λ there. there ≡ false → IsCut L.view self.new) }
         ensures marked { IsMarked L.view self.old → IsMarked L.view self.new }
-        ensures parting { turn.new.parting ≡ turn.old.parting }
-        ensures calls { GoesByCalls D.device office.old.engine office.new.engine }
+        ensures disconnect { turn.new.disconnect ≡ turn.old.disconnect }
+        ensures calls { GoesByCalls D.device shared.old.engine shared.new.engine }
     {
         turn.more = true;
         let mut served = 0;
         for _ in 0..MOST_STEPS {
             if !is_served_on(served, self.unread()) {
-                turn.brimful = MOST_UNREAD <= self.unread();
-                turn.more = !turn.brimful;
+                turn.is_backlogged = MOST_UNREAD <= self.unread();
+                turn.more = !turn.is_backlogged;
                 break;
             }
-            match self.step(office, now, turn)? {
+            match self.step(shared, now, turn)? {
                 Step::Served => served += 1,
                 Step::Goes => {}
                 Step::Rests => {
@@ -292,24 +292,24 @@ impl<L: Connection> Client<L> {
     // Tells it the end that it waits for, or does what it asks for next, or reads more of it.
     fn step<D: Disk, C: Children>(
         &mut self,
-        office: &mut Office<'_, D, C>,
+        shared: &mut Shared<'_, D, C>,
         now: u64,
         turn: &mut Turn,
     ) -> Result<Step, ClientFault>
-        ensures visit { OnOk result ((deeds : List (Deed D)) ×
-            IsVisit D.device L.view office.old.engine self.old deeds office.new.engine self.new) }
-        ensures rests { IfOk result (λ step. step ≡ Step.Rests → IsAtRest office.new.engine.course.spool.state self.new) }
+        ensures client_step { OnOk result ((actions : List (Action D)) ×
+            IsClientStep D.device L.view shared.old.engine self.old actions shared.new.engine self.new) }
+        ensures rests { IfOk result (λ step. step ≡ Step.Rests → IsAtRest shared.new.engine.run_state.spool.state self.new) }
         ensures leaves { IfOk result (λ step. step ≡ Step.Lost → IsCut L.view self.new) }
         ensures marked { IsMarked L.view self.old → IsMarked L.view self.new }
         ensures turn { turn.new ≡ as_served turn.old turn.new }
-        ensures calls { GoesByCalls D.device office.old.engine office.new.engine }
+        ensures calls { GoesByCalls D.device shared.old.engine shared.new.engine }
     {
-        if !self.is_told_end(office)? {
+        if !self.has_reported_end(shared)? {
             return Ok(Step::Rests);
         }
         match self.next_asked()? {
             Next::Asked(ask) => {
-                self.answer(office, ask, turn)?;
+                self.answer(shared, ask, turn)?;
                 Ok(Step::Served)
             }
             Next::Again => Ok(Step::Goes),
@@ -329,21 +329,21 @@ impl<L: Connection> Client<L> {
     }
 
     // Tells it the end of the job that it waits for, if that has come. Whether it waits for none then.
-    fn is_told_end<D: Disk, C: Children>(
+    fn has_reported_end<D: Disk, C: Children>(
         &mut self,
-        office: &Office<'_, D, C>,
+        shared: &Shared<'_, D, C>,
     ) -> Result<bool, AllocError>
-        ensures visit { OnOk result ((deeds : List (Deed D)) ×
-            IsVisit D.device L.view office.now.engine self.old deeds office.now.engine self.new) }
+        ensures client_step { OnOk result ((actions : List (Action D)) ×
+            IsClientStep D.device L.view shared.now.engine self.old actions shared.now.engine self.new) }
         ensures waits { IfOk result (λ over. over ≡ true → self.new.waits ≡ None) }
-        ensures rests { IfOk result (λ over. over ≡ false → IsAtRest office.now.engine.course.spool.state self.new) }
+        ensures rests { IfOk result (λ over. over ≡ false → IsAtRest shared.now.engine.run_state.spool.state self.new) }
         ensures marked { IsMarked L.view self.old → IsMarked L.view self.new }
         ensures kept { self.new ≡ record self.old { replies = self.new.replies; waits = self.new.waits } }
     {
         let Some(job) = self.waits else {
             return Ok(true);
         };
-        let table = office.engine.table();
+        let table = shared.engine.table();
         if !has_settled(table, job) {
             return Ok(false);
         }
@@ -356,45 +356,45 @@ impl<L: Connection> Client<L> {
     // Serves what it asked for.
     fn answer<D: Disk, C: Children>(
         &mut self,
-        office: &mut Office<'_, D, C>,
+        shared: &mut Shared<'_, D, C>,
         ask: Ask,
         turn: &mut Turn,
     ) -> Result<(), ClientFault>
         requires { self.old.waits ≡ None }
-        ensures done { OnOk result (IsAnswered D.device office.old.engine self.old ask office.new.engine self.new) }
+        ensures done { OnOk result (IsAnswered D.device shared.old.engine self.old ask shared.new.engine self.new) }
         ensures marked { IsMarked L.view self.old → IsMarked L.view self.new }
         ensures kept { self.new ≡ record self.old { replies = self.new.replies; waits = self.new.waits; watches = self.new.watches } }
         ensures turn { turn.new ≡ record turn.old { served = true; shutdown = turn.new.shutdown } }
-        ensures calls { GoesByCalls D.device office.old.engine office.new.engine }
+        ensures calls { GoesByCalls D.device shared.old.engine shared.new.engine }
     {
         turn.served = true;
         match ask {
-            Ask::Command(command) => self.answer_command(office, command),
-            Ask::Own(word) => self.answer_own(office, word, turn),
+            Ask::Command(command) => self.answer_command(shared, command),
+            Ask::Own(word) => self.answer_own(shared, word, turn),
         }
     }
 
     // Serves a command of the engine. A round is a tick here: it would wait for the children, and all others with it.
     fn answer_command<D: Disk, C: Children>(
         &mut self,
-        office: &mut Office<'_, D, C>,
+        shared: &mut Shared<'_, D, C>,
         command: Command,
     ) -> Result<(), ClientFault>
         requires { self.old.waits ≡ None }
-        ensures done { OnOk result (IsAnswered D.device office.old.engine self.old (Ask.Command command) office.new.engine self.new) }
+        ensures done { OnOk result (IsAnswered D.device shared.old.engine self.old (Ask.Command command) shared.new.engine self.new) }
         ensures marked { IsMarked L.view self.old → IsMarked L.view self.new }
         ensures kept { self.new ≡ record self.old { replies = self.new.replies } }
-        ensures calls { GoesByCalls D.device office.old.engine office.new.engine }
+        ensures calls { GoesByCalls D.device shared.old.engine shared.new.engine }
     {
         match command {
             Command::Round | Command::Drain(_) => {
-                let counts = office.tick();
+                let counts = shared.tick();
                 let text = rounded_text(*self.replies.allocator(), counts)?;
                 self.add(&text)?;
                 Ok(())
             }
             command => {
-                office.answer(command, &mut self.replies)?;
+                shared.answer(command, &mut self.replies)?;
                 Ok(())
             }
         }
@@ -403,21 +403,21 @@ impl<L: Connection> Client<L> {
     // Answers a word of the service.
     fn answer_own<D: Disk, C: Children>(
         &mut self,
-        office: &mut Office<'_, D, C>,
+        shared: &mut Shared<'_, D, C>,
         word: OwnWord,
         turn: &mut Turn,
     ) -> Result<(), ClientFault>
         requires { self.old.waits ≡ None }
-        ensures done { OnOk result (IsAnswered D.device office.old.engine self.old (Ask.Own word) office.new.engine self.new) }
+        ensures done { OnOk result (IsAnswered D.device shared.old.engine self.old (Ask.Own word) shared.new.engine self.new) }
         ensures marked { IsMarked L.view self.old → IsMarked L.view self.new }
         ensures kept { self.new ≡ record self.old { replies = self.new.replies; waits = self.new.waits; watches = self.new.watches } }
         ensures watches { OnOk result (self.new.watches ≡ (self.old.watches || is_watch word)) }
         ensures turn { turn.new ≡ record turn.old { shutdown = turn.old.shutdown || is_shutdown word } }
-        ensures calls { GoesByCalls D.device office.old.engine office.new.engine }
+        ensures calls { GoesByCalls D.device shared.old.engine shared.new.engine }
     {
         match word {
             OwnWord::Job(job) => {
-                let text = shown_job(*self.replies.allocator(), office.engine.table(), job)?;
+                let text = shown_job(*self.replies.allocator(), shared.engine.table(), job)?;
                 self.add(&text)?;
             }
             OwnWord::Wait(job) => self.waits = Some(job),
@@ -426,7 +426,7 @@ impl<L: Connection> Client<L> {
                 self.add(DONE)?;
             }
             OwnWord::End(job) => {
-                let ends = office.endings.ask(office.watch, job)?;
+                let ends = shared.endings.ask(shared.watch, job)?;
                 self.add(if ends { DONE } else { NO_JOB })?;
             }
             OwnWord::Shutdown => {
@@ -446,9 +446,9 @@ impl<L: Connection> Client<L> {
 
     /// Tells it what changed, if it watches. One that left too much unread is told later that it wasn't told all. Whether there
     /// was memory for it.
-    pub fn tell(&mut self, text: &[u8]) -> bool
+    pub fn notify(&mut self, text: &[u8]) -> bool
         ensures told { result ≡ true → IsAdded self.old (text_for self.old text.now) self.new }
-        ensures of { IsToldOf text.now (text_for self.old text.now) }
+        ensures of { IsNotified text.now (text_for self.old text.now) }
         ensures missed { result ≡ true → self.new.missed ≡ misses self.old }
         ensures waits { self.new.waits ≡ self.old.waits }
         ensures kept { self.new ≡ as_told self.old self.new }
@@ -485,7 +485,7 @@ impl<L: Connection> Client<L> {
         ensures waits { self.new.waits ≡ self.old.waits }
         ensures given { result ≡ true → IsGiven self.new }
         ensures lost { result ≡ false → IsUnheard L.view self.new }
-        ensures heard { self.new.stirred ≡ heard_after self.old now self.new }
+        ensures heard { self.new.last_active ≡ heard_after self.old now self.new }
         ensures marked { IsMarked L.view self.old → IsMarked L.view self.new }
         ensures kept { self.new ≡ as_given self.old self.new }
     {
@@ -508,15 +508,15 @@ impl<L: Connection> Client<L> {
         ensures goes { Goes L.view self.old [] [] self.new }
         ensures some { result ≡ true → (unread self.new < unread self.old) ⊎ ((self.new.writable ≡ false) × (unread self.new ≡ unread self.old)) }
         ensures lost { result ≡ false → IsUnheard L.view self.new × (unread self.new ≡ unread self.old) }
-        ensures heard { self.new.stirred ≡ heard_after self.old now self.new }
+        ensures heard { self.new.last_active ≡ heard_after self.old now self.new }
         ensures marked { IsMarked L.view self.old → IsMarked L.view self.new }
         ensures kept { self.new ≡ as_given self.old self.new }
     {
-        match write_to(&mut self.line, &self.replies[self.taken..]) {
+        match write_to(&mut self.connection, &self.replies[self.taken..]) {
             Ok(0) => false,
             Ok(count) => {
                 self.taken += count;
-                self.stirred = now;
+                self.last_active = now;
                 self.forget_taken();
                 true
             }
@@ -570,14 +570,14 @@ impl<L: Connection> Client<L> {
         ensures kept { self.new ≡ as_read self.old self.new }
     {
         let mut piece = [0u8; PIECE];
-        match read_of(&mut self.line, &mut piece) {
+        match read_of(&mut self.connection, &mut piece) {
             Ok(0) => {
                 self.readable = false;
                 self.over = true;
                 Ok(true)
             }
             Ok(count) => {
-                self.stirred = now;
+                self.last_active = now;
                 self.reader.take(&piece[..count])?;
                 Ok(true)
             }

@@ -1,17 +1,17 @@
 //! The clients, each at a place of its own.
 ghost use Rattle.std.specs.Prelude.{◌≡◌, ◌+◌, ◌<◌, ◌≤◌, ◌||◌, ℕ, cond, true, false, None, IfOk, IfSome, OnOk};
-ghost use Rattle.service_rules.specs.Places.{IsAdmission};
+ghost use Rattle.service_rules.specs.ClientAdmission.{IsAdmission};
 ghost use Rattle.slab.specs.Slab.{get, slab_len};
-ghost use Rattle.service_loop.specs.Calls.{GoesByCalls};
-ghost use Rattle.service_loop.specs.Clients.{heard_of, is_watched};
-ghost use Rattle.service_loop.specs.Places.{HadOwnTurn, HasNoneNow, HasTurn, HaveTurns, IsEntered, IsLetIn, IsPlaceSigned, IsPlaceTold, KeepsOthers};
+ghost use Rattle.service_loop.specs.ServiceCalls.{GoesByCalls};
+ghost use Rattle.service_loop.specs.AdmissionViews.{heard_of, is_watched};
+ghost use Rattle.service_loop.specs.ClientSlots.{HadOwnTurn, HasNoneNow, HasTurn, HaveTurns, IsEntered, IsLetIn, IsSlotSignaled, IsSlotNotified, KeepsOthers};
 ghost use Rattle.service_loop.specs.Progress.{IsGiven};
-ghost use Rattle.service_loop.specs.Visits.{is_starved};
+ghost use Rattle.service_loop.specs.ClientSteps.{is_starved};
 
-use crate::client::{Client, Parting, Turn};
+use crate::client::{Client, Disconnect, Turn};
 use crate::connection::Connection;
-use crate::door::Door;
-use crate::office::Office;
+use crate::listener::Listener;
+use crate::shared::Shared;
 use child_pipeline::Children;
 use service_rules::bounds::MOST_CLIENTS;
 use service_rules::{Admission, Client as Heard, admit};
@@ -40,13 +40,13 @@ impl Turns {
           served = self.old.served || turn.served;
           more = self.old.more || turn.more;
           shutdown = self.old.shutdown || turn.shutdown;
-          starved = cond (is_starved turn.parting) (self.old.starved + 1) self.old.starved;
+          starved = cond (is_starved turn.disconnect) (self.old.starved + 1) self.old.starved;
         } }
     {
         self.served = self.served || turn.served;
         self.more = self.more || turn.more;
         self.shutdown = self.shutdown || turn.shutdown;
-        if turn.parting == Some(Parting::Memory) {
+        if turn.disconnect == Some(Disconnect::Memory) {
             self.starved += 1;
         }
     }
@@ -55,88 +55,88 @@ impl Turns {
 #[derive(Drop)]
 pub struct Clients<L: Connection> {
     alloc: Global,
-    places: Slab<Client<L>>,
+    slots: Slab<Client<L>>,
     // When each was heard last, listed where a newcomer wants a place.
     heard: Vec<Heard>,
 }
 
 impl<L: Connection> Clients<L> {
     pub fn new(alloc: Global) -> Result<Clients<L>, AllocError>
-        ensures { IfOk result (λ clients. (key : ℕ) → get clients.places key ≡ None) }
+        ensures { IfOk result (λ clients. (key : ℕ) → get clients.slots key ≡ None) }
     {
         Ok(Clients {
             alloc,
-            places: Slab::with_capacity(alloc, MOST_CLIENTS)?,
+            slots: Slab::with_capacity(alloc, MOST_CLIENTS)?,
             heard: Vec::with_capacity(alloc, MOST_CLIENTS)?,
         })
     }
 
     pub fn len(&self) -> usize
-        ensures { result ≡ slab_len self.now.places }
+        ensures { result ≡ slab_len self.now.slots }
     {
-        self.places.len()
+        self.slots.len()
     }
 
     /// There is a sign of the client at this place.
     pub fn signal(&mut self, key: usize, writable: bool, gone: bool)
-        ensures own { IsPlaceSigned L.view writable gone (get self.old.places key) (get self.new.places key) }
-        ensures others { KeepsOthers key self.old.places self.new.places }
+        ensures own { IsSlotSignaled L.view writable gone (get self.old.slots key) (get self.new.slots key) }
+        ensures others { KeepsOthers key self.old.slots self.new.slots }
     {
-        if let Some(client) = self.places.get_mut(key) {
+        if let Some(client) = self.slots.get_mut(key) {
             client.signal(writable, gone);
         }
     }
 
     /// Lets a client in, or tells it that there is no place. Where none is left the client goes that was idle longest, if it
     /// was long enough; one that listens isn't idle. What became of it.
-    pub fn admit<R: Door<Line = L>>(
+    pub fn admit<R: Listener<Stream = L>>(
         &mut self,
-        door: &mut R,
-        line: L,
+        listener: &mut R,
+        connection: L,
         now: u64,
     ) -> Result<Admission, AllocError>
-        ensures admission { IfOk result (IsAdmission (heard_of self.old.places) now) }
-        ensures lets_in { IfOk result (λ admission. IsLetIn L.view line admission self.old.places self.new.places) }
+        ensures admission { IfOk result (IsAdmission (heard_of self.old.slots) now) }
+        ensures lets_in { IfOk result (λ admission. IsLetIn L.view connection admission self.old.slots self.new.slots) }
     {
-        list_heard(&self.places, &mut self.heard)?;
+        list_heard(&self.slots, &mut self.heard)?;
         let admission = admit(&self.heard, now);
         match admission {
             Admission::Free => {}
             Admission::InsteadOf(key) => {
-                self.places.try_remove(key);
+                self.slots.try_remove(key);
             }
             Admission::Busy => {
-                tell_busy(line);
+                send_busy(connection);
                 return Ok(admission);
             }
         }
-        self.enter(door, line, now)?;
+        self.enter(listener, connection, now)?;
         Ok(admission)
     }
 
     // Gives a newcomer a place, unless there are no signs of its line.
-    fn enter<R: Door<Line = L>>(
+    fn enter<R: Listener<Stream = L>>(
         &mut self,
-        door: &mut R,
-        line: L,
+        listener: &mut R,
+        connection: L,
         now: u64,
     ) -> Result<(), AllocError>
-        ensures { OnOk result (IsEntered L.view line self.old.places self.new.places) }
+        ensures { OnOk result (IsEntered L.view connection self.old.slots self.new.slots) }
     {
-        let mut line = line;
-        self.places.reserve(1)?;
-        let key = self.places.vacant_key();
-        if door.watch(&mut line, key) {
-            self.places
-                .insert_reserved(Client::new(self.alloc, line, now));
+        let mut connection = connection;
+        self.slots.reserve(1)?;
+        let key = self.slots.vacant_key();
+        if listener.watch(&mut connection, key) {
+            self.slots
+                .insert_reserved(Client::new(self.alloc, connection, now));
         }
         Ok(())
     }
 
     /// Whether a client watches.
     pub fn watch(&self) -> bool
-        ensures some { result ≡ true → (key : ℕ) × (key < MOST_CLIENTS) × (is_watched (get self.now.places key) ≡ true) }
-        ensures none { result ≡ false → (key : ℕ) → key < MOST_CLIENTS → is_watched (get self.now.places key) ≡ false }
+        ensures some { result ≡ true → (key : ℕ) × (key < MOST_CLIENTS) × (is_watched (get self.now.slots key) ≡ true) }
+        ensures none { result ≡ false → (key : ℕ) → key < MOST_CLIENTS → is_watched (get self.now.slots key) ≡ false }
     {
         for key in 0..MOST_CLIENTS {
             if self.is_watched(key) {
@@ -148,22 +148,22 @@ impl<L: Connection> Clients<L> {
 
     // Whether there is a client at this place who watches.
     fn is_watched(&self, key: usize) -> bool
-        ensures { result ≡ is_watched (get self.now.places key) }
+        ensures { result ≡ is_watched (get self.now.slots key) }
     {
-        match self.places.get(key) {
+        match self.slots.get(key) {
             Some(client) => client.watches(),
             None => false,
         }
     }
 
     /// Tells those that watch what changed. How many went for want of memory.
-    pub fn tell(&mut self, text: &[u8]) -> usize
-        ensures told { (key : ℕ) → key < MOST_CLIENTS → IsPlaceTold text.now (get self.old.places key) (get self.new.places key) }
-        ensures others { (key : ℕ) → MOST_CLIENTS ≤ key → get self.new.places key ≡ get self.old.places key }
+    pub fn notify(&mut self, text: &[u8]) -> usize
+        ensures told { (key : ℕ) → key < MOST_CLIENTS → IsSlotNotified text.now (get self.old.slots key) (get self.new.slots key) }
+        ensures others { (key : ℕ) → MOST_CLIENTS ≤ key → get self.new.slots key ≡ get self.old.slots key }
     {
         let mut starved = 0;
         for key in 0..MOST_CLIENTS {
-            if !self.tell_at(key, text) {
+            if !self.notify_at(key, text) {
                 starved += 1;
             }
         }
@@ -171,32 +171,32 @@ impl<L: Connection> Clients<L> {
     }
 
     // Tells the client at this place, and lets it go where there is no memory for it. Whether there was.
-    fn tell_at(&mut self, key: usize, text: &[u8]) -> bool
-        ensures own { IsPlaceTold text.now (get self.old.places key) (get self.new.places key) }
-        ensures others { KeepsOthers key self.old.places self.new.places }
+    fn notify_at(&mut self, key: usize, text: &[u8]) -> bool
+        ensures own { IsSlotNotified text.now (get self.old.slots key) (get self.new.slots key) }
+        ensures others { KeepsOthers key self.old.slots self.new.slots }
     {
-        let Some(client) = self.places.get_mut(key) else {
+        let Some(client) = self.slots.get_mut(key) else {
             return true;
         };
-        if client.tell(text) {
+        if client.notify(text) {
             return true;
         }
-        self.places.try_remove(key);
+        self.slots.try_remove(key);
         false
     }
 
     /// Gives each client a turn.
-    pub fn serve<D: Disk, C: Children>(&mut self, office: &mut Office<'_, D, C>, now: u64) -> Turns
+    pub fn serve<D: Disk, C: Children>(&mut self, shared: &mut Shared<'_, D, C>, now: u64) -> Turns
         // One place after the other had its turn, on the engine that the one before it left.
-        ensures turns { HaveTurns D.device L.view office.old.engine self.old.places MOST_CLIENTS office.new.engine self.new.places }
-        ensures calls { GoesByCalls D.device office.old.engine office.new.engine }
+        ensures turns { HaveTurns D.device L.view shared.old.engine self.old.slots MOST_CLIENTS shared.new.engine self.new.slots }
+        ensures calls { GoesByCalls D.device shared.old.engine shared.new.engine }
         // So each client had a turn of its own, and was touched by nothing else.
-        ensures own { (key : ℕ) → key < MOST_CLIENTS → HadOwnTurn D.device L.view (get self.old.places key) (get self.new.places key) }
-        ensures others { (key : ℕ) → MOST_CLIENTS ≤ key → get self.new.places key ≡ get self.old.places key }
+        ensures own { (key : ℕ) → key < MOST_CLIENTS → HadOwnTurn D.device L.view (get self.old.slots key) (get self.new.slots key) }
+        ensures others { (key : ℕ) → MOST_CLIENTS ≤ key → get self.new.slots key ≡ get self.old.slots key }
 
         // Each one that stayed was given what its line takes, and unless there is more nothing can be done for it now.
-        ensures given { (key : ℕ) → key < MOST_CLIENTS → IfSome (get self.new.places key) IsGiven }
-        ensures rests { result.more ≡ false → (key : ℕ) → key < MOST_CLIENTS → IfSome (get self.new.places key) HasNoneNow }
+        ensures given { (key : ℕ) → key < MOST_CLIENTS → IfSome (get self.new.slots key) IsGiven }
+        ensures rests { result.more ≡ false → (key : ℕ) → key < MOST_CLIENTS → IfSome (get self.new.slots key) HasNoneNow }
     {
         let mut turns = Turns {
             served: false,
@@ -205,7 +205,7 @@ impl<L: Connection> Clients<L> {
             starved: 0,
         };
         for key in 0..MOST_CLIENTS {
-            if let Some(turn) = self.serve_at(office, key, now) {
+            if let Some(turn) = self.serve_at(shared, key, now) {
                 turns.add(turn);
             }
         }
@@ -215,37 +215,37 @@ impl<L: Connection> Clients<L> {
     // Gives the client at this place a turn, and lets it go where it has gone.
     fn serve_at<D: Disk, C: Children>(
         &mut self,
-        office: &mut Office<'_, D, C>,
+        shared: &mut Shared<'_, D, C>,
         key: usize,
         now: u64,
     ) -> Option<Turn>
-        ensures { HasTurn D.device L.view office.old.engine self.old.places key result office.new.engine self.new.places }
+        ensures { HasTurn D.device L.view shared.old.engine self.old.slots key result shared.new.engine self.new.slots }
     {
-        let client = self.places.get_mut(key)?;
-        let turn = client.serve(office, now);
-        if turn.parting.is_some() {
-            self.places.try_remove(key);
+        let client = self.slots.get_mut(key)?;
+        let turn = client.serve(shared, now);
+        if turn.disconnect.is_some() {
+            self.slots.try_remove(key);
         }
         Some(turn)
     }
 }
 
 // Tells one for whom there is no place.
-fn tell_busy<L: Connection>(line: L) {
-    let mut line = line;
-    let _ = line.write(BUSY);
+fn send_busy<L: Connection>(connection: L) {
+    let mut connection = connection;
+    let _ = connection.write(BUSY);
 }
 
 // Lists when each client was heard last.
 fn list_heard<L: Connection>(
-    places: &Slab<Client<L>>,
+    slots: &Slab<Client<L>>,
     list: &mut Vec<Heard>,
 ) -> Result<(), AllocError>
-    ensures { OnOk result (list.new.items ≡ heard_of places.now) }
+    ensures { OnOk result (list.new.items ≡ heard_of slots.now) }
 {
     list.clear();
-    for (key, client) in places.iter() {
-        let heard = client.stirred();
+    for (key, client) in slots.iter() {
+        let heard = client.last_active();
         let listens = client.listens();
         list.push(Heard {
             key,

@@ -2,7 +2,7 @@
 ghost use Rattle.std.specs.Prelude.{◌≡◌};
 ghost use Rattle.std.specs.Io.{ReadsAtMost, WritesAtMost};
 ghost use Rattle.std.specs.Io.KnownBytes.{Keeps, ReadConsumes, WriteAppends};
-ghost use Rattle.service_loop.specs.Lines.{CameTo, LineView};
+ghost use Rattle.service_loop.specs.ConnectionViews.{CameTo, ConnectionView};
 
 use std::io;
 use std::io::ErrorKind;
@@ -14,7 +14,7 @@ use std::io::ErrorKind;
 /// nothing; the clauses then say nothing of it.
 pub trait Connection: Drop {
     /// What is seen of it.
-    ghost view: { LineView Self };
+    ghost view: { ConnectionView Self };
 
     /// Reads what has come, as much as fits.
     fn read(&mut self, piece: &mut [u8]) -> io::Result<usize>
@@ -34,35 +34,35 @@ pub trait Connection: Drop {
 }
 
 /// Reads what has come, and again where that is interrupted.
-pub(crate) fn read_of<L: Connection>(line: &mut L, piece: &mut [u8]) -> io::Result<usize>
+pub(crate) fn read_of<L: Connection>(connection: &mut L, piece: &mut [u8]) -> io::Result<usize>
     ensures bound { ReadsAtMost result piece.new }
-    ensures bytes { ReadConsumes (L.view.remaining line.old) (L.view.remaining line.new) result piece.new }
-    ensures kept { Keeps (L.view.contents line.old) (L.view.contents line.new) }
-    ensures came { CameTo (L.view.gave line.new) result }
-    ensures other { L.view.took line.new ≡ L.view.took line.old }
+    ensures bytes { ReadConsumes (L.view.remaining connection.old) (L.view.remaining connection.new) result piece.new }
+    ensures kept { Keeps (L.view.contents connection.old) (L.view.contents connection.new) }
+    ensures came { CameTo (L.view.gave connection.new) result }
+    ensures other { L.view.took connection.new ≡ L.view.took connection.old }
 {
     for _ in 0..u32::MAX {
-        match line.read(piece) {
+        match connection.read(piece) {
             Err(error) if error.kind() == ErrorKind::Interrupted => {}
             outcome => return outcome,
         }
     }
-    line.read(piece)
+    connection.read(piece)
 }
 
 /// Writes some of a text, and again where that is interrupted.
-pub(crate) fn write_to<L: Connection>(line: &mut L, text: &[u8]) -> io::Result<usize>
+pub(crate) fn write_to<L: Connection>(connection: &mut L, text: &[u8]) -> io::Result<usize>
     ensures bound { WritesAtMost result text.now }
-    ensures bytes { WriteAppends (L.view.contents line.old) (L.view.contents line.new) result text.now }
-    ensures kept { Keeps (L.view.remaining line.old) (L.view.remaining line.new) }
-    ensures came { CameTo (L.view.took line.new) result }
-    ensures other { L.view.gave line.new ≡ L.view.gave line.old }
+    ensures bytes { WriteAppends (L.view.contents connection.old) (L.view.contents connection.new) result text.now }
+    ensures kept { Keeps (L.view.remaining connection.old) (L.view.remaining connection.new) }
+    ensures came { CameTo (L.view.took connection.new) result }
+    ensures other { L.view.gave connection.new ≡ L.view.gave connection.old }
 {
     for _ in 0..u32::MAX {
-        match line.write(text) {
+        match connection.write(text) {
             Err(error) if error.kind() == ErrorKind::Interrupted => {}
             outcome => return outcome,
         }
     }
-    line.write(text)
+    connection.write(text)
 }

@@ -10,16 +10,16 @@ ghost use Rattle.spool_types.specs.declared.rows.QueueRow.{QueueRow};
 ghost use Rattle.spool_disk.specs.Disk.{LeavesOnly};
 ghost use Rattle.queue_sched.specs.Next.{is_eligible};
 ghost use Rattle.job_table.specs.Step.{step};
-ghost use Rattle.job_table.specs.Turns.{AreOnce};
-ghost use Rattle.spool_engine.specs.Calls.{IsAlongCalls};
-ghost use Rattle.spool_engine.specs.EventTurns.{IsKept};
-ghost use Rattle.spool_engine.specs.Runs.{Engine};
+ghost use Rattle.job_table.specs.TableCalls.{AreOnce};
+ghost use Rattle.spool_engine.specs.EngineCalls.{IsAlongCalls};
+ghost use Rattle.spool_engine.specs.EventSteps.{IsKept};
+ghost use Rattle.spool_engine.specs.EngineRuns.{Engine};
 ghost use Rattle.client_reader.specs.Asks.{asks_of};
-ghost use Rattle.client_reader.specs.Calls.{AreFirstOf};
-ghost use Rattle.service_loop.specs.Calls.{GoesByCalls, ServiceLife, IsServiceWorld, keys_ordered};
-ghost use Rattle.service_loop.specs.Deeds.{asks_in, texts_in};
+ghost use Rattle.client_reader.specs.ReaderCalls.{AreFirstOf};
+ghost use Rattle.service_loop.specs.ServiceCalls.{GoesByCalls, ServiceLife, IsServiceHistory, keys_ordered};
+ghost use Rattle.service_loop.specs.ClientActions.{asks_in, texts_in};
 ghost use Rattle.service_loop.specs.Due.{IsQuietUntil, next_due};
-ghost use Rattle.service_loop.specs.Visits.{AreVisits, HasAll, IsEntry, Visit, deeds_of};
+ghost use Rattle.service_loop.specs.ClientSteps.{AreClientSteps, HasAll, IsEntry, ClientStep, actions_of};
 ghost use Rattle.service_loop.specs.declared.client.Client.{Client};
 
 use crate::connection::Connection;
@@ -28,7 +28,7 @@ use spool_engine::{crashes_between_calls, no_stage_is_ordered_twice};
 
 /// A clock that comes before anything is due is worth nothing, so the service tells none.
 pub fn nothing_is_due_before()
-    // Nothing is due before the moment that a look at all jobs finds (`House::look`).
+    // Nothing is due before the moment that a look at all jobs finds (`Maintenance::look`).
     ensures found { (s : State) (m : ℕ) → s.moment < m → m ≤ greatest_moment → IfSome (next_due s) (λ due. m < due) → IsQuietUntil s m }
 
     // It changes no row, and says nothing else than that it was told.
@@ -49,20 +49,20 @@ pub fn nothing_is_due_before()
 /// (a turn, a text that tells what has changed, a sign), and whatever the engine does for others between them.
 pub fn clients_of_the_loop_stay_apart<L: Connection, D: Disk>()
     // What was done for it is, one for one, what came first of all that its line brings, in order and once.
-    ensures asks { (own : L) (c : Client L) (visits : List (Visit D L)) (last : Client L) →
-        IsEntry own c → AreVisits D.device L.view c visits last →
-        (text : List ℕ) → L.view.remaining own ≡ Some text → AreFirstOf (asks_in (deeds_of visits)) (asks_of text) }
+    ensures asks { (own : L) (c : Client L) (client_steps : List (ClientStep D L)) (last : Client L) →
+        IsEntry own c → AreClientSteps D.device L.view c client_steps last →
+        (text : List ℕ) → L.view.remaining own ≡ Some text → AreFirstOf (asks_in (actions_of client_steps)) (asks_of text) }
     // What was written to its line, and what it hasn't taken yet, are the texts of these deeds, in order and each byte once.
-    ensures texts { (own : L) (c : Client L) (visits : List (Visit D L)) (last : Client L) →
-        IsEntry own c → AreVisits D.device L.view c visits last →
-        (said : List ℕ) → L.view.contents own ≡ Some said → HasAll L.view said (texts_in (deeds_of visits)) last }
+    ensures texts { (own : L) (c : Client L) (client_steps : List (ClientStep D L)) (last : Client L) →
+        IsEntry own c → AreClientSteps D.device L.view c client_steps last →
+        (said : List ℕ) → L.view.contents own ≡ Some said → HasAll L.view said (texts_in (actions_of client_steps)) last }
 {}
 
 /// *NoStageTwice*, through the service: over any number of services, each made on what the one before left and perhaps some further
 /// events, as an opening finds it, no stage of an attempt is ordered twice. Whoever says what a service did says that its engine
 /// went on by calls (`calls` of [`crate::Service::serve`]).
 pub fn services_order_no_stage_twice<D: Disk>()
-    ensures { (lives : List (ServiceLife D)) → IsServiceWorld D.device lives → AreOnce (keys_ordered lives) }
+    ensures { (lives : List (ServiceLife D)) → IsServiceHistory D.device lives → AreOnce (keys_ordered lives) }
 {
     no_stage_is_ordered_twice::<D>();
 }
@@ -70,9 +70,9 @@ pub fn services_order_no_stage_twice<D: Disk>()
 /// *A crash*, through the service: at any moment from which on the engine goes on by calls a crash leaves the table that it had
 /// then, or the one after some of the events since, the first of them.
 pub fn crashes_lose_no_call<D: Disk>()
-    ensures { (old new : Engine D) (goes : GoesByCalls D.device old new) → IsKept D.device old.course.spool →
-        old.course.spool.dead ≡ false → IsSome (D.device.bytes old.course.spool.disk) →
-        LeavesOnly D.device old.course.spool.disk new.course.spool.disk (IsAlongCalls old.mime old.course goes.calls) }
+    ensures { (old new : Engine D) (goes : GoesByCalls D.device old new) → IsKept D.device old.run_state.spool →
+        old.run_state.spool.dead ≡ false → IsSome (D.device.bytes old.run_state.spool.disk) →
+        LeavesOnly D.device old.run_state.spool.disk new.run_state.spool.disk (IsAlongCalls old.mime old.run_state goes.calls) }
 {
     crashes_between_calls::<D>();
 }

@@ -1,6 +1,6 @@
 //! The loop of the service: it serves an engine to many clients while children run.
 //!
-//! What the system does comes by traits: [`Door`] for the socket, [`Connection`] for a client's line, [`Times`] for the clocks,
+//! What the system does comes by traits: [`Listener`] for the socket, [`Connection`] for a client's line, [`Times`] for the clocks,
 //! [`Signals`] for the children that are to end, and `Children` for those that print. So nothing here knows a socket, a
 //! clock or a process; `spool_service` has them. What is decided by numbers alone is decided by `service_rules`.
 //!
@@ -39,8 +39,8 @@
 //!   ([`services_order_no_stage_twice`]), and a crash loses nothing that was acknowledged ([`crashes_lose_no_call`]).
 //! - What is due is said to the engine as commands: the time, the purges and the checkpoint (`HasAnswered`).
 //! - Clients are kept apart, on lines that tell what comes and what goes ([`Connection`]). `Deeds` says what is done for a client,
-//!   and `Visits` what a turn makes of it (`IsVisit`): what was done is what its own line asked for, one for one and in order, and
-//!   the texts go to the same line, each byte once. `Places` says it of all clients: each has a turn of its own, on the engine that
+//!   and `Visits` what a turn makes of it (`IsClientStep`): what was done is what its own line asked for, one for one and in order, and
+//!   the texts go to the same line, each byte once. `StartRoom` says it of all clients: each has a turn of its own, on the engine that
 //!   the one before it left, and nothing else touches it (`HaveTurns`, `HadOwnTurn`). So it is over any row of visits from its
 //!   entry on ([`clients_of_the_loop_stay_apart`]). Of a client that goes for want of memory nothing is said in that turn.
 //! - Clients get on (`Progress`; what is marked is true on lines that tell). Behind a turn one that stays was given what its line
@@ -66,24 +66,24 @@ mod children;
 mod client;
 mod clients;
 mod connection;
-mod door;
 mod endings;
 mod fault;
-mod house;
 mod laws;
-mod office;
+mod listener;
+mod maintenance;
 mod service;
+mod shared;
 mod signals;
 mod times;
 
 pub use children::{Run, Watch, WatchedChildren, WatchedTicket};
 pub use connection::Connection;
-pub use door::{Coming, Door, Sign};
 pub use fault::ServiceFault;
 pub use laws::{
     clients_of_the_loop_stay_apart, crashes_lose_no_call, nothing_is_due_before,
     services_order_no_stage_twice,
 };
+pub use listener::{AcceptOutcome, Listener, Readiness};
 pub use service::{Keeping, Service};
 pub use signals::{Signal, Signals};
 pub use times::Times;

@@ -6,8 +6,8 @@ use Rattle.std.proofs.lemmas.Bool.Decides.{nat_tests}
 use Rattle.std.proofs.lemmas.List.{take_more}
 use Rattle.std.proofs.lemmas.List.Elements.{Contains-push, Contains-push_cases, Contains-append_left}
 use Rattle.std.specs.List.{Contains}
-use Rattle.service_rules.specs.declared.places.Client.{Client}
-use Rattle.service_rules.specs.Places.{is_idle, goes_before, IsFirstToGo, HasNoneIdle}
+use Rattle.service_rules.specs.declared.slots.Client.{Client}
+use Rattle.service_rules.specs.ClientAdmission.{is_idle, goes_before, IsFirstToGo, HasNoneIdle}
 
 -- the first one to go, or none where none is idle
 abbrev pub FirstOf : ℕ → List Client → Option Client → Type 0

@@ -2,7 +2,7 @@
 use Rattle.std.proofs.Common.{◌≡◌, ℕ, ◌+◌, ◌-◌, ◌/◌, ◌≤◌, min, max, Bool, true, false, cond, nat_lt, refl, arith}
 use Rattle.std.proofs.lemmas.Bool.Decides.{nat_tests}
 use Rattle.service_rules.specs.Bounds.{first_look, last_look, look_parts}
-use Rattle.service_rules.specs.Looks.{first_after, pause_alone, pause_of}
+use Rattle.service_rules.specs.ChildPolling.{first_after, pause_alone, pause_of}
 
 pub ends_beside : (youngest ran all : ℕ) → youngest ≤ ran → ran ≤ all
     → ran + pause_of youngest ≤ all + max first_look (min (all / look_parts) last_look)

@@ -1,7 +1,7 @@
 pub mod Bounds
-pub mod Places
-pub mod Turns
-pub mod Looks
+pub mod ClientAdmission
+pub mod ClientBounds
+pub mod ChildPolling
 pub mod Clocks
 pub mod Checkpoints
 pub mod Purges

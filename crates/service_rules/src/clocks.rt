@@ -1,7 +1,7 @@
 //! When the service tells its engine what time it is.
 ghost use Rattle.std.specs.Prelude.{◌≡◌, ◌<◌, ◌≤◌, ◌+◌, ◌↔◌, IsSome, IfSome, None, Some};
 ghost use Rattle.spool_types.specs.Limits.{greatest_moment};
-ghost use Rattle.service_rules.specs.Clocks.{clock_to_tell, clock_wait, has_come, is_rested, second_behind, wait_for};
+ghost use Rattle.service_rules.specs.Clocks.{clock_to_announce, clock_wait, has_come, is_rested, second_behind, wait_for};
 
 use crate::bounds::{CLOCK_INTERVAL, LONGEST_WAIT};
 use spool_types::Moment;
@@ -22,8 +22,8 @@ pub struct Clocks {
 
 /// The moment that the service tells its engine before a tick, if any. Where nothing has come due, or the system's clock went
 /// back, it tells none, so that an idle service writes nothing.
-pub fn clock_to_tell(clocks: &Clocks) -> Option<Moment>
-    ensures value { result ≡ clock_to_tell clocks.now }
+pub fn clock_to_announce(clocks: &Clocks) -> Option<Moment>
+    ensures value { result ≡ clock_to_announce clocks.now }
     ensures forward { IfSome result (λ moment. clocks.now.table < moment) }
     ensures system { IfSome result (λ moment. moment ≡ clocks.now.system) }
     ensures later { IfSome result (λ moment. IfSome clocks.now.told (λ told. told < moment)) }
@@ -45,7 +45,7 @@ pub fn clock_wait(clocks: &Clocks, millis: u64) -> Option<u64>
     ensures value { result ≡ clock_wait clocks.now clocks.now.due millis }
 
     // It is over exactly where there is something to tell, so the service doesn't turn without doing anything.
-    ensures over { millis < 1000 → ((result ≡ Some 0) ↔ IsSome (clock_to_tell clocks.now)) }
+    ensures over { millis < 1000 → ((result ≡ Some 0) ↔ IsSome (clock_to_announce clocks.now)) }
 {
     let due = clocks.due?;
     let behind = (clocks.table.get() + 1).max(second_behind(clocks.told));

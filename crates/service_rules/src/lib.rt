@@ -15,7 +15,7 @@
 //!   64 milliseconds, and none exactly where none runs. One that is alone is looked at first when about as long has passed as the one
 //!   before it ran, or 2 milliseconds. [`ends_are_seen_soon`]: so an end is seen after a sixteenth of the time that the child ran, or
 //!   0.05 ms, or at its first look. [`poll_wait`]: the earlier of two ends of a wait. [`pause_for`]: how it is waited.
-//! - [`clock_to_tell`]: the system's second exactly where something has come due, the table's moment is earlier, and no clock
+//! - [`clock_to_announce`]: the system's second exactly where something has come due, the table's moment is earlier, and no clock
 //!   was told in that second. [`clock_wait`]: the time until then; it is over exactly where there is a clock to tell (`over`).
 //! - [`is_wanted`]: a checkpoint is made exactly where the journal is short or an event was Full, another one may free something,
 //!   and the last one has been paid for. [`room_in`]: it is short by what the last one left, and before the first by its area.
@@ -35,15 +35,15 @@ pub mod bounds;
 mod checkpoints;
 mod clocks;
 mod looks;
-mod places;
 mod purges;
+mod slots;
 mod starts;
 mod turns;
 
 pub use checkpoints::{Checkpoint, Room, checkpoints_cost_little, is_wanted, room_in};
-pub use clocks::{Clocks, clock_to_tell, clock_wait};
+pub use clocks::{Clocks, clock_to_announce, clock_wait};
 pub use looks::{Pause, ends_are_seen_soon, next_look, pause_for, poll_wait};
-pub use places::{Admission, Client, admit, first_to_go};
 pub use purges::{Candidate, Purges, jobs_to_purge, purge_count, swept_jobs_are_skipped, swept_to};
+pub use slots::{Admission, Client, admit, first_to_go};
 pub use starts::starts_left;
 pub use turns::is_served_on;

@@ -2,7 +2,7 @@
 ghost use Rattle.std.specs.Prelude.{◌≡◌, ℕ, ◌+◌, ◌*◌, ◌/◌, ◌≤◌, ◌↔◌, max, min, IfSome};
 ghost use Rattle.std.specs.Option.{IsNone};
 ghost use Rattle.service_rules.specs.Bounds.{first_look, last_look, longest_first, look_parts, millisecond};
-ghost use Rattle.service_rules.specs.Looks.{first_after, next_look, pause_alone, pause_for, pause_of, poll_wait};
+ghost use Rattle.service_rules.specs.ChildPolling.{first_after, next_look, pause_alone, pause_for, pause_of, poll_wait};
 
 use crate::bounds::{FIRST_LOOK, LAST_LOOK, LONGEST_FIRST, LOOK_PARTS, MILLISECOND};
 

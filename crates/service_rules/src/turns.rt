@@ -1,6 +1,6 @@
 //! The turn of a client.
 ghost use Rattle.std.specs.Prelude.{◌≡◌};
-ghost use Rattle.service_rules.specs.Turns.{is_served_on};
+ghost use Rattle.service_rules.specs.ClientBounds.{is_served_on};
 
 use crate::bounds::{MOST_COMMANDS, MOST_UNREAD};
 

@@ -6,12 +6,12 @@ use Rattle.std.specs.List.{list_any}
 use Rattle.std.proofs.lemmas.Bool.{eqb-true}
 use Rattle.line_words.specs.Blanks.{is_blank, after_blanks, word_here, behind_word, first_word}
 use Rattle.line_words.specs.Quotes.{is_quote, quoted}
-use Rattle.command_lines.specs.Words.{Front, broken, word, with_word, bare_word, quoted_word, front_here, next_word, after_front, words_of}
-use Rattle.command_lines.specs.Grammar.{is_word, line_of, or_malformed, kind_of_words, is_remark, kind_of}
+use Rattle.command_lines.specs.CommandWords.{Front, broken, word, with_word, bare_word, quoted_word, front_here, next_word, after_front, words_of}
+use Rattle.command_lines.specs.CommandGrammar.{is_word, line_of, or_malformed, kind_of_words, is_remark, kind_of}
 use Rattle.command_lines.specs.declared.command.Command.TheVariants.{Malformed}
 use Rattle.command_lines.specs.declared.command.Kind.{Kind}
 use Rattle.command_lines.specs.declared.command.Kind.TheVariants.{Remark, Says}
-use Rattle.service_texts.specs.Words.{own_word}
+use Rattle.service_texts.specs.ServiceWords.{own_word}
 use Rattle.service_texts.specs.declared.own_words.OwnWord.{OwnWord}
 
 -- ## A line whose first word is the name of no command

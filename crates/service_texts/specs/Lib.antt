@@ -1,3 +1,3 @@
-pub mod Words
+pub mod ServiceWords
 pub mod Shown
-pub mod Changes
+pub mod Notices

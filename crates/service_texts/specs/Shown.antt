@@ -56,14 +56,14 @@ phase_text Completed = []
 phase_text Canceled = []
 phase_text (Aborted reason) = []
 
-abbrev pub standing_text : ℕ → Phase → List ℕ
-standing_text now phase = state_text now phase ++ hold_text (hold_of phase) ++ phase_text phase
+abbrev pub state_and_phase_text : ℕ → Phase → List ℕ
+state_and_phase_text now phase = state_text now phase ++ hold_text (hold_of phase) ++ phase_text phase
 
 abbrev pub job_request : Job → List ℕ
 job_request r = job_names r ++ job_wishes r ++ job_ranks r
 
 abbrev pub job_progress : ℕ → Job → List ℕ
-job_progress now r = job_counts r ++ job_marks r ++ standing_text now r.phase
+job_progress now r = job_counts r ++ job_marks r ++ state_and_phase_text now r.phase
 
 abbrev pub no_job : List ℕ
 no_job = codes "error job\n"

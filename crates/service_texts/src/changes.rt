@@ -1,6 +1,6 @@
 //! What has changed, for those who watch.
 ghost use Rattle.std.specs.Prelude.{◌≡◌, ◌++◌, [], OnOk, OnErr};
-ghost use Rattle.service_texts.specs.Changes.{nothing_noted, with_job, with_queue, with_event, with_stages, with_other, with_others, told};
+ghost use Rattle.service_texts.specs.Notices.{nothing_noted, with_job, with_queue, with_event, with_stages, with_other, with_others, told};
 
 use crate::notes::Notes;
 use crate::stages::{Stage, is_among, stages_in};
@@ -19,7 +19,7 @@ pub struct Changes {
 }
 
 impl Model for Changes {
-    ghost use Rattle.service_texts.specs.Changes.{Watched};
+    ghost use Rattle.service_texts.specs.Notices.{Watched};
 
     ghost Value = { Watched };
 
@@ -80,7 +80,7 @@ impl Changes {
 
     /// Adds a line for each job, and then for each queue, in the order in which they were noted: that of the listing, as it is
     /// now, or `gone job N` and `gone queue NAME`. Then comes `missed`, if some were. Nothing is noted any more.
-    pub fn tell(&mut self, table: &Table, text: &mut Vec<u8>) -> Result<(), AllocError>
+    pub fn append_notices(&mut self, table: &Table, text: &mut Vec<u8>) -> Result<(), AllocError>
         ensures told { OnOk result (text.new.items ≡ text.old.items ++ told table.now.state self.old.noted) }
         ensures none { OnOk result (self.new.noted ≡ nothing_noted) }
         ensures stages { self.new.stages ≡ self.old.stages }

@@ -1,7 +1,7 @@
 //! The replies about one job.
 ghost use Rattle.std.specs.Prelude.{◌≡◌, ◌++◌, IfOk, OnOk, option_copied};
 ghost use Rattle.std.specs.Option.{option_map};
-ghost use Rattle.service_texts.specs.Shown.{by_text, has_settled, hold_text, job_counts, job_marks, job_names, job_progress, job_ranks, job_request, job_wishes, media_text, phase_text, shown_job, standing_text, state_text, told_job};
+ghost use Rattle.service_texts.specs.Shown.{by_text, has_settled, hold_text, job_counts, job_marks, job_names, job_progress, job_ranks, job_request, job_wishes, media_text, phase_text, shown_job, state_and_phase_text, state_text, told_job};
 
 use command_lines::{push_job, push_quoted};
 use job_table::Table;
@@ -89,7 +89,7 @@ fn push_progress(text: &mut Vec<u8>, job: &Job, now: &Moment) -> Result<(), Allo
 {
     push_counts(text, job)?;
     push_marks(text, job)?;
-    push_standing(text, &job.phase, now)
+    push_state_and_phase(text, &job.phase, now)
 }
 
 fn push_counts(text: &mut Vec<u8>, job: &Job) -> Result<(), AllocError>
@@ -128,8 +128,8 @@ fn push_by(text: &mut Vec<u8>, by: Option<Moment>) -> Result<(), AllocError>
     write!(text, "by {moment}\n").map_err(|_| AllocError)
 }
 
-fn push_standing(text: &mut Vec<u8>, phase: &Phase, now: &Moment) -> Result<(), AllocError>
-    ensures { OnOk result (text.new.items ≡ text.old.items ++ standing_text now.now phase.now) }
+fn push_state_and_phase(text: &mut Vec<u8>, phase: &Phase, now: &Moment) -> Result<(), AllocError>
+    ensures { OnOk result (text.new.items ≡ text.old.items ++ state_and_phase_text now.now phase.now) }
 {
     push_state(text, phase, now)?;
     push_hold(text, phase.hold())?;

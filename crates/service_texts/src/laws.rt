@@ -1,9 +1,9 @@
 //! The service's own words beside the commands of the engine.
 ghost use Rattle.std.specs.Prelude.{◌≡◌, ℕ, List, Some};
-ghost use Rattle.command_lines.specs.Grammar.{kind_of};
+ghost use Rattle.command_lines.specs.CommandGrammar.{kind_of};
 ghost use Rattle.command_lines.specs.declared.command.Command.{Command};
 ghost use Rattle.command_lines.specs.declared.command.Kind.{Kind};
-ghost use Rattle.service_texts.specs.Words.{own_word};
+ghost use Rattle.service_texts.specs.ServiceWords.{own_word};
 ghost use Rattle.service_texts.specs.declared.own_words.OwnWord.{OwnWord};
 
 use command_lines::word_by_word;

@@ -17,7 +17,7 @@
 //! - [`shown_job`], [`job_told`]: the bytes of each reply, of the state of the table alone (`Shown`: `shown_job`, `told_job`).
 //!   [`has_settled`]: whether a wait is over (`has_settled`).
 //! - [`Changes`] notes jobs and queues, each once in the order in which they are noted, and at most 256 (`Changes`: `with_job`,
-//!   `with_queue`, `with_event`). Beyond these it remembers that some were missed. [`Changes::tell`] adds the line of each as it
+//!   `with_queue`, `with_event`). Beyond these it remembers that some were missed. [`Changes::append_notices`] adds the line of each as it
 //!   is then (`told`), and nothing is noted any more.
 //!
 //! # Faults

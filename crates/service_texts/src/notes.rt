@@ -1,7 +1,7 @@
 //! Jobs and queues that are noted.
 ghost use Rattle.std.specs.Prelude.{◌≡◌, ◌++◌, IfOk, OnOk, OnErr};
 ghost use Rattle.std.specs.List.{flat_map};
-ghost use Rattle.service_texts.specs.Changes.{nothing_noted, is_full, has_job, has_queue, with_job, with_queue, with_event, with_both, job_told, queue_told, missed_text, told};
+ghost use Rattle.service_texts.specs.Notices.{nothing_noted, is_full, has_job, has_queue, with_job, with_queue, with_event, with_both, job_told, queue_told, missed_text, told};
 
 use command_lines::{push_job, push_queue};
 use job_table::Table;
@@ -23,7 +23,7 @@ pub(crate) struct Notes {
 }
 
 impl Model for Notes {
-    ghost use Rattle.service_texts.specs.Changes.{Noted};
+    ghost use Rattle.service_texts.specs.Notices.{Noted};
 
     ghost Value = { Noted };
 

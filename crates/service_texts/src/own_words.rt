@@ -1,7 +1,7 @@
 //! The words that a line says to the service alone.
 ghost use Rattle.std.specs.Prelude.{◌≡◌};
-ghost use Rattle.command_lines.specs.Grammar.{job_in};
-ghost use Rattle.service_texts.specs.Words.{own_word, lone_word, lone_job, is_blank_line};
+ghost use Rattle.command_lines.specs.CommandGrammar.{job_in};
+ghost use Rattle.service_texts.specs.ServiceWords.{own_word, lone_word, lone_job, is_blank_line};
 
 use command_lines::job_number;
 use line_words::first_word;

@@ -1,6 +1,6 @@
 //! The stages that run.
 ghost use Rattle.std.specs.Prelude.{◌≡◌, IfOk};
-ghost use Rattle.service_texts.specs.Changes.{stages_in, queue_stage, is_among};
+ghost use Rattle.service_texts.specs.Notices.{stages_in, queue_stage, is_among};
 
 use job_table::Table;
 use spool_types::{JobId, Phase, QueueName};

@@ -3,10 +3,10 @@ use Rattle.std.proofs.Common.{◌≡◌, ◌≢◌, ℕ, zero, suc, ◌<◌, Lis
 use Rattle.std.proofs.lemmas.Bool.{cases_lt, le-leb, lt-leb}
 use Rattle.std.specs.Prelude.{cond, nat_le}
 use Rattle.std.specs.Int.{w16, from_be_bytes}
-use Rattle.side_channel.specs.Answers.{Reply, answer_of, reply_bytes}
-use Rattle.side_channel.specs.Sessions.{Session, session, ends, after}
-use Rattle.side_channel.specs.Pieces.{Answered, Finished, TakesAll, Turn, Wanting, answer_for, to_come, told_in, took_in}
-use Rattle.side_channel.specs.Bytes.{Comes, IsHeld, Reaches, after_head}
+use Rattle.side_channel.specs.SideAnswers.{Reply, answer_of, reply_bytes}
+use Rattle.side_channel.specs.SideSessions.{Session, session, ends, after}
+use Rattle.side_channel.specs.SessionPieces.{Answered, Finished, TakesAll, Exchange, Wanting, answer_for, to_come, told_in, took_in}
+use Rattle.side_channel.specs.SessionBytes.{Comes, IsHeld, Reaches, after_head}
 use Rattle.side_channel.specs.declared.devices.Device.{Device}
 use Rattle.side_channel.specs.declared.endings.Ending.TheVariants.{End}
 use Rattle.side_channel.specs.declared.endings.SideFault.TheVariants.{Cut}
@@ -75,7 +75,7 @@ finishes old piece count new r d = record { within = r.within; ends = r.comes.1 
 
 -- ---- all pieces
 
-all_taken : (d : Device) (old new : Held) (turns : List Turn) (more : List ℕ) → TakesAll d old turns new → to_come d old (took_in turns ++ more) ≡ after (told_in turns) (to_come d new more)
+all_taken : (d : Device) (old new : Held) (exchanges : List Exchange) (more : List ℕ) → TakesAll d old exchanges new → to_come d old (took_in exchanges ++ more) ≡ after (told_in exchanges) (to_come d new more)
 all_taken d old new [] more same = ap (λ h. to_come d h more) (sym same)
 all_taken d old new (t ∷ ts) more (next, takes, others) =
     ap (to_come d old) (append_assoc t.bytes (took_in ts) more)
@@ -83,10 +83,10 @@ all_taken d old new (t ∷ ts) more (next, takes, others) =
     ∙ ap (after t.answers) (all_taken d next new ts more others)
     ∙ after_both t.answers (told_in ts) (to_come d new more)
 
-pub any_turns : (d : Device) (begun new : Held) (turns : List Turn) (more : List ℕ) → ((bytes : List ℕ) → to_come d begun bytes ≡ session d bytes) → TakesAll d begun turns new → session d (took_in turns ++ more) ≡ after (told_in turns) (to_come d new more)
-any_turns d begun new turns more first all = sym (first (took_in turns ++ more)) ∙ all_taken d begun new turns more all
+pub any_turns : (d : Device) (begun new : Held) (exchanges : List Exchange) (more : List ℕ) → ((bytes : List ℕ) → to_come d begun bytes ≡ session d bytes) → TakesAll d begun exchanges new → session d (took_in exchanges ++ more) ≡ after (told_in exchanges) (to_come d new more)
+any_turns d begun new exchanges more first all = sym (first (took_in exchanges ++ more)) ∙ all_taken d begun new exchanges more all
 
-pub any_end : (d : Device) (begun mid new : Held) (turns : List Turn) (piece : List ℕ) (count : ℕ) (more : List ℕ) → ((bytes : List ℕ) → to_come d begun bytes ≡ session d bytes) → TakesAll d begun turns mid → Finished d mid piece count new
-    → session d (took_in turns ++ (take count piece ++ more)) ≡ after (told_in turns) (ends (Ok End) more)
-any_end d begun mid new turns piece count more first all end =
-    any_turns d begun mid turns (take count piece ++ more) first all ∙ ap (after (told_in turns)) (end.ends more)
+pub any_end : (d : Device) (begun mid new : Held) (exchanges : List Exchange) (piece : List ℕ) (count : ℕ) (more : List ℕ) → ((bytes : List ℕ) → to_come d begun bytes ≡ session d bytes) → TakesAll d begun exchanges mid → Finished d mid piece count new
+    → session d (took_in exchanges ++ (take count piece ++ more)) ≡ after (told_in exchanges) (ends (Ok End) more)
+any_end d begun mid new exchanges piece count more first all end =
+    any_turns d begun mid exchanges (take count piece ++ more) first all ∙ ap (after (told_in exchanges)) (end.ends more)

@@ -2,8 +2,8 @@
 use Rattle.std.proofs.Common.{◌≡◌, ℕ, ◌<◌, ◌^◌, List, [], ◌∷◌, ◌++◌, length, Ok, refl, ap, ◌∙◌, arith, append_assoc}
 use Rattle.std.proofs.lemmas.Nat.{from_be_bytes-to_be_bytes_2}
 use Rattle.side_channel.specs.Packets.{with_data, whole, front_of, kept, spelling}
-use Rattle.side_channel.specs.Answers.{answer_of, reply_bytes}
-use Rattle.side_channel.specs.Sessions.{session, ends, after}
+use Rattle.side_channel.specs.SideAnswers.{answer_of, reply_bytes}
+use Rattle.side_channel.specs.SideSessions.{session, ends, after}
 use Rattle.side_channel.specs.Requests.{Request, message_of, AreAsked, asked, told}
 use Rattle.side_channel.specs.declared.devices.Device.{Device}
 use Rattle.side_channel.specs.declared.endings.Ending.TheVariants.{End}

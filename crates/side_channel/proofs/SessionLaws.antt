@@ -6,8 +6,8 @@ use Rattle.std.specs.Int.{w16, from_be_bytes}
 use Rattle.std.specs.Io.KnownBytes.{Appends, Consumes, IsAtEnd}
 use lib.Seq.{take-append_seam, take-append-add, take-append-le}
 use Rattle.side_channel.specs.Packets.{Message, Front, nothing, cut, whole, front_of, kept, IsShort, is_end}
-use Rattle.side_channel.specs.Answers.{Reply, answer_of, reply_bytes}
-use Rattle.side_channel.specs.Sessions.{Session, ends, after, from_packet, from_front, session_within, session}
+use Rattle.side_channel.specs.SideAnswers.{Reply, answer_of, reply_bytes}
+use Rattle.side_channel.specs.SideSessions.{Session, ends, after, from_packet, from_front, session_within, session}
 use Rattle.whole_writes.specs.Writes.{WroteSome}
 use Rattle.side_channel.specs.Streams.{ReadWhole, ReadNothing, ReadsPacket, WritesPacket, WroteFront, Tells, Ended, IsAnswered, HoldsSession, AnswersWhatItRead}
 use Rattle.side_channel.specs.declared.devices.Device.{Device}

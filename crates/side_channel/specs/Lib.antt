@@ -1,8 +1,8 @@
 pub mod Packets
-pub mod Answers
-pub mod Sessions
+pub mod SideAnswers
+pub mod SideSessions
 pub mod Streams
-pub mod Seen
+pub mod AnswerFields
 pub mod Requests
-pub mod Pieces
-pub mod Bytes
+pub mod SessionPieces
+pub mod SessionBytes

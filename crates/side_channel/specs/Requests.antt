@@ -2,7 +2,7 @@
 use Rattle.std.specs.Prelude.{◌≡◌, ℕ, ◌<◌, ◌^◌, false, List, [], ◌∷◌, length}
 use Rattle.std.specs.List.{flat_map}
 use Rattle.side_channel.specs.Packets.{Message, spelling, kept, is_end}
-use Rattle.side_channel.specs.Answers.{answer_of, reply_bytes}
+use Rattle.side_channel.specs.SideAnswers.{answer_of, reply_bytes}
 use Rattle.side_channel.specs.declared.devices.Device.{Device}
 
 -- a request with all of its data

@@ -4,7 +4,7 @@ use Rattle.std.specs.Prelude.{Option, None, Some, Result, Ok, Err}
 use Rattle.std.specs.Io.KnownBytes.{Appends, Consumes, IsAtEnd}
 use Rattle.whole_writes.specs.Writes.{WroteSome}
 use Rattle.side_channel.specs.Packets.{Message, IsShort, kept, front_of, cut, whole}
-use Rattle.side_channel.specs.Sessions.{Session, session}
+use Rattle.side_channel.specs.SideSessions.{Session, session}
 use Rattle.side_channel.specs.declared.devices.Device.{Device}
 use Rattle.side_channel.specs.declared.endings.Ending.{Ending}
 use Rattle.side_channel.specs.declared.endings.SideFault.{SideFault}

@@ -1,7 +1,7 @@
 //! What a device answers.
 ghost use Rattle.std.specs.Prelude.{◌≡◌, ℕ, List};
-ghost use Rattle.side_channel.specs.Answers.{answer_of, row_of};
-ghost use Rattle.side_channel.specs.Seen.{reply_of, content_of};
+ghost use Rattle.side_channel.specs.SideAnswers.{answer_of, row_of};
+ghost use Rattle.side_channel.specs.AnswerFields.{reply_of, content_of};
 
 use crate::codes::{Command, Status};
 use crate::devices::Device;

@@ -1,6 +1,6 @@
 //! The numbers of the side channel (cups/sidechannel.h).
 ghost use Rattle.std.specs.Prelude.{◌≡◌, Some};
-ghost use Rattle.side_channel.specs.Answers.{command_of, status_byte};
+ghost use Rattle.side_channel.specs.SideAnswers.{command_of, status_byte};
 
 /// What a request asks for.
 #[derive(Clone, Copy, Debug, PartialEq, Eq)]

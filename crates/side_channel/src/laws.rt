@@ -1,9 +1,9 @@
 //! Laws of packets and sessions, which no call needs.
 ghost use Rattle.std.specs.Prelude.{◌≡◌, ℕ, ◌<◌, ◌^◌, List, [], ◌∷◌, ◌++◌, length, take, Ok, Err};
 ghost use Rattle.side_channel.specs.Packets.{spelling, kept, front_of, whole, cut};
-ghost use Rattle.side_channel.specs.Sessions.{session, ends, after};
+ghost use Rattle.side_channel.specs.SideSessions.{session, ends, after};
 ghost use Rattle.side_channel.specs.Requests.{Request, AreAsked, asked, told};
-ghost use Rattle.side_channel.specs.Pieces.{Finished, TakesAll, Turn, to_come, told_in, took_in};
+ghost use Rattle.side_channel.specs.SessionPieces.{Finished, TakesAll, Exchange, to_come, told_in, took_in};
 ghost use Rattle.side_channel.specs.declared.devices.Device.{Device as AnyDevice};
 ghost use Rattle.side_channel.specs.declared.endings.Ending.TheVariants.{End, Stopped};
 ghost use Rattle.side_channel.specs.declared.endings.SideFault.TheVariants.{Cut};
@@ -31,11 +31,11 @@ pub fn answers_are_joined()
 /// A session that began before any byte has the answers of all bytes that it took, however they were cut; and the end
 /// packet ends it as it ends the session of all of them.
 pub fn any_pieces()
-    ensures answers { (d : AnyDevice) (begun fed : Held) (turns : List Turn) (more : List ℕ) →
-        ((bytes : List ℕ) → to_come d begun bytes ≡ session d bytes) → TakesAll d begun turns fed →
-        session d (took_in turns ++ more) ≡ after (told_in turns) (to_come d fed more) }
-    ensures end { (d : AnyDevice) (begun fed over : Held) (turns : List Turn) (piece : List ℕ) (count : ℕ) (more : List ℕ) →
-        ((bytes : List ℕ) → to_come d begun bytes ≡ session d bytes) → TakesAll d begun turns fed →
+    ensures answers { (d : AnyDevice) (begun fed : Held) (exchanges : List Exchange) (more : List ℕ) →
+        ((bytes : List ℕ) → to_come d begun bytes ≡ session d bytes) → TakesAll d begun exchanges fed →
+        session d (took_in exchanges ++ more) ≡ after (told_in exchanges) (to_come d fed more) }
+    ensures end { (d : AnyDevice) (begun fed over : Held) (exchanges : List Exchange) (piece : List ℕ) (count : ℕ) (more : List ℕ) →
+        ((bytes : List ℕ) → to_come d begun bytes ≡ session d bytes) → TakesAll d begun exchanges fed →
         Finished d fed piece count over →
-        session d (took_in turns ++ (take count piece ++ more)) ≡ after (told_in turns) (ends (Ok End) more) }
+        session d (took_in exchanges ++ (take count piece ++ more)) ≡ after (told_in exchanges) (ends (Ok End) more) }
 {}

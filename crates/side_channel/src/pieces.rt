@@ -1,8 +1,8 @@
 //! A session whose bytes come in pieces.
 ghost use Rattle.std.specs.Prelude.{◌≡◌, [], ◌∷◌, List, ℕ};
-ghost use Rattle.side_channel.specs.Bytes.{Comes, IsOn, Reaches, after_head};
-ghost use Rattle.side_channel.specs.Pieces.{Feeds, answer_for, to_come};
-ghost use Rattle.side_channel.specs.Sessions.{after, ends, session};
+ghost use Rattle.side_channel.specs.SessionBytes.{Comes, IsOn, Reaches, after_head};
+ghost use Rattle.side_channel.specs.SessionPieces.{Feeds, answer_for, to_come};
+ghost use Rattle.side_channel.specs.SideSessions.{after, ends, session};
 ghost use Rattle.side_channel.specs.declared.devices.Device.{Device as AnyDevice};
 
 use crate::answers::answer_to;
@@ -64,7 +64,7 @@ pub struct Session {
 
 impl Model for Session {
     ghost use Rattle.side_channel.specs.declared.pieces.Held.{Held as AnyHeld};
-    ghost use Rattle.side_channel.specs.Bytes.{IsHeld};
+    ghost use Rattle.side_channel.specs.SessionBytes.{IsHeld};
 
     ghost Value = { AnyHeld };
 

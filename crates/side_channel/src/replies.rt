@@ -1,5 +1,5 @@
 //! An answer to a request.
-ghost use Rattle.side_channel.specs.Answers.{reply_bytes};
+ghost use Rattle.side_channel.specs.SideAnswers.{reply_bytes};
 ghost use Rattle.side_channel.specs.Streams.{WritesPacket};
 
 use crate::codes::Status;
@@ -26,7 +26,7 @@ pub struct Answer<'a> {
 }
 
 impl Answer<'_> {
-    ghost use Rattle.side_channel.specs.Seen.{reply_of};
+    ghost use Rattle.side_channel.specs.AnswerFields.{reply_of};
 
     /// Writes the answer as a packet, at once where the writer takes it so.
     pub fn write<W: Write>(&self, writer: &mut W) -> Result<(), SideFault>

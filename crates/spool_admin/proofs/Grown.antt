@@ -4,7 +4,7 @@ use Rattle.std.specs.Prelude.{Result, Ok, Err, OnOk, IsSome, is_err}
 use Rattle.spool_types.specs.State.{State}
 use Rattle.spool_disk.specs.Disk.{DiskView, IsLawful, LeavesOnly}
 use Rattle.spool_disk.proofs.Moments.{at_return}
-use Rattle.job_table.specs.Versions.{raised}
+use Rattle.job_table.specs.TableVersions.{raised}
 use Rattle.spool_core.specs.Image.{HasDocuments}
 
 -- what is said of a value holds where there is no error

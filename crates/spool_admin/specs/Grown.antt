@@ -1,7 +1,7 @@
 -- What a larger disk has of the spool that it was made from.
 use Rattle.std.specs.Prelude.{ℕ, List, ◌++◌, take, drop}
 use Rattle.spool_types.specs.State.{State}
-use Rattle.job_table.specs.Versions.{raised}
+use Rattle.job_table.specs.TableVersions.{raised}
 use Rattle.spool_core.specs.Image.{HasDocuments, HasTable, IsReopenedFrom}
 
 -- so many of these bytes, from a place on, over the first ones of the others

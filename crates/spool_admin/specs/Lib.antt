@@ -1,7 +1,7 @@
-pub mod Found
+pub mod DiskContents
 pub mod Grown
 pub mod Look
-pub mod Faults
-pub mod Halves
+pub mod AdminFaults
+pub mod HalfImages
 pub mod Record
-pub mod Words
+pub mod AdminArguments

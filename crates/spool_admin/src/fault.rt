@@ -1,14 +1,14 @@
 //! Why the program ends with status 1.
 ghost use Rattle.std.specs.Prelude.{◌≡◌, OnErr, OnOk};
 ghost use Rattle.std.specs.Process.{exit_status};
-ghost use Rattle.spool_host.specs.Faults.{of_opening};
-ghost use Rattle.spool_host.specs.declared.fault.ShellFault.TheVariants.{Memory};
-ghost use Rattle.spool_admin.specs.Faults.{of_checkpoint, of_half};
+ghost use Rattle.spool_runtime.specs.ProgramFaults.{of_opening};
+ghost use Rattle.spool_runtime.specs.declared.fault.ShellFault.TheVariants.{Memory};
+ghost use Rattle.spool_admin.specs.AdminFaults.{of_checkpoint, of_half};
 ghost use Rattle.spool_admin.specs.declared.fault.AdminFault.TheVariants.{Shell};
 
 use spool_core::{CheckpointFault, OpenFault};
 use spool_halves::HalfFault;
-use spool_host::{DiskCause, ShellFault, tell_end};
+use spool_runtime::{DiskCause, ShellFault, report_end};
 use std::alloc::AllocError;
 use std::process::ExitCode;
 use thiserror::Error;
@@ -91,13 +91,13 @@ impl From<CheckpointFault> for AdminFault {
 }
 
 /// Tells how the program ended, on standard error and by the status.
-pub fn tell_admin_end<R: Eprint>(rt: &R, ended: Result<(), AdminFault>) -> ExitCode
+pub fn report_admin_end<R: Eprint>(rt: &R, ended: Result<(), AdminFault>) -> ExitCode
     ensures ok { OnOk ended (exit_status result ≡ 0) }
     ensures fault { OnErr ended (exit_status result ≡ 1) }
 {
     match ended {
-        Ok(()) => tell_end(rt, Ok(())),
-        Err(AdminFault::Shell(fault)) => tell_end(rt, Err(fault)),
+        Ok(()) => report_end(rt, Ok(())),
+        Err(AdminFault::Shell(fault)) => report_end(rt, Err(fault)),
         Err(fault) => {
             let _ = eprintln!(rt; "spool: {fault}");
             ExitCode::FAILURE

@@ -1,10 +1,10 @@
 //! A folder that is owned, and the names in it.
 ghost use Rattle.std.specs.Prelude.{IfErr, OnOk, replicate};
 ghost use Rattle.std.specs.Io.KnownBytes.{Appends};
-ghost use Rattle.spool_host.specs.Faults.{IsOfFolder};
+ghost use Rattle.spool_runtime.specs.ProgramFaults.{IsOfFolder};
 
 use spool_disk::FileDisk;
-use spool_host::{ShellFault, SpoolFolder, remove_if_there};
+use spool_runtime::{ShellFault, SpoolFolder, remove_if_there};
 use std::fs::{File, Files, Metadata, OpenFile, OpenOptions};
 use std::io::{ErrorKind, Write};
 use std::os::unix::fs::{MetadataExt, OpenOptionsExt, fchown};

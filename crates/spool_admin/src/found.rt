@@ -4,7 +4,7 @@ ghost use Rattle.spool_types.specs.State.{State, job_of};
 ghost use Rattle.spool_disk.specs.Disk.{ChangesNothing};
 ghost use Rattle.spool_areas.specs.Header.{half};
 ghost use Rattle.spool_core.specs.Image.{HasTable, IsFaultOf};
-ghost use Rattle.spool_admin.specs.Found.{AreCounted, HasArea, HasCounts};
+ghost use Rattle.spool_admin.specs.DiskContents.{AreCounted, HasArea, HasCounts};
 
 use job_rows::Rows;
 use job_table::Table;

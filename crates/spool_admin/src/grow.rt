@@ -8,7 +8,7 @@ use crate::fault::AdminFault;
 use crate::found::{Found, find};
 use spool_core::{OpenError, OpenFault, Spool};
 use spool_disk::Disk;
-use spool_host::SpoolFolder;
+use spool_runtime::SpoolFolder;
 use std::alloc::Global;
 use std::fs::{File, Files};
 use std::time::Clock;

@@ -1,7 +1,7 @@
 //! Listing both halves of a spool.
 ghost use Rattle.std.specs.Prelude.{◌≡◌, IfOk, true, false};
 ghost use Rattle.spool_disk.specs.Disk.{ChangesNothing, IsSynced};
-ghost use Rattle.spool_admin.specs.Halves.{LeavesHalf};
+ghost use Rattle.spool_admin.specs.HalfImages.{LeavesHalf};
 
 use spool_core::Spool;
 use spool_disk::Disk;

@@ -4,7 +4,7 @@ ghost use Rattle.std.specs.Io.KnownBytes.{Appends};
 ghost use Rattle.spool_admin.specs.Look.{account_text, area_text, jobs_text, line_of};
 
 use crate::found::{Account, JobCounts, find};
-use spool_host::{ShellFault, SpoolFolder};
+use spool_runtime::{ShellFault, SpoolFolder};
 use std::alloc::{AllocError, Global};
 use std::fs::{File, Files};
 use std::io::Write;

@@ -53,13 +53,13 @@
 //!   old disk (`still`).
 //! - [`names::names_of`] gives the words as they are (`names`), and [`names::has_queues`] says whether the table has a queue of each.
 //! - [`record::part_in`] finds a part exactly where it was noted with these words (`some`, `none`).
-//! - [`fault::tell_admin_end`] is status 0 after `Ok` and 1 after a fault (`ok`, `fault`).
+//! - [`fault::report_admin_end`] is status 0 after `Ok` and 1 after a fault (`ok`, `fault`).
 //!
 //! That the steps of `grow` or of `split` are one, whatever cuts them, is shown by tests: a file of the system tells nothing of its bytes.
 //!
 //! # Faults
 //!
-//! Status 0, 1 and 2, and the lines on standard error, are those of `spool_host`. Besides its faults there are `smaller`, where BYTES
+//! Status 0, 1 and 2, and the lines on standard error, are those of `spool_runtime`. Besides its faults there are `smaller`, where BYTES
 //! is less than the file has; `full`, where the table, or a half of it, doesn't fit into half of the file; `queue`, where the spool has no
 //! such queue; `taken`, where INTO has a spool; `unfinished`, where a split with other words isn't finished; and `epoch-end`, where
 //! the spool has the greatest epoch. After a fault the old spool is there, as it was, but for one of the folder's last sync: then the new one has the name already.
@@ -77,12 +77,12 @@ mod record;
 mod split;
 mod words;
 
-use crate::fault::{AdminFault, tell_admin_end};
+use crate::fault::{AdminFault, report_admin_end};
 use crate::grow::grow;
 use crate::look::look;
 use crate::split::split;
 use crate::words::{Asked, read_words};
-use spool_host::{given_words, no_words, tell_words_fault};
+use spool_runtime::{given_words, no_words, report_words_fault};
 use std::process::ExitCode;
 
 fn main(rt: HostRuntime) -> ExitCode {
@@ -92,9 +92,9 @@ fn main(rt: HostRuntime) -> ExitCode {
     };
     let asked = match read_words(rt.alloc(), given.as_slice()) {
         Ok(asked) => asked,
-        Err(fault) => return tell_words_fault(&rt, &fault),
+        Err(fault) => return report_words_fault(&rt, &fault),
     };
-    tell_admin_end(&rt, done(&rt, asked))
+    report_admin_end(&rt, done(&rt, asked))
 }
 
 // Does what the words ask for.

@@ -3,7 +3,7 @@ ghost use Rattle.std.specs.Prelude.{◌≡◌, ◌⊎◌, ◌++◌, ◌∷◌, [
 ghost use Rattle.std.specs.List.{list_all};
 ghost use Rattle.spool_types.specs.State.{queue_at};
 ghost use Rattle.spool_types.specs.Values.{is_queue_name};
-ghost use Rattle.spool_host.specs.declared.fault.ShellFault.TheVariants.{Memory};
+ghost use Rattle.spool_runtime.specs.declared.fault.ShellFault.TheVariants.{Memory};
 ghost use Rattle.spool_admin.specs.declared.fault.AdminFault.TheVariants.{Queue, Shell};
 
 use crate::fault::AdminFault;

@@ -7,7 +7,7 @@ use crate::record::{noted, part_in, part_name, words_of};
 use crate::words::Split;
 use spool_core::Spool;
 use spool_disk::{Disk, FileDisk};
-use spool_host::{NamedDisk, ShellFault};
+use spool_runtime::{NamedDisk, ShellFault};
 use std::fs::{File, Files};
 use std::time::Clock;
 

@@ -2,13 +2,13 @@
 ghost use Rattle.std.specs.Prelude.{◌≡◌, [], IfNone, IfOk, IfSome, MatchResult, codes, false, map};
 ghost use Rattle.std.specs.Option.{option_map};
 ghost use Rattle.clap.specs.Words.{IsUnsignedIn, app_of, first_of, found_of, matches_of, rows_of, rule_of};
-ghost use Rattle.spool_host.specs.Words.{RefusesOnly, number_of};
-ghost use Rattle.spool_admin.specs.Words.{AreFaultless, ArePlaces, AreTaken, HasTask, IsAsked, IsFor, IsGrow, IsLook, IsOfTask, IsSize, IsSplit, admin_app, needed, rest_of, several};
+ghost use Rattle.spool_runtime.specs.ProgramArguments.{RefusesOnly, number_of};
+ghost use Rattle.spool_admin.specs.AdminArguments.{AreFaultless, ArePlaces, AreTaken, HasTask, IsAsked, IsFor, IsGrow, IsLook, IsOfTask, IsSize, IsSplit, admin_app, needed, rest_of, several};
 
 use clap::builder::ValueParser;
 use clap::error::ErrorKind;
 use clap::{Arg, ArgAction, ArgMatches, Command};
-use spool_host::{GREATEST_SIZE, LEAST_SIZE, WordsFault, words_fault};
+use spool_runtime::{GREATEST_SIZE, LEAST_SIZE, WordsFault, words_fault};
 use std::alloc::{AllocError, Global};
 use std::convert::AsStr;
 

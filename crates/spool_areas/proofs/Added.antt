@@ -19,7 +19,7 @@ use Rattle.spool_areas.specs.Header.{half, header_len, header_at, version_of, ep
 use Rattle.spool_areas.specs.Payloads.{HasPayloads, HasVersionAndPayloads, HasBeforeOrAfter, gate_after}
 use Rattle.spool_areas.specs.Current.{Current, KeepsPayloads}
 use Rattle.spool_areas.specs.AreaAppends.{AreaAppends, journal_of}
-use Rattle.spool_areas.specs.Seen.{current_of, IsInside}
+use Rattle.spool_areas.specs.AreaFields.{current_of, IsInside}
 use Rattle.spool_areas.specs.declared.areas.Areas.TheInside.{Inside}
 use Rattle.spool_areas.proofs.Sames.{IsBehindHeader, header_same, current_same, base_is}
 

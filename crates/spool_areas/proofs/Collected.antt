@@ -3,13 +3,13 @@ use Rattle.std.proofs.Common.{◌≡◌, ℕ, ◌+◌, ◌<◌, ◌≤◌, List,
 use Rattle.std.specs.Prelude.{is_ok, is_err, if◌then◌else◌}
 use Rattle.std.proofs.lemmas.List.{map-append}
 use Rattle.gate_journal.specs.Entries.{HasFirst}
-use Rattle.gate_journal.specs.Found.{GoesOn, LiesBefore, entry_at}
+use Rattle.gate_journal.specs.FoundEntries.{GoesOn, LiesBefore, entry_at}
 use Rattle.gate_journal.specs.declared.entry.Found.{Found}
 use Rattle.gate_journal.specs.declared.entry.Found.TheVariants.{Entry}
 use Rattle.extents.specs.declared.extent.Extent.{Extent}
 use Rattle.spool_areas.specs.Header.{half, header_len, current_area}
 use Rattle.spool_areas.specs.Payloads.{gate_after}
-use Rattle.spool_areas.specs.Extents.{bytes_of, payloads_at, Follow, HasRecords, EndsSo}
+use Rattle.spool_areas.specs.PayloadExtents.{bytes_of, payloads_at, Follow, HasRecords, EndsSo}
 
 pub none_first : (first : ℕ) (bytes : List ℕ) → HasFirst first first [] bytes
 none_first first bytes = record { short = tt; place_at = omega arith; rest = drop first bytes; stands = refl }

@@ -12,7 +12,7 @@ use Rattle.gate_journal.proofs.Steps.{short-push, begun}
 use Rattle.spool_areas.specs.Header.{header_len, header_behind_gate}
 use Rattle.spool_areas.specs.Payloads.{HasVersionAndPayloads}
 use Rattle.spool_areas.specs.Checkpoint.{HasHeader, HasOldOrNew, IsClosing, StandsNew, ChangesOver}
-use Rattle.spool_areas.specs.Filling.{Change, CanChange, HasWritten, Fills}
+use Rattle.spool_areas.specs.AreaFilling.{Change, CanChange, HasWritten, Fills}
 use Rattle.spool_areas.proofs.Filled.{told_same, header_kept}
 use Rattle.spool_areas.proofs.Changes.{part_two, part_three, ends_old, changed}
 

@@ -5,7 +5,7 @@ use Rattle.std.specs.Prelude.{if◌then◌else◌, nat_lt}
 use Rattle.spool_areas.specs.declared.fault.OpenFault.{OpenFault}
 use Rattle.spool_areas.specs.declared.fault.OpenFault.TheVariants.{NotASpool, Damaged, Memory, Disk}
 use Rattle.spool_areas.specs.Header.{half, least_area, header_at, chosen, current_area}
-use Rattle.spool_areas.specs.Extents.{IsHeaderFault}
+use Rattle.spool_areas.specs.PayloadExtents.{IsHeaderFault}
 
 test_below : {X : Type 0} (n : ℕ) (x y : X) → n < least_area → (if nat_lt n least_area then x else y) ≡ x
 test_below n x y short = grind (arith, nat_tests)

@@ -6,7 +6,7 @@ use Rattle.std.proofs.lemmas.Nat.{from_be_bytes-to_be_bytes_4}
 use Rattle.std.specs.Prelude.{if◌then◌else◌, ◌==◌, nat_lt}
 use Rattle.std.specs.Int.{w32, to_be_bytes, from_be_bytes}
 use Rattle.gate_journal.specs.Entries.{AreShort, records}
-use Rattle.gate_journal.specs.Found.{length_at, entry_at}
+use Rattle.gate_journal.specs.FoundEntries.{length_at, entry_at}
 use Rattle.gate_journal.specs.declared.entry.Found.{Found}
 use Rattle.gate_journal.specs.declared.entry.Found.TheVariants.{Entry, End, Damaged}
 use Rattle.gate_journal.proofs.Places.{records-append, at_end, same_size, regroup}

@@ -1,7 +1,7 @@
 -- What the current area holds: a list of payloads.
 use Rattle.std.specs.Prelude.{◌≡◌, ◌⊎◌, ◌<◌, ℕ, ◌+◌, List, [], ◌∷◌, ◌++◌, length, Ok}
 use Rattle.gate_journal.specs.Entries.{HasEntries, HasFirst, records}
-use Rattle.gate_journal.specs.Found.{entry_at}
+use Rattle.gate_journal.specs.FoundEntries.{entry_at}
 use Rattle.gate_journal.specs.declared.entry.Found.TheVariants as found
 use Rattle.spool_areas.specs.Header.{half, header_len, header_at, version_of, current_area}
 

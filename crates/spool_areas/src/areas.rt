@@ -4,7 +4,7 @@ ghost use Rattle.spool_disk.specs.Disk.{Blames, Reads, IsSynced, ChangesNothing,
 ghost use Rattle.gate_journal.specs.Appends.{kept_room};
 ghost use Rattle.gate_journal.specs.Window.{Holds};
 ghost use Rattle.spool_areas.specs.Header.{header_len, IsVersion};
-ghost use Rattle.spool_areas.specs.Seen.{IsArea};
+ghost use Rattle.spool_areas.specs.AreaFields.{IsArea};
 ghost use Rattle.spool_areas.specs.AreaAppends.{AreaAppends};
 ghost use Rattle.spool_areas.specs.Current.{KeepsPayloads};
 ghost use Rattle.spool_areas.specs.Checkpoint.{plan_of, frames_of, AreFrames, payloads_in, lengths_in, area_len, other_base, IsChanged, ChangesOver};
@@ -38,7 +38,7 @@ impl<D: Disk> Model for Areas<D> {
 
     ghost Value = { Current D };
 
-    ghost use Rattle.spool_areas.specs.Seen.{current_of, IsInside};
+    ghost use Rattle.spool_areas.specs.AreaFields.{current_of, IsInside};
 
     ghost view = { current_of };
 

@@ -7,7 +7,7 @@ ghost use Rattle.spool_areas.specs.Payloads.{gate_after};
 ghost use Rattle.gate_journal.specs.Journal.{base_of, end_of, place_of, is_dead};
 ghost use Rattle.gate_journal.specs.Frame.{payload_of};
 ghost use Rattle.spool_areas.specs.Checkpoint.{has_room, frames_of, payloads_in, lengths_in, IsFrame, AreFrames, HasHeader, Stands, StandsNew, ChangesOver};
-ghost use Rattle.spool_areas.specs.Filling.{sum_of};
+ghost use Rattle.spool_areas.specs.AreaFilling.{sum_of};
 ghost use Rattle.spool_areas.specs.Header.{half, least_area, header_len};
 
 use crate::filling::close_header;

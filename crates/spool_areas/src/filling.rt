@@ -5,7 +5,7 @@ ghost use Rattle.gate_journal.specs.Entries.{open_gate, record_of};
 ghost use Rattle.spool_areas.specs.Header.{header_len};
 ghost use Rattle.spool_areas.specs.Payloads.{HasVersionAndPayloads};
 ghost use Rattle.spool_areas.specs.Checkpoint.{IsClosing, StandsNew, ChangesOver};
-ghost use Rattle.spool_areas.specs.Filling.{Change, CanChange, Fills, change_of};
+ghost use Rattle.spool_areas.specs.AreaFilling.{Change, CanChange, Fills, change_of};
 
 use crate::header::{HEADER_LEN, header_behind_gate};
 use gate_journal::OPEN_GATE;

@@ -15,7 +15,7 @@ use Rattle.gate_journal.specs.Entries.{records}
 use Rattle.gate_journal.proofs.Places.{records-append}
 use Rattle.spool_areas.specs.Checkpoint.{area_len, other_base, other_of}
 use Rattle.spool_areas.specs.Current.{Current}
-use Rattle.spool_areas.specs.Filling.{Change, Fills, block_len}
+use Rattle.spool_areas.specs.AreaFilling.{Change, Fills, block_len}
 use Rattle.spool_areas.specs.Payloads.{HasVersionAndPayloads}
 use Rattle.spool_areas.specs.declared.fault.AreaFault.{AreaFault}
 use Rattle.spool_areas.specs.declared.fault.AreaFault.TheVariants as areas
@@ -26,8 +26,8 @@ use Rattle.job_table.specs.Contents.{Contents, places_at, places_of}
 use Rattle.job_table.specs.Over.{is_over}
 use Rattle.spool_types.specs.State.{State}
 use Rattle.documents.specs.Documents.{LieIn}
-use Rattle.spool_core.specs.Seen.{DocumentsLieIn}
-use Rattle.spool_core.specs.Filling.{block_room, Filling, filling, records_len, free_head, IsPut, IsChangeOf, MayFill, IsFillingOn, AddsRows, TellsBut, IsReadOn}
+use Rattle.spool_core.specs.SpoolFields.{DocumentsLieIn}
+use Rattle.spool_core.specs.ListingFilling.{block_room, Filling, filling, records_len, free_head, IsPut, IsChangeOf, MayFill, IsFillingOn, AddsRows, TellsBut, IsReadOn}
 use Rattle.spool_core.proofs.ImageLaws.{area_on}
 use Rattle.spool_types.specs.declared.rows.QueueRow.{QueueRow}
 use Rattle.spool_types.specs.declared.listing.Row.TheVariants.{Queue}

@@ -17,14 +17,14 @@ use Rattle.spool_disk.specs.Disk.{DiskView, IsLawful}
 use Rattle.gate_journal.specs.Entries.{records}
 use Rattle.event_codec.specs.RowSpelling.{row_spelling}
 use Rattle.job_table.specs.Contents.{Contents, Noted, AreSized, HasNoMoves, move_room, places_at, places_of}
-use Rattle.job_table.specs.Documents.{AreDocuments, document_len}
+use Rattle.job_table.specs.DocumentLengths.{AreDocuments, document_len}
 use Rattle.job_table.specs.Listing.{head_of, job_rows, listing}
 use Rattle.documents.specs.Documents.{joined}
 use Rattle.documents.specs.Placed.{placed_pieces}
 use Rattle.spool_core.specs.Checkpointing.{MayBeListed, blank, blank_rows}
-use Rattle.spool_core.specs.Filling.{Filling, next_place, records_len, rows_of, lying, AreAlike, HasMoveRoom, MayFill, IsFillingOn, AddsRows, TellsBut, IsDue, IsDocumentAdded, IsDocumentNoted, AreJobsAdded, AreJobsNoted, IsListingAdded, AreDocumentsNoted}
-use Rattle.spool_core.specs.Seen.{DocumentsLieIn}
-use Rattle.spool_core.specs.Standing.{len_found}
+use Rattle.spool_core.specs.ListingFilling.{Filling, next_place, records_len, rows_of, lying, AreAlike, HasMoveRoom, MayFill, IsFillingOn, AddsRows, TellsBut, IsDue, IsDocumentAdded, IsDocumentNoted, AreJobsAdded, AreJobsNoted, IsListingAdded, AreDocumentsNoted}
+use Rattle.spool_core.specs.SpoolFields.{DocumentsLieIn}
+use Rattle.spool_core.specs.OpenSpools.{len_found}
 use Rattle.spool_core.proofs.AddLaws.{records_more, may_more, may_first, may_as, tells_on, then_adds, none_adds}
 use Rattle.spool_core.proofs.Numbers.{AreApart, AreFound, apart_behind, all_behind, all_by}
 use Rattle.spool_core.proofs.PartLaws.{alike_itself, alike_records, alike_then}

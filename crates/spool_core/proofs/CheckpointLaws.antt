@@ -17,15 +17,15 @@ use Rattle.spool_areas.specs.Header.{half, header_len}
 use Rattle.spool_areas.specs.Payloads.{gate_after}
 use Rattle.spool_areas.specs.Current.{Current}
 use Rattle.spool_areas.specs.Checkpoint.{last_epoch, area_len, other_base, has_room, plan_of}
-use Rattle.spool_areas.specs.Seen.{IsArea}
+use Rattle.spool_areas.specs.AreaFields.{IsArea}
 use Rattle.spool_areas.proofs.Plans.{two_of}
 use Rattle.job_table.specs.Listing.{head_of}
 use Rattle.event_codec.specs.RowSpelling.{row_spelling}
-use Rattle.spool_core.specs.Seen.{standing_at}
+use Rattle.spool_core.specs.SpoolFields.{open_spool_at}
 use Rattle.spool_core.specs.Checkpointing.{blank, listed_payloads, holds_listing, MayList, IsCheckpoint, fault_for}
 use Rattle.spool_core.specs.declared.spool.checkpoint_fault.CheckpointFault.{CheckpointFault}
 use Rattle.spool_core.specs.declared.spool.checkpoint_fault.CheckpointFault.TheVariants as checkpoint
-use Rattle.spool_core.specs.Filling.{rows_of}
+use Rattle.spool_core.specs.ListingFilling.{rows_of}
 
 -- ## What a plan tells
 
@@ -98,19 +98,19 @@ module _ {D : Type 0} (v : DiskView D) (a : Current D) (ends : a.end ≡ a.base 
   room_is ns = room_there (other_base a) (area_len a) header_len (other_base a + header_len) ns refl ∙ ap (λ (n : ℕ). has_room n header_len ns) long
 
   -- there is a next epoch, and rows may be put there
-  pub may_list : (ns : List ℕ) (first : ℕ) → plan_of a ns ≡ Ok first → MayList (standing_at a s)
+  pub may_list : (ns : List ℕ) (first : ℕ) → plan_of a ns ≡ Ok first → MayList (open_spool_at a s)
   may_list ns first is =
       let both = passed a.dead (a.epoch == last_epoch) (has_room (other_base a + area_len a) (other_base a + header_len) ns) (other_base a + header_len) first is in
       record { alive = both.0; epoch_left = not_last a.epoch both.1 }
 
   answered : (ns : List ℕ) (fault : AreaFault) → (has_room (half (v.size a.disk)) header_len ns ≡ false → holds_listing (half (v.size a.disk)) s ≡ false)
-      → CauseOf a.dead (a.epoch == last_epoch) (has_room (other_base a + area_len a) (other_base a + header_len) ns) fault → IsCheckpoint v (standing_at a s) (Err (fault_for fault)) (standing_at a s)
+      → CauseOf a.dead (a.epoch == last_epoch) (has_room (other_base a + area_len a) (other_base a + header_len) ns) fault → IsCheckpoint v (open_spool_at a s) (Err (fault_for fault)) (open_spool_at a s)
   answered ns areas.Dead full is = (is, refl)
   answered ns areas.EpochEnd full is = (is.0, last_is a.epoch is.1, refl)
   answered ns areas.Full full is = (record { alive = is.0; epoch_left = not_last a.epoch is.1 }, full (sym (room_is ns) ∙ is.2), refl)
   answered ns areas.Disk full is = absurd is
 
-  fault_answer : (ns : List ℕ) (fault : AreaFault) → (has_room (half (v.size a.disk)) header_len ns ≡ false → holds_listing (half (v.size a.disk)) s ≡ false) → plan_of a ns ≡ Err fault → IsCheckpoint v (standing_at a s) (Err (fault_for fault)) (standing_at a s)
+  fault_answer : (ns : List ℕ) (fault : AreaFault) → (has_room (half (v.size a.disk)) header_len ns ≡ false → holds_listing (half (v.size a.disk)) s ≡ false) → plan_of a ns ≡ Err fault → IsCheckpoint v (open_spool_at a s) (Err (fault_for fault)) (open_spool_at a s)
   fault_answer ns fault full is =
       answered ns fault full (caused a.dead (a.epoch == last_epoch) (has_room (other_base a + area_len a) (other_base a + header_len) ns) (other_base a + header_len) fault is)
 
@@ -118,7 +118,7 @@ module _ {D : Type 0} (v : DiskView D) (a : Current D) (ends : a.end ≡ a.base 
   listed_lengths = map length (listed_payloads s (blank s))
 
   -- nor is one for the rows whose listing has room
-  pub unlisted_for : (fault : AreaFault) → plan_of a listed_lengths ≡ Err fault → IsCheckpoint v (standing_at a s) (Err (fault_for fault)) (standing_at a s)
+  pub unlisted_for : (fault : AreaFault) → plan_of a listed_lengths ≡ Err fault → IsCheckpoint v (open_spool_at a s) (Err (fault_for fault)) (open_spool_at a s)
   unlisted_for fault is = fault_answer listed_lengths fault (λ no. no) is
 
   module _ (first : ℕ) (plan : plan_of a listed_lengths ≡ Ok first) where
@@ -146,7 +146,7 @@ other_area v a area =
     }
 
 -- a fault that leaves the disk as it was isn't the device's
-pub blames_none : {D : Type 0} (v : DiskView D) (a : Current D) (s t : State) (f : CheckpointFault) → IsCheckpoint v (standing_at a s) (Err f) (standing_at a t) → Blames (v.failures a.disk) (v.failures a.disk) (IsErrOf {T = Unit {0}} (Err f) checkpoint.Disk)
+pub blames_none : {D : Type 0} (v : DiskView D) (a : Current D) (s t : State) (f : CheckpointFault) → IsCheckpoint v (open_spool_at a s) (Err f) (open_spool_at a t) → Blames (v.failures a.disk) (v.failures a.disk) (IsErrOf {T = Unit {0}} (Err f) checkpoint.Disk)
 blames_none v a s t checkpoint.Dead is = record { later = omega arith; failed = λ same. absurd (cc same); counted = λ no. refl }
 blames_none v a s t checkpoint.EpochEnd is = record { later = omega arith; failed = λ same. absurd (cc same); counted = λ no. refl }
 blames_none v a s t checkpoint.Memory is = record { later = omega arith; failed = λ same. absurd (cc same); counted = λ no. refl }

@@ -20,10 +20,10 @@ use Rattle.spool_types.specs.declared.rows.QueueRow.{QueueRow}
 use Rattle.spool_types.specs.declared.listing.Head.{Head}
 use Rattle.spool_types.specs.declared.listing.Row.{Row}
 use Rattle.spool_types.specs.declared.listing.Row.TheVariants.{Head as HeadRow, Queue, Job as JobRow, Piece}
-use Rattle.row_effects.specs.Fold.{IsInOrder}
+use Rattle.row_effects.specs.EffectFold.{IsInOrder}
 use Rattle.row_effects.specs.Keys.{is_ascending, most_kept}
-use Rattle.row_effects.specs.Reasons.{word_of}
-use Rattle.row_effects.specs.Attributes.{name_of}
+use Rattle.row_effects.specs.QueueReasons.{word_of}
+use Rattle.row_effects.specs.QueueAttributes.{name_of}
 use Rattle.job_table.specs.Attempts.{HasNoProcessing}
 use Rattle.job_table.specs.Legal.{Fits, IsUntyped, IsStartable, IsStarted}
 use Rattle.job_table.specs.Loading.{Part, Progress, IsWhole, IsAbove, IsNextHead, IsNewQueue, IsNextQueue, IsNewJob, IsNextJob, IsPieceOf, IsPlaced}

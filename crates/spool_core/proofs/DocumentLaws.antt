@@ -17,7 +17,7 @@ use Rattle.documents.specs.Documents.{joined}
 use Rattle.documents.specs.Placed.{payloads_of, places_in}
 use Rattle.documents.proofs.Moved.{history}
 use Rattle.spool_core.specs.Folding.{StayOver}
-use Rattle.spool_core.specs.Versions.{number_of}
+use Rattle.spool_core.specs.VersionNumbers.{number_of}
 use Rattle.spool_core.specs.Image.{HasTable, HasDocument, HasDocuments, documents_after_one, unless_refused_sent}
 use Rattle.spool_core.proofs.HistoryLaws.{all_more, spelt_more}
 use Rattle.spool_core.proofs.ReadingLaws.{one_version, same_members, same_ok}

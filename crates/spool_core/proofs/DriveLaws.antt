@@ -6,7 +6,7 @@ use Rattle.spool_types.specs.declared.event.Event.{Event}
 use Rattle.spool_types.specs.declared.event.Reply.{Reply}
 use Rattle.spool_types.specs.declared.refusal.Refusal.{Refusal}
 use Rattle.spool_types.specs.State.{State}
-use Rattle.job_table.specs.Fold.{after_one, after_all, unless_refused}
+use Rattle.job_table.specs.EventFold.{after_one, after_all, unless_refused}
 use Rattle.job_table.specs.Step.{refusal_of, step, answered, answer_to}
 use Rattle.spool_disk.specs.Disk.{DiskView, IsLawful, LeavesOnly}
 use Rattle.spool_disk.proofs.Moments.{started, runs_on, weaker_run}

@@ -14,18 +14,18 @@ use Rattle.spool_types.specs.State.{State}
 use Rattle.field_codec.specs.declared.fault.CodecFault.{CodecFault}
 use Rattle.event_codec.specs.Spelling.{spelling, IsSpellable}
 use Rattle.event_codec.specs.RowSpelling.{row_spelling, IsRowSpellable}
-use Rattle.event_codec.specs.Reading.{reading}
+use Rattle.event_codec.specs.EventReading.{reading}
 use Rattle.event_codec.specs.RowReading.{row_reading}
 use Rattle.event_codec.proofs.FieldLaws.{IsBytes, IsBytes-take, IsBytes-drop, wide32}
 use Rattle.event_codec.proofs.EventLaws.{reading_takes, reading_again}
 use Rattle.event_codec.proofs.RowLaws.{is_found_row, row_reading_again}
 use Rattle.gate_journal.specs.Entries.{HasFirst}
-use Rattle.gate_journal.specs.Found.{length_at, entry_at}
+use Rattle.gate_journal.specs.FoundEntries.{length_at, entry_at}
 use Rattle.gate_journal.specs.Appends.{kept_room}
 use Rattle.gate_journal.specs.declared.entry.Found.{Found}
 use Rattle.gate_journal.specs.declared.entry.Found.TheVariants.{Entry, End, Damaged as Torn}
 use Rattle.gate_journal.proofs.Reading.{goes_on}
-use Rattle.job_table.specs.Fold.{after_all}
+use Rattle.job_table.specs.EventFold.{after_all}
 use Rattle.job_table.specs.Loading.{Progress, IsWhole, IsPlaced, begin_loading, loaded}
 use Rattle.job_table.specs.Step.{refusal_of}
 use Rattle.spool_areas.specs.Header.{half, least_area, header_len, header_at, is_open, is_known, epoch_of, version_of, IsVersion, newer, chosen, current_area}
@@ -35,7 +35,7 @@ use Rattle.spool_areas.specs.declared.fault.OpenFault.TheVariants.{NotASpool, Da
 use Rattle.spool_areas.proofs.Headers.{too_short, by_headers}
 use Rattle.spool_areas.proofs.Plans.{current_version}
 use Rattle.spool_areas.proofs.Sames.{chosen_is_base}
-use Rattle.spool_core.specs.Versions.{number_of}
+use Rattle.spool_core.specs.VersionNumbers.{number_of}
 use Rattle.spool_core.specs.Image.{HasTable, HasFault, Begins, IsNoNext, AreBytes, area_end}
 use Rattle.spool_core.proofs.Decided.{whole_decided, placed_decided, idle_decided}
 use Rattle.spool_core.proofs.FoldLaws.{gate_push}

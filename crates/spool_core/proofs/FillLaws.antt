@@ -12,13 +12,13 @@ use Rattle.spool_types.specs.declared.listing.Head.{Head as HeadOf}
 use Rattle.spool_types.specs.declared.listing.Row.{Row}
 use Rattle.spool_types.specs.declared.listing.Row.TheVariants.{Head, Job as JobRow, Piece}
 use Rattle.gate_journal.specs.Entries.{records}
-use Rattle.spool_areas.specs.Filling.{sum_of}
+use Rattle.spool_areas.specs.AreaFilling.{sum_of}
 use Rattle.documents.proofs.Placed.{front_of}
 use Rattle.event_codec.specs.RowSpelling.{row_spelling, IsRowSpellable}
-use Rattle.job_table.specs.Documents.{document_len}
+use Rattle.job_table.specs.DocumentLengths.{document_len}
 use Rattle.job_table.specs.Listing.{parts, pieces}
 use Rattle.spool_core.specs.Checkpointing.{blank_rows}
-use Rattle.spool_core.specs.Filling.{free_head, records_len, IsPut}
+use Rattle.spool_core.specs.ListingFilling.{free_head, records_len, IsPut}
 use Rattle.spool_core.specs.Measuring.{IsSumMore}
 use Rattle.spool_core.proofs.AddLaws.{own_len, put_long, records_more}
 

@@ -4,10 +4,10 @@ use Rattle.std.proofs.lemmas.List.{length-append, length-replicate, take_at, dro
 use Rattle.job_table.specs.Over.{is_over}
 use Rattle.spool_disk.specs.Disk.{DiskView}
 use Rattle.spool_core.specs.Image.{HasDocument}
-use Rattle.spool_core.specs.Reading.{IsPart}
-use Rattle.spool_core.specs.Standing.{Standing, len_at}
+use Rattle.spool_core.specs.DocumentReading.{IsPart}
+use Rattle.spool_core.specs.OpenSpools.{OpenSpool, len_at}
 
-module _ {D : Type 0} (v : DiskView D) (s : Standing D) (j at n : ℕ) (part : List ℕ) (held : length part ≡ n) (inside : at + n ≤ len_at s.state j) where
+module _ {D : Type 0} (v : DiskView D) (s : OpenSpool D) (j at n : ℕ) (part : List ℕ) (held : length part ≡ n) (inside : at + n ≤ len_at s.state j) where
   -- where the disk tells nothing, any list will do that has these bytes
   abbrev padding : List ℕ
   padding = replicate (len_at s.state j - (at + n)) 0

@@ -6,11 +6,11 @@ use Rattle.spool_types.specs.declared.event.Event.{Event}
 use Rattle.spool_types.specs.declared.event.Event.TheVariants.{Reopen}
 use Rattle.spool_types.specs.declared.version.Version.{Version}
 use Rattle.spool_types.specs.State.{State, nothing_in}
-use Rattle.job_table.specs.Fold.{after_one, after_all}
+use Rattle.job_table.specs.EventFold.{after_one, after_all}
 use Rattle.job_table.specs.Legal.{IsLegal}
 use Rattle.spool_core.specs.Driving.{documents_after}
 use Rattle.spool_core.specs.Image.{HasTable, documents_after_one}
-use Rattle.spool_core.specs.Lives.{Life, KeepsAcknowledged, next_table, next_documents, after_lives, documents_after_lives, history_of, later_events}
+use Rattle.spool_core.specs.SpoolLives.{Life, KeepsAcknowledged, next_table, next_documents, after_lives, documents_after_lives, history_of, later_events}
 use Rattle.spool_core.proofs.DriveLaws.{documents_after-append}
 
 after_all-append : (s : State) (es ds : List Event) → after_all s (es ++ ds) ≡ after_all (after_all s es) ds

@@ -14,11 +14,11 @@ use Rattle.spool_types.specs.declared.rows.QueueRow.{QueueRow}
 use Rattle.spool_types.specs.declared.listing.Row.{Row}
 use Rattle.spool_types.specs.declared.listing.Row.TheVariants.{Head, Queue, Job as JobRow, Piece}
 use Rattle.gate_journal.specs.Entries.{records}
-use Rattle.spool_areas.specs.Extents.{bytes_of}
+use Rattle.spool_areas.specs.PayloadExtents.{bytes_of}
 use Rattle.event_codec.specs.RowSpelling.{row_spelling}
 use Rattle.job_table.specs.Contents.{Contents, AreSized, places_at}
 use Rattle.job_table.specs.Over.{is_over, is_over_by}
-use Rattle.job_table.specs.Documents.{AreDocuments, document_len}
+use Rattle.job_table.specs.DocumentLengths.{AreDocuments, document_len}
 use Rattle.job_table.specs.Legal.{IsLegal}
 use Rattle.job_table.specs.Listing.{head_of, job_rows, listing, pieces}
 use Rattle.documents.specs.Documents.{joined, LieIn}
@@ -26,7 +26,7 @@ use Rattle.documents.specs.Placed.{placed_pieces}
 use Rattle.documents.proofs.Joined.{bytes_are, joined_len}
 use Rattle.documents.proofs.Moved.{in_listing, spells_pieces}
 use Rattle.documents.proofs.Placed.{sized}
-use Rattle.spool_core.specs.Filling.{AreAlike, lying, rows_of}
+use Rattle.spool_core.specs.ListingFilling.{AreAlike, lying, rows_of}
 use Rattle.spool_core.proofs.AllLaws.{head_rows, placed-append, none_placed}
 use Rattle.spool_core.proofs.Numbers.{AreApart, AreFound, jobs_found, jobs_apart}
 use Rattle.spool_core.proofs.PartLaws.{other_test}

@@ -15,16 +15,16 @@ use Rattle.spool_types.specs.declared.phase.Phase.TheVariants.{Incoming, Waiting
 use Rattle.spool_types.specs.declared.rows.QueueRow.{QueueRow}
 use Rattle.spool_types.specs.declared.listing.Row.{Row}
 use Rattle.spool_types.specs.declared.listing.Row.TheVariants.{Queue, Job as JobRow}
-use Rattle.row_effects.specs.Fold.{IsInOrder}
+use Rattle.row_effects.specs.EffectFold.{IsInOrder}
 use Rattle.row_effects.specs.Keys.{is_ascending}
-use Rattle.row_effects.specs.Reasons.{word_of}
-use Rattle.row_effects.specs.Attributes.{name_of}
+use Rattle.row_effects.specs.QueueReasons.{word_of}
+use Rattle.row_effects.specs.QueueAttributes.{name_of}
 use Rattle.job_table.specs.Legal.{Fits}
 use Rattle.job_table.specs.Listing.{parts, pieces, job_rows}
 use Rattle.job_table.specs.Loading.{Progress, ArePlaced, loaded, loaded_all}
 use Rattle.event_codec.specs.RowSpelling.{Ascend, IsOrderedQueue, IsPhaseOf, IsLegalRow}
 use Rattle.spool_core.specs.Checkpointing.{MayBeListed}
-use Rattle.spool_core.specs.Filling.{rows_of}
+use Rattle.spool_core.specs.ListingFilling.{rows_of}
 
 -- ## A row can tell what a legal table has
 

@@ -9,9 +9,9 @@ use Rattle.extents.specs.declared.extent.Extent.{Extent}
 use Rattle.spool_areas.specs.Header.{header_at, epoch_of, version_of}
 use Rattle.spool_areas.specs.Payloads.{HasPayloads, gate_after}
 use Rattle.spool_areas.specs.Current.{Current, KeepsPayloads}
-use Rattle.spool_areas.specs.Extents.{payloads_at}
+use Rattle.spool_areas.specs.PayloadExtents.{payloads_at}
 use Rattle.spool_core.specs.Image.{HasTable}
-use Rattle.spool_core.specs.Seen.{ArePlacesOf, HasHistory, KeepsTable}
+use Rattle.spool_core.specs.SpoolFields.{ArePlacesOf, HasHistory, KeepsTable}
 use Rattle.spool_core.specs.Folding.{IsRead}
 
 module _ {D : Type 0} (v : DiskView D)

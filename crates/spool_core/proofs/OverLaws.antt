@@ -10,15 +10,15 @@ use Rattle.spool_disk.proofs.Moments.{then_changes}
 use Rattle.gate_journal.specs.Appends.{kept_room}
 use Rattle.spool_areas.specs.Checkpoint.{area_len, other_base, other_of, ChangesOver}
 use Rattle.spool_areas.specs.Current.{Current, KeepsPayloads}
-use Rattle.spool_areas.specs.Filling.{Change, Fills, change_at}
+use Rattle.spool_areas.specs.AreaFilling.{Change, Fills, change_at}
 use Rattle.spool_areas.specs.Header.{newest_version}
 use Rattle.spool_areas.specs.Payloads.{HasVersionAndPayloads}
-use Rattle.spool_areas.specs.Seen.{IsArea}
+use Rattle.spool_areas.specs.AreaFields.{IsArea}
 use Rattle.spool_areas.specs.declared.fault.AreaFault.{AreaFault}
 use Rattle.spool_areas.specs.declared.fault.AreaFault.TheVariants as areas
 use Rattle.event_codec.specs.RowSpelling.{row_spelling}
 use Rattle.job_table.specs.Contents.{Contents}
-use Rattle.spool_core.specs.Filling.{Filling, filling, records_len, IsChangeOf, MayFill, IsFillingOn, IsListing, IsListingAdded, LeavesListing, LeavesOld, IsFilledOver}
+use Rattle.spool_core.specs.ListingFilling.{Filling, filling, records_len, IsChangeOf, MayFill, IsFillingOn, IsListing, IsListingAdded, LeavesListing, LeavesOld, IsFilledOver}
 use Rattle.spool_core.proofs.AddLaws.{change_on, fault_disk, lives_on, may_as, may_more, tells_all, tells_by}
 use Rattle.spool_core.proofs.ImageLaws.{area_on}
 

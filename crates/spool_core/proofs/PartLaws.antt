@@ -16,7 +16,7 @@ use Rattle.spool_disk.specs.Disk.{DiskView, IsLawful}
 use Rattle.gate_journal.specs.Entries.{records}
 use Rattle.event_codec.specs.RowSpelling.{row_spelling}
 use Rattle.job_table.specs.Contents.{Contents, Noted, move_room, places_of}
-use Rattle.job_table.specs.Documents.{document_len}
+use Rattle.job_table.specs.DocumentLengths.{document_len}
 use Rattle.job_table.specs.Listing.{pieces}
 use Rattle.job_table.specs.Over.{is_over, is_over_by}
 use Rattle.documents.specs.Documents.{joined}
@@ -24,7 +24,7 @@ use Rattle.documents.specs.Placed.{placed_pieces}
 use Rattle.documents.proofs.Moved.{spells_pieces}
 use Rattle.documents.proofs.Placed.{one_more}
 use Rattle.spool_core.specs.Checkpointing.{blank_rows}
-use Rattle.spool_core.specs.Filling.{Filling, next_place, records_len, IsAlike, AreAlike, MayFill, IsFillingOn, AddsRows, TellsBut, IsPieceAdded, IsPieceNoted, IsDocumentAdded, IsDocumentNoted, IsDue}
+use Rattle.spool_core.specs.ListingFilling.{Filling, next_place, records_len, IsAlike, AreAlike, MayFill, IsFillingOn, AddsRows, TellsBut, IsPieceAdded, IsPieceNoted, IsDocumentAdded, IsDocumentNoted, IsDue}
 use Rattle.spool_core.proofs.AddLaws.{records_more, may_more, may_first, may_as, tells_on, then_adds}
 use Rattle.spool_core.proofs.FoldLaws.{with_placed_is}
 use Rattle.spool_core.proofs.ListingLaws.{pieces_next}

@@ -9,15 +9,15 @@ use Rattle.spool_types.specs.declared.rows.JobRow.{JobRow}
 use Rattle.spool_areas.specs.Current.{Current}
 use Rattle.spool_areas.specs.Checkpoint.{other_base, area_len}
 use Rattle.spool_areas.specs.Header.{header_len}
-use Rattle.spool_areas.specs.Seen.{IsArea}
+use Rattle.spool_areas.specs.AreaFields.{IsArea}
 use Rattle.spool_areas.proofs.Plans.{two_of}
 use Rattle.job_table.specs.Contents.{Contents, places_at}
 use Rattle.job_table.specs.Over.{is_over, is_over_by}
-use Rattle.job_table.specs.Documents.{document_len}
+use Rattle.job_table.specs.DocumentLengths.{document_len}
 use Rattle.documents.specs.Documents.{joined, LieIn}
 use Rattle.documents.proofs.Joined.{joined_len, kept}
-use Rattle.spool_core.specs.Filling.{TellsBut}
-use Rattle.spool_core.specs.Standing.{len_at, len_found}
+use Rattle.spool_core.specs.ListingFilling.{TellsBut}
+use Rattle.spool_core.specs.OpenSpools.{len_at, len_found}
 
 pub some_same : (x y : Job) → Some x ≡ Some y → x ≡ y
 some_same x y is = cc is

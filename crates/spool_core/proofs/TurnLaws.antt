@@ -5,14 +5,14 @@ use Rattle.spool_types.specs.declared.event.Reply.{Reply}
 use Rattle.spool_types.specs.declared.refusal.Refusal.{Refusal}
 use Rattle.spool_types.specs.State.{State}
 use Rattle.job_table.specs.Step.{refusal_of, answer_to}
-use Rattle.job_table.specs.Fold.{after_one, after_all}
+use Rattle.job_table.specs.EventFold.{after_one, after_all}
 use Rattle.spool_disk.specs.Disk.{DiskView, IsLawful, IsSynced, Blames, LeavesOnly}
 use Rattle.spool_disk.proofs.Moments.{started, weaker_run, at_return}
 use Rattle.spool_disk.proofs.Ranges.{told}
 use Rattle.spool_core.specs.Image.{HasTable, HasDocuments, HasBeforeOrAfterEvent, HasWholeBeforeOrAfterEvent, documents_after_one}
-use Rattle.spool_core.specs.Standing.{Standing, IsFailed}
+use Rattle.spool_core.specs.OpenSpools.{OpenSpool, IsFailed}
 use Rattle.spool_core.specs.Driving.{replies_to, documents_after, HasPrefixTable, HasWholePrefix, IsAcknowledged, IsAcknowledgedWhole, IsChain, IsWholeChain, KeepsImages, LeavesDocuments, room_after, room_after_one, IsDriven, IsOutcome, IsEnding, reach}
-use Rattle.spool_core.specs.Turns.{IsAnswered, DrivesOne}
+use Rattle.spool_core.specs.RunEvents.{IsAnswered, DrivesOne}
 use Rattle.spool_core.specs.declared.driving.Ending.{Ending}
 use Rattle.spool_core.specs.declared.driving.Ending.TheVariants.{End, Memory, Full, Disk, Dead}
 use Rattle.spool_core.proofs.DriveLaws.{after_all_last, replies_last, documents_after-append, IsNext, HasTableAfter, HasWholeAfter, turn_prefix, turn_whole, run_none, run_more, chain_more, whole_more, room_last}
@@ -21,7 +21,7 @@ not_dead : (b : Bool) → b ≡ false → b ≡ true → ⊥
 not_dead b p q = cc
 
 -- what a turn does to the disk, whatever it answers
-pub record Turns {D : Type 0} (v : DiskView D) (old : Standing D) (e : Event) (new : Standing D) : Type 0 where
+pub record Turns {D : Type 0} (v : DiskView D) (old : OpenSpool D) (e : Event) (new : OpenSpool D) : Type 0 where
   pub fixed : v.size new.disk ≡ v.size old.disk
   pub told : IsSome (v.bytes new.disk) → IsSome (v.bytes old.disk)
   pub tells : IsSome (v.bytes old.disk) → IsSome (v.bytes new.disk)
@@ -29,13 +29,13 @@ pub record Turns {D : Type 0} (v : DiskView D) (old : Standing D) (e : Event) (n
   pub documents : old.dead ≡ false → (r : List ℕ) (documents : ℕ → List ℕ) → v.bytes old.disk ≡ Some r → HasDocuments old.state documents r → LeavesOnly v old.disk new.disk (HasWholeBeforeOrAfterEvent old.state documents e)
 
 module _ {D : Type 0} (v : DiskView D)
-    (lawful : IsLawful v) (old : Standing D) (events : List Event) where
-  pub same_replies : (replies others : List (Result Reply Refusal)) (ending : Ending) (new : Standing D) → others ≡ replies → IsOutcome v old events replies ending new
+    (lawful : IsLawful v) (old : OpenSpool D) (events : List Event) where
+  pub same_replies : (replies others : List (Result Reply Refusal)) (ending : Ending) (new : OpenSpool D) → others ≡ replies → IsOutcome v old events replies ending new
       → IsOutcome v old events others ending new
   same_replies replies others ending new is has = subst (λ (rs : List (Result Reply Refusal)). IsOutcome v old events rs ending new) (sym is) has
 
   -- a dead spool stops at the first event
-  pub dead_ends : (n : ℕ) (ending : Ending) (new : Standing D) → IsEnding v old events n ending new → (0 < n → old.dead ≡ false) → IsTrue old.dead → 0 < length events → (ending ≡ Dead) × (new ≡ old)
+  pub dead_ends : (n : ℕ) (ending : Ending) (new : OpenSpool D) → IsEnding v old events n ending new → (0 < n → old.dead ≡ false) → IsTrue old.dead → 0 < length events → (ending ≡ Dead) × (new ≡ old)
   dead_ends n End new is alive dead some = absurd (not_dead old.dead (alive (omega (arith, is.0, some))) dead)
   dead_ends n Memory new is alive dead some = absurd (not_dead old.dead is.1 dead)
   dead_ends n Full new is alive dead some = absurd (not_dead old.dead is.3 dead)
@@ -65,7 +65,7 @@ module _ {D : Type 0} (v : DiskView D)
     whole_chain = λ alive r documents tells has. refl;
   })
 
-  module _ (replies : List (Result Reply Refusal)) (now : Standing D) (driven : IsDriven v old events replies now) where
+  module _ (replies : List (Result Reply Refusal)) (now : OpenSpool D) (driven : IsDriven v old events replies now) where
     -- the device isn't blamed
     not_blamed : (ending : Ending) → ¬ (ending ≡ Disk) → Blames (v.failures old.disk) (v.failures now.disk) (ending ≡ Disk)
     not_blamed ending other = record { later = omega (arith, driven.counted); failed = λ is. absurd (other is); counted = λ not. driven.counted }
@@ -138,7 +138,7 @@ module _ {D : Type 0} (v : DiskView D)
       whole = acknowledged_whole;
     }
 
-    module _ (taken : List Event) (e : Event) (next : IsNext events taken e (length replies)) (new : Standing D) (turns : Turns v now e new) where
+    module _ (taken : List Event) (e : Event) (next : IsNext events taken e (length replies)) (new : OpenSpool D) (turns : Turns v now e new) where
       now_alive : old.dead ≡ false → now.dead ≡ false
       now_alive alive = driven.dead ∙ alive
 
@@ -227,7 +227,7 @@ module _ {D : Type 0} (v : DiskView D)
       -- nothing has changed
       end_unchanged : (ending : Ending) → ¬ (ending ≡ Disk) → IsEnding v old events (length replies) ending now → reach ending (length replies) ≡ length replies → new ≡ now
           → IsOutcome v old events replies ending new
-      end_unchanged ending other is reaches same = subst (λ (s : Standing D). IsOutcome v old events replies ending s) (sym same) (record {
+      end_unchanged ending other is reaches same = subst (λ (s : OpenSpool D). IsOutcome v old events replies ending s) (sym same) (record {
         replies_are = driven.replies_are;
         table = driven.table;
         room = driven.room;

@@ -6,7 +6,7 @@ use Rattle.spool_types.specs.State.{State, Job}
 use Rattle.job_table.specs.Legal.{Fits}
 use Rattle.spool_disk.specs.Disk.{DiskView}
 use Rattle.job_table.specs.Listing.{listing, job_rows}
-use Rattle.job_table.specs.Versions.{raised}
+use Rattle.job_table.specs.TableVersions.{raised}
 use Rattle.spool_types.specs.declared.version.Version.TheVariants.{Two}
 use Rattle.event_codec.specs.RowSpelling.{row_spelling}
 use Rattle.spool_areas.specs.Checkpoint.{has_room, last_epoch}
@@ -14,8 +14,8 @@ use Rattle.spool_areas.specs.Header.{half, header_len, header_at, epoch_of, vers
 use Rattle.spool_areas.specs.Payloads.{HasPayloads, gate_after}
 use Rattle.spool_areas.specs.declared.fault.AreaFault.{AreaFault}
 use Rattle.spool_areas.specs.declared.fault.AreaFault.TheVariants as areas
-use Rattle.job_table.specs.Documents.{AreDocuments, document_len}
-use Rattle.spool_core.specs.Standing.{Standing, len_at}
+use Rattle.job_table.specs.DocumentLengths.{AreDocuments, document_len}
+use Rattle.spool_core.specs.OpenSpools.{OpenSpool, len_at}
 use Rattle.spool_core.specs.declared.spool.checkpoint_fault.CheckpointFault.{CheckpointFault}
 use Rattle.spool_core.specs.declared.spool.checkpoint_fault.CheckpointFault.TheVariants.{Dead, EpochEnd, Memory, Full, Disk}
 
@@ -61,12 +61,12 @@ abbrev pub room_beside : ℕ → State → ℕ
 room_beside len s = len - gate_after 0 (listed_payloads s (blank s))
 
 -- the spool isn't dead, and there is a next epoch
-pub record MayList {D : Type 0} (spool : Standing D) : Type 0 where
+pub record MayList {D : Type 0} (spool : OpenSpool D) : Type 0 where
   pub alive : spool.dead ≡ false
   pub epoch_left : ¬ (spool.epoch ≡ last_epoch)
 
 -- the table is in the other area, with the next epoch and in the newest version, and is as it was
-pub record IsListed {D : Type 0} (v : DiskView D) (old new : Standing D) : Type 0 where
+pub record IsListed {D : Type 0} (v : DiskView D) (old new : OpenSpool D) : Type 0 where
   pub may : MayList old
   pub fits : holds_listing (half (v.size old.disk)) old.state ≡ true
   pub state : new.state ≡ raised old.state
@@ -75,7 +75,7 @@ pub record IsListed {D : Type 0} (v : DiskView D) (old new : Standing D) : Type 
   pub alive : new.dead ≡ false
 
 -- the device failed, and the spool is dead
-pub record IsUnlisted {D : Type 0} (v : DiskView D) (old new : Standing D) : Type 0 where
+pub record IsUnlisted {D : Type 0} (v : DiskView D) (old new : OpenSpool D) : Type 0 where
   pub may : MayList old
   pub fits : holds_listing (half (v.size old.disk)) old.state ≡ true
   pub state : new.state ≡ old.state
@@ -86,7 +86,7 @@ pub record IsUnlisted {D : Type 0} (v : DiskView D) (old new : Standing D) : Typ
 
 -- Each answer of a checkpoint, with its cause and what it leaves. In this order: dead, the last epoch, no memory, full,
 -- failed.
-abbrev pub IsCheckpoint : {D : Type 0} → DiskView D → Standing D → Result (Unit {0}) CheckpointFault → Standing D → Type 0
+abbrev pub IsCheckpoint : {D : Type 0} → DiskView D → OpenSpool D → Result (Unit {0}) CheckpointFault → OpenSpool D → Type 0
 IsCheckpoint v old (Ok done) new = IsListed v old new
 IsCheckpoint v old (Err Dead) new = IsTrue old.dead × (new ≡ old)
 IsCheckpoint v old (Err EpochEnd) new = (old.dead ≡ false) × (old.epoch ≡ last_epoch) × (new ≡ old)

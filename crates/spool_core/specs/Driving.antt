@@ -5,11 +5,11 @@ use Rattle.spool_types.specs.declared.event.Reply.{Reply}
 use Rattle.spool_types.specs.declared.refusal.Refusal.{Refusal}
 use Rattle.spool_types.specs.State.{State}
 use Rattle.job_table.specs.Step.{answer_to, refusal_of}
-use Rattle.job_table.specs.Fold.{after_one, after_all}
+use Rattle.job_table.specs.EventFold.{after_one, after_all}
 use Rattle.spool_disk.specs.Disk.{DiskView, Blames, LeavesOnly}
 use Rattle.spool_core.specs.Image.{HasTable, HasDocuments, HasWhole, HasBeforeOrAfterEvent, HasWholeBeforeOrAfterEvent, documents_after_one}
 use Rattle.gate_journal.specs.Appends.{kept_room}
-use Rattle.spool_core.specs.Standing.{Standing, IsFull, record_len}
+use Rattle.spool_core.specs.OpenSpools.{OpenSpool, IsFull, record_len}
 use Rattle.spool_core.specs.declared.driving.Ending.{Ending}
 use Rattle.spool_core.specs.declared.driving.Ending.TheVariants.{End, Memory, Full, Disk, Dead}
 
@@ -58,7 +58,7 @@ abbrev pub IsInHand : List Event → ℕ → Event → Type 0
 IsInHand events n e = slice_get events n ≡ Some e
 
 -- Why it ended where n of the events had been answered, and what it left.
-abbrev pub IsEnding : {D : Type 0} → DiskView D → Standing D → List Event → ℕ → Ending → Standing D → Type 0
+abbrev pub IsEnding : {D : Type 0} → DiskView D → OpenSpool D → List Event → ℕ → Ending → OpenSpool D → Type 0
 IsEnding v old events n End new = (n ≡ length events) × (new.dead ≡ old.dead)
 IsEnding v old events n Memory new = (n < length events) × (old.dead ≡ false) × (new.dead ≡ false)
 IsEnding v old events n Full new = (e : Event) × IsInHand events n e × IsFull new e × (old.dead ≡ false)
@@ -102,11 +102,11 @@ IsAcknowledgedWhole {D} v s documents events n most old new =
     (last : D) × IsWholeChain v s documents (take n events) old last × LeavesOnly v last new (HasWholePrefix s documents events n most)
 
 -- What a crash leaves of a spool with this table, as long as the device hasn't failed.
-abbrev pub KeepsImages : {D : Type 0} → DiskView D → Standing D → Type 0
+abbrev pub KeepsImages : {D : Type 0} → DiskView D → OpenSpool D → Type 0
 KeepsImages v spool = LeavesTable v spool.state spool.disk
 
 -- The first n of the events were answered, and the device hasn't failed since.
-pub record IsDriven {D : Type 0} (v : DiskView D) (old : Standing D) (events : List Event) (replies : List (Result Reply Refusal)) (new : Standing D) : Type 0 where
+pub record IsDriven {D : Type 0} (v : DiskView D) (old : OpenSpool D) (events : List Event) (replies : List (Result Reply Refusal)) (new : OpenSpool D) : Type 0 where
   pub fits : length replies ≤ length events
   pub replies_are : replies ≡ replies_to old.state (take (length replies) events)
   pub table : new.state ≡ after_all old.state (take (length replies) events)
@@ -129,7 +129,7 @@ pub record IsDriven {D : Type 0} (v : DiskView D) (old : Standing D) (events : L
       IsWholeChain v old.state documents (take (length replies) events) old.disk new.disk
 
 -- The run ended so, with these replies.
-pub record IsOutcome {D : Type 0} (v : DiskView D) (old : Standing D) (events : List Event) (replies : List (Result Reply Refusal)) (ending : Ending) (new : Standing D) : Type 0 where
+pub record IsOutcome {D : Type 0} (v : DiskView D) (old : OpenSpool D) (events : List Event) (replies : List (Result Reply Refusal)) (ending : Ending) (new : OpenSpool D) : Type 0 where
   pub replies_are : replies ≡ replies_to old.state (take (length replies) events)
   pub table : new.state ≡ after_all old.state (take (length replies) events)
   pub room : new.room ≡ room_after old.state old.room (take (length replies) events)

@@ -12,8 +12,8 @@ use Rattle.job_table.specs.Step.{refusal_of, after}
 use Rattle.documents.specs.Documents.{LieIn}
 use Rattle.documents.specs.Placed.{placed_pieces}
 use Rattle.spool_areas.specs.Header.{header_len}
-use Rattle.spool_core.specs.Seen.{ArePlacesOf, DocumentsLieIn}
-use Rattle.job_table.specs.Fold.{after_all}
+use Rattle.spool_core.specs.SpoolFields.{ArePlacesOf, DocumentsLieIn}
+use Rattle.job_table.specs.EventFold.{after_all}
 use Rattle.job_table.specs.Loading.{Progress, Loaded, IsWhole}
 use Rattle.event_codec.specs.Spelling.{spelling, IsSpellable}
 use Rattle.event_codec.specs.RowSpelling.{row_spelling, IsRowSpellable}
@@ -24,7 +24,7 @@ use Rattle.spool_areas.specs.declared.fault.OpenFault.{OpenFault}
 use Rattle.spool_areas.specs.declared.fault.OpenFault.TheVariants.{NotASpool, Damaged, Memory, Disk}
 use Rattle.spool_areas.specs.Payloads.{gate_after}
 use Rattle.spool_areas.specs.Current.{Current}
-use Rattle.spool_areas.specs.Extents.{bytes_of, payloads_at, Follow}
+use Rattle.spool_areas.specs.PayloadExtents.{bytes_of, payloads_at, Follow}
 use Rattle.spool_core.specs.Image.{Begins, IsNoNext}
 use Rattle.spool_core.specs.declared.fold.Reading.{Reading}
 use Rattle.spool_core.specs.declared.fold.Reading.TheVariants.{Rows, Events}

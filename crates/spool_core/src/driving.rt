@@ -7,13 +7,13 @@ ghost use Rattle.spool_types.specs.State.{State, Job, job_at};
 ghost use Rattle.job_table.specs.Apart.{IsPart, own_events};
 ghost use Rattle.job_table.specs.Legal.{IsLegal};
 ghost use Rattle.job_table.specs.Step.{creation, refusal_of};
-ghost use Rattle.job_table.specs.Fold.{after_all, accepted};
+ghost use Rattle.job_table.specs.EventFold.{after_all, accepted};
 ghost use Rattle.job_table.specs.Ended.{HasEndedJob, IsKeptOrPurged, subject};
 ghost use Rattle.job_table.specs.Over.{HasOver, late_refusal};
 ghost use Rattle.spool_core.specs.Image.{HasTable, HasDocuments, HasBeforeOrAfterEvent, HasWholeBeforeOrAfterEvent, documents_after_one};
-ghost use Rattle.spool_core.specs.Standing.{IsFull};
+ghost use Rattle.spool_core.specs.OpenSpools.{IsFull};
 ghost use Rattle.spool_core.specs.Driving.{replies_to, reach, room_after, HasPrefixTable, HasWholePrefix, IsEnding, IsAcknowledged, IsAcknowledgedWhole, KeepsImages, LeavesDocuments, IsOutcome};
-ghost use Rattle.spool_core.specs.Turns.{DrivesOne};
+ghost use Rattle.spool_core.specs.RunEvents.{DrivesOne};
 
 use crate::spool::{ApplyFault, Spool};
 use job_table::{ended_jobs_stay, queues_stay_apart};

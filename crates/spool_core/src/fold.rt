@@ -2,15 +2,15 @@
 ghost use Rattle.std.specs.Prelude.{◌≡◌, ◌<◌, ◌≤◌, ◌+◌, ◌^◌, length, List, ℕ, Some, false, ◌∷◌, [], ◌++◌, None, OnOk, IfOk, IfErr, IsErrOf};
 ghost use Rattle.spool_disk.specs.Disk.{Blames};
 ghost use Rattle.spool_areas.specs.Header.{header_len, IsVersion};
-ghost use Rattle.spool_core.specs.Versions.{number_of};
+ghost use Rattle.spool_core.specs.VersionNumbers.{number_of};
 ghost use Rattle.spool_types.specs.declared.version.Version.{Version as VersionOf};
 ghost use Rattle.spool_areas.specs.Payloads.{gate_after};
-ghost use Rattle.spool_areas.specs.Extents.{payloads_at, Follow};
+ghost use Rattle.spool_areas.specs.PayloadExtents.{payloads_at, Follow};
 ghost use Rattle.job_table.specs.Step.{refusal_of, after};
 ghost use Rattle.spool_types.specs.Sent.{sent_by};
 ghost use Rattle.job_table.specs.Contents.{HasPlace, AddsPlaces, no_moves, places_of};
 ghost use Rattle.documents.specs.Documents.{LieIn};
-ghost use Rattle.spool_core.specs.Seen.{DocumentsLieIn, HasHistory};
+ghost use Rattle.spool_core.specs.SpoolFields.{DocumentsLieIn, HasHistory};
 ghost use Rattle.spool_core.specs.Image.{Begins};
 ghost use Rattle.spool_core.specs.Folding.{IsPayloadAt, IsRowOrNone, IsReadFault, IsTakeFault, IsNextEvent, IsEventFault, IsCommitFault, IsFinishFault, IsFoldFault, IsRead, AreRows, HasNoneNoted, HasRead, ReadLiesIn, StayOver, decode_fault};
 

@@ -8,12 +8,12 @@ ghost use Rattle.spool_types.specs.declared.event.NewJob.{NewJob};
 ghost use Rattle.job_table.specs.Attempts.{HasNoProcessing};
 ghost use Rattle.job_table.specs.Ended.{HasEndedJob, IsKeptOrPurged, subject};
 ghost use Rattle.job_table.specs.Over.{HasOver, late_refusal};
-ghost use Rattle.job_table.specs.Fold.{after_all};
+ghost use Rattle.job_table.specs.EventFold.{after_all};
 ghost use Rattle.job_table.specs.Legal.{IsLegal};
 ghost use Rattle.job_table.specs.Step.{creation, refusal_of};
 ghost use Rattle.spool_core.specs.Driving.{HasPrefixTable, HasWholePrefix, documents_after};
 ghost use Rattle.spool_core.specs.Image.{AreBytes, HasTable, HasDocument, HasDocuments, HasRoom, HasFault, IsMidway, IsReopenedFrom};
-ghost use Rattle.spool_core.specs.Lives.{Life, KeepsAcknowledged, after_lives, documents_after_lives, history_of, later_events, next_documents, next_table};
+ghost use Rattle.spool_core.specs.SpoolLives.{Life, KeepsAcknowledged, after_lives, documents_after_lives, history_of, later_events, next_documents, next_table};
 ghost use Rattle.spool_areas.specs.declared.fault.OpenFault.{OpenFault};
 
 use job_table::{ended_jobs_stay, legal_tables_stay_legal, reopening};

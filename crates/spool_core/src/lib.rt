@@ -104,8 +104,8 @@
 //!    room for the record of a reopening.
 //! 2. The documents that the table has places for lie between the header of the area and that gate.
 //! 3. As long as no device call has failed, each image has the table that is in memory, and the documents lie where its rows and
-//!    events have them (`IsStandingAt`).
-//! 4. The table has noted no new places of documents (`IsStanding`). A checkpoint notes them, and lets them go before it answers.
+//!    events have them (`IsOpenSpoolAt`).
+//! 4. The table has noted no new places of documents (`IsOpenSpool`). A checkpoint notes them, and lets them go before it answers.
 //!
 //! # Faults and what they leave
 //!

@@ -1,8 +1,8 @@
 //! Reading a job's document, whole or its first bytes.
 ghost use Rattle.std.specs.Prelude.{◌≡◌, ◌≤◌, false, IfOk, IfErr, IsSome};
 ghost use Rattle.spool_types.specs.State.{job_at};
-ghost use Rattle.spool_core.specs.Standing.{len_at};
-ghost use Rattle.spool_core.specs.Reading.{IsDocument, IsPart, IsReading, IsUnreadFor};
+ghost use Rattle.spool_core.specs.OpenSpools.{len_at};
+ghost use Rattle.spool_core.specs.DocumentReading.{IsDocument, IsPart, IsReading, IsUnreadFor};
 
 use crate::spool::Spool;
 use job_table::{Table, document_len};

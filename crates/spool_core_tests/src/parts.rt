@@ -1,7 +1,7 @@
 //! Bytes of a document, read from a spool.
 ghost use Rattle.std.specs.Prelude.{◌≡◌, ◌≤◌, IfOk, IsSome};
 ghost use Rattle.spool_types.specs.State.{job_at};
-ghost use Rattle.spool_core.specs.Standing.{len_at};
+ghost use Rattle.spool_core.specs.OpenSpools.{len_at};
 
 use crate::spelled::{CREATE, QUEUE};
 use crate::spools::{Device, OPENING, closed, drives, made, open};

@@ -84,7 +84,7 @@ fn a_job_is_told(rt: HostRuntime) -> Result<(), Fail> {
 fn news(alloc: Global, changes: &mut Changes, table: &Table, wanted: &[u8]) -> Result<bool, Fail> {
     changes.note_stages(table)?;
     let mut text = Vec::new(alloc);
-    changes.tell(table, &mut text)?;
+    changes.append_notices(table, &mut text)?;
     Ok(text.as_slice() == wanted)
 }
 

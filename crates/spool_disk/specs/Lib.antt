@@ -2,5 +2,5 @@ pub mod Disk
 pub mod File
 pub mod Fuse
 pub mod Images
-pub mod Memory
+pub mod MemoryDisks
 pub mod Once

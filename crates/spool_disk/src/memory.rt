@@ -3,7 +3,7 @@ ghost use Rattle.std.specs.Prelude.{◌≡◌, ◌+◌, ◌≤◌, Some, length,
 ghost use Rattle.std.proofs.Common.{ap, sym};
 ghost use Rattle.std.proofs.lemmas.Option.{same_Some};
 ghost use Rattle.spool_disk.specs.Disk.{overwritten};
-ghost use Rattle.spool_disk.specs.Memory.{mem_bytes};
+ghost use Rattle.spool_disk.specs.MemoryDisks.{mem_bytes};
 
 use crate::{DeviceFault, Disk};
 use std::alloc::{AllocError, Global};

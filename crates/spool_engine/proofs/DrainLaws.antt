@@ -1,19 +1,19 @@
 -- How many rounds there are, and how they are told.
 use Rattle.std.proofs.Common.{◌≡◌, ℕ, zero, suc, ◌+◌, ◌<◌, List, [], ◌∷◌, ◌++◌, length, refl, ap, sym, ◌∙◌, subst, arith, true, false, Bool, Result, Ok, Err}
 use Rattle.std.specs.Prelude.{IfOk}
-use Rattle.print_rounds.specs.Courses.{Course}
+use Rattle.print_rounds.specs.RunStates.{RunState}
 use Rattle.print_rounds.specs.declared.outcome.Round.{Round}
 use Rattle.print_rounds.specs.declared.outcome.RoundFault.{RoundFault}
 use Rattle.spool_engine.specs.Script.{round_text, drain_text}
-use Rattle.spool_engine.specs.EventTurns.{Setting}
-use Rattle.spool_engine.specs.Rounds.{Ran, IsRan, AreRan, AreAll, AreRun, IsRest, is_last, results_of, counts_in, with_counts, rounds_run, line_told, round_line, drain_line}
+use Rattle.spool_engine.specs.EventSteps.{Setting}
+use Rattle.spool_engine.specs.EngineRounds.{Ran, IsRan, AreRan, AreAll, AreRun, IsRest, is_last, results_of, counts_in, with_counts, rounds_run, line_told, round_line, drain_line}
 
 -- rounds that others follow
 abbrev pub AreBusy : {D : Type 0} → List (Ran D) → Type 0
 AreBusy [] = Unit {0}
 AreBusy (r ∷ rs) = (is_last r.result ≡ false) × AreBusy rs
 
-pub ran_more : {D : Type 0} (v : Setting D) (s m : Course D) (rs : List (Ran D)) (r : Ran D) → AreRan v s rs m → IsRan v m r → AreRan v s (rs ++ r ∷ []) r.next
+pub ran_more : {D : Type 0} (v : Setting D) (s m : RunState D) (rs : List (Ran D)) (r : Ran D) → AreRan v s rs m → IsRan v m r → AreRan v s (rs ++ r ∷ []) r.next
 ran_more v s m [] r h k = (subst (λ x. IsRan v x r) h k, refl)
 ran_more v s m (q ∷ rs) r h k = (h.0, ran_more v q.next m rs r h.1 k)
 
@@ -78,7 +78,7 @@ one_all : (b : Bool) → IsRest b [] (AreAll 0 [])
 one_all true = refl
 one_all false = refl
 
-pub one_run : {D : Type 0} (v : Setting D) (s : Course D) (r : Ran D) (reply : List ℕ) → IsRan v s r → reply ≡ line_told round_text (counts_in (r.result ∷ [])) → AreRun v 1 round_text s (r ∷ []) r.next reply
+pub one_run : {D : Type 0} (v : Setting D) (s : RunState D) (r : Ran D) (reply : List ℕ) → IsRan v s r → reply ≡ line_told round_text (counts_in (r.result ∷ [])) → AreRun v 1 round_text s (r ∷ []) r.next reply
 one_run v s r reply h is = record { each = (h, refl); all = one_all (is_last r.result); text = is }
 
 pub round_told : (q : Result Round RoundFault) → line_told round_text (counts_in (q ∷ [])) ≡ round_line q

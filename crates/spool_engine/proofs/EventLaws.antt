@@ -8,8 +8,8 @@ use Rattle.spool_types.specs.declared.event.Reply.{Reply}
 use Rattle.spool_types.specs.declared.refusal.Refusal.{Refusal}
 use Rattle.spool_types.specs.State.{State}
 use Rattle.job_table.specs.Step.{answered, creation, refusal_of}
-use Rattle.job_table.specs.Fold.{unless_refused}
-use Rattle.device_uri.specs.Devices.{is_device_uri}
+use Rattle.job_table.specs.EventFold.{unless_refused}
+use Rattle.device_uri.specs.DeviceUris.{is_device_uri}
 use Rattle.spool_disk.specs.Disk.{DiskView, IsLawful, LeavesOnly}
 use Rattle.spool_disk.proofs.Moments.{at_return, both_runs, started, weaker_run}
 use Rattle.command_lines.specs.Replies.{refusal_line}
@@ -18,7 +18,7 @@ use Rattle.command_lines.specs.declared.command.Creation.{Creation}
 use Rattle.command_lines.specs.declared.command.Command.TheVariants.{Queue, Create}
 use Rattle.spool_core.specs.Driving.{documents_after}
 use Rattle.spool_core.specs.Image.{HasTable, HasInEitherVersion, HasDocuments, HasWhole, HasBeforeOrAfterEvent, HasWholeBeforeOrAfterEvent, unless_refused_sent, documents_after_one}
-use Rattle.spool_core.specs.Standing.{Standing, IsAnswer}
+use Rattle.spool_core.specs.OpenSpools.{OpenSpool, IsAnswer}
 use Rattle.spool_core.specs.Checkpointing.{IsCheckpoint}
 use Rattle.spool_core.specs.declared.spool.checkpoint_fault.CheckpointFault.{CheckpointFault}
 use Rattle.spool_core.specs.declared.spool.checkpoint_fault.CheckpointFault.TheVariants as listing
@@ -28,15 +28,15 @@ use Rattle.print_rounds.proofs.PrefixLaws.{none_of, one_of}
 use Rattle.spool_engine.specs.Mime.{Mime}
 use Rattle.spool_engine.specs.Script.{says, asks, lists, meaning, creating, job_options, job_of_creation, event_in, event_of, step_line, step_state, reply_line}
 use Rattle.print_rounds.specs.Rounds.{HasSomeOf, LeavesDocuments}
-use Rattle.spool_engine.specs.EventTurns.{Setting, Outcome, EventTurn, served, no_memory, full, disk, dead, unread, unlisted, IsServedBy, IsTaken, IsOutcome, IsReadFor, MayBeRead, IsKept, HasSomeSent, HasTableIn, HasWholeIn, is_checkpoint, tried_as, checkpoint_fault_line}
-use Rattle.spool_engine.specs.Answers.{answer_line, checkpoint_line, HasWholeInEitherVersion, IsApplied, IsRelisted, Takes}
+use Rattle.spool_engine.specs.EventSteps.{Setting, Outcome, EventStep, served, no_memory, full, disk, dead, unread, unlisted, IsServedBy, IsTaken, IsOutcome, IsReadFor, MayBeRead, IsKept, HasSomeSent, HasTableIn, HasWholeIn, is_checkpoint, tried_as, checkpoint_fault_line}
+use Rattle.spool_engine.specs.EventAnswers.{answer_line, checkpoint_line, HasWholeInEitherVersion, IsApplied, IsRelisted, Takes}
 
 -- since this moment there is no other
 abbrev pub OnlyNow : {D : Type 0} → DiskView D → Type 0
 OnlyNow {D} v = (d : D) (c : List ℕ) → v.image_since d (v.moment d) c → v.image d c
 
 -- where nothing is done a crash leaves the table
-pub unmoved : {D : Type 0} (v : DiskView D) (s : Standing D) (P : List ℕ → Type 0) → OnlyNow v → IsKept v s → ((c : List ℕ) → HasTable s.state c → P c) → s.dead ≡ false → IsSome (v.bytes s.disk) → LeavesOnly v s.disk s.disk P
+pub unmoved : {D : Type 0} (v : DiskView D) (s : OpenSpool D) (P : List ℕ → Type 0) → OnlyNow v → IsKept v s → ((c : List ℕ) → HasTable s.state c → P c) → s.dead ≡ false → IsSome (v.bytes s.disk) → LeavesOnly v s.disk s.disk P
 unmoved v s P now kept weaker alive tells = started v s.disk P (λ c since. weaker c (kept alive tells c (now s.disk c since)))
 
 -- the state of a step is the one of the fold
@@ -57,7 +57,7 @@ refused_sent s documents e r None is = absurd cc
 refused_sent s documents e r (Some q) is = refl
 
 -- What an answer sends is left behind it: by that of a table that is as it was nothing.
-same_documents : {D : Type 0} (v : DiskView D) (s s' : Standing D) (documents : ℕ → List ℕ) → s' ≡ s → LeavesDocuments v documents s → LeavesDocuments v documents s'
+same_documents : {D : Type 0} (v : DiskView D) (s s' : OpenSpool D) (documents : ℕ → List ℕ) → s' ≡ s → LeavesDocuments v documents s → LeavesDocuments v documents s'
 same_documents v s s' documents same has = subst (LeavesDocuments v documents) (sym same) has
 
 -- an image of a table with its documents is one of those that events lead to from it
@@ -68,11 +68,11 @@ pub one_whole : (s : State) (documents : ℕ → List ℕ) (e : Event) (c : List
 one_whole s documents e c = ⊎_elim (λ before. none_whole s documents (e ∷ []) c before) (λ after. (1, omega arith, omega arith, after))
 
 -- where nothing is done a crash leaves the table and its documents
-pub unmoved_whole : {D : Type 0} (v : DiskView D) (s : Standing D) (documents : ℕ → List ℕ) (P : List ℕ → Type 0) → OnlyNow v → IsKept v s → ((c : List ℕ) → HasWhole s.state documents c → P c) → s.dead ≡ false → IsSome (v.bytes s.disk) → LeavesDocuments v documents s → LeavesOnly v s.disk s.disk P
+pub unmoved_whole : {D : Type 0} (v : DiskView D) (s : OpenSpool D) (documents : ℕ → List ℕ) (P : List ℕ → Type 0) → OnlyNow v → IsKept v s → ((c : List ℕ) → HasWhole s.state documents c → P c) → s.dead ≡ false → IsSome (v.bytes s.disk) → LeavesDocuments v documents s → LeavesOnly v s.disk s.disk P
 unmoved_whole v s documents P now kept weaker alive tells has = started v s.disk P (λ c since. weaker c (kept alive tells c (now s.disk c since), has c (now s.disk c since)))
 
 -- what a crash leaves from one spool to another, where these events were tried
-abbrev pub LeavesSent : {D : Type 0} → DiskView D → Standing D → Standing D → List Event → Type 0
+abbrev pub LeavesSent : {D : Type 0} → DiskView D → OpenSpool D → OpenSpool D → List Event → Type 0
 LeavesSent v s s' es = s.dead ≡ false → IsSome (v.bytes s.disk) → (documents : ℕ → List ℕ) → LeavesDocuments v documents s → LeavesOnly v s.disk s'.disk (HasSomeSent s.state documents es)
 
 -- what a crash leaves of the events of a command it leaves in that command
@@ -84,15 +84,15 @@ sent_in v d d' c s documents es run = weaker_run v d d' (HasWholeIn c s document
 
 -- ## A command that is no event
 
-pub still_whole : {D : Type 0} (v : DiskView D) (s : Standing D) (es : List Event) → OnlyNow v → IsKept v s → LeavesSent v s s es
+pub still_whole : {D : Type 0} (v : DiskView D) (s : OpenSpool D) (es : List Event) → OnlyNow v → IsKept v s → LeavesSent v s s es
 still_whole v s es now kept = λ alive tells documents has. unmoved_whole v s documents (HasSomeSent s.state documents es) now kept (none_whole s.state documents es) alive tells has
 
 -- a command that closes no job reads no document
-abbrev pub ReadsNothing : {D : Type 0} → Setting D → Standing D → Command → Type 0
+abbrev pub ReadsNothing : {D : Type 0} → Setting D → OpenSpool D → Command → Type 0
 ReadsNothing v s c = (o : Outcome) → IsReadFor v s [] o c
 
 -- a command that is no event changes nothing
-said_turn : {D : Type 0} (v : Setting D) (s : Standing D) (c : Command) (text : List ℕ) → OnlyNow v.device → IsKept v.device s → ReadsNothing v s c → meaning v.mime s.state [] c ≡ says text → (t : EventTurn D) × Takes v s c t s × (t.text ≡ text)
+said_turn : {D : Type 0} (v : Setting D) (s : OpenSpool D) (c : Command) (text : List ℕ) → OnlyNow v.device → IsKept v.device s → ReadsNothing v s c → meaning v.mime s.state [] c ≡ says text → (t : EventStep D) × Takes v s c t s × (t.text ≡ text)
 said_turn v s c text now kept none is = (
   record { command = c; document = []; outcome = served; text = text; next = s },
   record {
@@ -117,25 +117,25 @@ said_turn v s c text now kept none is = (
 )
 
 -- what a crash leaves of an event that was tried, and of one that wasn't
-tried : {D : Type 0} (v : DiskView D) (s s' : Standing D) (e : Event) (a : Result Reply ApplyFault) → IsApplied v s e a s' → s.dead ≡ false → IsSome (v.bytes s.disk) → LeavesOnly v s.disk s'.disk (HasSomeOf s.state (e ∷ []))
+tried : {D : Type 0} (v : DiskView D) (s s' : OpenSpool D) (e : Event) (a : Result Reply ApplyFault) → IsApplied v s e a s' → s.dead ≡ false → IsSome (v.bytes s.disk) → LeavesOnly v s.disk s'.disk (HasSomeOf s.state (e ∷ []))
 tried v s s' e a h alive tells = weaker_run v s.disk s'.disk (HasSomeOf s.state (e ∷ [])) (HasBeforeOrAfterEvent s.state e) (h.crash alive tells) (one_of s.state e)
 
-untried : {D : Type 0} (v : DiskView D) (s s' : Standing D) (e : Event) (a : Result Reply ApplyFault) → OnlyNow v → IsApplied v s e a s' → s' ≡ s → s.dead ≡ false → IsSome (v.bytes s.disk) → LeavesOnly v s.disk s'.disk (HasSomeOf s.state [])
+untried : {D : Type 0} (v : DiskView D) (s s' : OpenSpool D) (e : Event) (a : Result Reply ApplyFault) → OnlyNow v → IsApplied v s e a s' → s' ≡ s → s.dead ≡ false → IsSome (v.bytes s.disk) → LeavesOnly v s.disk s'.disk (HasSomeOf s.state [])
 untried v s s' e a now h same alive tells = subst (λ x. LeavesOnly v s.disk x.disk (HasSomeOf s.state [])) (sym same)
     (unmoved v s (HasSomeOf s.state []) now (subst (IsKept v) same h.kept) (none_of s.state []) alive tells)
 
-tried_whole : {D : Type 0} (v : DiskView D) (s s' : Standing D) (e : Event) (a : Result Reply ApplyFault) → IsApplied v s e a s' → LeavesSent v s s' (e ∷ [])
+tried_whole : {D : Type 0} (v : DiskView D) (s s' : OpenSpool D) (e : Event) (a : Result Reply ApplyFault) → IsApplied v s e a s' → LeavesSent v s s' (e ∷ [])
 tried_whole v s s' e a h = λ alive tells documents has.
     weaker_run v s.disk s'.disk (HasSomeSent s.state documents (e ∷ [])) (HasWholeBeforeOrAfterEvent s.state documents e) (h.whole alive tells documents has) (one_whole s.state documents e)
 
-untried_whole : {D : Type 0} (v : DiskView D) (s s' : Standing D) (e : Event) (a : Result Reply ApplyFault) → OnlyNow v → IsApplied v s e a s' → s' ≡ s → LeavesSent v s s' []
+untried_whole : {D : Type 0} (v : DiskView D) (s s' : OpenSpool D) (e : Event) (a : Result Reply ApplyFault) → OnlyNow v → IsApplied v s e a s' → s' ≡ s → LeavesSent v s s' []
 untried_whole v s s' e a now h same = subst (λ x. LeavesSent v s x []) (sym same) (still_whole v s [] now (subst (IsKept v) same h.kept))
 
 -- a turn whose event went so
-pub applied_turn : {D : Type 0} (v : Setting D) (s s' : Standing D) (c : Command) (document : List ℕ) (e : Event) (line : Reply → List ℕ) (a : Result Reply ApplyFault) (o : Outcome) (text : List ℕ) → meaning v.mime s.state document c ≡ asks e line → IsApplied v.device s e a s'
+pub applied_turn : {D : Type 0} (v : Setting D) (s s' : OpenSpool D) (c : Command) (document : List ℕ) (e : Event) (line : Reply → List ℕ) (a : Result Reply ApplyFault) (o : Outcome) (text : List ℕ) → meaning v.mime s.state document c ≡ asks e line → IsApplied v.device s e a s'
     → IsOutcome v s (record { command = c; document = document; outcome = o; text = text; next = s' }) o → IsReadFor v s document o c → (s.dead ≡ false → IsSome (v.device.bytes s.disk) → LeavesOnly v.device s.disk s'.disk (HasSomeOf s.state (tried_as (Some e) o))) → LeavesSent v.device s s' (tried_as (Some e) o)
     → (s'.dead ≡ false → IsSome (v.device.bytes s.disk) → (documents : ℕ → List ℕ) → LeavesDocuments v.device documents s → LeavesDocuments v.device (documents_after s.state documents (tried_as (Some e) o)) s')
-    → (t : EventTurn D) × Takes v s c t s' × (t.text ≡ text)
+    → (t : EventStep D) × Takes v s c t s' × (t.text ≡ text)
 applied_turn v s s' c document e line a o text is h out read crash whole lasting = (
   record { command = c; document = document; outcome = o; text = text; next = s' },
   record {
@@ -160,8 +160,8 @@ applied_turn v s s' c document e line a o text is h out read crash whole lasting
 )
 
 -- an event that the table refused, of a command that read nothing before
-pub refused_turn : {D : Type 0} (v : Setting D) (s s' : Standing D) (c : Command) (e : Event) (line : Reply → List ℕ) (refusal : Refusal) → meaning v.mime s.state [] c ≡ asks e line → IsApplied v.device s e (Err (Refused refusal)) s' → IsReadFor v s [] served c
-    → (t : EventTurn D) × Takes v s c t s' × (t.text ≡ refusal_line refusal)
+pub refused_turn : {D : Type 0} (v : Setting D) (s s' : OpenSpool D) (c : Command) (e : Event) (line : Reply → List ℕ) (refusal : Refusal) → meaning v.mime s.state [] c ≡ asks e line → IsApplied v.device s e (Err (Refused refusal)) s' → IsReadFor v s [] served c
+    → (t : EventStep D) × Takes v s c t s' × (t.text ≡ refusal_line refusal)
 refused_turn v s s' c e line refusal is h read = applied_turn v s s' c [] e line (Err (Refused refusal)) served (refusal_line refusal) is h
     (subst (λ w. IsServedBy v.device s w (refusal_line refusal) s') (sym is) (sym (ap (step_line line) h.cause.1), subst (λ r. IsTaken s e r s') (sym h.cause.1) (h.cause.0, h.cause.2)))
     read
@@ -170,14 +170,14 @@ refused_turn v s s' c e line refusal is h read = applied_turn v s s' c [] e line
     (λ lives tells documents has. subst (λ d. LeavesDocuments v.device d s') (sym (refused_sent s.state documents e refusal (refusal_of s.state e) h.cause.1)) (same_documents v.device s s' documents h.cause.2 has))
 
 -- an event of a dead spool
-pub dead_turn : {D : Type 0} (v : Setting D) (s s' : Standing D) (c : Command) (e : Event) (line : Reply → List ℕ) → OnlyNow v.device → meaning v.mime s.state [] c ≡ asks e line → IsApplied v.device s e (Err Dead) s' → IsReadFor v s [] dead c
-    → (t : EventTurn D) × Takes v s c t s' × (t.text ≡ codes "error dead\n")
+pub dead_turn : {D : Type 0} (v : Setting D) (s s' : OpenSpool D) (c : Command) (e : Event) (line : Reply → List ℕ) → OnlyNow v.device → meaning v.mime s.state [] c ≡ asks e line → IsApplied v.device s e (Err Dead) s' → IsReadFor v s [] dead c
+    → (t : EventStep D) × Takes v s c t s' × (t.text ≡ codes "error dead\n")
 dead_turn v s s' c e line now is h read = applied_turn v s s' c [] e line (Err Dead) dead (codes "error dead\n") is h (record { event = e; is = ap event_in is; cause = h.cause; text = refl }) read
     (untried v.device s s' e (Err Dead) now h h.cause.1)
     (untried_whole v.device s s' e (Err Dead) now h h.cause.1)
     (λ lives tells documents has. same_documents v.device s s' documents h.cause.1 has)
 
-pub answered_turn : {D : Type 0} (v : Setting D) (s s' : Standing D) (c : Command) (e : Event) (line : Reply → List ℕ) (a : Result Reply ApplyFault) → OnlyNow v.device → ReadsNothing v s c → meaning v.mime s.state [] c ≡ asks e line → IsApplied v.device s e a s' → (t : EventTurn D) × Takes v s c t s' × (t.text ≡ answer_line line a)
+pub answered_turn : {D : Type 0} (v : Setting D) (s s' : OpenSpool D) (c : Command) (e : Event) (line : Reply → List ℕ) (a : Result Reply ApplyFault) → OnlyNow v.device → ReadsNothing v s c → meaning v.mime s.state [] c ≡ asks e line → IsApplied v.device s e a s' → (t : EventStep D) × Takes v s c t s' × (t.text ≡ answer_line line a)
 answered_turn v s s' c e line (Ok reply) now none is h = applied_turn v s s' c [] e line (Ok reply) served (line reply) is h
     (subst (λ w. IsServedBy v.device s w (line reply) s') (sym is) (sym (ap (step_line line) h.cause.step), subst (λ r. IsTaken s e r s') (sym h.cause.step) h.cause))
     (none served)
@@ -205,21 +205,21 @@ same_bytes bytes (Ok x) a b e h = h ∙ sym e
 same_bytes bytes (Err fault) a b e h = h
 
 -- a command that is an event, and the text that tells how it went
-pub event_told : {X E D : Type 0} (bytes : X → List ℕ) (r : Result X E) (v : Setting D) (s s' : Standing D) (c : Command) (e : Event) (line : Reply → List ℕ) → OnlyNow v.device → ReadsNothing v s c → meaning v.mime s.state [] c ≡ asks e line
+pub event_told : {X E D : Type 0} (bytes : X → List ℕ) (r : Result X E) (v : Setting D) (s s' : OpenSpool D) (c : Command) (e : Event) (line : Reply → List ℕ) → OnlyNow v.device → ReadsNothing v s c → meaning v.mime s.state [] c ≡ asks e line
     → (a : Result Reply ApplyFault) × IsApplied v.device s e a s' × IfOk r (λ text. bytes text ≡ answer_line line a)
-    → (t : EventTurn D) × Takes v s c t s' × IfOk r (λ text. bytes text ≡ t.text)
+    → (t : EventStep D) × Takes v s c t s' × IfOk r (λ text. bytes text ≡ t.text)
 event_told bytes r v s s' c e line now none is (a, went, text) =
     let (t, takes, told) = answered_turn v s s' c e line a now none is went in
     (t, takes, same_bytes bytes r (answer_line line a) t.text told text)
 
 -- a command that is no event
-pub said_told : {X E D : Type 0} (bytes : X → List ℕ) (r : Result X E) (v : Setting D) (s : Standing D) (c : Command) (text : List ℕ) → OnlyNow v.device → IsKept v.device s → ReadsNothing v s c → meaning v.mime s.state [] c ≡ says text → IfOk r (λ x. bytes x ≡ text) → (t : EventTurn D) × Takes v s c t s × IfOk r (λ x. bytes x ≡ t.text)
+pub said_told : {X E D : Type 0} (bytes : X → List ℕ) (r : Result X E) (v : Setting D) (s : OpenSpool D) (c : Command) (text : List ℕ) → OnlyNow v.device → IsKept v.device s → ReadsNothing v s c → meaning v.mime s.state [] c ≡ says text → IfOk r (λ x. bytes x ≡ text) → (t : EventStep D) × Takes v s c t s × IfOk r (λ x. bytes x ≡ t.text)
 said_told bytes r v s c text now kept none is h =
     let (t, takes, told) = said_turn v s c text now kept none is in
     (t, takes, same_bytes bytes r text t.text told h)
 
 -- a command whose text wasn't read since there was no memory
-pub unread_told : {X E D : Type 0} (bytes : X → List ℕ) (r : Result X E) (v : Setting D) (s : Standing D) (c : Command) → OnlyNow v.device → IsKept v.device s → ReadsNothing v s c → MayBeRead c → IfOk r (λ x. bytes x ≡ codes "error memory\n") → (t : EventTurn D) × Takes v s c t s × IfOk r (λ x. bytes x ≡ t.text)
+pub unread_told : {X E D : Type 0} (bytes : X → List ℕ) (r : Result X E) (v : Setting D) (s : OpenSpool D) (c : Command) → OnlyNow v.device → IsKept v.device s → ReadsNothing v s c → MayBeRead c → IfOk r (λ x. bytes x ≡ codes "error memory\n") → (t : EventStep D) × Takes v s c t s × IfOk r (λ x. bytes x ≡ t.text)
 unread_told bytes r v s c now kept none may h = (
   record { command = c; document = []; outcome = unread; text = codes "error memory\n"; next = s },
   record {
@@ -258,11 +258,11 @@ pub no_create_event : (m : Mime) (s : State) (n : Creation) → job_options n.op
 no_create_event m s n is = ap (creating s n) is
 
 -- the turn of a command by another name
-pub same_command : {X E D : Type 0} (bytes : X → List ℕ) (r : Result X E) (v : Setting D) (s s' : Standing D) (c c' : Command) → c ≡ c' → (t : EventTurn D) × Takes v s c' t s' × IfOk r (λ x. bytes x ≡ t.text) → (t : EventTurn D) × Takes v s c t s' × IfOk r (λ x. bytes x ≡ t.text)
+pub same_command : {X E D : Type 0} (bytes : X → List ℕ) (r : Result X E) (v : Setting D) (s s' : OpenSpool D) (c c' : Command) → c ≡ c' → (t : EventStep D) × Takes v s c' t s' × IfOk r (λ x. bytes x ≡ t.text) → (t : EventStep D) × Takes v s c t s' × IfOk r (λ x. bytes x ≡ t.text)
 same_command bytes r v s s' c c' e (t, takes, told) = (t, record { legal = takes.legal; command = takes.command ∙ sym e; next = takes.next }, told)
 
 -- an event for which there was nothing to be done, so that the spool is as it was
-pub unasked : {D : Type 0} (v : DiskView D) (s : Standing D) (e : Event) (fault : ApplyFault) → OnlyNow v → IsKept v s → IsAnswer v s e (Err fault) s → IsApplied v s e (Err fault) s
+pub unasked : {D : Type 0} (v : DiskView D) (s : OpenSpool D) (e : Event) (fault : ApplyFault) → OnlyNow v → IsKept v s → IsAnswer v s e (Err fault) s → IsApplied v s e (Err fault) s
 unasked v s e fault now kept h = record {
   cause = h;
   counted = omega arith;
@@ -274,11 +274,11 @@ unasked v s e fault now kept h = record {
 }
 
 -- the same spool by another name
-pub kept_as : {D : Type 0} (v : DiskView D) (s s' : Standing D) → s ≡ s' → IsKept v s → IsKept v s'
+pub kept_as : {D : Type 0} (v : DiskView D) (s s' : OpenSpool D) → s ≡ s' → IsKept v s → IsKept v s'
 kept_as v s s' e kept = subst (IsKept v) e kept
 
 -- after every answer of the spool a crash leaves the table that is shown
-still_kept : {D : Type 0} (v : DiskView D) (s s' : Standing D) (e : Event) (a : Result Reply ApplyFault) → IsAnswer v s e a s' → (IsSome (v.bytes s'.disk) ↔ IsSome (v.bytes s.disk))
+still_kept : {D : Type 0} (v : DiskView D) (s s' : OpenSpool D) (e : Event) (a : Result Reply ApplyFault) → IsAnswer v s e a s' → (IsSome (v.bytes s'.disk) ↔ IsSome (v.bytes s.disk))
     → OnOk a (IsSome (v.bytes s.disk) → (c : List ℕ) → v.image s'.disk c → HasTable s'.state c) → IsKept v s → IsKept v s'
 still_kept v s s' e (Ok reply) h told ok kept = λ alive tells c now. ok (told.0 tells) c now
 still_kept v s s' e (Err Dead) h told ok kept = kept_as v s s' (sym h.1) kept
@@ -288,11 +288,11 @@ still_kept v s s' e (Err Full) h told ok kept = kept_as v s s' (sym h.1) kept
 still_kept v s s' e (Err Disk) h told ok kept = λ alive tells c now. absurd (let died = h.dead in cc)
 
 -- where each image has these documents the bytes that are told have them
-pub told_documents : {D : Type 0} (v : DiskView D) (s : Standing D) (documents : ℕ → List ℕ) (bytes : List ℕ) → IsLawful v → LeavesDocuments v documents s → v.bytes s.disk ≡ Some bytes → HasDocuments s.state documents bytes
+pub told_documents : {D : Type 0} (v : DiskView D) (s : OpenSpool D) (documents : ℕ → List ℕ) (bytes : List ℕ) → IsLawful v → LeavesDocuments v documents s → v.bytes s.disk ≡ Some bytes → HasDocuments s.state documents bytes
 told_documents v s documents bytes lawful has is = has bytes (lawful.reads_image s.disk bytes is)
 
 -- so a clause of the bytes is one of each image
-sent_of : {D X E : Type 0} (v : DiskView D) (s : Standing D) (r : Result X E) (P : (ℕ → List ℕ) → Type 0) → IsLawful v → OnOk r ((bytes : List ℕ) (documents : ℕ → List ℕ) → v.bytes s.disk ≡ Some bytes → HasDocuments s.state documents bytes → P documents)
+sent_of : {D X E : Type 0} (v : DiskView D) (s : OpenSpool D) (r : Result X E) (P : (ℕ → List ℕ) → Type 0) → IsLawful v → OnOk r ((bytes : List ℕ) (documents : ℕ → List ℕ) → v.bytes s.disk ≡ Some bytes → HasDocuments s.state documents bytes → P documents)
     → OnOk r (IsSome (v.bytes s.disk) → (documents : ℕ → List ℕ) → LeavesDocuments v documents s → P documents)
 sent_of v s (Ok x) P lawful h = λ tells documents has.
     let (bytes, is) = has_bytes (v.bytes s.disk) tells in
@@ -300,7 +300,7 @@ sent_of v s (Ok x) P lawful h = λ tells documents has.
 sent_of v s (Err f) P lawful h = tt
 
 -- what the spool says of an event
-pub spool_applied : {D : Type 0} (v : DiskView D) (s s' : Standing D) (e : Event) (a : Result Reply ApplyFault) → IsLawful v → IsAnswer v s e a s' → v.failures s.disk ≤ v.failures s'.disk → (IsSome (v.bytes s'.disk) ↔ IsSome (v.bytes s.disk))
+pub spool_applied : {D : Type 0} (v : DiskView D) (s s' : OpenSpool D) (e : Event) (a : Result Reply ApplyFault) → IsLawful v → IsAnswer v s e a s' → v.failures s.disk ≤ v.failures s'.disk → (IsSome (v.bytes s'.disk) ↔ IsSome (v.bytes s.disk))
     → (s.dead ≡ false → IsSome (v.bytes s.disk) → LeavesOnly v s.disk s'.disk (HasBeforeOrAfterEvent s.state e))
     → (s.dead ≡ false → (bytes : List ℕ) (documents : ℕ → List ℕ) → v.bytes s.disk ≡ Some bytes → HasDocuments s.state documents bytes → LeavesOnly v s.disk s'.disk (HasWholeBeforeOrAfterEvent s.state documents e))
     → OnOk a (IsSome (v.bytes s.disk) → (c : List ℕ) → v.image s'.disk c → HasTable s'.state c)
@@ -320,10 +320,10 @@ spool_applied v s s' e a lawful h counted told crash whole ok sent kept = record
 
 -- ## A checkpoint
 
-listed_turn : {D : Type 0} (v : Setting D) (s s' : Standing D) (c : Command) (a : Result (Unit {0}) CheckpointFault) (o : Outcome) (text : List ℕ) → ReadsNothing v s c → is_checkpoint c ≡ true → meaning v.mime s.state [] c ≡ lists → IsRelisted v.device s a s'
+listed_turn : {D : Type 0} (v : Setting D) (s s' : OpenSpool D) (c : Command) (a : Result (Unit {0}) CheckpointFault) (o : Outcome) (text : List ℕ) → ReadsNothing v s c → is_checkpoint c ≡ true → meaning v.mime s.state [] c ≡ lists → IsRelisted v.device s a s'
     → IsOutcome v s (record { command = c; document = []; outcome = o; text = text; next = s' }) o → tried_as None o ≡ []
     → (s'.dead ≡ false → IsSome (v.device.bytes s.disk) → (documents : ℕ → List ℕ) → LeavesDocuments v.device documents s → LeavesDocuments v.device documents s')
-    → (t : EventTurn D) × Takes v s c t s' × (t.text ≡ text)
+    → (t : EventStep D) × Takes v s c t s' × (t.text ≡ text)
 listed_turn v s s' c a o text quiet lists_it is h out none lasting = (
   record { command = c; document = []; outcome = o; text = text; next = s' },
   record {
@@ -354,28 +354,28 @@ listed_turn v s s' c a o text quiet lists_it is h out none lasting = (
 )
 
 -- what a fault leaves of the documents
-unlisted_documents : {D : Type 0} (v : DiskView D) (s s' : Standing D) (fault : CheckpointFault) (documents : ℕ → List ℕ) → IsCheckpoint v s (Err fault) s' → s'.dead ≡ false → LeavesDocuments v documents s → LeavesDocuments v documents s'
+unlisted_documents : {D : Type 0} (v : DiskView D) (s s' : OpenSpool D) (fault : CheckpointFault) (documents : ℕ → List ℕ) → IsCheckpoint v s (Err fault) s' → s'.dead ≡ false → LeavesDocuments v documents s → LeavesDocuments v documents s'
 unlisted_documents v s s' listing.Dead documents h lives has = same_documents v s s' documents h.1 has
 unlisted_documents v s s' listing.EpochEnd documents h lives has = same_documents v s s' documents h.2 has
 unlisted_documents v s s' listing.Memory documents h lives has = same_documents v s s' documents h.1 has
 unlisted_documents v s s' listing.Full documents h lives has = same_documents v s s' documents h.2 has
 unlisted_documents v s s' listing.Disk documents h lives has = absurd (let died = h.dead in cc)
 
-relisted_turn : {D : Type 0} (v : Setting D) (s s' : Standing D) (c : Command) (a : Result (Unit {0}) CheckpointFault) → ReadsNothing v s c → is_checkpoint c ≡ true → meaning v.mime s.state [] c ≡ lists → IsRelisted v.device s a s' → (t : EventTurn D) × Takes v s c t s' × (t.text ≡ checkpoint_line a)
+relisted_turn : {D : Type 0} (v : Setting D) (s s' : OpenSpool D) (c : Command) (a : Result (Unit {0}) CheckpointFault) → ReadsNothing v s c → is_checkpoint c ≡ true → meaning v.mime s.state [] c ≡ lists → IsRelisted v.device s a s' → (t : EventStep D) × Takes v s c t s' × (t.text ≡ checkpoint_line a)
 relisted_turn v s s' c (Ok done) quiet lists_it is h = listed_turn v s s' c (Ok done) served (codes "ok\n") quiet lists_it is h (subst (λ w. IsServedBy v.device s w (codes "ok\n") s') (sym is) (refl, h.cause)) refl (λ lives. h.lasting)
 relisted_turn v s s' c (Err fault) quiet lists_it is h = listed_turn v s s' c (Err fault) (unlisted fault) (checkpoint_fault_line fault) quiet lists_it is h (record { is = is; cause = h.cause; text = refl }) refl
     (λ lives tells documents has. unlisted_documents v.device s s' fault documents h.cause lives has)
 
 -- a checkpoint, and the text that tells how it went
-pub listing_told : {X E D : Type 0} (bytes : X → List ℕ) (r : Result X E) (v : Setting D) (s s' : Standing D) (c : Command) → ReadsNothing v s c → is_checkpoint c ≡ true → meaning v.mime s.state [] c ≡ lists
+pub listing_told : {X E D : Type 0} (bytes : X → List ℕ) (r : Result X E) (v : Setting D) (s s' : OpenSpool D) (c : Command) → ReadsNothing v s c → is_checkpoint c ≡ true → meaning v.mime s.state [] c ≡ lists
     → (a : Result (Unit {0}) CheckpointFault) × IsRelisted v.device s a s' × IfOk r (λ text. bytes text ≡ checkpoint_line a)
-    → (t : EventTurn D) × Takes v s c t s' × IfOk r (λ text. bytes text ≡ t.text)
+    → (t : EventStep D) × Takes v s c t s' × IfOk r (λ text. bytes text ≡ t.text)
 listing_told bytes r v s s' c quiet lists_it is (a, went, text) =
     let (t, takes, told) = relisted_turn v s s' c a quiet lists_it is went in
     (t, takes, same_bytes bytes r (checkpoint_line a) t.text told text)
 
 -- after every answer to a checkpoint a crash leaves the table that is shown
-listing_kept : {D : Type 0} (v : DiskView D) (s s' : Standing D) (a : Result (Unit {0}) CheckpointFault) → IsCheckpoint v s a s' → (IsSome (v.bytes s'.disk) ↔ IsSome (v.bytes s.disk))
+listing_kept : {D : Type 0} (v : DiskView D) (s s' : OpenSpool D) (a : Result (Unit {0}) CheckpointFault) → IsCheckpoint v s a s' → (IsSome (v.bytes s'.disk) ↔ IsSome (v.bytes s.disk))
     → OnOk a (IsSome (v.bytes s.disk) → (c : List ℕ) → v.image s'.disk c → HasTable s'.state c) → IsKept v s → IsKept v s'
 listing_kept v s s' (Ok done) h told ok kept = λ alive tells c now. ok (told.0 tells) c now
 listing_kept v s s' (Err listing.Dead) h told ok kept = kept_as v s s' (sym h.1) kept
@@ -385,7 +385,7 @@ listing_kept v s s' (Err listing.Full) h told ok kept = kept_as v s s' (sym h.2)
 listing_kept v s s' (Err listing.Disk) h told ok kept = λ alive tells c now. absurd (let died = h.dead in cc)
 
 -- the documents are left behind one that was Ok
-listing_lasts : {D : Type 0} (v : DiskView D) (s s' : Standing D) (a : Result (Unit {0}) CheckpointFault) → IsLawful v → IsCheckpoint v s a s'
+listing_lasts : {D : Type 0} (v : DiskView D) (s s' : OpenSpool D) (a : Result (Unit {0}) CheckpointFault) → IsLawful v → IsCheckpoint v s a s'
     → (s.dead ≡ false → (bytes : List ℕ) (documents : ℕ → List ℕ) → v.bytes s.disk ≡ Some bytes → HasDocuments s.state documents bytes → LeavesOnly v s.disk s'.disk (HasDocuments s.state documents))
     → OnOk a (IsSome (v.bytes s.disk) → (documents : ℕ → List ℕ) → LeavesDocuments v documents s → LeavesDocuments v documents s')
 listing_lasts v s s' (Ok done) lawful h left = λ tells documents has.
@@ -395,7 +395,7 @@ listing_lasts v s s' (Ok done) lawful h left = λ tells documents has.
 listing_lasts v s s' (Err fault) lawful h left = tt
 
 -- what the spool says of a checkpoint
-pub spool_relisted : {D : Type 0} (v : DiskView D) (s s' : Standing D) (a : Result (Unit {0}) CheckpointFault) → IsLawful v → IsCheckpoint v s a s' → v.failures s.disk ≤ v.failures s'.disk → (IsSome (v.bytes s'.disk) ↔ IsSome (v.bytes s.disk))
+pub spool_relisted : {D : Type 0} (v : DiskView D) (s s' : OpenSpool D) (a : Result (Unit {0}) CheckpointFault) → IsLawful v → IsCheckpoint v s a s' → v.failures s.disk ≤ v.failures s'.disk → (IsSome (v.bytes s'.disk) ↔ IsSome (v.bytes s.disk))
     → (s.dead ≡ false → IsSome (v.bytes s.disk) → LeavesOnly v s.disk s'.disk (HasInEitherVersion s.state))
     → (s.dead ≡ false → (bytes : List ℕ) (documents : ℕ → List ℕ) → v.bytes s.disk ≡ Some bytes → HasDocuments s.state documents bytes → LeavesOnly v s.disk s'.disk (HasDocuments s.state documents))
     → OnOk a (IsSome (v.bytes s.disk) → (c : List ℕ) → v.image s'.disk c → HasTable s'.state c) → IsKept v s → IsRelisted v s a s'

@@ -10,38 +10,38 @@ use Rattle.spool_types.specs.declared.refusal.Refusal.{Refusal}
 use Rattle.spool_types.specs.State.{State}
 use Rattle.spool_types.specs.declared.version.Version.TheVariants.{Two}
 use Rattle.job_table.specs.Step.{step, refusal_of}
-use Rattle.job_table.specs.Fold.{after_all}
-use Rattle.job_table.specs.Versions.{raised}
+use Rattle.job_table.specs.EventFold.{after_all}
+use Rattle.job_table.specs.TableVersions.{raised}
 use Rattle.command_lines.specs.Text.{commands_of}
 use Rattle.command_lines.specs.declared.command.Command.{Command}
 use Rattle.command_lines.specs.declared.command.Command.TheVariants as commands
 use Rattle.command_lines.specs.declared.command.Creation.{Creation}
-use Rattle.device_uri.specs.Devices.{is_device_uri}
+use Rattle.device_uri.specs.DeviceUris.{is_device_uri}
 use Rattle.filter_args.specs.declared.place.Place.{Place}
 use Rattle.spool_disk.specs.Disk.{DiskView}
-use Rattle.spool_core.specs.Standing.{Standing}
-use Rattle.child_pipeline.specs.Slots.{Slots}
+use Rattle.spool_core.specs.OpenSpools.{OpenSpool}
+use Rattle.child_pipeline.specs.StageSlots.{Slots}
 use Rattle.child_pipeline.specs.Tickets.{HasTickets}
-use Rattle.child_pipeline.specs.Told.{Told}
-use Rattle.print_rounds.specs.Courses.{Course, AreHanded}
+use Rattle.child_pipeline.specs.ChildTraces.{ChildTrace}
+use Rattle.print_rounds.specs.RunStates.{RunState, AreHanded}
 use Rattle.print_rounds.specs.Finished.{EachFinishedOnce, HasNoneRunning}
 use Rattle.print_rounds.specs.Counts.{counts_of as counts_told, result_of}
 use Rattle.print_rounds.specs.Rounds.{IsRoundOf, fault_in}
-use Rattle.print_rounds.specs.Script.{Play, play_from, plays, round_of, waited}
-use Rattle.print_rounds.specs.Ticks.{running_jobs}
+use Rattle.print_rounds.specs.RoundScript.{Play, play_from, plays, round_of, waited}
+use Rattle.print_rounds.specs.RoundTicks.{running_jobs}
 use Rattle.print_rounds.specs.declared.outcome.Round.{Round}
 use Rattle.print_rounds.specs.declared.outcome.RoundFault.{RoundFault}
 use Rattle.spool_engine.specs.Mime.{Mime}
-use Rattle.spool_engine.specs.Script.{Meaning, says, asks, lists, runs, meaning, meaning_in, meaning_with, withheld_line, withholds, document_for, creating, job_options, reply_line, Documents, Asked, Scene, scene_after, settled, counts_of, is_idle, unless, rounds_of, last_scene, step_line, step_state, reply_by, after_by, events_by, reply_of, after_command, events_of_command, script_text, script_events, script_scene}
-use Rattle.spool_engine.specs.EventTurns.{Setting, Outcome, served, IsTaken, IsServedBy, IsOutcome, is_checkpoint}
-use Rattle.spool_engine.specs.Rounds.{Ran, IsRoundWith, IsRan, IsSettled, AreRan, AreAll, IsRest, is_last, results_of, counts_in, with_counts, line_told, AreRunBy}
-use Rattle.spool_engine.specs.Runs.{Turn, How, answered, ran, withheld, event_turn, read_in, read_by, asked_of, IsHow, IsHeld, IsWithheld, IsWell, AllServed, AreTurns, last_course, texts_of, commands_in, Lead, IsScript, IsScene, IsExact, HasNoRounds, KeepVersion, is_round, scene_with}
+use Rattle.spool_engine.specs.Script.{Meaning, says, asks, lists, runs, meaning, meaning_in, meaning_with, withheld_line, withholds, document_for, creating, job_options, reply_line, Documents, Asked, ScriptState, script_state_after, settled, counts_of, is_idle, unless, rounds_of, last_script_state, step_line, step_state, reply_by, after_by, events_by, reply_of, after_command, events_of_command, script_text, script_events, run_script_state}
+use Rattle.spool_engine.specs.EventSteps.{Setting, Outcome, served, IsTaken, IsServedBy, IsOutcome, is_checkpoint}
+use Rattle.spool_engine.specs.EngineRounds.{Ran, IsRoundWith, IsRan, IsSettled, AreRan, AreAll, IsRest, is_last, results_of, counts_in, with_counts, line_told, AreRunBy}
+use Rattle.spool_engine.specs.EngineRuns.{CommandStep, How, answered, ran, withheld, event_step, read_in, read_by, asked_of, IsHow, IsHeld, IsWithheld, IsWell, AllServed, AreCommandSteps, last_run_state, texts_of, commands_in, Lead, IsScript, IsScriptState, IsExact, HasNoRounds, KeepVersion, is_round, script_state_with}
 use Rattle.spool_engine.proofs.EventLaws.{step_folds}
 use Rattle.spool_engine.proofs.SettleLaws.{FinishLaw, no_tickets, told_same, waited_state, waits_all}
 use Rattle.print_rounds.proofs.PrefixLaws.{after_both}
 
 -- the children tell what is of the scene, and the slots have the tickets of those that run
-pub record IsTelling {D : Type 0} (s : Course D) (x : Scene) : Type 0 where
+pub record IsTelling {D : Type 0} (s : RunState D) (x : ScriptState) : Type 0 where
   pub slots : s.slots ≡ x.slots
   pub told : s.told ≡ Some x.told
   pub tickets : HasTickets x.slots x.told
@@ -49,7 +49,7 @@ pub record IsTelling {D : Type 0} (s : Course D) (x : Scene) : Type 0 where
 -- ## A command that is no round
 
 -- the state that the table's answer leads to
-taken_state : {D : Type 0} (s : Standing D) (e : Event) (r : Result (State × Reply) Refusal) (s' : Standing D) → step s.state e ≡ r → IsTaken s e r s' → s'.state ≡ step_state s.state r
+taken_state : {D : Type 0} (s : OpenSpool D) (e : Event) (r : Result (State × Reply) Refusal) (s' : OpenSpool D) → step s.state e ≡ r → IsTaken s e r s' → s'.state ≡ step_state s.state r
 taken_state s e (Ok r) s' is h = ap (step_state s.state) (sym h.step ∙ is)
 taken_state s e (Err refusal) s' is h = ap (λ x. x.state) h.1
 
@@ -64,12 +64,12 @@ is_listing lists = true
 is_listing (runs most line) = false
 
 -- what a scene is to a command for which these documents were read, where the table found is its own
-pub record IsSaid (place : Place) (documents : ℕ → Documents) (x : Scene) (w : Meaning) (reply : List ℕ) (new : State) : Type 0 where
+pub record IsSaid (place : Place) (documents : ℕ → Documents) (x : ScriptState) (w : Meaning) (reply : List ℕ) (new : State) : Type 0 where
   pub text : reply ≡ reply_by place documents x w
   pub state : new ≡ (after_by place documents x w).state
   pub table : (x.state.version ≡ Two) ⊎ (is_listing w ≡ false) → new ≡ after_all x.state (events_by place documents x w)
 
-served_exact : {D : Type 0} (v : DiskView D) (place : Place) (documents : ℕ → Documents) (s s' : Standing D) (x : Scene) (w : Meaning) (text : List ℕ) → s.state ≡ x.state → IsServedBy v s w text s' → IsSaid place documents x w text s'.state
+served_exact : {D : Type 0} (v : DiskView D) (place : Place) (documents : ℕ → Documents) (s s' : OpenSpool D) (x : ScriptState) (w : Meaning) (text : List ℕ) → s.state ≡ x.state → IsServedBy v s w text s' → IsSaid place documents x w text s'.state
 served_exact v place documents s s' x (says text) reply e h = record { text = h.0; state = ap (λ y. y.state) h.1 ∙ e; table = λ keeps. ap (λ y. y.state) h.1 ∙ e }
 served_exact v place documents s s' x (asks event line) reply e h =
     let state : s'.state ≡ step_state x.state (step x.state event) = taken_state s event (step s.state event) s' refl h.1 ∙ ap (λ y. step_state y (step y event)) e in
@@ -109,13 +109,13 @@ same_counts : (a b c d : ℕ) → a ≡ c → b ≡ d → round_with a b ≡ rou
 same_counts a b c d e f = ap (λ n. round_with n b) e ∙ ap (round_with c) f
 
 -- what a round is to a play
-record IsPlayed {D : Type 0} (p : Play) (before : State) (new : Course D) (round : Round) : Type 0 where
+record IsPlayed {D : Type 0} (p : Play) (before : State) (new : RunState D) (round : Round) : Type 0 where
   counts : round ≡ counts_of p
   state : new.spool.state ≡ p.state
-  telling : IsTelling new (scene_after p)
+  telling : IsTelling new (script_state_after p)
   table : new.spool.state ≡ after_all before p.events
 
-made_played : {D : Type 0} (v : Setting D) (s : Course D) (r : Ran D) (round : Round) (t : Told) (documents : Documents) (made : IsRoundOf v.device v.place s r.next r.result) → r.result ≡ Ok round → s.told ≡ Some t → t.running ≡ [] → AreHanded documents made.steps.launchings
+made_played : {D : Type 0} (v : Setting D) (s : RunState D) (r : Ran D) (round : Round) (t : ChildTrace) (documents : Documents) (made : IsRoundOf v.device v.place s r.next r.result) → r.result ≡ Ok round → s.told ≡ Some t → t.running ≡ [] → AreHanded documents made.steps.launchings
     → (js : List ℕ) × EachFinishedOnce t r.next.told js → HasNoneRunning r.next.slots → IsPlayed (round_of v.place documents s.spool.state s.slots t) s.spool.state r.next round
 made_played v s r round t documents made ok told rest handed (js, once) rests =
     let (none, is) = faultless (counts_told made.steps.launchings made.steps.endings) (fault_in made.steps) round (sym ok ∙ made.answer) in
@@ -130,13 +130,13 @@ made_played v s r round t documents made ok told rest handed (js, once) rests =
     }
 
 -- the scene of children that were waited for
-record IsQuietScene {D : Type 0} (s : Course D) (x : Scene) : Type 0 where
+record IsQuietState {D : Type 0} (s : RunState D) (x : ScriptState) : Type 0 where
   state : s.spool.state ≡ x.state
   telling : IsTelling s x
   rest : x.told.running ≡ []
 
-quiet_scene : {D : Type 0} (finish : FinishLaw) (s c : Course D) (x : Scene) → IsSettled s c → s.spool.state ≡ x.state → IsTelling s x → IsQuietScene c (settled x)
-quiet_scene finish s c x is e tell =
+quiet_state : {D : Type 0} (finish : FinishLaw) (s c : RunState D) (x : ScriptState) → IsSettled s c → s.spool.state ≡ x.state → IsTelling s x → IsQuietState c (settled x)
+quiet_state finish s c x is e tell =
     let p = play_from x.state x.slots x.told in
     let (fs, steps, jobs) = is.steps in
     let like = waits_all finish fs p s.slots s.told c.slots c.told (record { slots_are = tell.slots; told_is = tell.told; tickets = tell.tickets }) steps in
@@ -146,14 +146,14 @@ quiet_scene finish s c x is e tell =
     record {
       state = ap (λ y. y.state) is.spool ∙ e ∙ sym (waited_state p (running_jobs x.slots));
       telling = record { slots = like.slots_are ∙ ap (λ (q : Play). q.slots) same; told = told; tickets = subst (λ (q : Play). HasTickets q.slots q.told) same like.tickets };
-      rest = ap (λ (u : Told). u.running) (told_same (settled x).told off.now (sym told ∙ off.tells)) ∙ off.none;
+      rest = ap (λ (u : ChildTrace). u.running) (told_same (settled x).told off.now (sym told ∙ off.tells)) ∙ off.none;
     }
 
 -- what was read in a round are these documents
 abbrev pub GoesFor : {D : Type 0} → Setting D → Ran D → Documents → Type 0
 GoesFor v r documents = (made : IsRoundOf v.device v.place r.settled r.next r.result) → AreHanded r.documents made.steps.launchings → AreHanded documents made.steps.launchings
 
-round_from : {D : Type 0} (v : Setting D) (s : Course D) (r : Ran D) (round : Round) (y : Scene) (documents : Documents) (b : Bool) → r.settled.spool.dead ≡ b → IsRan v s r → GoesFor v r documents → r.result ≡ Ok round → IsQuietScene r.settled y
+round_from : {D : Type 0} (v : Setting D) (s : RunState D) (r : Ran D) (round : Round) (y : ScriptState) (documents : Documents) (b : Bool) → r.settled.spool.dead ≡ b → IsRan v s r → GoesFor v r documents → r.result ≡ Ok round → IsQuietState r.settled y
     → IsPlayed (round_of v.place documents r.settled.spool.state r.settled.slots y.told) r.settled.spool.state r.next round
 round_from v s r round y documents true is h goes ok quiet = absurd (let e = (subst (λ b. IsRoundWith v.device v.place r.settled b r) is h.round).0.0 in cc)
 round_from v s r round y documents false is h goes ok quiet = ⊎_elim
@@ -161,15 +161,15 @@ round_from v s r round y documents false is h goes ok quiet = ⊎_elim
     (λ made. made_played v r.settled r round y.told documents made.0 ok quiet.telling.told quiet.rest (goes made.0 made.2) (h.finished y.told quiet.telling.told quiet.rest) h.rest)
     (subst (λ b. IsRoundWith v.device v.place r.settled b r) is h.round)
 
-round_played : {D : Type 0} (finish : FinishLaw) (v : Setting D) (s : Course D) (r : Ran D) (round : Round) (x : Scene) (documents : Documents) → s.spool.state ≡ x.state → IsTelling s x → IsRan v s r → GoesFor v r documents → r.result ≡ Ok round
+round_played : {D : Type 0} (finish : FinishLaw) (v : Setting D) (s : RunState D) (r : Ran D) (round : Round) (x : ScriptState) (documents : Documents) → s.spool.state ≡ x.state → IsTelling s x → IsRan v s r → GoesFor v r documents → r.result ≡ Ok round
     → IsPlayed (round_of v.place documents (settled x).state (settled x).slots (settled x).told) s.spool.state r.next round
 round_played {D} finish v s r round x documents e tell h goes ok =
     let y = settled x in
-    let quiet = quiet_scene finish s r.settled x h.settles e tell in
+    let quiet = quiet_state finish s r.settled x h.settles e tell in
     let here = round_from v s r round y documents r.settled.spool.dead refl h goes ok quiet in
     let at = subst (λ m. IsPlayed (round_of v.place documents r.settled.spool.state m y.told) r.settled.spool.state r.next round) quiet.telling.slots here in
     let on = subst (λ u. IsPlayed (round_of v.place documents u y.slots y.told) r.settled.spool.state r.next round) quiet.state at in
-    subst (λ (z : Standing D). IsPlayed (round_of v.place documents y.state y.slots y.told) z.state r.next round) h.settles.spool on
+    subst (λ (z : OpenSpool D). IsPlayed (round_of v.place documents y.state y.slots y.told) z.state r.next round) h.settles.spool on
 
 -- ## Several rounds
 
@@ -178,10 +178,10 @@ abbrev pub AreFor : {D : Type 0} → Setting D → (ℕ → Documents) → List 
 AreFor v documents [] = Unit {0}
 AreFor v documents (r ∷ rs) = GoesFor v r (documents 0) × AreFor v (λ k. documents (suc k)) rs
 
-record ArePlayed {D : Type 0} (ps : List Play) (x : Scene) (s new : Course D) (results : List (Result Round RoundFault)) : Type 0 where
+record ArePlayed {D : Type 0} (ps : List Play) (x : ScriptState) (s new : RunState D) (results : List (Result Round RoundFault)) : Type 0 where
   counts : counts_in results ≡ Ok (map counts_of ps)
-  state : new.spool.state ≡ (last_scene x ps).state
-  telling : IsTelling new (last_scene x ps)
+  state : new.spool.state ≡ (last_script_state x ps).state
+  telling : IsTelling new (last_script_state x ps)
   table : new.spool.state ≡ after_all s.spool.state (flat_map (λ p. p.events) ps)
 
 ok_rest : (round : Round) (rest : Result (List Round) RoundFault) → IsOk (with_counts (Ok round) rest) → IsOk rest
@@ -189,11 +189,11 @@ ok_rest round (Ok rounds) h = h
 ok_rest round (Err fault) h = h
 
 -- what the rounds behind the first are to a scene
-abbrev PlayRest : {D : Type 0} (v : Setting D) (documents : ℕ → Documents) (n : ℕ) (s new : Course D) (rs : List (Ran D)) → Type 0
-PlayRest v documents n s new rs = (y : Scene) → s.spool.state ≡ y.state → IsTelling s y → AreRan v s rs new → AreAll n (results_of rs) → IsOk (counts_in (results_of rs)) → ArePlayed (rounds_of v.place documents n y) y s new (results_of rs)
+abbrev PlayRest : {D : Type 0} (v : Setting D) (documents : ℕ → Documents) (n : ℕ) (s new : RunState D) (rs : List (Ran D)) → Type 0
+PlayRest v documents n s new rs = (y : ScriptState) → s.spool.state ≡ y.state → IsTelling s y → AreRan v s rs new → AreAll n (results_of rs) → IsOk (counts_in (results_of rs)) → ArePlayed (rounds_of v.place documents n y) y s new (results_of rs)
 
 -- the first, and those behind it
-both_played : {D : Type 0} (p : Play) (ps : List Play) (x : Scene) (s mid new : Course D) (round : Round) (results : List (Result Round RoundFault)) → IsPlayed p s.spool.state mid round → ArePlayed ps (scene_after p) mid new results → ArePlayed (p ∷ ps) x s new (Ok round ∷ results)
+both_played : {D : Type 0} (p : Play) (ps : List Play) (x : ScriptState) (s mid new : RunState D) (round : Round) (results : List (Result Round RoundFault)) → IsPlayed p s.spool.state mid round → ArePlayed ps (script_state_after p) mid new results → ArePlayed (p ∷ ps) x s new (Ok round ∷ results)
 both_played p ps x s mid new round results one more = record {
   counts = ap (with_counts (Ok round)) more.counts ∙ ap (λ (c : Round). Ok (c ∷ map counts_of ps)) one.counts;
   state = more.state;
@@ -201,22 +201,22 @@ both_played p ps x s mid new round results one more = record {
   table = more.table ∙ ap (λ y. after_all y (flat_map (λ (q : Play). q.events) ps)) one.table ∙ sym (after_both s.spool.state p.events (flat_map (λ (q : Play). q.events) ps));
 }
 
-none_more : {D : Type 0} (p : Play) (new : Course D) → new.spool.state ≡ p.state → IsTelling new (scene_after p) → ArePlayed [] (scene_after p) new new []
+none_more : {D : Type 0} (p : Play) (new : RunState D) → new.spool.state ≡ p.state → IsTelling new (script_state_after p) → ArePlayed [] (script_state_after p) new new []
 none_more p new state telling = record { counts = refl; state = state; telling = telling; table = refl }
 
 -- by whether the first was idle
-rest_played : {D : Type 0} (v : Setting D) (documents : ℕ → Documents) (n : ℕ) (x : Scene) (s : Course D) (r : Ran D) (rs : List (Ran D)) (new : Course D) (round : Round) (p : Play) (b : Bool) → is_idle (counts_of p) ≡ b → IsPlayed p s.spool.state r.next round → AreRan v r.next rs new → IsRest b (results_of rs) (AreAll n (results_of rs)) → IsOk (counts_in (results_of rs)) → PlayRest v documents n r.next new rs
-    → ArePlayed (p ∷ unless (is_idle (counts_of p)) (rounds_of v.place documents n (scene_after p))) x s new (Ok round ∷ results_of rs)
+rest_played : {D : Type 0} (v : Setting D) (documents : ℕ → Documents) (n : ℕ) (x : ScriptState) (s : RunState D) (r : Ran D) (rs : List (Ran D)) (new : RunState D) (round : Round) (p : Play) (b : Bool) → is_idle (counts_of p) ≡ b → IsPlayed p s.spool.state r.next round → AreRan v r.next rs new → IsRest b (results_of rs) (AreAll n (results_of rs)) → IsOk (counts_in (results_of rs)) → PlayRest v documents n r.next new rs
+    → ArePlayed (p ∷ unless (is_idle (counts_of p)) (rounds_of v.place documents n (script_state_after p))) x s new (Ok round ∷ results_of rs)
 rest_played v documents n x s r [] new round p true idle one more all ok rest =
-    subst (λ b. ArePlayed (p ∷ unless b (rounds_of v.place documents n (scene_after p))) x s new (Ok round ∷ [])) (sym idle)
+    subst (λ b. ArePlayed (p ∷ unless b (rounds_of v.place documents n (script_state_after p))) x s new (Ok round ∷ [])) (sym idle)
     (subst (λ y. ArePlayed (p ∷ []) x s y (Ok round ∷ [])) (sym more) (both_played p [] x s r.next r.next round [] one (none_more p r.next one.state one.telling)))
 rest_played v documents n x s r (q ∷ rs) new round p true idle one more all ok rest = absurd (omega (arith, ap length all))
 rest_played v documents n x s r rs new round p false idle one more all ok rest =
-    subst (λ b. ArePlayed (p ∷ unless b (rounds_of v.place documents n (scene_after p))) x s new (Ok round ∷ results_of rs)) (sym idle)
-    (both_played p (rounds_of v.place documents n (scene_after p)) x s r.next new round (results_of rs) one (rest (scene_after p) one.state one.telling more all ok))
+    subst (λ b. ArePlayed (p ∷ unless b (rounds_of v.place documents n (script_state_after p))) x s new (Ok round ∷ results_of rs)) (sym idle)
+    (both_played p (rounds_of v.place documents n (script_state_after p)) x s r.next new round (results_of rs) one (rest (script_state_after p) one.state one.telling more all ok))
 
 -- by how the first went
-first_played : {D : Type 0} (finish : FinishLaw) (v : Setting D) (documents : ℕ → Documents) (n : ℕ) (x : Scene) (s : Course D) (r : Ran D) (rs : List (Ran D)) (new : Course D) (q : Result Round RoundFault) → r.result ≡ q → s.spool.state ≡ x.state → IsTelling s x → IsRan v s r → GoesFor v r (documents 0) → AreRan v r.next rs new → IsRest (is_last q) (results_of rs) (AreAll n (results_of rs)) → IsOk (with_counts q (counts_in (results_of rs))) → PlayRest v (λ k. documents (suc k)) n r.next new rs
+first_played : {D : Type 0} (finish : FinishLaw) (v : Setting D) (documents : ℕ → Documents) (n : ℕ) (x : ScriptState) (s : RunState D) (r : Ran D) (rs : List (Ran D)) (new : RunState D) (q : Result Round RoundFault) → r.result ≡ q → s.spool.state ≡ x.state → IsTelling s x → IsRan v s r → GoesFor v r (documents 0) → AreRan v r.next rs new → IsRest (is_last q) (results_of rs) (AreAll n (results_of rs)) → IsOk (with_counts q (counts_in (results_of rs))) → PlayRest v (λ k. documents (suc k)) n r.next new rs
     → ArePlayed (rounds_of v.place documents (suc n) x) x s new (q ∷ results_of rs)
 first_played finish v documents n x s r rs new (Err f) is e tell h goes more all ok rest = absurd (let bad : false ≡ true = ok in cc)
 first_played finish v documents n x s r rs new (Ok round) is e tell h goes more all ok rest =
@@ -228,7 +228,7 @@ first_played finish v documents n x s r rs new (Ok round) is e tell h goes more 
     (ok_rest round (counts_in (results_of rs)) ok)
     rest
 
-rounds_played : {D : Type 0} (finish : FinishLaw) (v : Setting D) (documents : ℕ → Documents) (n : ℕ) (x : Scene) (s new : Course D) (rs : List (Ran D)) → s.spool.state ≡ x.state → IsTelling s x → AreRan v s rs new → AreFor v documents rs → AreAll n (results_of rs) → IsOk (counts_in (results_of rs)) → ArePlayed (rounds_of v.place documents n x) x s new (results_of rs)
+rounds_played : {D : Type 0} (finish : FinishLaw) (v : Setting D) (documents : ℕ → Documents) (n : ℕ) (x : ScriptState) (s new : RunState D) (rs : List (Ran D)) → s.spool.state ≡ x.state → IsTelling s x → AreRan v s rs new → AreFor v documents rs → AreAll n (results_of rs) → IsOk (counts_in (results_of rs)) → ArePlayed (rounds_of v.place documents n x) x s new (results_of rs)
 rounds_played finish v documents zero x s new [] e tell h goes all ok = record {
   counts = refl;
   state = ap (λ y. y.spool.state) h ∙ e;
@@ -242,7 +242,7 @@ rounds_played finish v documents (suc n) x s new (r ∷ rs) e tell h goes all ok
 
 -- ## Turns
 
-ran_exact : {D : Type 0} (finish : FinishLaw) (v : Setting D) (documents : ℕ → Documents) (w : Meaning) (s new : Course D) (x : Scene) (rs : List (Ran D)) (text : List ℕ) → s.spool.state ≡ x.state → IsTelling s x → AreFor v documents rs → AreRunBy v w s rs new text → IsOk (counts_in (results_of rs)) → IsSaid v.place documents x w text new.spool.state × IsTelling new (after_by v.place documents x w)
+ran_exact : {D : Type 0} (finish : FinishLaw) (v : Setting D) (documents : ℕ → Documents) (w : Meaning) (s new : RunState D) (x : ScriptState) (rs : List (Ran D)) (text : List ℕ) → s.spool.state ≡ x.state → IsTelling s x → AreFor v documents rs → AreRunBy v w s rs new text → IsOk (counts_in (results_of rs)) → IsSaid v.place documents x w text new.spool.state × IsTelling new (after_by v.place documents x w)
 ran_exact finish v documents (says said) s new x rs text e tell goes h ok = absurd h
 ran_exact finish v documents (asks event line) s new x rs text e tell goes h ok = absurd h
 ran_exact finish v documents lists s new x rs text e tell goes h ok = absurd h
@@ -251,22 +251,22 @@ ran_exact finish v documents (runs most line) s new x rs text e tell goes h ok =
     let played = flat_map (λ (p : Play). p.events) (rounds_of v.place documents most x) in
     (record { text = h.text ∙ ap (line_told line) all.counts; state = all.state; table = λ keeps. all.table ∙ ap (λ y. after_all y played) e }, all.telling)
 
-held_telling : {D : Type 0} (v : DiskView D) (place : Place) (documents : ℕ → Documents) (w : Meaning) (s new : Course D) (x : Scene) (reply : List ℕ) → IsHeld s new → IsServedBy v s.spool w reply new.spool → IsTelling s x → IsTelling new (after_by place documents x w)
+held_telling : {D : Type 0} (v : DiskView D) (place : Place) (documents : ℕ → Documents) (w : Meaning) (s new : RunState D) (x : ScriptState) (reply : List ℕ) → IsHeld s new → IsServedBy v s.spool w reply new.spool → IsTelling s x → IsTelling new (after_by place documents x w)
 held_telling v place documents (says text) s new x reply held h tell = record { slots = held.slots ∙ tell.slots; told = held.told ∙ tell.told; tickets = tell.tickets }
 held_telling v place documents (asks e line) s new x reply held h tell = record { slots = held.slots ∙ tell.slots; told = held.told ∙ tell.told; tickets = tell.tickets }
 held_telling v place documents lists s new x reply held h tell = record { slots = held.slots ∙ tell.slots; told = held.told ∙ tell.told; tickets = tell.tickets }
 held_telling v place documents (runs most line) s new x reply held h tell = absurd h
 
 -- only `round` and `drain` are told by rounds
-runs_none_if : {D : Type 0} (v : Setting D) (s : Course D) (rs : List (Ran D)) (new : Course D) (text : List ℕ) (e : Event) (line : Reply → List ℕ) (said : List ℕ) (b : Bool) → AreRunBy v (cond b (asks e line) (says said)) s rs new text → ⊥
+runs_none_if : {D : Type 0} (v : Setting D) (s : RunState D) (rs : List (Ran D)) (new : RunState D) (text : List ℕ) (e : Event) (line : Reply → List ℕ) (said : List ℕ) (b : Bool) → AreRunBy v (cond b (asks e line) (says said)) s rs new text → ⊥
 runs_none_if v s rs new text e line said true h = h
 runs_none_if v s rs new text e line said false h = h
 
-runs_none_of : {D : Type 0} (v : Setting D) (s : Course D) (rs : List (Ran D)) (new : Course D) (text : List ℕ) (state : State) (c : Creation) (o : Option (List ℕ)) → AreRunBy v (creating state c o) s rs new text → ⊥
+runs_none_of : {D : Type 0} (v : Setting D) (s : RunState D) (rs : List (Ran D)) (new : RunState D) (text : List ℕ) (state : State) (c : Creation) (o : Option (List ℕ)) → AreRunBy v (creating state c o) s rs new text → ⊥
 runs_none_of v s rs new text state c None h = h
 runs_none_of v s rs new text state c (Some options) h = h
 
-runs_none : {D : Type 0} (v : Setting D) (s : Course D) (rs : List (Ran D)) (new : Course D) (text : List ℕ) (state : State) (document : List ℕ) (c : Command) → is_round c ≡ false → AreRunBy v (meaning v.mime state document c) s rs new text → ⊥
+runs_none : {D : Type 0} (v : Setting D) (s : RunState D) (rs : List (Ran D)) (new : RunState D) (text : List ℕ) (state : State) (document : List ℕ) (c : Command) → is_round c ≡ false → AreRunBy v (meaning v.mime state document c) s rs new text → ⊥
 runs_none v s rs new text state document (commands.Apply e) is h = h
 runs_none v s rs new text state document (commands.Queue q) is h = runs_none_if v s rs new text (events.AddQueue q) reply_line (codes "error uri\n") (is_device_uri q.uri) h
 runs_none v s rs new text state document (commands.Create c) is h = runs_none_of v s rs new text state c (job_options c.options) h
@@ -316,7 +316,7 @@ closes_or_same commands.Checkpoint = inr (λ m s document other. refl)
 closes_or_same commands.Malformed = inr (λ m s document other. refl)
 
 -- what was read for a turn are these documents
-abbrev pub IsFor : {D : Type 0} → Setting D → Course D → Turn D → (ℕ → Documents) → How D → Type 0
+abbrev pub IsFor : {D : Type 0} → Setting D → RunState D → CommandStep D → (ℕ → Documents) → How D → Type 0
 IsFor v s t documents (answered o) =
     IsServedBy v.device s.spool (meaning v.mime s.spool.state t.document t.command) t.text t.next.spool
     → IsServedBy v.device s.spool (meaning v.mime s.spool.state (document_for (documents 0) t.command) t.command) t.text t.next.spool
@@ -328,26 +328,26 @@ abbrev pub asked_as : Command → (ℕ → Documents) → Asked
 asked_as c documents = record { command = c; documents = documents }
 
 -- what a turn is to a scene
-pub record IsTurnSaid {D : Type 0} (v : Setting D) (s : Course D) (x : Scene) (t : Turn D) (documents : ℕ → Documents) : Type 0 where
+pub record IsStepSaid {D : Type 0} (v : Setting D) (s : RunState D) (x : ScriptState) (t : CommandStep D) (documents : ℕ → Documents) : Type 0 where
   pub said : IsSaid v.place documents x (meaning_with v.mime x (documents 0) t.command) t.text t.next.spool.state
   pub slots : t.next.slots ≡ (after_command v.mime v.place x (asked_as t.command documents)).slots
   pub telling : IsTelling s x → IsTelling t.next (after_command v.mime v.place x (asked_as t.command documents))
 
 -- where nothing is withheld a command means what it does on its table
-pub plain_meaning : (m : Mime) (x : Scene) (slots : Slots) (document : List ℕ) (c : Command) → slots ≡ x.slots → withholds slots c ≡ false → meaning m x.state document c ≡ meaning_in m x document c
+pub plain_meaning : (m : Mime) (x : ScriptState) (slots : Slots) (document : List ℕ) (c : Command) → slots ≡ x.slots → withholds slots c ≡ false → meaning m x.state document c ≡ meaning_in m x document c
 plain_meaning m x slots document c same free = sym (ap (λ b. cond b (says withheld_line) (meaning m x.state document c)) (ap (λ z. withholds z c) (sym same) ∙ free))
 
-pub withheld_meaning : (m : Mime) (x : Scene) (slots : Slots) (document : List ℕ) (c : Command) → slots ≡ x.slots → withholds slots c ≡ true → says withheld_line ≡ meaning_in m x document c
+pub withheld_meaning : (m : Mime) (x : ScriptState) (slots : Slots) (document : List ℕ) (c : Command) → slots ≡ x.slots → withholds slots c ≡ true → says withheld_line ≡ meaning_in m x document c
 withheld_meaning m x slots document c same held = sym (ap (λ b. cond b (says withheld_line) (meaning m x.state document c)) (ap (λ z. withholds z c) (sym same) ∙ held))
 
-held_slots : {D : Type 0} (v : DiskView D) (place : Place) (documents : ℕ → Documents) (w : Meaning) (s : Standing D) (x : Scene) (new : Standing D) (reply : List ℕ) → IsServedBy v s w reply new → (after_by place documents x w).slots ≡ x.slots
+held_slots : {D : Type 0} (v : DiskView D) (place : Place) (documents : ℕ → Documents) (w : Meaning) (s : OpenSpool D) (x : ScriptState) (new : OpenSpool D) (reply : List ℕ) → IsServedBy v s w reply new → (after_by place documents x w).slots ≡ x.slots
 held_slots v place documents (says text) s x new reply h = refl
 held_slots v place documents (asks e line) s x new reply h = refl
 held_slots v place documents lists s x new reply h = refl
 held_slots v place documents (runs most line) s x new reply h = absurd h
 
 -- the slots and what the children tell stay
-held_said : {D : Type 0} (v : Setting D) (s : Course D) (x : Scene) (t : Turn D) (documents : ℕ → Documents) → s.spool.state ≡ x.state → s.slots ≡ x.slots → IsHeld s t.next → IsServedBy v.device s.spool (meaning_with v.mime x (documents 0) t.command) t.text t.next.spool → IsTurnSaid v s x t documents
+held_said : {D : Type 0} (v : Setting D) (s : RunState D) (x : ScriptState) (t : CommandStep D) (documents : ℕ → Documents) → s.spool.state ≡ x.state → s.slots ≡ x.slots → IsHeld s t.next → IsServedBy v.device s.spool (meaning_with v.mime x (documents 0) t.command) t.text t.next.spool → IsStepSaid v s x t documents
 held_said v s x t documents e f held h =
     let w = meaning_with v.mime x (documents 0) t.command in
     record {
@@ -356,27 +356,27 @@ held_said v s x t documents e f held h =
       telling = held_telling v.device v.place documents w s t.next x t.text held h;
     }
 
-answered_exact : {D : Type 0} (v : Setting D) (s : Course D) (x : Scene) (t : Turn D) (documents : ℕ → Documents) (o : Outcome) → o ≡ served → s.spool.state ≡ x.state → s.slots ≡ x.slots → IsFor v s t documents (answered o) → IsHow v s t (answered o) → IsTurnSaid v s x t documents
+answered_exact : {D : Type 0} (v : Setting D) (s : RunState D) (x : ScriptState) (t : CommandStep D) (documents : ℕ → Documents) (o : Outcome) → o ≡ served → s.spool.state ≡ x.state → s.slots ≡ x.slots → IsFor v s t documents (answered o) → IsHow v s t (answered o) → IsStepSaid v s x t documents
 answered_exact v s x t documents o well e f goes how =
     let d = document_for (documents 0) t.command in
-    let h : IsServedBy v.device s.spool (meaning v.mime s.spool.state t.document t.command) t.text t.next.spool = subst (λ p. IsOutcome v s.spool (event_turn t p) p) well how.0 in
+    let h : IsServedBy v.device s.spool (meaning v.mime s.spool.state t.document t.command) t.text t.next.spool = subst (λ p. IsOutcome v s.spool (event_step t p) p) well how.0 in
     let k : IsServedBy v.device s.spool (meaning v.mime x.state d t.command) t.text t.next.spool = subst (λ y. IsServedBy v.device s.spool (meaning v.mime y d t.command) t.text t.next.spool) e (goes h) in
     held_said v s x t documents e f how.1 (subst (λ w. IsServedBy v.device s.spool w t.text t.next.spool) (plain_meaning v.mime x s.slots d t.command f how.2) k)
 
-withheld_exact : {D : Type 0} (v : Setting D) (s : Course D) (x : Scene) (t : Turn D) (documents : ℕ → Documents) → s.spool.state ≡ x.state → s.slots ≡ x.slots → IsWithheld s t → IsTurnSaid v s x t documents
+withheld_exact : {D : Type 0} (v : Setting D) (s : RunState D) (x : ScriptState) (t : CommandStep D) (documents : ℕ → Documents) → s.spool.state ≡ x.state → s.slots ≡ x.slots → IsWithheld s t → IsStepSaid v s x t documents
 withheld_exact {D} v s x t documents e f how =
-    held_said v s x t documents e f (record { slots = ap (λ (c : Course D). c.slots) how.same; told = ap (λ (c : Course D). c.told) how.same })
-    (subst (λ w. IsServedBy v.device s.spool w t.text t.next.spool) (withheld_meaning v.mime x s.slots (document_for (documents 0) t.command) t.command f how.is) (how.text, ap (λ (c : Course D). c.spool) how.same))
+    held_said v s x t documents e f (record { slots = ap (λ (c : RunState D). c.slots) how.same; told = ap (λ (c : RunState D). c.told) how.same })
+    (subst (λ w. IsServedBy v.device s.spool w t.text t.next.spool) (withheld_meaning v.mime x s.slots (document_for (documents 0) t.command) t.command f how.is) (how.text, ap (λ (c : RunState D). c.spool) how.same))
 
 -- rounds are told whatever document is read
-runs_same : {D : Type 0} (v : Setting D) (s : Course D) (rs : List (Ran D)) (new : Course D) (text : List ℕ) (state : State) (document other : List ℕ) (c : Command) → AreRunBy v (meaning v.mime state document c) s rs new text → AreRunBy v (meaning v.mime state other c) s rs new text
+runs_same : {D : Type 0} (v : Setting D) (s : RunState D) (rs : List (Ran D)) (new : RunState D) (text : List ℕ) (state : State) (document other : List ℕ) (c : Command) → AreRunBy v (meaning v.mime state document c) s rs new text → AreRunBy v (meaning v.mime state other c) s rs new text
 runs_same v s rs new text state document other c h = ⊎_elim
     (λ closes. absurd (subst (λ d. AreRunBy v (meaning v.mime state document d) s rs new text) closes.2 h))
     (λ same. subst (λ w. AreRunBy v w s rs new text) (same v.mime state document other) h)
     (closes_or_same c)
 
 -- and none of them is withheld
-pub runs_free : {D : Type 0} (v : Setting D) (s : Course D) (rs : List (Ran D)) (new : Course D) (text : List ℕ) (state : State) (slots : Slots) (document : List ℕ) (c : Command) → AreRunBy v (meaning v.mime state document c) s rs new text → withholds slots c ≡ false
+pub runs_free : {D : Type 0} (v : Setting D) (s : RunState D) (rs : List (Ran D)) (new : RunState D) (text : List ℕ) (state : State) (slots : Slots) (document : List ℕ) (c : Command) → AreRunBy v (meaning v.mime state document c) s rs new text → withholds slots c ≡ false
 runs_free v s rs new text state slots document (commands.Apply e) h = absurd h
 runs_free v s rs new text state slots document (commands.Queue q) h = refl
 runs_free v s rs new text state slots document (commands.Create c) h = refl
@@ -389,7 +389,7 @@ runs_free v s rs new text state slots document (commands.Drain most) h = refl
 runs_free v s rs new text state slots document commands.Checkpoint h = refl
 runs_free v s rs new text state slots document commands.Malformed h = refl
 
-ran_turn : {D : Type 0} (finish : FinishLaw) (v : Setting D) (s : Course D) (x : Scene) (t : Turn D) (documents : ℕ → Documents) (rs : List (Ran D)) → IsOk (counts_in (results_of rs)) → s.spool.state ≡ x.state → AreFor v documents rs → AreRunBy v (meaning v.mime s.spool.state t.document t.command) s rs t.next t.text → IsTelling s x → IsTurnSaid v s x t documents
+ran_turn : {D : Type 0} (finish : FinishLaw) (v : Setting D) (s : RunState D) (x : ScriptState) (t : CommandStep D) (documents : ℕ → Documents) (rs : List (Ran D)) → IsOk (counts_in (results_of rs)) → s.spool.state ≡ x.state → AreFor v documents rs → AreRunBy v (meaning v.mime s.spool.state t.document t.command) s rs t.next t.text → IsTelling s x → IsStepSaid v s x t documents
 ran_turn finish v s x t documents rs well e goes how tell =
     let w = meaning_with v.mime x (documents 0) t.command in
     let d = document_for (documents 0) t.command in
@@ -399,7 +399,7 @@ ran_turn finish v s x t documents rs well e goes how tell =
     let (said, telling) = ran_exact finish v documents w s t.next x rs t.text e tell goes (subst (λ u. AreRunBy v u s rs t.next t.text) (plain_meaning v.mime x s.slots d t.command tell.slots free) here) well in
     record { said = said; slots = telling.slots; telling = λ _. telling }
 
-pub turn_exact : {D : Type 0} (finish : FinishLaw) (v : Setting D) (s : Course D) (x : Scene) (t : Turn D) (documents : ℕ → Documents) (how : How D) → IsWell how → s.spool.state ≡ x.state → s.slots ≡ x.slots → IsTelling s x ⊎ (is_round t.command ≡ false) → IsFor v s t documents how → IsHow v s t how → IsTurnSaid v s x t documents
+pub turn_exact : {D : Type 0} (finish : FinishLaw) (v : Setting D) (s : RunState D) (x : ScriptState) (t : CommandStep D) (documents : ℕ → Documents) (how : How D) → IsWell how → s.spool.state ≡ x.state → s.slots ≡ x.slots → IsTelling s x ⊎ (is_round t.command ≡ false) → IsFor v s t documents how → IsHow v s t how → IsStepSaid v s x t documents
 turn_exact finish v s x t documents (answered o) well e f may goes how = answered_exact v s x t documents o well e f goes how
 turn_exact finish v s x t documents withheld well e f may goes how = withheld_exact v s x t documents e f how
 turn_exact finish v s x t documents (ran rs) well e f may goes how = ⊎_elim
@@ -408,7 +408,7 @@ turn_exact finish v s x t documents (ran rs) well e f may goes how = ⊎_elim
     may
 
 -- only `checkpoint` lists the table, in any scene
-lists_none_in : (m : Mime) (x : Scene) (document : List ℕ) (c : Command) (b : Bool) → is_checkpoint c ≡ false → is_listing (cond b (says withheld_line) (meaning m x.state document c)) ≡ false
+lists_none_in : (m : Mime) (x : ScriptState) (document : List ℕ) (c : Command) (b : Bool) → is_checkpoint c ≡ false → is_listing (cond b (says withheld_line) (meaning m x.state document c)) ≡ false
 lists_none_in m x document c true is = refl
 lists_none_in m x document c false is = lists_none m x.state document c is
 
@@ -420,17 +420,17 @@ abbrev pub commands_asked : List Asked → List Command
 commands_asked asked = map (λ a. a.command) asked
 
 -- what turns are to a scene
-pub record AreSaid {D : Type 0} (v : Setting D) (s : Course D) (x : Scene) (ts : List (Turn D)) (asked : List Asked) : Type 0 where
+pub record AreSaid {D : Type 0} (v : Setting D) (s : RunState D) (x : ScriptState) (ts : List (CommandStep D)) (asked : List Asked) : Type 0 where
   pub text : texts_of ts ≡ script_text v.mime v.place x asked
-  pub state : (last_course s ts).spool.state ≡ (script_scene v.mime v.place x asked).state
-  pub table : VersionLaw → KeepVersion x.state (commands_asked asked) → (last_course s ts).spool.state ≡ after_all x.state (script_events v.mime v.place x asked)
-  pub telling : IsTelling s x → IsTelling (last_course s ts) (script_scene v.mime v.place x asked)
+  pub state : (last_run_state s ts).spool.state ≡ (run_script_state v.mime v.place x asked).state
+  pub table : VersionLaw → KeepVersion x.state (commands_asked asked) → (last_run_state s ts).spool.state ≡ after_all x.state (script_events v.mime v.place x asked)
+  pub telling : IsTelling s x → IsTelling (last_run_state s ts) (run_script_state v.mime v.place x asked)
 
-pub none_said : {D : Type 0} (v : Setting D) (s : Course D) (x : Scene) → s.spool.state ≡ x.state → AreSaid v s x [] []
+pub none_said : {D : Type 0} (v : Setting D) (s : RunState D) (x : ScriptState) → s.spool.state ≡ x.state → AreSaid v s x [] []
 none_said v s x e = record { text = refl; state = e; table = λ law keeps. e; telling = λ tell. tell }
 
 -- a turn, and those behind it
-pub then_said : {D : Type 0} (v : Setting D) (s : Course D) (x : Scene) (t : Turn D) (ts : List (Turn D)) (documents : ℕ → Documents) (asked : List Asked) → IsTurnSaid v s x t documents → AreSaid v t.next (after_command v.mime v.place x (asked_as t.command documents)) ts asked → AreSaid v s x (t ∷ ts) (asked_as t.command documents ∷ asked)
+pub then_said : {D : Type 0} (v : Setting D) (s : RunState D) (x : ScriptState) (t : CommandStep D) (ts : List (CommandStep D)) (documents : ℕ → Documents) (asked : List Asked) → IsStepSaid v s x t documents → AreSaid v t.next (after_command v.mime v.place x (asked_as t.command documents)) ts asked → AreSaid v s x (t ∷ ts) (asked_as t.command documents ∷ asked)
 then_said v s x t ts documents asked one more =
     let a = asked_as t.command documents in
     let next = after_command v.mime v.place x a in
@@ -456,7 +456,7 @@ rounds_read : {D : Type 0} (v : Setting D) (rs : List (Ran D)) → AreFor v (rea
 rounds_read v [] = tt
 rounds_read v (r ∷ rs) = (λ made h. h, rounds_read v rs)
 
-pub turn_read : {D : Type 0} (v : Setting D) (s : Course D) (t : Turn D) (how : How D) → IsFor v s t (read_by t.document how) how
+pub turn_read : {D : Type 0} (v : Setting D) (s : RunState D) (t : CommandStep D) (how : How D) → IsFor v s t (read_by t.document how) how
 turn_read v s t (answered o) = λ h. ⊎_elim
     (λ closes. subst (λ c. IsServedBy v.device s.spool (meaning v.mime s.spool.state (document_for (λ j. t.document) c) c) t.text t.next.spool) (sym closes.2) (subst (λ c. IsServedBy v.device s.spool (meaning v.mime s.spool.state t.document c) t.text t.next.spool) closes.2 h))
     (λ same. subst (λ w. IsServedBy v.device s.spool w t.text t.next.spool) (same v.mime s.spool.state t.document (document_for (λ j. t.document) t.command)) h)
@@ -464,7 +464,7 @@ turn_read v s t (answered o) = λ h. ⊎_elim
 turn_read v s t withheld = tt
 turn_read v s t (ran rs) = rounds_read v rs
 
-turns_exact : {D : Type 0} (finish : FinishLaw) (v : Setting D) (s : Course D) (x : Scene) (ts : List (Turn D)) → AreTurns v s ts → AllServed ts → s.spool.state ≡ x.state → s.slots ≡ x.slots → IsTelling s x ⊎ HasNoRounds (commands_in ts) → AreSaid v s x ts (asked_of ts)
+turns_exact : {D : Type 0} (finish : FinishLaw) (v : Setting D) (s : RunState D) (x : ScriptState) (ts : List (CommandStep D)) → AreCommandSteps v s ts → AllServed ts → s.spool.state ≡ x.state → s.slots ≡ x.slots → IsTelling s x ⊎ HasNoRounds (commands_in ts) → AreSaid v s x ts (asked_of ts)
 turns_exact finish v s x [] h k e f may = none_said v s x e
 turns_exact finish v s x (t ∷ ts) h k e f may =
     let documents = read_by t.document t.how in
@@ -474,29 +474,29 @@ turns_exact finish v s x (t ∷ ts) h k e f may =
 
 -- ## A run
 
-pub script_of : {D : Type 0} (law : VersionLaw) (v : Setting D) (s s' : Course D) (x : Scene) (ts : List (Turn D)) (asked : List Asked) (a d : Option (List ℕ)) → last_course s ts ≡ s' → Appends a d (texts_of ts) → AreSaid v s x ts asked → IsScript v x asked s' a d
+pub script_of : {D : Type 0} (law : VersionLaw) (v : Setting D) (s s' : RunState D) (x : ScriptState) (ts : List (CommandStep D)) (asked : List Asked) (a d : Option (List ℕ)) → last_run_state s ts ≡ s' → Appends a d (texts_of ts) → AreSaid v s x ts asked → IsScript v x asked s' a d
 script_of law v s s' x ts asked a d last wrote said = record {
   wrote = subst (Appends a d) said.text wrote;
   table = ap (λ y. y.spool.state) (sym last) ∙ said.state;
   fold = λ keeps. ap (λ y. y.spool.state) (sym last) ∙ said.table law keeps;
 }
 
-scene_told : {D : Type 0} (s : Course D) (x : Scene) → s.spool.state ≡ x.state → IsTelling s x → IsScene s x
-scene_told s x e tell = record { state = e; slots = tell.slots; told = tell.told }
+script_state_told : {D : Type 0} (s : RunState D) (x : ScriptState) → s.spool.state ≡ x.state → IsTelling s x → IsScriptState s x
+script_state_told s x e tell = record { state = e; slots = tell.slots; told = tell.told }
 
 -- by what its turns are to the scenes that it may begin with
-pub exact_of : {D : Type 0} (law : VersionLaw) (v : Setting D) (s s' : Course D) (text : List ℕ) (ts : List (Turn D)) (asked : Scene → List Asked) (a d : Option (List ℕ)) → last_course s ts ≡ s' → commands_in ts ≡ commands_of text → Appends a d (texts_of ts)
-    → ((x : Scene) → s.spool.state ≡ x.state → s.slots ≡ x.slots → IsTelling s x ⊎ HasNoRounds (commands_in ts) → AreSaid v s x ts (asked x)) → IsExact v s text asked s' a d
+pub exact_of : {D : Type 0} (law : VersionLaw) (v : Setting D) (s s' : RunState D) (text : List ℕ) (ts : List (CommandStep D)) (asked : ScriptState → List Asked) (a d : Option (List ℕ)) → last_run_state s ts ≡ s' → commands_in ts ≡ commands_of text → Appends a d (texts_of ts)
+    → ((x : ScriptState) → s.spool.state ≡ x.state → s.slots ≡ x.slots → IsTelling s x ⊎ HasNoRounds (commands_in ts) → AreSaid v s x ts (asked x)) → IsExact v s text asked s' a d
 exact_of law v s s' text ts asked a d last all wrote said = record {
-  plain = λ none t. script_of law v s s' (scene_with s t) ts (asked (scene_with s t)) a d last wrote (said (scene_with s t) refl refl (inr (subst HasNoRounds (sym all) none)));
+  plain = λ none t. script_of law v s s' (script_state_with s t) ts (asked (script_state_with s t)) a d last wrote (said (script_state_with s t) refl refl (inr (subst HasNoRounds (sym all) none)));
   telling = λ t told has.
-      let x = scene_with s t in
+      let x = script_state_with s t in
       let tell : IsTelling s x = record { slots = refl; told = told; tickets = has } in
       let are = said x refl refl (inl tell) in (
         script_of law v s s' x ts (asked x) a d last wrote are,
-        subst (λ y. IsScene y (script_scene v.mime v.place x (asked x))) last (scene_told (last_course s ts) (script_scene v.mime v.place x (asked x)) are.state (are.telling tell)),
+        subst (λ y. IsScriptState y (run_script_state v.mime v.place x (asked x))) last (script_state_told (last_run_state s ts) (run_script_state v.mime v.place x (asked x)) are.state (are.telling tell)),
       );
 }
 
-pub run_exact : {D : Type 0} (law : VersionLaw) (finish : FinishLaw) (v : Setting D) (s s' : Course D) (text : List ℕ) (ts : List (Turn D)) (a d : Option (List ℕ)) → Lead v s ts s' → commands_in ts ≡ commands_of text → Appends a d (texts_of ts) → AllServed ts → IsExact v s text (λ x. asked_of ts) s' a d
+pub run_exact : {D : Type 0} (law : VersionLaw) (finish : FinishLaw) (v : Setting D) (s s' : RunState D) (text : List ℕ) (ts : List (CommandStep D)) (a d : Option (List ℕ)) → Lead v s ts s' → commands_in ts ≡ commands_of text → Appends a d (texts_of ts) → AllServed ts → IsExact v s text (λ x. asked_of ts) s' a d
 run_exact law finish v s s' text ts a d lead all wrote every = exact_of law v s s' text ts (λ x. asked_of ts) a d lead.last all wrote (λ x e f may. turns_exact finish v s x ts lead.legal every e f may)

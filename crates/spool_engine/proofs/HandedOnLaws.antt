@@ -7,46 +7,46 @@ use Rattle.std.proofs.lemmas.List.{append_cancel_left}
 use Rattle.spool_disk.specs.Disk.{DiskView, IsLawful}
 use Rattle.job_table.specs.Legal.{IsLegal}
 use Rattle.spool_core.specs.Image.{HasDocuments}
-use Rattle.spool_core.specs.Standing.{Standing}
+use Rattle.spool_core.specs.OpenSpools.{OpenSpool}
 use Rattle.filter_args.specs.declared.place.Place.{Place}
-use Rattle.child_pipeline.specs.Slots.{IsTicketless, Slots}
+use Rattle.child_pipeline.specs.StageSlots.{IsTicketless, Slots}
 use Rattle.child_pipeline.specs.Tickets.{HasTickets}
-use Rattle.child_pipeline.specs.Told.{Told}
+use Rattle.child_pipeline.specs.ChildTraces.{ChildTrace}
 use Rattle.child_pipeline.specs.declared.order.Placed.{Placed}
-use Rattle.print_rounds.specs.Courses.{Course}
+use Rattle.print_rounds.specs.RunStates.{RunState}
 use Rattle.print_rounds.specs.Finished.{HasNoneRunning}
-use Rattle.print_rounds.specs.HandedOn.{RunTheirStages, TickHandsOn, FinishesHandOn, answers_in, finished_in}
+use Rattle.print_rounds.specs.TickInputs.{RunTheirStages, TickHandsOn, FinishesHandOn, answers_in, finished_in}
 use Rattle.print_rounds.specs.Inputs.{AnsweredOrder, answered, AreRight, HaveDocuments, AreKeptFrom}
 use Rattle.print_rounds.specs.Rounds.{IsRoundOf, LeavesDocuments}
-use Rattle.print_rounds.specs.Ticks.{AreFinishings, Finishing, IsTickOf}
+use Rattle.print_rounds.specs.RoundTicks.{AreFinishings, Finishing, IsTickOf}
 use Rattle.print_rounds.specs.declared.outcome.Round.{Round}
 use Rattle.print_rounds.specs.declared.outcome.RoundFault.{RoundFault}
 use Rattle.print_rounds.proofs.InputLaws.{documents_both}
-use Rattle.spool_engine.specs.Calls.{Call, round_call, tick_call, run_call, left_by, IsCall, AreCalls, HandsDocuments, TurnsHandDocuments, CallHandsDocuments, documents_by, CallsHandDocuments}
-use Rattle.spool_engine.specs.EventTurns.{Setting}
-use Rattle.spool_engine.specs.HandedOn.{AddOrders, IsRoundRight, IsTickRight, AreRoundsRight, IsHowRight, AreTurnsRight, IsCallRight, AreCallsRight}
-use Rattle.spool_engine.specs.Rounds.{Ran, IsRoundWith, IsRan, AreRan, AreRunBy}
-use Rattle.spool_engine.specs.Runs.{Turn, How, answered as replied, ran, withheld, IsHow, AreTurns, documents_left, last_course, last_documents}
+use Rattle.spool_engine.specs.EngineCalls.{Call, round_call, tick_call, run_call, left_by, IsCall, AreCalls, HandsDocuments, StepsHandDocuments, CallHandsDocuments, documents_by, CallsHandDocuments}
+use Rattle.spool_engine.specs.EventSteps.{Setting}
+use Rattle.spool_engine.specs.EngineInputs.{AddOrders, IsRoundRight, IsTickRight, AreRoundsRight, IsHowRight, AreStepsRight, IsCallRight, AreCallsRight}
+use Rattle.spool_engine.specs.EngineRounds.{Ran, IsRoundWith, IsRan, AreRan, AreRunBy}
+use Rattle.spool_engine.specs.EngineRuns.{CommandStep, How, answered as replied, ran, withheld, IsHow, AreCommandSteps, documents_left, last_run_state, last_documents}
 use Rattle.spool_engine.specs.Script.{Documents, Meaning, says, asks, lists, runs, meaning}
-use Rattle.spool_engine.specs.Ticks.{Ticked, IsTickWith, IsTicked}
+use Rattle.spool_engine.specs.EngineTicks.{Ticked, IsTickWith, IsTicked}
 use Rattle.spool_engine.proofs.EventLaws.{has_bytes, told_documents}
 use Rattle.spool_engine.proofs.InputLaws.{Hands, answered_none, begins_kept}
 use Rattle.spool_engine.proofs.SettleLaws.{no_tickets, told_same}
-use Rattle.spool_engine.proofs.WorldLaws.{Laws, call_turn, how_turn, legal_then, quiet_after, round_turn, tick_turn}
+use Rattle.spool_engine.proofs.StageHistoryLaws.{Laws, call_turn, how_turn, legal_then, quiet_after, round_turn, tick_turn}
 
 -- what is so of each tick, and of children that are waited for
 pub record TickHands {D : Type 0} (device : DiskView D) : Type 0 where
-  pub one : (place : Place) (earlier : List AnsweredOrder) (t : Told) (old new : Course D) (result : Result Round RoundFault) → IsLegal old.spool.state → old.told ≡ Some t → HasTickets old.slots t → AreKeptFrom earlier old.slots → RunTheirStages t.orders old.slots
+  pub one : (place : Place) (earlier : List AnsweredOrder) (t : ChildTrace) (old new : RunState D) (result : Result Round RoundFault) → IsLegal old.spool.state → old.told ≡ Some t → HasTickets old.slots t → AreKeptFrom earlier old.slots → RunTheirStages t.orders old.slots
       → (r : IsTickOf device place old new result) → TickHandsOn earlier t old r.steps new
-  pub finishes : (earlier : List AnsweredOrder) (t : Told) (slots : Slots) (told : Option Told) (fs : List Finishing) (new : Slots) (told_then : Option Told) → told ≡ Some t → HasTickets slots t → AreKeptFrom earlier slots → RunTheirStages t.orders slots
+  pub finishes : (earlier : List AnsweredOrder) (t : ChildTrace) (slots : Slots) (told : Option ChildTrace) (fs : List Finishing) (new : Slots) (told_then : Option ChildTrace) → told ≡ Some t → HasTickets slots t → AreKeptFrom earlier slots → RunTheirStages t.orders slots
       → AreFinishings slots told fs new told_then → FinishesHandOn earlier t slots told fs new told_then
 
 -- the device has failed, or its disk tells its bytes and a crash leaves these documents
-abbrev IsKnown : {D : Type 0} → Setting D → Documents → Course D → Type 0
+abbrev IsKnown : {D : Type 0} → Setting D → Documents → RunState D → Type 0
 IsKnown v documents s = (s.spool.dead ≡ true) ⊎ (IsSome (v.device.bytes s.spool.disk) × LeavesDocuments v.device documents s.spool)
 
 -- The course behind these answers: the slots keep what was given, their children run their stages, and they have the tickets.
-record GoesOn {D : Type 0} (earlier : List AnsweredOrder) (t : Told) (s : Course D) : Type 0 where
+record GoesOn {D : Type 0} (earlier : List AnsweredOrder) (t : ChildTrace) (s : RunState D) : Type 0 where
   pub legal : IsLegal s.spool.state
   pub tells : s.told ≡ Some t
   pub has : HasTickets s.slots t
@@ -54,7 +54,7 @@ record GoesOn {D : Type 0} (earlier : List AnsweredOrder) (t : Told) (s : Course
   pub run : RunTheirStages t.orders s.slots
 
 -- A part of what an engine does: its orders, and that they have these documents, where that is known; and what it leaves.
-record IsPart {D : Type 0} (earlier : List AnsweredOrder) (old : Course D) (Known : Type 0) (documents : Documents) (new : Course D) : Type 0 where
+record IsPart {D : Type 0} (earlier : List AnsweredOrder) (old : RunState D) (Known : Type 0) (documents : Documents) (new : RunState D) : Type 0 where
   pub adds : AddOrders old new
   pub known : Known → HaveDocuments documents adds.orders
   pub goes : GoesOn earlier adds.now new
@@ -65,7 +65,7 @@ none_run orders slots rest = λ j n slot there runs. absurd (subst IsTicketless 
 
 module _ {D : Type 0} where
   -- nothing is ordered
-  same_part : (earlier : List AnsweredOrder) (t : Told) (old : Course D) (Known : Type 0) (documents : Documents) (new : Course D) → GoesOn earlier t old → new.told ≡ old.told → new.slots ≡ old.slots → IsLegal new.spool.state → IsPart earlier old Known documents new
+  same_part : (earlier : List AnsweredOrder) (t : ChildTrace) (old : RunState D) (Known : Type 0) (documents : Documents) (new : RunState D) → GoesOn earlier t old → new.told ≡ old.told → new.slots ≡ old.slots → IsLegal new.spool.state → IsPart earlier old Known documents new
   same_part earlier t old Known documents new goes told slots legal = record {
     adds = record { t = t; before = goes.tells; now = t; after = told ∙ goes.tells; orders = []; added = sym (append-nil t.orders) };
     known = λ is. tt;
@@ -79,7 +79,7 @@ module _ {D : Type 0} where
   }
 
   -- a part, and another after it
-  then_part : (here there : List AnsweredOrder) (old mid new : Course D) (Known Further : Type 0) (documents : Documents) → IsPart here old Known documents mid → (Known → Further) → IsPart there mid Further documents new → IsPart there old Known documents new
+  then_part : (here there : List AnsweredOrder) (old mid new : RunState D) (Known Further : Type 0) (documents : Documents) → IsPart here old Known documents mid → (Known → Further) → IsPart there mid Further documents new → IsPart there old Known documents new
   then_part here there old mid new Known Further documents one knows two =
       let same : two.adds.t ≡ one.adds.now = told_same two.adds.t one.adds.now (sym two.adds.before ∙ one.adds.after) in
       record {
@@ -89,32 +89,32 @@ module _ {D : Type 0} where
           now = two.adds.now;
           after = two.adds.after;
           orders = one.adds.orders ++ two.adds.orders;
-          added = two.adds.added ∙ ap (λ (u : Told). u.orders ++ two.adds.orders) same ∙ ap (λ ps. ps ++ two.adds.orders) one.adds.added ∙ append_assoc one.adds.t.orders one.adds.orders two.adds.orders;
+          added = two.adds.added ∙ ap (λ (u : ChildTrace). u.orders ++ two.adds.orders) same ∙ ap (λ ps. ps ++ two.adds.orders) one.adds.added ∙ append_assoc one.adds.t.orders one.adds.orders two.adds.orders;
         };
         known = λ is. documents_both documents one.adds.orders two.adds.orders (one.known is) (two.known (knows is));
         goes = two.goes;
       }
 
   -- its orders are the new ones
-  hands_part : (earlier : List AnsweredOrder) (old : Course D) (Known : Type 0) (documents : Documents) (new : Course D) → IsPart earlier old Known documents new → Known → HandsDocuments documents old new
+  hands_part : (earlier : List AnsweredOrder) (old : RunState D) (Known : Type 0) (documents : Documents) (new : RunState D) → IsPart earlier old Known documents new → Known → HandsDocuments documents old new
   hands_part earlier old Known documents new part is first now orders tells tells' added =
       let same_first : first ≡ part.adds.t = told_same first part.adds.t (sym tells ∙ part.adds.before) in
       let same_now : now ≡ part.adds.now = told_same now part.adds.now (sym tells' ∙ part.adds.after) in
-      let split : part.adds.t.orders ++ part.adds.orders ≡ part.adds.t.orders ++ orders = sym part.adds.added ∙ ap (λ (u : Told). u.orders) (sym same_now) ∙ added ∙ ap (λ (u : Told). u.orders ++ orders) same_first in
+      let split : part.adds.t.orders ++ part.adds.orders ≡ part.adds.t.orders ++ orders = sym part.adds.added ∙ ap (λ (u : ChildTrace). u.orders) (sym same_now) ∙ added ∙ ap (λ (u : ChildTrace). u.orders ++ orders) same_first in
       subst (HaveDocuments documents) (append_cancel_left part.adds.t.orders part.adds.orders orders split) (part.known is)
 
   -- the answers go by another name
-  renamed_part : (earlier others : List AnsweredOrder) (old : Course D) (Known : Type 0) (documents : Documents) (new : Course D) → earlier ≡ others → IsPart earlier old Known documents new → IsPart others old Known documents new
+  renamed_part : (earlier others : List AnsweredOrder) (old : RunState D) (Known : Type 0) (documents : Documents) (new : RunState D) → earlier ≡ others → IsPart earlier old Known documents new → IsPart others old Known documents new
   renamed_part earlier others old Known documents new same part = subst (λ xs. IsPart xs old Known documents new) same part
 
 module _ {D : Type 0} (laws : Laws D) (v : Setting D) (lawful : IsLawful v.device) (hands : Hands v.device) (ticks : TickHands v.device) where
   -- ## A round
 
   -- what a round comes to behind earlier answers
-  abbrev IsRoundOn : List AnsweredOrder → Course D → Ran D → Documents → Type 0
+  abbrev IsRoundOn : List AnsweredOrder → RunState D → Ran D → Documents → Type 0
   IsRoundOn earlier s r documents = (answers : List AnsweredOrder) × IsRoundRight earlier s r answers × IsPart (earlier ++ answers) s (IsKnown v documents s) documents r.next
 
-  round_on : (documents : Documents) (earlier : List AnsweredOrder) (t : Told) (s : Course D) (r : Ran D) → GoesOn earlier t s → IsRan v s r → IsRoundOn earlier s r documents
+  round_on : (documents : Documents) (earlier : List AnsweredOrder) (t : ChildTrace) (s : RunState D) (r : Ran D) → GoesOn earlier t s → IsRan v s r → IsRoundOn earlier s r documents
   round_on documents earlier t s r goes is = by_death r.settled.spool.dead refl is.round
     where
       fs : List Finishing
@@ -132,13 +132,13 @@ module _ {D : Type 0} (laws : Laws D) (v : Setting D) (lawful : IsLawful v.devic
       quiet : waited.now.running ≡ []
       quiet =
           let off = is.settles.finished t goes.tells goes.has in
-          ap (λ (u : Told). u.running) (told_same waited.now off.now (sym waited.tells ∙ off.tells)) ∙ off.none
+          ap (λ (u : ChildTrace). u.running) (told_same waited.now off.now (sym waited.tells ∙ off.tells)) ∙ off.none
 
       same : r.settled.spool ≡ s.spool
       same = is.settles.spool
 
       legal : IsLegal r.settled.spool.state
-      legal = subst (λ (x : Standing D). IsLegal x.state) (sym same) goes.legal
+      legal = subst (λ (x : OpenSpool D). IsLegal x.state) (sym same) goes.legal
 
       legal_next : IsLegal r.next.spool.state
       legal_next = let one = call_turn laws v t s (round_call r) goes.legal (goes.tells, goes.has) is in legal_then laws t s r.next one.0 one.1
@@ -148,7 +148,7 @@ module _ {D : Type 0} (laws : Laws D) (v : Setting D) (lawful : IsLawful v.devic
 
       unchanged : r.next ≡ r.settled → IsRoundOn earlier s r documents
       unchanged is_settled =
-          let told : r.next.told ≡ Some waited.now = ap (λ (c : Course D). c.told) is_settled ∙ waited.tells in
+          let told : r.next.told ≡ Some waited.now = ap (λ (c : RunState D). c.told) is_settled ∙ waited.tells in
           let adds : AddOrders s r.next = record { t = t; before = goes.tells; now = waited.now; after = told; orders = []; added = waited.orders ∙ sym (append-nil t.orders) } in (
             ys ++ [],
             record {
@@ -168,9 +168,9 @@ module _ {D : Type 0} (laws : Laws D) (v : Setting D) (lawful : IsLawful v.devic
               goes = record {
                 legal = legal_next;
                 tells = told;
-                has = subst (λ (c : Course D). HasTickets c.slots waited.now) (sym is_settled) waited.tickets;
-                kept = subst (λ (c : Course D). AreKeptFrom (earlier ++ (ys ++ [])) c.slots) (sym is_settled) (subst (λ xs. AreKeptFrom (earlier ++ xs) r.settled.slots) (sym (append-nil ys)) waited.kept);
-                run = subst (λ (c : Course D). RunTheirStages waited.now.orders c.slots) (sym is_settled) waited.run;
+                has = subst (λ (c : RunState D). HasTickets c.slots waited.now) (sym is_settled) waited.tickets;
+                kept = subst (λ (c : RunState D). AreKeptFrom (earlier ++ (ys ++ [])) c.slots) (sym is_settled) (subst (λ xs. AreKeptFrom (earlier ++ xs) r.settled.slots) (sym (append-nil ys)) waited.kept);
+                run = subst (λ (c : RunState D). RunTheirStages waited.now.orders c.slots) (sym is_settled) waited.run;
               };
             },
           )
@@ -197,10 +197,10 @@ module _ {D : Type 0} (laws : Laws D) (v : Setting D) (lawful : IsLawful v.devic
             record {
               adds = adds;
               known = λ has. elim has [
-                | inl died ↦ absurd (both_ways _ lives (ap (λ (x : Standing D). x.dead) same ∙ died))
+                | inl died ↦ absurd (both_ways _ lives (ap (λ (x : OpenSpool D). x.dead) same ∙ died))
                 | inr both ↦
                     let (bytes, at) = has_bytes (v.device.bytes s.spool.disk) both.0 in
-                    on.documents documents (made.handed bytes documents (ap (λ (x : Standing D). v.device.bytes x.disk) same ∙ at) (subst (λ (x : Standing D). HasDocuments x.state documents bytes) (sym same) (told_documents v.device s.spool documents bytes lawful both.1 at)))
+                    on.documents documents (made.handed bytes documents (ap (λ (x : OpenSpool D). v.device.bytes x.disk) same ∙ at) (subst (λ (x : OpenSpool D). HasDocuments x.state documents bytes) (sym same) (told_documents v.device s.spool documents bytes lawful both.1 at)))
               ];
               goes = record {
                 legal = legal_next;
@@ -220,7 +220,7 @@ module _ {D : Type 0} (laws : Laws D) (v : Setting D) (lawful : IsLawful v.devic
       ]
 
   -- after a call the same is known
-  dies_or : (documents : Documents) (old new : Course D) → (old.spool.dead ≡ true → new.spool.dead ≡ true) → (IsSome (v.device.bytes old.spool.disk) → IsSome (v.device.bytes new.spool.disk))
+  dies_or : (documents : Documents) (old new : RunState D) → (old.spool.dead ≡ true → new.spool.dead ≡ true) → (IsSome (v.device.bytes old.spool.disk) → IsSome (v.device.bytes new.spool.disk))
       → (others : Documents) → (new.spool.dead ≡ false → IsSome (v.device.bytes old.spool.disk) → LeavesDocuments v.device documents old.spool → LeavesDocuments v.device others new.spool) → IsKnown v documents old → IsKnown v others new
   dies_or documents old new over tells others lasting has = by_death new.spool.dead refl
     where
@@ -231,17 +231,17 @@ module _ {D : Type 0} (laws : Laws D) (v : Setting D) (lawful : IsLawful v.devic
         | inr both ↦ inr (tells both.0, lasting lives both.0 both.1)
       ]
 
-  round_known : (documents : Documents) (earlier : List AnsweredOrder) (t : Told) (s : Course D) (r : Ran D) → GoesOn earlier t s → IsRan v s r → IsKnown v documents s → IsKnown v documents r.next
+  round_known : (documents : Documents) (earlier : List AnsweredOrder) (t : ChildTrace) (s : RunState D) (r : Ran D) → GoesOn earlier t s → IsRan v s r → IsKnown v documents s → IsKnown v documents r.next
   round_known documents earlier t s r goes is =
       let turn = round_turn laws v t s r goes.legal (goes.tells, goes.has) is in
       dies_or documents s r.next (λ died. (turn.0.1.after_over died).1) (λ some. is.told.1 some) documents (λ lives some leaves. is.lasting lives some documents leaves)
 
   -- ## A tick
 
-  abbrev IsTickOn : List AnsweredOrder → Course D → Ticked D → Documents → Type 0
+  abbrev IsTickOn : List AnsweredOrder → RunState D → Ticked D → Documents → Type 0
   IsTickOn earlier s k documents = (answers : List AnsweredOrder) × IsTickRight v earlier s k answers × IsPart (earlier ++ answers) s (IsKnown v documents s) documents k.next
 
-  tick_on : (documents : Documents) (earlier : List AnsweredOrder) (t : Told) (s : Course D) (k : Ticked D) → GoesOn earlier t s → IsTicked v s k → IsTickOn earlier s k documents
+  tick_on : (documents : Documents) (earlier : List AnsweredOrder) (t : ChildTrace) (s : RunState D) (k : Ticked D) → GoesOn earlier t s → IsTicked v s k → IsTickOn earlier s k documents
   tick_on documents earlier t s k goes is = by_death s.spool.dead refl is.tick
     where
       legal_next : IsLegal k.next.spool.state
@@ -249,8 +249,8 @@ module _ {D : Type 0} (laws : Laws D) (v : Setting D) (lawful : IsLawful v.devic
 
       unchanged : k.next ≡ s → IsTickOn earlier s k documents
       unchanged is_old =
-          let part = same_part earlier t s (IsKnown v documents s) documents k.next goes (ap (λ (c : Course D). c.told) is_old) (ap (λ (c : Course D). c.slots) is_old) legal_next in
-          let adds : AddOrders s k.next = record { t = t; before = goes.tells; now = t; after = ap (λ (c : Course D). c.told) is_old ∙ goes.tells; orders = []; added = sym (append-nil t.orders) } in
+          let part = same_part earlier t s (IsKnown v documents s) documents k.next goes (ap (λ (c : RunState D). c.told) is_old) (ap (λ (c : RunState D). c.slots) is_old) legal_next in
+          let adds : AddOrders s k.next = record { t = t; before = goes.tells; now = t; after = ap (λ (c : RunState D). c.told) is_old ∙ goes.tells; orders = []; added = sym (append-nil t.orders) } in
           ([], record { adds = adds; right = tt; given = inl (is_old, refl) }, renamed_part earlier (earlier ++ []) s (IsKnown v documents s) documents k.next (sym (append-nil earlier)) part)
 
       made_on : s.spool.dead ≡ false → IsTickOf v.device v.place s k.next k.result → IsTickOn earlier s k documents
@@ -285,20 +285,20 @@ module _ {D : Type 0} (laws : Laws D) (v : Setting D) (lawful : IsLawful v.devic
         | inr made ↦ made_on lives made.0
       ]
 
-  tick_known : (documents : Documents) (earlier : List AnsweredOrder) (t : Told) (s : Course D) (k : Ticked D) → GoesOn earlier t s → IsTicked v s k → IsKnown v documents s → IsKnown v documents k.next
+  tick_known : (documents : Documents) (earlier : List AnsweredOrder) (t : ChildTrace) (s : RunState D) (k : Ticked D) → GoesOn earlier t s → IsTicked v s k → IsKnown v documents s → IsKnown v documents k.next
   tick_known documents earlier t s k goes is =
       let turn = tick_turn laws t v s k goes.legal (goes.tells, goes.has) is in
       dies_or documents s k.next (λ died. (turn.1.after_over died).1) (λ some. is.told.1 some) documents (λ lives some leaves. is.lasting lives some documents leaves)
 
   -- ## A turn
 
-  rounds_on : (documents : Documents) (rs : List (Ran D)) (earlier : List AnsweredOrder) (t : Told) (s new : Course D) → GoesOn earlier t s → AreRan v s rs new
+  rounds_on : (documents : Documents) (rs : List (Ran D)) (earlier : List AnsweredOrder) (t : ChildTrace) (s new : RunState D) → GoesOn earlier t s → AreRan v s rs new
       → (answers : List AnsweredOrder) × AreRoundsRight earlier s rs answers × IsPart (earlier ++ answers) s (IsKnown v documents s) documents new
   rounds_on documents [] earlier t s new goes same = (
     [],
     refl,
     renamed_part earlier (earlier ++ []) s (IsKnown v documents s) documents new (sym (append-nil earlier))
-        (same_part earlier t s (IsKnown v documents s) documents new goes (ap (λ (c : Course D). c.told) same) (ap (λ (c : Course D). c.slots) same) (subst (λ (c : Course D). IsLegal c.spool.state) (sym same) goes.legal)),
+        (same_part earlier t s (IsKnown v documents s) documents new goes (ap (λ (c : RunState D). c.told) same) (ap (λ (c : RunState D). c.slots) same) (subst (λ (c : RunState D). IsLegal c.spool.state) (sym same) goes.legal)),
   )
   rounds_on documents (r ∷ rs) earlier t s new goes (is, others) =
       let (here, right, part) = round_on documents earlier t s r goes is in
@@ -309,16 +309,16 @@ module _ {D : Type 0} (laws : Laws D) (v : Setting D) (lawful : IsLawful v.devic
             (then_part (earlier ++ here) ((earlier ++ here) ++ there) s r.next new (IsKnown v documents s) (IsKnown v documents r.next) documents part (round_known documents earlier t s r goes is) parts),
       )
 
-  abbrev IsHowOn : List AnsweredOrder → Course D → How D → Documents → Course D → Type 0
+  abbrev IsHowOn : List AnsweredOrder → RunState D → How D → Documents → RunState D → Type 0
   IsHowOn earlier s how documents new = (answers : List AnsweredOrder) × IsHowRight earlier s how answers × IsPart (earlier ++ answers) s (IsKnown v documents s) documents new
 
-  meaning_on : (documents : Documents) (w : Meaning) (rs : List (Ran D)) (earlier : List AnsweredOrder) (t : Told) (s new : Course D) (text : List ℕ) → GoesOn earlier t s → AreRunBy v w s rs new text → IsHowOn earlier s (ran rs) documents new
+  meaning_on : (documents : Documents) (w : Meaning) (rs : List (Ran D)) (earlier : List AnsweredOrder) (t : ChildTrace) (s new : RunState D) (text : List ℕ) → GoesOn earlier t s → AreRunBy v w s rs new text → IsHowOn earlier s (ran rs) documents new
   meaning_on documents (says said) rs earlier t s new text goes is = absurd is
   meaning_on documents (asks e line) rs earlier t s new text goes is = absurd is
   meaning_on documents lists rs earlier t s new text goes is = absurd is
   meaning_on documents (runs most line) rs earlier t s new text goes is = rounds_on documents rs earlier t s new goes is.each
 
-  turn_on : (documents : Documents) (earlier : List AnsweredOrder) (t : Told) (s : Course D) (turn : Turn D) (how : How D) → IsLegal turn.next.spool.state → GoesOn earlier t s → IsHow v s turn how → IsHowOn earlier s how documents turn.next
+  turn_on : (documents : Documents) (earlier : List AnsweredOrder) (t : ChildTrace) (s : RunState D) (turn : CommandStep D) (how : How D) → IsLegal turn.next.spool.state → GoesOn earlier t s → IsHow v s turn how → IsHowOn earlier s how documents turn.next
   turn_on documents earlier t s turn (replied outcome) legal goes is = (
     [],
     refl,
@@ -328,19 +328,19 @@ module _ {D : Type 0} (laws : Laws D) (v : Setting D) (lawful : IsLawful v.devic
     [],
     refl,
     renamed_part earlier (earlier ++ []) s (IsKnown v documents s) documents turn.next (sym (append-nil earlier))
-        (same_part earlier t s (IsKnown v documents s) documents turn.next goes (ap (λ (c : Course D). c.told) is.same) (ap (λ (c : Course D). c.slots) is.same) legal),
+        (same_part earlier t s (IsKnown v documents s) documents turn.next goes (ap (λ (c : RunState D). c.told) is.same) (ap (λ (c : RunState D). c.slots) is.same) legal),
   )
   turn_on documents earlier t s turn (ran rs) legal goes is = meaning_on documents (meaning v.mime s.spool.state turn.document turn.command) rs earlier t s turn.next turn.text goes is
 
   -- ## A run
 
   -- with the documents that are known all along
-  abbrev IsRunOn : List AnsweredOrder → Course D → List (Turn D) → Documents → Type 0
+  abbrev IsRunOn : List AnsweredOrder → RunState D → List (CommandStep D) → Documents → Type 0
   IsRunOn earlier s turns documents =
-      (answers : List AnsweredOrder) × AreTurnsRight earlier s turns answers × (t : Told) × GoesOn (earlier ++ answers) t (last_course s turns)
-      × (IsKnown v documents s → TurnsHandDocuments v.mime s documents turns × IsKnown v (last_documents v.mime s documents turns) (last_course s turns))
+      (answers : List AnsweredOrder) × AreStepsRight earlier s turns answers × (t : ChildTrace) × GoesOn (earlier ++ answers) t (last_run_state s turns)
+      × (IsKnown v documents s → StepsHandDocuments v.mime s documents turns × IsKnown v (last_documents v.mime s documents turns) (last_run_state s turns))
 
-  turns_on : (documents : Documents) (turns : List (Turn D)) (earlier : List AnsweredOrder) (t : Told) (s : Course D) → GoesOn earlier t s → AreTurns v s turns → IsRunOn earlier s turns documents
+  turns_on : (documents : Documents) (turns : List (CommandStep D)) (earlier : List AnsweredOrder) (t : ChildTrace) (s : RunState D) → GoesOn earlier t s → AreCommandSteps v s turns → IsRunOn earlier s turns documents
   turns_on documents [] earlier t s goes are = ([], refl, t, subst (λ xs. GoesOn xs t s) (sym (append-nil earlier)) goes, λ has. (tt, has))
   turns_on documents (turn ∷ turns) earlier t s goes (is, others) =
       let call = how_turn laws v t s turn goes.legal (goes.tells, goes.has) is.how in
@@ -352,18 +352,18 @@ module _ {D : Type 0} (laws : Laws D) (v : Setting D) (lawful : IsLawful v.devic
         here ++ there,
         (here, there, right, rights, refl),
         now,
-        subst (λ xs. GoesOn xs now (last_course turn.next turns)) (append_assoc earlier here there) goes_then,
+        subst (λ xs. GoesOn xs now (last_run_state turn.next turns)) (append_assoc earlier here there) goes_then,
         λ has. let (more, last) = hands_then (known has) in ((hands_part (earlier ++ here) s (IsKnown v documents s) documents turn.next part has, more), last),
       )
 
   -- ## Calls
 
-  abbrev IsCallOn : List AnsweredOrder → Course D → Call D → Documents → Type 0
+  abbrev IsCallOn : List AnsweredOrder → RunState D → Call D → Documents → Type 0
   IsCallOn earlier s c documents =
-      (answers : List AnsweredOrder) × IsCallRight v earlier s c answers × (t : Told) × GoesOn (earlier ++ answers) t (left_by s c)
+      (answers : List AnsweredOrder) × IsCallRight v earlier s c answers × (t : ChildTrace) × GoesOn (earlier ++ answers) t (left_by s c)
       × (IsKnown v documents s → CallHandsDocuments v.mime s documents c × IsKnown v (documents_by v.mime s documents c) (left_by s c))
 
-  call_on : (documents : Documents) (c : Call D) (earlier : List AnsweredOrder) (t : Told) (s : Course D) → GoesOn earlier t s → IsCall v s c → IsCallOn earlier s c documents
+  call_on : (documents : Documents) (c : Call D) (earlier : List AnsweredOrder) (t : ChildTrace) (s : RunState D) → GoesOn earlier t s → IsCall v s c → IsCallOn earlier s c documents
   call_on documents (round_call r) earlier t s goes is =
       let (answers, right, part) = round_on documents earlier t s r goes is in
       (answers, right, part.adds.now, part.goes, λ has. (hands_part (earlier ++ answers) s (IsKnown v documents s) documents r.next part has, round_known documents earlier t s r goes is has))
@@ -372,7 +372,7 @@ module _ {D : Type 0} (laws : Laws D) (v : Setting D) (lawful : IsLawful v.devic
       (answers, right, part.adds.now, part.goes, λ has. (hands_part (earlier ++ answers) s (IsKnown v documents s) documents k.next part has, tick_known documents earlier t s k goes is has))
   call_on documents (run_call turns) earlier t s goes are = turns_on documents turns earlier t s goes are
 
-  calls_on : (documents : Documents) (calls : List (Call D)) (earlier : List AnsweredOrder) (t : Told) (s : Course D) → GoesOn earlier t s → AreCalls v s calls → AreCallsRight v earlier s calls × (IsKnown v documents s → CallsHandDocuments v.mime s documents calls)
+  calls_on : (documents : Documents) (calls : List (Call D)) (earlier : List AnsweredOrder) (t : ChildTrace) (s : RunState D) → GoesOn earlier t s → AreCalls v s calls → AreCallsRight v earlier s calls × (IsKnown v documents s → CallsHandDocuments v.mime s documents calls)
   calls_on documents [] earlier t s goes are = (tt, λ has. tt)
   calls_on documents (c ∷ cs) earlier t s goes (is, others) =
       let (answers, right, now, goes_then, first) = call_on documents c earlier t s goes is in
@@ -380,13 +380,13 @@ module _ {D : Type 0} (laws : Laws D) (v : Setting D) (lawful : IsLawful v.devic
       ((answers, right, rights), λ has. let (here, known) = first has in (here, more known))
 
   -- an engine begins without slots
-  begins : (s : Course D) (t : Told) → IsLegal s.spool.state → s.slots ≡ finite.empty → s.told ≡ Some t → t.running ≡ [] → GoesOn [] t s
+  begins : (s : RunState D) (t : ChildTrace) → IsLegal s.spool.state → s.slots ≡ finite.empty → s.told ≡ Some t → t.running ≡ [] → GoesOn [] t s
   begins s t legal none tells quiet =
       let both = begins_kept s.slots none in
       record { legal = legal; tells = tells; has = no_tickets s.slots t both.1 quiet; kept = both.0; run = none_run t.orders s.slots both.1 }
 
-  pub calls_right : (s : Course D) (calls : List (Call D)) (t : Told) → IsLegal s.spool.state → s.slots ≡ finite.empty → s.told ≡ Some t → t.running ≡ [] → AreCalls v s calls → AreCallsRight v [] s calls
+  pub calls_right : (s : RunState D) (calls : List (Call D)) (t : ChildTrace) → IsLegal s.spool.state → s.slots ≡ finite.empty → s.told ≡ Some t → t.running ≡ [] → AreCalls v s calls → AreCallsRight v [] s calls
   calls_right s calls t legal none tells quiet are = (calls_on (λ j. []) calls [] t s (begins s t legal none tells quiet) are).0
 
-  pub first_right : (s : Course D) (documents : Documents) (calls : List (Call D)) (t : Told) → IsLegal s.spool.state → s.slots ≡ finite.empty → s.told ≡ Some t → t.running ≡ [] → IsSome (v.device.bytes s.spool.disk) → LeavesDocuments v.device documents s.spool → AreCalls v s calls → CallsHandDocuments v.mime s documents calls
+  pub first_right : (s : RunState D) (documents : Documents) (calls : List (Call D)) (t : ChildTrace) → IsLegal s.spool.state → s.slots ≡ finite.empty → s.told ≡ Some t → t.running ≡ [] → IsSome (v.device.bytes s.spool.disk) → LeavesDocuments v.device documents s.spool → AreCalls v s calls → CallsHandDocuments v.mime s documents calls
   first_right s documents calls t legal none tells quiet some leaves are = (calls_on documents calls [] t s (begins s t legal none tells quiet) are).1 (inr (some, leaves))

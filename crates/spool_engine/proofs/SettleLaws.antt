@@ -5,29 +5,29 @@ use Rattle.std.specs.FinMap as finite
 use Rattle.std.specs.Cmp.{nat_cmp_total, eq_by_cmp_equiv, unsigned_tied}
 use Rattle.std.proofs.lemmas.Bool.{eqb-true}
 use Rattle.job_table.specs.Stages.{Key}
-use Rattle.spool_core.specs.Standing.{Standing}
+use Rattle.spool_core.specs.OpenSpools.{OpenSpool}
 use Rattle.child_pipeline.specs.Finishes.{kept}
-use Rattle.child_pipeline.specs.Slots.{Slots, slot_in, begun, with_progress, put_progress, FinishesFrom, FinishesStage, IsTicketless, Waits, is_running}
+use Rattle.child_pipeline.specs.StageSlots.{Slots, slot_in, begun, with_progress, put_progress, FinishesFrom, FinishesStage, IsTicketless, Waits, is_running}
 use Rattle.child_pipeline.specs.Tickets.{IsRunningAs, AreOnce, HasTickets, AreKeptBy}
-use Rattle.child_pipeline.specs.Told.{Told, is_in, first_finish, after_finish}
+use Rattle.child_pipeline.specs.ChildTraces.{ChildTrace, is_in, first_finish, after_finish}
 use Rattle.child_pipeline.specs.declared.order.Finish.{Finish}
 use Rattle.child_pipeline.specs.declared.runner.Progress.{Progress}
 use Rattle.child_pipeline.specs.declared.runner.Progress.TheVariants.{Ready, Running, Ended}
 use Rattle.child_pipeline.specs.declared.runner.Slot.{Slot}
-use Rattle.print_rounds.specs.Courses.{Course, course}
+use Rattle.print_rounds.specs.RunStates.{RunState, run_state}
 use Rattle.print_rounds.specs.Finished.{HasNoneRunning}
-use Rattle.print_rounds.specs.Looks.{has_child, runs}
-use Rattle.print_rounds.specs.Script.{Play, play_from, plays, waited, waited_by}
-use Rattle.print_rounds.specs.Ticks.{AreFinishings, Finishing, IsFinishedOff, running_jobs}
-use Rattle.print_rounds.specs.World.{IsBegunSlot}
-use Rattle.spool_engine.specs.Rounds.{IsSettled}
-use Rattle.spool_engine.specs.Script.{Scene, scene_after, settled}
+use Rattle.print_rounds.specs.StageChecks.{has_child, runs}
+use Rattle.print_rounds.specs.RoundScript.{Play, play_from, plays, waited, waited_by}
+use Rattle.print_rounds.specs.RoundTicks.{AreFinishings, Finishing, IsFinishedOff, running_jobs}
+use Rattle.print_rounds.specs.StageHistory.{IsBegunSlot}
+use Rattle.spool_engine.specs.EngineRounds.{IsSettled}
+use Rattle.spool_engine.specs.Script.{ScriptState, script_state_after, settled}
 
 -- a finish takes one ticket out of its slot
 abbrev pub FinishLaw : Type 0
-FinishLaw = (slots : Slots) (j n : ℕ) (t : Told) (new : Slots) (told : Option Told) → HasTickets slots t → IsRunningAs slots j n → Waits (Some t) n slots j new told → AreKeptBy t 0 new told
+FinishLaw = (slots : Slots) (j n : ℕ) (t : ChildTrace) (new : Slots) (told : Option ChildTrace) → HasTickets slots t → IsRunningAs slots j n → Waits (Some t) n slots j new told → AreKeptBy t 0 new told
 
-pub told_same : (x y : Told) → Some x ≡ Some y → x ≡ y
+pub told_same : (x y : ChildTrace) → Some x ≡ Some y → x ≡ y
 told_same x y e = cc
 
 -- ## Where none runs
@@ -49,8 +49,8 @@ no_finishings : (fs : List Finishing) → map (λ f. f.job) fs ≡ [] → fs ≡
 no_finishings [] e = refl
 no_finishings (f ∷ fs) e = absurd (omega (arith, ap length e))
 
-pub settled_of : {D : Type 0} (old : Course D) (s : Standing D) (slots : Slots) (told : Option Told) (fs : List Finishing) → s ≡ old.spool → AreFinishings old.slots old.told fs slots told → map (λ f. f.job) fs ≡ running_jobs old.slots → HasNoneRunning slots
-    → ((t : Told) → old.told ≡ Some t → HasTickets old.slots t → IsFinishedOff t told) → IsSettled old (course s slots told)
+pub settled_of : {D : Type 0} (old : RunState D) (s : OpenSpool D) (slots : Slots) (told : Option ChildTrace) (fs : List Finishing) → s ≡ old.spool → AreFinishings old.slots old.told fs slots told → map (λ f. f.job) fs ≡ running_jobs old.slots → HasNoneRunning slots
+    → ((t : ChildTrace) → old.told ≡ Some t → HasTickets old.slots t → IsFinishedOff t told) → IsSettled old (run_state s slots told)
 settled_of {D} old s slots told fs same steps jobs rest finished = record {
   spool = same;
   steps = (fs, steps, jobs);
@@ -59,15 +59,15 @@ settled_of {D} old s slots told fs same steps jobs rest finished = record {
   same = λ none.
       let nothing : fs ≡ [] = no_finishings fs (jobs ∙ none_run old.slots (finite.keys old.slots) none) in
       let both : AreFinishings old.slots old.told [] slots told = subst (λ l. AreFinishings old.slots old.told l slots told) nothing steps in
-      ap (λ (x : Standing D). course x slots told) same ∙ ap (λ m. course old.spool m told) both.0 ∙ ap (λ o. course old.spool old.slots o) both.1;
+      ap (λ (x : OpenSpool D). run_state x slots told) same ∙ ap (λ m. run_state old.spool m told) both.0 ∙ ap (λ o. run_state old.spool old.slots o) both.1;
 }
 
 -- nobody is waited for
-pub settled_same : (x : Scene) → HasNoneRunning x.slots → settled x ≡ x
-settled_same x rest = ap (λ js. scene_after (plays waited (play_from x.state x.slots x.told) js)) (none_run x.slots (finite.keys x.slots) rest)
+pub settled_same : (x : ScriptState) → HasNoneRunning x.slots → settled x ≡ x
+settled_same x rest = ap (λ js. script_state_after (plays waited (play_from x.state x.slots x.told) js)) (none_run x.slots (finite.keys x.slots) rest)
 
 -- where no child runs there is no ticket
-pub no_tickets : (slots : Slots) (t : Told) → HasNoneRunning slots → t.running ≡ [] → HasTickets slots t
+pub no_tickets : (slots : Slots) (t : ChildTrace) → HasNoneRunning slots → t.running ≡ [] → HasTickets slots t
 no_tickets slots t rest quiet = record {
   running = λ j n r. absurd (none_there j n r);
   owned = λ n among. absurd (none_in n among);
@@ -115,12 +115,12 @@ begun_put slots j f k b = by_job (k.job == j) refl
       begun = b.begun;
     }
 
-begun_from : (q : Progress ℕ) (told : Option Told) (slots : Slots) (j : ℕ) (slots' : Slots) (told' : Option Told) (k : Key) → FinishesFrom q told slots j slots' told' → IsBegunSlot slots k → IsBegunSlot slots' k
+begun_from : (q : Progress ℕ) (told : Option ChildTrace) (slots : Slots) (j : ℕ) (slots' : Slots) (told' : Option ChildTrace) (k : Key) → FinishesFrom q told slots j slots' told' → IsBegunSlot slots k → IsBegunSlot slots' k
 begun_from (Ready input) told slots j slots' told' k fin b = absurd fin
 begun_from (Running n) told slots j slots' told' k fin b = subst (λ m. IsBegunSlot m k) (sym fin.slots) (begun_put slots j fin.finish k b)
 begun_from (Ended finish) told slots j slots' told' k fin b = subst (λ m. IsBegunSlot m k) (sym fin.0) b
 
-pub begun_then : (fs : List Finishing) (slots : Slots) (told : Option Told) (new : Slots) (told' : Option Told) (k : Key) → AreFinishings slots told fs new told' → IsBegunSlot slots k → IsBegunSlot new k
+pub begun_then : (fs : List Finishing) (slots : Slots) (told : Option ChildTrace) (new : Slots) (told' : Option ChildTrace) (k : Key) → AreFinishings slots told fs new told' → IsBegunSlot slots k → IsBegunSlot new k
 begun_then [] slots told new told' k are b = subst (λ m. IsBegunSlot m k) (sym are.0) b
 begun_then (f ∷ fs) slots told new told' k are b = begun_then fs f.slots f.told new told' k are.1 (begun_from (slot_in slots f.job).progress told slots f.job f.slots f.told k are.0 b)
 
@@ -134,12 +134,12 @@ running_as slots j n is = by_slot (finite.get slots j) refl
     by_slot (Some slot) there = record { slot = slot; there = there; runs = ap (λ o. (unwrap_or o (begun 0 0)).progress) (sym there) ∙ is }
 
 -- the slots and what is told are a play's, and the slots have the tickets
-pub record IsAsPlay (p : Play) (slots : Slots) (told : Option Told) : Type 0 where
+pub record IsAsPlay (p : Play) (slots : Slots) (told : Option ChildTrace) : Type 0 where
   pub slots_are : slots ≡ p.slots
   pub told_is : told ≡ Some p.told
   pub tickets : HasTickets p.slots p.told
 
-waits_as : (law : FinishLaw) (p : Play) (j : ℕ) (slots' : Slots) (told' : Option Told) (q : Progress ℕ) → (slot_in p.slots j).progress ≡ q → HasTickets p.slots p.told → FinishesFrom q (Some p.told) p.slots j slots' told' → IsAsPlay (waited_by p j q) slots' told'
+waits_as : (law : FinishLaw) (p : Play) (j : ℕ) (slots' : Slots) (told' : Option ChildTrace) (q : Progress ℕ) → (slot_in p.slots j).progress ≡ q → HasTickets p.slots p.told → FinishesFrom q (Some p.told) p.slots j slots' told' → IsAsPlay (waited_by p j q) slots' told'
 waits_as law p j slots' told' (Ready input) is has fin = absurd fin
 waits_as law p j slots' told' (Ended finish) is has fin = record { slots_are = fin.0; told_is = fin.1; tickets = has }
 waits_as law p j slots' told' (Running n) is has fin =
@@ -153,12 +153,12 @@ waits_as law p j slots' told' (Running n) is has fin =
       tickets = subst (λ m. HasTickets m (after_finish p.told n)) slots_are (subst (HasTickets slots') (told_same keeps.now (after_finish p.told n) (sym keeps.tells ∙ answer.1)) keeps.tickets);
     }
 
-waits_play : (law : FinishLaw) (p : Play) (slots : Slots) (told : Option Told) (j : ℕ) (slots' : Slots) (told' : Option Told) → IsAsPlay p slots told → FinishesStage told slots j slots' told' → IsAsPlay (waited p j) slots' told'
+waits_play : (law : FinishLaw) (p : Play) (slots : Slots) (told : Option ChildTrace) (j : ℕ) (slots' : Slots) (told' : Option ChildTrace) → IsAsPlay p slots told → FinishesStage told slots j slots' told' → IsAsPlay (waited p j) slots' told'
 waits_play law p slots told j slots' told' like fin =
     let here : FinishesStage told p.slots j slots' told' = subst (λ m. FinishesStage told m j slots' told') like.slots_are fin in
     waits_as law p j slots' told' (slot_in p.slots j).progress refl like.tickets (subst (λ o. FinishesStage o p.slots j slots' told') like.told_is here)
 
-pub waits_all : (law : FinishLaw) (fs : List Finishing) (p : Play) (slots : Slots) (told : Option Told) (new : Slots) (told' : Option Told) → IsAsPlay p slots told → AreFinishings slots told fs new told' → IsAsPlay (plays waited p (map (λ f. f.job) fs)) new told'
+pub waits_all : (law : FinishLaw) (fs : List Finishing) (p : Play) (slots : Slots) (told : Option ChildTrace) (new : Slots) (told' : Option ChildTrace) → IsAsPlay p slots told → AreFinishings slots told fs new told' → IsAsPlay (plays waited p (map (λ f. f.job) fs)) new told'
 waits_all law [] p slots told new told' like are = record { slots_are = are.0 ∙ like.slots_are; told_is = are.1 ∙ like.told_is; tickets = like.tickets }
 waits_all law (f ∷ fs) p slots told new told' like are = waits_all law fs (waited p f.job) f.slots f.told new told' (waits_play law p slots told f.job f.slots f.told like are.0) are.1
 

@@ -3,50 +3,50 @@ use Rattle.std.proofs.Common.{◌≡◌, ℕ, suc, ◌+◌, List, [], ◌∷◌,
 use Rattle.std.proofs.lemmas.List.{append-nil, map-append}
 use Rattle.std.specs.Io.KnownBytes.{Appends}
 use Rattle.std.proofs.KnownBytes.{Appends-nil, Appends-trans}
-use Rattle.command_lines.specs.Pending.{Pending, Leads, to_come}
+use Rattle.command_lines.specs.PendingCommands.{Pending, Leads, to_come}
 use Rattle.command_lines.specs.Steps.{GivesOne, EndsWith}
 use Rattle.command_lines.specs.declared.command.Command.{Command}
-use Rattle.print_rounds.specs.Courses.{Course}
-use Rattle.spool_engine.specs.EventTurns.{Setting}
-use Rattle.spool_engine.specs.Runs.{Turn, IsTurn, AreTurns, last_course, texts_of, commands_in, Wrote, Lead, Serves, Drains, DrainsEnd}
+use Rattle.print_rounds.specs.RunStates.{RunState}
+use Rattle.spool_engine.specs.EventSteps.{Setting}
+use Rattle.spool_engine.specs.EngineRuns.{CommandStep, IsCommandStep, AreCommandSteps, last_run_state, texts_of, commands_in, Wrote, Lead, Serves, Drains, DrainsEnd}
 use Rattle.whole_writes.specs.Writes.{WroteSome}
 use Rattle.spool_engine.specs.declared.fault.RunFault.{RunFault}
 use Rattle.spool_engine.specs.declared.fault.RunFault.TheVariants.{Read, Write, Memory as Wanted}
 
 -- a turn is put behind turns
-are_more : {D : Type 0} (v : Setting D) (s : Course D) (ts : List (Turn D)) (t : Turn D) → AreTurns v s ts → IsTurn v (last_course s ts) t → AreTurns v s (ts ++ t ∷ [])
+are_more : {D : Type 0} (v : Setting D) (s : RunState D) (ts : List (CommandStep D)) (t : CommandStep D) → AreCommandSteps v s ts → IsCommandStep v (last_run_state s ts) t → AreCommandSteps v s (ts ++ t ∷ [])
 are_more v s [] t h k = (k, tt)
 are_more v s (u ∷ ts) t h k = (h.0, are_more v u.next ts t h.1 k)
 
-last_more : {D : Type 0} (s : Course D) (ts : List (Turn D)) (t : Turn D) → last_course s (ts ++ t ∷ []) ≡ t.next
+last_more : {D : Type 0} (s : RunState D) (ts : List (CommandStep D)) (t : CommandStep D) → last_run_state s (ts ++ t ∷ []) ≡ t.next
 last_more s [] t = refl
 last_more s (u ∷ ts) t = last_more u.next ts t
 
-pub texts_of-append : {D : Type 0} (ts us : List (Turn D)) → texts_of (ts ++ us) ≡ texts_of ts ++ texts_of us
+pub texts_of-append : {D : Type 0} (ts us : List (CommandStep D)) → texts_of (ts ++ us) ≡ texts_of ts ++ texts_of us
 texts_of-append [] us = refl
 texts_of-append (t ∷ ts) us = ap (λ l. t.text ++ l) (texts_of-append ts us) ∙ sym (append_assoc t.text (texts_of ts) (texts_of us))
 
-commands_more : {D : Type 0} (ts : List (Turn D)) (t : Turn D) → commands_in (ts ++ t ∷ []) ≡ commands_in ts ++ t.command ∷ []
-commands_more {D} ts t = map-append (λ (u : Turn D). u.command) ts (t ∷ [])
+commands_more : {D : Type 0} (ts : List (CommandStep D)) (t : CommandStep D) → commands_in (ts ++ t ∷ []) ≡ commands_in ts ++ t.command ∷ []
+commands_more {D} ts t = map-append (λ (u : CommandStep D). u.command) ts (t ∷ [])
 
-pub lead_none : {D : Type 0} (v : Setting D) (s : Course D) → Lead v s [] s
+pub lead_none : {D : Type 0} (v : Setting D) (s : RunState D) → Lead v s [] s
 lead_none v s = record { legal = tt; last = refl }
 
-lead_more : {D : Type 0} (v : Setting D) (s m s' : Course D) (ts : List (Turn D)) (t : Turn D) → Lead v s ts m → IsTurn v m t → t.next ≡ s' → Lead v s (ts ++ t ∷ []) s'
-lead_more v s m s' ts t l is e = record { legal = are_more v s ts t l.legal (subst (λ x. IsTurn v x t) (sym l.last) is); last = last_more s ts t ∙ e }
+lead_more : {D : Type 0} (v : Setting D) (s m s' : RunState D) (ts : List (CommandStep D)) (t : CommandStep D) → Lead v s ts m → IsCommandStep v m t → t.next ≡ s' → Lead v s (ts ++ t ∷ []) s'
+lead_more v s m s' ts t l is e = record { legal = are_more v s ts t l.legal (subst (λ x. IsCommandStep v x t) (sym l.last) is); last = last_more s ts t ∙ e }
 
-are_both : {D : Type 0} (v : Setting D) (s : Course D) (ts us : List (Turn D)) → AreTurns v s ts → AreTurns v (last_course s ts) us → AreTurns v s (ts ++ us)
+are_both : {D : Type 0} (v : Setting D) (s : RunState D) (ts us : List (CommandStep D)) → AreCommandSteps v s ts → AreCommandSteps v (last_run_state s ts) us → AreCommandSteps v s (ts ++ us)
 are_both v s [] us h k = k
 are_both v s (t ∷ ts) us h k = (h.0, are_both v t.next ts us h.1 k)
 
-last_both : {D : Type 0} (s : Course D) (ts us : List (Turn D)) → last_course s (ts ++ us) ≡ last_course (last_course s ts) us
+last_both : {D : Type 0} (s : RunState D) (ts us : List (CommandStep D)) → last_run_state s (ts ++ us) ≡ last_run_state (last_run_state s ts) us
 last_both s [] us = refl
 last_both s (t ∷ ts) us = last_both t.next ts us
 
-pub lead_both : {D : Type 0} (v : Setting D) (s m s' : Course D) (ts us : List (Turn D)) → Lead v s ts m → Lead v m us s' → Lead v s (ts ++ us) s'
+pub lead_both : {D : Type 0} (v : Setting D) (s m s' : RunState D) (ts us : List (CommandStep D)) → Lead v s ts m → Lead v m us s' → Lead v s (ts ++ us) s'
 lead_both v s m s' ts us l k = record {
-  legal = are_both v s ts us l.legal (subst (λ x. AreTurns v x us) (sym l.last) k.legal);
-  last = last_both s ts us ∙ ap (λ x. last_course x us) l.last ∙ k.last;
+  legal = are_both v s ts us l.legal (subst (λ x. AreCommandSteps v x us) (sym l.last) k.legal);
+  last = last_both s ts us ∙ ap (λ x. last_run_state x us) l.last ∙ k.last;
 }
 
 take_past : (xs ys : List ℕ) (n : ℕ) → take (length xs + n) (xs ++ ys) ≡ xs ++ take n ys
@@ -56,7 +56,7 @@ take_past (x ∷ xs) ys n =
     ap (λ m. take m (x ∷ (xs ++ ys))) e ∙ ap (λ l. x ∷ l) (take_past xs ys n)
 
 -- what was written before, and then
-pub wrote_more : {D : Type 0} (r : Result (Unit {0}) RunFault) (a b d : Option (List ℕ)) (ts us : List (Turn D)) → Appends a b (texts_of ts) → Wrote r b d us → Wrote r a d (ts ++ us)
+pub wrote_more : {D : Type 0} (r : Result (Unit {0}) RunFault) (a b d : Option (List ℕ)) (ts us : List (CommandStep D)) → Appends a b (texts_of ts) → Wrote r b d us → Wrote r a d (ts ++ us)
 wrote_more (Ok x) a b d ts us h k = subst (Appends a d) (sym (texts_of-append ts us)) (Appends-trans a b d (texts_of ts) (texts_of us) h k)
 wrote_more (Err Read) a b d ts us h k = subst (Appends a d) (sym (texts_of-append ts us)) (Appends-trans a b d (texts_of ts) (texts_of us) h k)
 wrote_more (Err Write) a b d ts us h k = record {
@@ -76,21 +76,21 @@ wrote_more (Err Wanted) a b d ts us h k = record {
 }
 
 -- all replies were written when no memory was found for what comes next
-pub wrote_all : {D : Type 0} (a b : Option (List ℕ)) (ts : List (Turn D)) → Appends a b (texts_of ts) → Wrote (Err Wanted) a b ts
+pub wrote_all : {D : Type 0} (a b : Option (List ℕ)) (ts : List (CommandStep D)) → Appends a b (texts_of ts) → Wrote (Err Wanted) a b ts
 wrote_all a b ts h = record { told = ts; untold = []; split = sym (append-nil ts); at_most_one = omega arith; wrote = h }
 
 -- one turn, by how its text was written
-pub wrote_one : {D : Type 0} (a b : Option (List ℕ)) (t : Turn D) → Appends a b t.text → Wrote (Ok tt) a b (t ∷ [])
+pub wrote_one : {D : Type 0} (a b : Option (List ℕ)) (t : CommandStep D) → Appends a b t.text → Wrote (Ok tt) a b (t ∷ [])
 wrote_one a b t h = subst (Appends a b) (sym (append-nil t.text)) h
 
-pub wrote_part : {D : Type 0} (a b : Option (List ℕ)) (t : Turn D) → WroteSome a b t.text → Wrote (Err Write) a b (t ∷ [])
+pub wrote_part : {D : Type 0} (a b : Option (List ℕ)) (t : CommandStep D) → WroteSome a b t.text → Wrote (Err Write) a b (t ∷ [])
 wrote_part a b t h = record { told = []; cut = t; split = refl; count = h.count; short = h.short; front = h.front }
 
-pub wrote_none : {D : Type 0} (a : Option (List ℕ)) (t : Turn D) → Wrote (Err Wanted) a a (t ∷ [])
+pub wrote_none : {D : Type 0} (a : Option (List ℕ)) (t : CommandStep D) → Wrote (Err Wanted) a a (t ∷ [])
 wrote_none a t = record { told = []; untold = t ∷ []; split = refl; at_most_one = omega arith; wrote = Appends-nil a }
 
 module _ {D : Type 0} (v : Setting D) (r : Result (Unit {0}) RunFault) where
-  pub drains_more : (s m s' : Course D) (p q q' : Pending) (ts : List (Turn D)) (t : Turn D) (c : Command) (a b d : Option (List ℕ))
+  pub drains_more : (s m s' : RunState D) (p q q' : Pending) (ts : List (CommandStep D)) (t : CommandStep D) (c : Command) (a b d : Option (List ℕ))
       → Drains v s p ts m q (Ok tt) a b → GivesOne q c q' → Serves v m c t s' r b d → Drains v s p (ts ++ t ∷ []) s' q' r a d
   drains_more s m s' p q q' ts t c a b d h gives one = record {
     lead = lead_more v s m s' ts t h.lead one.legal one.next;
@@ -101,7 +101,7 @@ module _ {D : Type 0} (v : Setting D) (r : Result (Unit {0}) RunFault) where
     wrote = wrote_more r a b d ts (t ∷ []) h.wrote one.wrote;
   }
 
-  pub ends_more : (s m s' : Course D) (p q q' : Pending) (ts : List (Turn D)) (t : Turn D) (c : Command) (a b d : Option (List ℕ))
+  pub ends_more : (s m s' : RunState D) (p q q' : Pending) (ts : List (CommandStep D)) (t : CommandStep D) (c : Command) (a b d : Option (List ℕ))
       → DrainsEnd v s p ts m (to_come q []) (Ok tt) a b → EndsWith q c q' → Serves v m c t s' r b d → DrainsEnd v s p (ts ++ t ∷ []) s' (to_come q' []) r a d
   ends_more s m s' p q q' ts t c a b d h gives one = record {
     lead = lead_more v s m s' ts t h.lead one.legal one.next;
@@ -112,22 +112,22 @@ module _ {D : Type 0} (v : Setting D) (r : Result (Unit {0}) RunFault) where
     wrote = wrote_more r a b d ts (t ∷ []) h.wrote one.wrote;
   }
 
-pub drains_none : {D : Type 0} (v : Setting D) (s : Course D) (p : Pending) (a : Option (List ℕ)) → Drains v s p [] s p (Ok tt) a a
+pub drains_none : {D : Type 0} (v : Setting D) (s : RunState D) (p : Pending) (a : Option (List ℕ)) → Drains v s p [] s p (Ok tt) a a
 drains_none v s p a = record { lead = lead_none v s; commands = λ more. refl; wrote = Appends-nil a }
 
 -- no whole command was held
-pub drains_wait : {D : Type 0} (v : Setting D) (s : Course D) (p q : Pending) (a : Option (List ℕ)) → Leads p [] q → Drains v s p [] s q (Ok tt) a a
+pub drains_wait : {D : Type 0} (v : Setting D) (s : RunState D) (p q : Pending) (a : Option (List ℕ)) → Leads p [] q → Drains v s p [] s q (Ok tt) a a
 drains_wait v s p q a leads = record { lead = lead_none v s; commands = leads; wrote = Appends-nil a }
 
 -- no command was given, and the reader of commands found no memory
-pub drains_stop : {D : Type 0} (v : Setting D) (s m : Course D) (p q q' : Pending) (ts : List (Turn D)) (a b : Option (List ℕ)) → Drains v s p ts m q (Ok tt) a b → Leads q [] q' → Drains v s p ts m q' (Err Wanted) a b
+pub drains_stop : {D : Type 0} (v : Setting D) (s m : RunState D) (p q q' : Pending) (ts : List (CommandStep D)) (a b : Option (List ℕ)) → Drains v s p ts m q (Ok tt) a b → Leads q [] q' → Drains v s p ts m q' (Err Wanted) a b
 drains_stop v s m p q q' ts a b h leads = record {
   lead = h.lead;
   commands = λ more. h.commands more ∙ ap (λ l. commands_in ts ++ l) (leads more);
   wrote = wrote_all a b ts h.wrote;
 }
 
-pub ends_stop : {D : Type 0} (v : Setting D) (s m : Course D) (p : Pending) (ts : List (Turn D)) (rest rest' : List Command) (a b : Option (List ℕ)) → DrainsEnd v s p ts m rest (Ok tt) a b → rest' ≡ rest → DrainsEnd v s p ts m rest' (Err Wanted) a b
+pub ends_stop : {D : Type 0} (v : Setting D) (s m : RunState D) (p : Pending) (ts : List (CommandStep D)) (rest rest' : List Command) (a b : Option (List ℕ)) → DrainsEnd v s p ts m rest (Ok tt) a b → rest' ≡ rest → DrainsEnd v s p ts m rest' (Err Wanted) a b
 ends_stop v s m p ts rest rest' a b h e = record {
   lead = h.lead;
   commands = h.commands ∙ ap (λ l. commands_in ts ++ l) (sym e);

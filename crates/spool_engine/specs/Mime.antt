@@ -1,8 +1,8 @@
 -- The MIME database: by which rules documents are typed, and which filters change one type into another.
 use Rattle.std.specs.Prelude.{◌≡◌, ℕ, List, codes, length, take, unwrap_or, refl}
 use Rattle.std.specs.Coded.{Coded, code_by, coded×, coded_list, coded_ℕ}
-use Rattle.mime_rules.specs.Best.{type_of}
-use Rattle.mime_rules.specs.Seen.{types_of}
+use Rattle.mime_rules.specs.BestType.{type_of}
+use Rattle.mime_rules.specs.RuleFields.{types_of}
 use Rattle.mime_rules.specs.TypesValue.{TypesValue, types_code}
 use Rattle.mime_costs.specs.LeastWalk.{convs_code}
 use Rattle.mime_costs.specs.declared.conversion.Conversion.{Conversion}

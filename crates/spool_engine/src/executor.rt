@@ -10,18 +10,18 @@ ghost use Rattle.job_table.specs.Step.{creation, refusal_of};
 ghost use Rattle.command_lines.specs.Replies.{jobs_text, queues_text, shown_text};
 ghost use Rattle.command_lines.specs.declared.command.Command.{Command};
 ghost use Rattle.filter_args.specs.declared.place.Place.{Place as PlaceOf};
-ghost use Rattle.print_rounds.specs.Courses.{Course, course};
-ghost use Rattle.spool_core.specs.Reading.{IsFrontRead as IsReadUpTo};
-ghost use Rattle.spool_core.specs.Standing.{len_at};
+ghost use Rattle.print_rounds.specs.RunStates.{RunState, run_state};
+ghost use Rattle.spool_core.specs.DocumentReading.{IsFrontRead as IsReadUpTo};
+ghost use Rattle.spool_core.specs.OpenSpools.{len_at};
 ghost use Rattle.spool_core.specs.declared.spool.apply_fault.ApplyFault.{ApplyFault};
 ghost use Rattle.spool_core.specs.declared.spool.checkpoint_fault.CheckpointFault.{CheckpointFault};
 ghost use Rattle.spool_engine.specs.Mime.{Mime as MimeDatabase, IsEnough};
 ghost use Rattle.spool_engine.specs.Script.{closing_line, closing_of, filters_to, queue_of_job, reply_line, stages_of};
 ghost use Rattle.spool_engine.specs.Script.{next_number};
-ghost use Rattle.spool_engine.specs.EventTurns.{setting, EventTurn, IsKept};
-ghost use Rattle.spool_engine.specs.Answers.{IsApplied, IsFrontRead, IsRelisted, Takes, answer_line, checkpoint_line};
-ghost use Rattle.spool_engine.specs.Rounds.{IsRan};
-ghost use Rattle.spool_engine.specs.Ticks.{IsTicked};
+ghost use Rattle.spool_engine.specs.EventSteps.{setting, EventStep, IsKept};
+ghost use Rattle.spool_engine.specs.EventAnswers.{IsApplied, IsFrontRead, IsRelisted, Takes, answer_line, checkpoint_line};
+ghost use Rattle.spool_engine.specs.EngineRounds.{IsRan};
+ghost use Rattle.spool_engine.specs.EngineTicks.{IsTicked};
 ghost use Rattle.spool_types.specs.declared.event.Event.{Event as EventOf};
 
 use crate::answers::{answer_text, checkpoint_text, fault_text};
@@ -50,12 +50,12 @@ pub(crate) struct Executor<D: Disk> {
 }
 
 impl<D: Disk> Model for Executor<D> {
-    ghost use Rattle.spool_core.specs.Standing.{Standing};
-    ghost use Rattle.spool_engine.specs.EventTurns.{IsKept};
+    ghost use Rattle.spool_core.specs.OpenSpools.{OpenSpool};
+    ghost use Rattle.spool_engine.specs.EventSteps.{IsKept};
     ghost use Rattle.std.specs.Coded.{codes};
     ghost use Rattle.std.specs.FinMap as map;
 
-    ghost Value = { Standing D };
+    ghost Value = { OpenSpool D };
 
     ghost coded = { Prim.hlevel (codes, map.code, D.code) };
 
@@ -124,7 +124,7 @@ impl<D: Disk> Executor<D> {
 
     /// Makes a queue, where its URI is that of a device, and the text of the reply.
     pub fn add_queue(&mut self, queue: NewQueue) -> Result<Vec<u8>, AllocError>
-        ensures { (m : MimeDatabase) (p : PlaceOf) → (t : EventTurn D) ×
+        ensures { (m : MimeDatabase) (p : PlaceOf) → (t : EventStep D) ×
             Takes (setting D.device m p) self.old (Command.Queue queue) t self.new ×
             IfOk result (λ text. text.items ≡ t.text) }
     {
@@ -137,7 +137,7 @@ impl<D: Disk> Executor<D> {
 
     /// Makes a job, where its options are read and can be kept, and the text of the reply.
     pub fn create(&mut self, creation: Creation) -> Result<Vec<u8>, AllocError>
-        ensures { (m : MimeDatabase) (p : PlaceOf) → (t : EventTurn D) ×
+        ensures { (m : MimeDatabase) (p : PlaceOf) → (t : EventStep D) ×
             Takes (setting D.device m p) self.old (Command.Create creation) t self.new ×
             IfOk result (λ text. text.items ≡ t.text) }
     {
@@ -155,7 +155,7 @@ impl<D: Disk> Executor<D> {
     /// Closes a job, and makes the text of its reply. A document is read only where the job can be closed, and no further than
     /// its type depends on it.
     pub fn close(&mut self, mime: &Mime<'_>, job: JobId, name: &str) -> Result<Vec<u8>, AllocError>
-        ensures { (p : PlaceOf) → (t : EventTurn D) ×
+        ensures { (p : PlaceOf) → (t : EventStep D) ×
             Takes (setting D.device mime.now p) self.old (Command.Close job name.now) t self.new ×
             IfOk result (λ text. text.items ≡ t.text) }
     {
@@ -291,9 +291,9 @@ impl<D: Disk> Executor<D> {
         runner: &mut Runner<C>,
         children: &mut C,
     ) -> Result<Round, RoundFault>
-        ensures { (m : MimeDatabase) → (settled : Course D) × (tried : List EventOf) × (documents : ℕ → List ℕ) × IsRan (setting D.device m place.now)
-            (course self.old runner.old (C.tells children.old))
-            (record { settled = settled; next = course self.new runner.new (C.tells children.new); result = result; tried = tried; documents = documents }) }
+        ensures { (m : MimeDatabase) → (settled : RunState D) × (tried : List EventOf) × (documents : ℕ → List ℕ) × IsRan (setting D.device m place.now)
+            (run_state self.old runner.old (C.tells children.old))
+            (record { settled = settled; next = run_state self.new runner.new (C.tells children.new); result = result; tried = tried; documents = documents }) }
     {
         finish_children(runner, children);
         let ran = print_rounds::round(self.alloc, place, &mut self.spool, runner, children);
@@ -310,8 +310,8 @@ impl<D: Disk> Executor<D> {
         children: &mut C,
     ) -> Result<Round, RoundFault>
         ensures { (m : MimeDatabase) → (tried : List EventOf) × IsTicked (setting D.device m place.now)
-            (course self.old runner.old (C.tells children.old))
-            (record { next = course self.new runner.new (C.tells children.new); result = result; tried = tried }) }
+            (run_state self.old runner.old (C.tells children.old))
+            (record { next = run_state self.new runner.new (C.tells children.new); result = result; tried = tried }) }
     {
         let ran = print_rounds::tick(self.alloc, place, &mut self.spool, runner, children);
         // A crash leaves this table, which is the executor's invariant.

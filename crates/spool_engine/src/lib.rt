@@ -53,7 +53,7 @@
 //!   round returns, and every start came before the first finish. Those that ran before it were finished before (`settles`). Of a
 //!   tick each child that was started runs or has been finished once, and the slots have the tickets of those that run
 //!   (`tickets`, `HasTickets`). When the engine is taken apart none runs (`finished` of [`Engine::into_parts`]).
-//! - *NoStageTwice* ([`calls_are_turns`]): each call is a turn of World, a tick too, whose events are those that were
+//! - *NoStageTwice* ([`calls_are_steps`]): each call is a turn of World, a tick too, whose events are those that were
 //!   acknowledged in it, each accepted on the table that its command found. World sees each table as the newest version has
 //!   it. In every world no stage of an attempt comes twice ([`lives_law`]), so over any number of engines none is ordered
 //!   twice ([`no_stage_is_ordered_twice`]).
@@ -101,6 +101,6 @@ pub use answers::rounded_text;
 pub use engine::Engine;
 pub use fault::RunFault;
 pub use laws::{
-    calls_are_turns, clients_stay_apart, crashes_between_calls, crashes_between_replies, lives_law,
-    no_stage_is_ordered_twice, quiet_scenes_stay, stages_have_right_input,
+    calls_are_steps, clients_stay_apart, crashes_between_calls, crashes_between_replies, lives_law,
+    no_stage_is_ordered_twice, quiet_states_stay, stages_have_right_input,
 };

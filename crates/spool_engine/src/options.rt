@@ -2,7 +2,7 @@
 ghost use Rattle.std.specs.Prelude.{◌≡◌, cond, None, Some, IfOk, OnErr};
 ghost use Rattle.std.specs.Result.{IsOk};
 ghost use Rattle.spool_types.specs.Values.{is_options};
-ghost use Rattle.filter_args.specs.Reading.{reading};
+ghost use Rattle.filter_args.specs.OptionTexts.{reading};
 ghost use Rattle.spool_engine.specs.Script.{job_options};
 
 use filter_args::{OptionFault, Options};

@@ -3,15 +3,15 @@ ghost use Rattle.std.specs.Prelude.{◌≡◌, ℕ, List, [], IfOk, OnOk};
 ghost use Rattle.std.specs.FinMap as finite;
 ghost use Rattle.spool_types.specs.declared.event.Event.{Event as EventOf};
 ghost use Rattle.command_lines.specs.declared.command.Command.{Command};
-ghost use Rattle.child_pipeline.specs.Slots.{Slots};
-ghost use Rattle.print_rounds.specs.Courses.{Course, course};
-ghost use Rattle.spool_engine.specs.EventTurns.{setting, IsKept};
+ghost use Rattle.child_pipeline.specs.StageSlots.{Slots};
+ghost use Rattle.print_rounds.specs.RunStates.{RunState, run_state};
+ghost use Rattle.spool_engine.specs.EventSteps.{setting, IsKept};
 ghost use Rattle.spool_engine.specs.Mime.{Mime as MimeDatabase};
-ghost use Rattle.spool_engine.specs.Ticks.{IsTicked};
-ghost use Rattle.spool_engine.specs.Rounds.{Ran, IsRan, IsSettled, AreRan, AreAll, AreRun, counts_in, results_of, rounds_run};
+ghost use Rattle.spool_engine.specs.EngineTicks.{IsTicked};
+ghost use Rattle.spool_engine.specs.EngineRounds.{Ran, IsRan, IsSettled, AreRan, AreAll, AreRun, counts_in, results_of, rounds_run};
 ghost use Rattle.filter_args.specs.declared.place.Place.{Place as PlaceOf};
 ghost use Rattle.spool_engine.specs.Script.{is_idle, round_text, drain_text, withholds_event};
-ghost use Rattle.spool_engine.specs.Runs.{Turn, TakesTurn, Serves, IsRun, Drains, DrainsEnd, DrainsPiece, ReadsNothing, ServesNext};
+ghost use Rattle.spool_engine.specs.EngineRuns.{CommandStep, TakesStep, Serves, IsRun, Drains, DrainsEnd, DrainsPiece, ReadsNothing, ServesNext};
 
 use crate::answers::{drained_text, rounded_text};
 use crate::executor::Executor;
@@ -44,21 +44,21 @@ pub(crate) struct Printer<D: Disk, C: Children> {
 }
 
 impl<D: Disk, C: Children> Model for Printer<D, C> {
-    ghost use Rattle.print_rounds.specs.Courses.{Course, course};
+    ghost use Rattle.print_rounds.specs.RunStates.{RunState, run_state};
     ghost use Rattle.std.specs.Coded.{codes};
     ghost use Rattle.std.specs.FinMap as map;
 
-    ghost Value = { Course D };
+    ghost Value = { RunState D };
 
     ghost coded = { Prim.hlevel (codes, map.code, D.code) };
 
-    ghost view = { λ p. course p.executor p.runner (C.tells p.children) };
+    ghost view = { λ p. run_state p.executor p.runner (C.tells p.children) };
 }
 
 impl<D: Disk, C: Children> Printer<D, C> {
     /// A printer that goes on from this spool.
     pub fn new(alloc: Global, spool: Spool<D>, children: C) -> Printer<D, C>
-        ensures { result ≡ course spool finite.empty (C.tells children) }
+        ensures { result ≡ run_state spool finite.empty (C.tells children) }
     {
         Printer {
             alloc,
@@ -70,7 +70,7 @@ impl<D: Disk, C: Children> Printer<D, C> {
 
     /// The spool as it is now, and the children, once none of them runs.
     pub fn into_parts(self) -> (Spool<D>, C)
-        ensures { (slots : Slots) × IsSettled self (course result.0 slots (C.tells result.1)) }
+        ensures { (slots : Slots) × IsSettled self (run_state result.0 slots (C.tells result.1)) }
     {
         let Printer {
             executor,
@@ -109,7 +109,7 @@ impl<D: Disk, C: Children> Printer<D, C> {
 
     /// Waits for each child that runs, and then runs a round.
     pub fn round(&mut self, place: &Place) -> Result<Round, RoundFault>
-        ensures { (m : MimeDatabase) → (settled : Course D) × (tried : List EventOf) × (documents : ℕ → List ℕ) × IsRan (setting D.device m place.now) self.old
+        ensures { (m : MimeDatabase) → (settled : RunState D) × (tried : List EventOf) × (documents : ℕ → List ℕ) × IsRan (setting D.device m place.now) self.old
             (record { settled = settled; next = self.new; result = result; tried = tried; documents = documents }) }
     {
         self.executor
@@ -175,8 +175,8 @@ impl<D: Disk, C: Children> Printer<D, C> {
 
     // Applies an event, unless it is a purge of a job whose child runs, and makes the text of its reply.
     fn apply(&mut self, event: Event) -> Result<Vec<u8>, AllocError>
-        ensures { (m : MimeDatabase) (p : PlaceOf) → (t : Turn D) ×
-            TakesTurn (setting D.device m p) self.old (Command.Apply event) t self.new ×
+        ensures { (m : MimeDatabase) (p : PlaceOf) → (t : CommandStep D) ×
+            TakesStep (setting D.device m p) self.old (Command.Apply event) t self.new ×
             IfOk result (λ text. text.items ≡ t.text) }
     {
         // Until the device has failed a crash leaves the table that is shown.
@@ -195,8 +195,8 @@ impl<D: Disk, C: Children> Printer<D, C> {
         place: &Place,
         command: Command,
     ) -> Result<Vec<u8>, AllocError>
-        ensures { (t : Turn D) ×
-            TakesTurn (setting D.device mime.now place.now) self.old command t self.new ×
+        ensures { (t : CommandStep D) ×
+            TakesStep (setting D.device mime.now place.now) self.old command t self.new ×
             IfOk result (λ text. text.items ≡ t.text) }
     {
         // Until the device has failed a crash leaves the table that is shown.
@@ -226,7 +226,7 @@ impl<D: Disk, C: Children> Printer<D, C> {
         command: Command,
         writer: &mut W,
     ) -> Result<(), RunFault>
-        ensures served { (t : Turn D) × Serves (setting D.device mime.now place.now)
+        ensures served { (t : CommandStep D) × Serves (setting D.device mime.now place.now)
             self.old command t self.new result (W.contents writer.old) (W.contents writer.new) }
         ensures reads { ReadsNothing result }
     {
@@ -247,7 +247,7 @@ impl<D: Disk, C: Children> Printer<D, C> {
         commands: &mut Commands,
         writer: &mut W,
     ) -> Result<bool, RunFault>
-        ensures next { (turns : List (Turn D)) × ServesNext (setting D.device mime.now place.now)
+        ensures next { (turns : List (CommandStep D)) × ServesNext (setting D.device mime.now place.now)
             self.old commands.old turns self.new commands.new result (W.contents writer.old) (W.contents writer.new) }
         ensures reads { ReadsNothing result }
     {
@@ -269,7 +269,7 @@ impl<D: Disk, C: Children> Printer<D, C> {
         commands: &mut Commands,
         writer: &mut W,
     ) -> Result<(), RunFault>
-        ensures { (turns : List (Turn D)) × Drains (setting D.device mime.now place.now)
+        ensures { (turns : List (CommandStep D)) × Drains (setting D.device mime.now place.now)
             self.old commands.old turns self.new commands.new result (W.contents writer.old) (W.contents writer.new) }
     {
         'commands: loop {
@@ -292,7 +292,7 @@ impl<D: Disk, C: Children> Printer<D, C> {
         commands: &mut Commands,
         writer: &mut W,
     ) -> Result<(), RunFault>
-        ensures { (turns : List (Turn D)) × (rest : List Command) ×
+        ensures { (turns : List (CommandStep D)) × (rest : List Command) ×
             DrainsEnd (setting D.device mime.now place.now)
             self.old commands.old turns self.new rest result (W.contents writer.old) (W.contents writer.new) ×
             OnOk result (rest ≡ []) }
@@ -318,7 +318,7 @@ impl<D: Disk, C: Children> Printer<D, C> {
         piece: &[u8],
         writer: &mut W,
     ) -> Result<(), RunFault>
-        ensures { (turns : List (Turn D)) × DrainsPiece (setting D.device mime.now place.now)
+        ensures { (turns : List (CommandStep D)) × DrainsPiece (setting D.device mime.now place.now)
             piece.now self.old commands.old turns self.new commands.new result (W.contents writer.old) (W.contents writer.new) }
     {
         match commands.feed(piece) {
@@ -336,7 +336,7 @@ impl<D: Disk, C: Children> Printer<D, C> {
         reader: &mut R,
         writer: &mut W,
     ) -> Result<(), RunFault>
-        ensures { (text : List ℕ) × (turns : List (Turn D)) ×
+        ensures { (text : List ℕ) × (turns : List (CommandStep D)) ×
             IsRun (setting D.device mime.now place.now) (R.remaining reader.old)
             self.old text turns self.new result (W.contents writer.old) (W.contents writer.new) }
     {

@@ -8,8 +8,8 @@ use Rattle.front_submission.specs.declared.reply.Reply.TheVariants.{Created, Sen
 use Rattle.front_submission.specs.declared.reply.Shown.{Shown}
 use Rattle.front_submission.specs.declared.reply.Shown.TheVariants.{Arriving, WasClosed, NoFilters, NeverClosed}
 use Rattle.front_submission.specs.declared.step.Cause.{Cause}
-use Rattle.front_submission.specs.Moves.{heard, lost, deserted, unread, supplied, after_create, after_find, own_found, one_of, after_send, after_measure, after_cancel}
-use Rattle.front_submission.specs.Moves.{request}
+use Rattle.front_submission.specs.SubmissionSteps.{heard, lost, deserted, unread, supplied, after_create, after_find, own_found, one_of, after_send, after_measure, after_cancel}
+use Rattle.front_submission.specs.SubmissionSteps.{request}
 use Rattle.front_submission.specs.declared.step.Request.TheVariants.{Read}
 use Rattle.spool_front.specs.Submissions.{IsAnswered, IsSupplied, is_behind}
 

@@ -1,15 +1,15 @@
 -- What is done to a job or a queue, as commands.
 use Rattle.std.specs.Prelude.{◌≡◌, ℕ, Bool, true, ◌&&◌, ◌||◌, not, cond, ◌==◌, List, length, codes, Option, None, Some}
 use Rattle.std.specs.List.{list_any}
-use Rattle.command_lines.specs.Grammar.{is_word}
-use Rattle.front_texts.specs.States.{is_ended}
+use Rattle.command_lines.specs.CommandGrammar.{is_word}
+use Rattle.front_texts.specs.StateWords.{is_ended}
 use Rattle.front_texts.specs.declared.job_line.JobLine.{JobLine}
 use Rattle.front_words.specs.declared.asked.JobAct.{JobAct}
 use Rattle.front_words.specs.declared.asked.JobAct.TheVariants.{Cancel, Hold, Release, Purge, End}
 use Rattle.front_words.specs.declared.asked.QueueAct.{QueueAct}
 use Rattle.front_words.specs.declared.asked.QueueAct.TheVariants.{Add, Set, Accept, Reject, Enable, Disable}
-use Rattle.spool_front.specs.Commands.{hold_line, info_line, job_line, name_line, queue_line}
-use Rattle.spool_front.specs.Drafts.{IsMoment}
+use Rattle.spool_front.specs.SentCommands.{hold_line, info_line, job_line, name_line, queue_line}
+use Rattle.spool_front.specs.JobDrafts.{IsMoment}
 use Rattle.spool_front.specs.declared.commands.Until.TheVariants.{Released, Reached}
 
 -- the command for one job

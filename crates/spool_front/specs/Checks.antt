@@ -4,7 +4,7 @@ use Rattle.std.specs.List.{list_any}
 use Rattle.front_texts.specs.declared.queue_line.QueueLine.{QueueLine}
 use Rattle.front_texts.specs.declared.states.PrinterState.{PrinterState}
 use Rattle.front_texts.specs.declared.states.PrinterState.TheVariants.{Stopped}
-use Rattle.spool_front.specs.Chains.{leads}
+use Rattle.spool_front.specs.ReachableTypes.{leads}
 use Rattle.spool_front.specs.declared.chains.Chains.{Chains}
 use Rattle.spool_front.specs.declared.check.Hindrance.{Hindrance}
 use Rattle.spool_front.specs.declared.check.Hindrance.TheVariants as found

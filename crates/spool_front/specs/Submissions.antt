@@ -1,7 +1,7 @@
 -- What a submission makes of what comes.
 use Rattle.std.specs.Prelude.{◌≡◌, ℕ, ◌+◌, ◌⊎◌, Bool, true, false, min, List, codes, String, string_bytes, Option, None, Some}
 use Rattle.std.specs.Global.{Global}
-use Rattle.front_submission.specs.Moves.{deserted, heard, lost, supplied, unread}
+use Rattle.front_submission.specs.SubmissionSteps.{deserted, heard, lost, supplied, unread}
 use Rattle.front_submission.specs.declared.reply.Found.{Found}
 use Rattle.front_submission.specs.declared.reply.Reply.{Reply}
 use Rattle.front_submission.specs.declared.reply.Reply.TheVariants.{Created, Sent, Done, Gone, Later, NotIncoming, Denied, Unclear}
@@ -11,7 +11,7 @@ use Rattle.front_submission.specs.declared.step.End.{End}
 use Rattle.front_submission.specs.declared.step.End.TheVariants.{Accepted, Unprintable}
 use Rattle.front_submission.specs.declared.step.Step.{Step}
 use Rattle.front_submission.specs.declared.step.Step.TheVariants.{Holding, Closing, Checking, Ended}
-use Rattle.spool_front.specs.Found.{with_job}
+use Rattle.spool_front.specs.FoundJobs.{with_job}
 
 -- why a document is refused, for a person, by the words of the last refusal and whether there was no memory
 abbrev pub cause_text : Option (String Global) → Bool → Cause → List ℕ

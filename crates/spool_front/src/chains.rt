@@ -1,7 +1,7 @@
 //! Which types of printers documents can reach, by the service's files of types and of conversions.
 ghost use Rattle.std.specs.Prelude.{◌≡◌, ◌++◌, IfOk, OnOk};
 ghost use Rattle.std.specs.List.{list_any};
-ghost use Rattle.spool_front.specs.Chains.{kinds_in, leads, listed};
+ghost use Rattle.spool_front.specs.ReachableTypes.{kinds_in, leads, listed};
 ghost use Rattle.spool_types.specs.Values.{media_in};
 
 use crate::fault::Fault;

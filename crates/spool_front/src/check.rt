@@ -1,13 +1,13 @@
 //! Whether the service's programs can be run, and each service and each queue can print.
 ghost use Rattle.std.specs.Prelude.{◌≡◌, ◌⊎◌, IfOk};
 ghost use Rattle.std.specs.List.{list_all, list_any};
-ghost use Rattle.spool_front.specs.Chains.{leads};
+ghost use Rattle.spool_front.specs.ReachableTypes.{leads};
 ghost use Rattle.spool_front.specs.Checks.{hindrance_of, prints};
 
 use crate::chains::{Chains, read_chains};
 use crate::fault::Fault;
-use crate::places::{Places, queues_at};
-use crate::programs::tell_programs;
+use crate::programs::report_programs;
+use crate::services::{Services, queues_at};
 use front_texts::{PrinterState, QueueLine};
 use std::alloc::AllocError;
 use std::io;
@@ -25,39 +25,43 @@ pub enum Hindrance {
 
 /// Tells each program that can't be run, of each service that it serves, and of each queue whether documents can be printed by
 /// it. The status is 0 where nothing is in the way.
-pub fn check(rt: &HostRuntime, places: Places<'_, '_>) -> Result<u8, Fault>
+pub fn check(rt: &HostRuntime, services: Services<'_, '_>) -> Result<u8, Fault>
     ensures { IfOk result (λ status. (status ≡ 0) ⊎ (status ≡ 1)) }
 {
-    let run = tell_programs(rt)?;
+    let run = report_programs(rt)?;
     let chains = read_chains(rt)?;
-    let print = tell_services(rt, places, &chains);
+    let print = report_services(rt, services, &chains);
     drop(chains);
     if print? && run { Ok(0) } else { Ok(1) }
 }
 
 // Whether all queues of all services print. It is told.
-fn tell_services(rt: &HostRuntime, places: Places<'_, '_>, chains: &Chains) -> Result<bool, Fault> {
+fn report_services(
+    rt: &HostRuntime,
+    services: Services<'_, '_>,
+    chains: &Chains,
+) -> Result<bool, Fault> {
     let mut all = true;
-    for socket in places.sockets {
-        let printing = tell_service(rt, places, socket, chains)?;
+    for socket in services.sockets {
+        let printing = report_service(rt, services, socket, chains)?;
         all = all && printing;
     }
     Ok(all)
 }
 
-fn tell_service(
+fn report_service(
     rt: &HostRuntime,
-    places: Places<'_, '_>,
+    services: Services<'_, '_>,
     socket: &str,
     chains: &Chains,
 ) -> Result<bool, Fault> {
-    let queues = queues_at(rt, places, socket)?;
-    let all = tell_queues(rt, socket, chains, &queues);
+    let queues = queues_at(rt, services, socket)?;
+    let all = report_queues(rt, socket, chains, &queues);
     drop(queues);
     all
 }
 
-fn tell_queues(
+fn report_queues(
     rt: &HostRuntime,
     socket: &str,
     chains: &Chains,
@@ -69,7 +73,7 @@ fn tell_queues(
     let mut all = true;
     for queue in queues {
         let hindrance = hindrance_of(chains, queue)?;
-        tell_queue(rt, queue, hindrance)?;
+        report_queue(rt, queue, hindrance)?;
         all = all && hindrance.is_none();
     }
     Ok(all)
@@ -90,7 +94,11 @@ fn hindrance_of(chains: &Chains, queue: &QueueLine) -> Result<Option<Hindrance>,
     Ok(None)
 }
 
-fn tell_queue(rt: &HostRuntime, queue: &QueueLine, hindrance: Option<Hindrance>) -> io::Result<()> {
+fn report_queue(
+    rt: &HostRuntime,
+    queue: &QueueLine,
+    hindrance: Option<Hindrance>,
+) -> io::Result<()> {
     let name = queue.name.as_str();
     let target = queue.target.as_str();
     let (says, target) = match hindrance {

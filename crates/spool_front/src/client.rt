@@ -4,8 +4,8 @@ ghost use Rattle.front_texts.specs.JobPage.{shown_job};
 ghost use Rattle.front_texts.specs.JobRows.{job_row};
 ghost use Rattle.front_texts.specs.QueueRows.{queue_row};
 ghost use Rattle.front_texts.specs.ReplyLines.{last_line};
-ghost use Rattle.spool_front.specs.Answers.{accepted, is_done, rows_text};
-ghost use Rattle.spool_front.specs.Faults.{IsNobodyAt};
+ghost use Rattle.spool_front.specs.ReplyOutcomes.{accepted, is_done, rows_text};
+ghost use Rattle.spool_front.specs.TaskFaults.{IsNobodyAt};
 
 use crate::commands::job_line;
 use crate::connection::{Connection, ConnectionFault};

@@ -1,7 +1,7 @@
 //! The commands that are sent to a service.
 ghost use Rattle.std.specs.Prelude.{◌≡◌, ◌++◌, IfOk, OnOk};
 ghost use Rattle.std.specs.List.{list_any};
-ghost use Rattle.spool_front.specs.Commands.{close_line, create_line, create_word, hold_line, info_line, is_control, job_line, moment_word, name_line, names, queue_line, ranks, send_line, text_word};
+ghost use Rattle.spool_front.specs.SentCommands.{close_line, create_line, create_word, hold_line, info_line, is_control, job_line, moment_word, name_line, names, queue_line, ranks, send_line, text_word};
 
 use command_lines::push_quoted;
 use front_words::NewQueue;

@@ -1,7 +1,7 @@
 //! One connection to a service: bytes are sent, and lines are read.
 ghost use Rattle.std.specs.Prelude.{◌≡◌, ◌≢◌, ◌<◌, ℕ, IfOk, length, slice_index};
 ghost use Rattle.std.specs.IoError.{error_kind};
-ghost use Rattle.spool_front.specs.Faults.{lost_by};
+ghost use Rattle.spool_front.specs.TaskFaults.{lost_by};
 
 use std::alloc::{AllocError, AllocFailed, Global};
 use std::io;

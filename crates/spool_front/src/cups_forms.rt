@@ -6,7 +6,7 @@ ghost use Rattle.spool_front.specs.CupsForms.{has_name, is_meant, is_named, is_n
 
 use crate::fault::Fault;
 use crate::output::print_bytes;
-use crate::places::{Places, all_jobs, all_queues, queue_of};
+use crate::services::{Services, all_jobs, all_queues, queue_of};
 use front_texts::{JobLine, QueueLine, lpq, lpstat_accepting, lpstat_jobs, lpstat_printers};
 use front_words::{Lpq, Lpstat};
 use std::alloc::{AllocError, Global};
@@ -14,7 +14,7 @@ use std::alloc::{AllocError, Global};
 /// Prints what lpstat was asked for. With nothing asked these are the jobs.
 pub fn show_lpstat(
     rt: &HostRuntime,
-    places: Places<'_, '_>,
+    services: Services<'_, '_>,
     asked: &Lpstat<'_>,
 ) -> Result<u8, Fault>
     ensures { IfOk result (λ status. status ≡ 0) }
@@ -23,35 +23,39 @@ pub fn show_lpstat(
         return Err(Fault::Words("the service doesn't tell its devices"));
     }
     if asked.scheduler || asked.all {
-        all_queues(rt, places)?;
+        all_queues(rt, services)?;
         println!(rt; "scheduler is running")?;
     }
     if asked.usual || asked.all {
-        tell_usual(rt, places)?;
+        report_usual(rt, services)?;
     }
     if let Some(names) = list_of(asked.accepting, asked.all) {
-        tell_accepting(rt, places, names)?;
+        report_accepting(rt, services, names)?;
     }
     if let Some(names) = list_of(asked.printers, asked.all) {
-        tell_printers(rt, places, names)?;
+        report_printers(rt, services, names)?;
     }
     if lists_jobs(asked) {
-        tell_jobs(rt, places, asked)?;
+        report_jobs(rt, services, asked)?;
     }
     Ok(0)
 }
 
-fn tell_accepting(rt: &HostRuntime, places: Places<'_, '_>, names: &str) -> Result<(), Fault> {
-    let queues = queues_named(rt, places, names)?;
+fn report_accepting(
+    rt: &HostRuntime,
+    services: Services<'_, '_>,
+    names: &str,
+) -> Result<(), Fault> {
+    let queues = queues_named(rt, services, names)?;
     let text = lpstat_accepting(rt.alloc(), &queues);
     drop(queues);
     print_bytes(rt, text?.as_slice())?;
     Ok(())
 }
 
-fn tell_printers(rt: &HostRuntime, places: Places<'_, '_>, names: &str) -> Result<(), Fault> {
-    let queues = queues_named(rt, places, names)?;
-    let text = printers_text(rt, places, &queues);
+fn report_printers(rt: &HostRuntime, services: Services<'_, '_>, names: &str) -> Result<(), Fault> {
+    let queues = queues_named(rt, services, names)?;
+    let text = printers_text(rt, services, &queues);
     drop(queues);
     print_bytes(rt, text?.as_slice())?;
     Ok(())
@@ -59,17 +63,21 @@ fn tell_printers(rt: &HostRuntime, places: Places<'_, '_>, names: &str) -> Resul
 
 fn printers_text(
     rt: &HostRuntime,
-    places: Places<'_, '_>,
+    services: Services<'_, '_>,
     queues: &[QueueLine],
 ) -> Result<Vec<u8>, Fault> {
-    let jobs = all_jobs(rt, places)?;
+    let jobs = all_jobs(rt, services)?;
     let text = lpstat_printers(rt.alloc(), queues, &jobs);
     drop(jobs);
     Ok(text?)
 }
 
-fn tell_jobs(rt: &HostRuntime, places: Places<'_, '_>, asked: &Lpstat<'_>) -> Result<(), Fault> {
-    let jobs = jobs_named(rt, places, asked)?;
+fn report_jobs(
+    rt: &HostRuntime,
+    services: Services<'_, '_>,
+    asked: &Lpstat<'_>,
+) -> Result<(), Fault> {
+    let jobs = jobs_named(rt, services, asked)?;
     let text = lpstat_jobs(rt.alloc(), &jobs);
     drop(jobs);
     print_bytes(rt, text?.as_slice())?;
@@ -115,10 +123,10 @@ fn is_part(names: &[u8], name: &[u8]) -> bool
 
 fn queues_named(
     rt: &HostRuntime,
-    places: Places<'_, '_>,
+    services: Services<'_, '_>,
     names: &str,
 ) -> Result<Vec<QueueLine>, Fault> {
-    let mut queues = all_queues(rt, places)?;
+    let mut queues = all_queues(rt, services)?;
     keep_queues(&mut queues, names);
     Ok(queues)
 }
@@ -131,10 +139,10 @@ fn keep_queues(queues: &mut Vec<QueueLine>, names: &str)
 
 fn jobs_named(
     rt: &HostRuntime,
-    places: Places<'_, '_>,
+    services: Services<'_, '_>,
     asked: &Lpstat<'_>,
 ) -> Result<Vec<JobLine>, Fault> {
-    Ok(named_jobs(rt.alloc(), all_jobs(rt, places)?, asked)?)
+    Ok(named_jobs(rt.alloc(), all_jobs(rt, services)?, asked)?)
 }
 
 fn named_jobs(
@@ -187,8 +195,8 @@ fn job_id(alloc: Global, job: &JobLine) -> Result<String, AllocError>
     Ok(id)
 }
 
-fn tell_usual(rt: &HostRuntime, places: Places<'_, '_>) -> Result<(), Fault> {
-    let told = match queue_of(rt, places, None) {
+fn report_usual(rt: &HostRuntime, services: Services<'_, '_>) -> Result<(), Fault> {
+    let told = match queue_of(rt, services, None) {
         Ok((_, queue)) => println!(rt; "system default destination: {queue}"),
         Err(Fault::Words(_)) => println!(rt; "no system default destination"),
         Err(fault) => return Err(fault),
@@ -198,11 +206,11 @@ fn tell_usual(rt: &HostRuntime, places: Places<'_, '_>) -> Result<(), Fault> {
 }
 
 /// Prints what lpq was asked for.
-pub fn show_lpq(rt: &HostRuntime, places: Places<'_, '_>, asked: &Lpq<'_>) -> Result<u8, Fault>
+pub fn show_lpq(rt: &HostRuntime, services: Services<'_, '_>, asked: &Lpq<'_>) -> Result<u8, Fault>
     ensures { IfOk result (λ status. status ≡ 0) }
 {
-    let queues = all_queues(rt, places)?;
-    let found = tell_queues(rt, places, asked, &queues);
+    let queues = all_queues(rt, services)?;
+    let found = report_queues(rt, services, asked, &queues);
     drop(queues);
     if found? || asked.all {
         return Ok(0);
@@ -211,22 +219,22 @@ pub fn show_lpq(rt: &HostRuntime, places: Places<'_, '_>, asked: &Lpq<'_>) -> Re
 }
 
 // Whether one of the queues is asked for. Each that is is told, with its jobs.
-fn tell_queues(
+fn report_queues(
     rt: &HostRuntime,
-    places: Places<'_, '_>,
+    services: Services<'_, '_>,
     asked: &Lpq<'_>,
     queues: &[QueueLine],
 ) -> Result<bool, Fault> {
-    let mut jobs = all_jobs(rt, places)?;
+    let mut jobs = all_jobs(rt, services)?;
     keep_numbered(&mut jobs, asked.jobs.as_slice());
-    let found = tell_meant(rt, places, asked, queues, &jobs);
+    let found = report_meant(rt, services, asked, queues, &jobs);
     drop(jobs);
     found
 }
 
-fn tell_meant(
+fn report_meant(
     rt: &HostRuntime,
-    places: Places<'_, '_>,
+    services: Services<'_, '_>,
     asked: &Lpq<'_>,
     queues: &[QueueLine],
     jobs: &[JobLine],
@@ -234,7 +242,7 @@ fn tell_meant(
     let name = if asked.all {
         None
     } else {
-        let (_, name) = queue_of(rt, places, asked.queue)?;
+        let (_, name) = queue_of(rt, services, asked.queue)?;
         Some(name)
     };
     print_meant(rt, &name, queues, jobs)

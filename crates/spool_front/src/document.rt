@@ -20,7 +20,7 @@ pub struct Document<S> {
 }
 
 impl<S: Read + Drop> Document<S> {
-    ghost use Rattle.spool_front.specs.Pieces.{piece_of};
+    ghost use Rattle.spool_front.specs.DocumentPieces.{piece_of};
 
     pub fn new(alloc: Global, source: S) -> Result<Document<S>, AllocError>
         ensures piece { IfOk result (λ document. piece_of document ≡ []) }

@@ -1,7 +1,7 @@
 //! What is said of the job of a document.
 ghost use Rattle.std.specs.Prelude.{◌≡◌, ◌++◌, IfOk, IfSome, OnOk, string_bytes, unwrap_or};
 ghost use Rattle.std.specs.Option.{option_map};
-ghost use Rattle.spool_front.specs.Drafts.{IsBy, IsMoment, IsUntil, option_text, options_of, pages_option, plain_char, plain_text};
+ghost use Rattle.spool_front.specs.JobDrafts.{IsBy, IsMoment, IsUntil, option_text, options_of, pages_option, plain_char, plain_text};
 
 use crate::commands::{Draft, Until};
 use crate::fault::Fault;

@@ -1,7 +1,7 @@
 //! Why a task fails.
 ghost use Rattle.std.specs.Prelude.{◌≡◌, ◌==◌, cond};
 ghost use Rattle.std.specs.IoError.{error_kind};
-ghost use Rattle.spool_front.specs.Faults.{gone_by, status_of, unwritten_by};
+ghost use Rattle.spool_front.specs.TaskFaults.{gone_by, status_of, unwritten_by};
 
 use crate::connection::ConnectionFault;
 use std::alloc::{AllocError, AllocFailed};

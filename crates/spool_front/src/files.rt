@@ -1,7 +1,7 @@
 //! The service's files, by the names of the environment or else the usual ones.
 ghost use Rattle.std.specs.Prelude.{◌≡◌};
 ghost use Rattle.std.specs.IoError.{error_kind};
-ghost use Rattle.spool_front.specs.Faults.{unread_by};
+ghost use Rattle.spool_front.specs.TaskFaults.{unread_by};
 
 use crate::fault::Fault;
 use crate::host::variable_or;

@@ -1,7 +1,7 @@
 //! What the program asks of its system.
 ghost use Rattle.std.specs.Prelude.{◌≡◌, ◌≤◌, IfOk, string_bytes};
-ghost use Rattle.spool_front.specs.Faults.{variable_as};
-ghost use Rattle.spool_front.specs.Told.{IsNumberOr, text_or};
+ghost use Rattle.spool_front.specs.TaskFaults.{variable_as};
+ghost use Rattle.spool_front.specs.EnvironmentValues.{IsNumberOr, text_or};
 
 use std::alloc::{AllocError, Global};
 use std::env::{self, VarError};

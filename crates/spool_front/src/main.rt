@@ -26,8 +26,8 @@
 ghost use Rattle.std.specs.Prelude.{◌≡◌, ◌≢◌, MatchResult};
 ghost use Rattle.std.specs.IoError.{error_kind};
 ghost use Rattle.std.specs.Process.{exit_status};
-ghost use Rattle.spool_front.specs.Faults.{status_of};
-ghost use Rattle.spool_front.specs.Told.{IsNumberOr};
+ghost use Rattle.spool_front.specs.TaskFaults.{status_of};
+ghost use Rattle.spool_front.specs.EnvironmentValues.{IsNumberOr};
 
 mod chains;
 mod check;
@@ -41,10 +41,10 @@ mod fault;
 mod files;
 mod host;
 mod output;
-mod places;
 mod printing;
 mod programs;
 mod replies;
+mod services;
 mod submit;
 mod tasks;
 mod web_page;
@@ -53,7 +53,7 @@ use commands::has_control;
 use fault::Fault;
 use front_words::{Asked, Task, WordsFault, read_words};
 use host::{Screen, number_or, variable};
-use places::{Places, patience, usual_socket};
+use services::{Services, patience, usual_socket};
 use std::alloc::AllocError;
 use std::io::{ErrorKind, IsTerminal};
 use std::process::ExitCode;
@@ -72,7 +72,7 @@ fn main(rt: HostRuntime) -> ExitCode {
         let _ = eprintln!(rt; "error: a word of the command line has a control character");
         return ExitCode::from(2);
     }
-    let told = match told_of(&rt) {
+    let told = match environment_of(&rt) {
         Ok(told) => told,
         Err(error) => return ended(&rt, Err(Fault::from(error))),
     };
@@ -108,17 +108,17 @@ fn no_words(rt: &HostRuntime, error: &io::Error) -> ExitCode
 
 // What the environment tells: the usual socket, how long it is waited for, and the columns of the terminal.
 #[derive(Drop)]
-struct Told {
+struct Environment {
     socket: String,
     patience: u32,
     width: usize,
 }
 
-fn told_of(rt: &HostRuntime) -> Result<Told, AllocError> {
+fn environment_of(rt: &HostRuntime) -> Result<Environment, AllocError> {
     let patience = patience(rt)?;
     let width = width(rt)?;
     let socket = usual_socket(rt)?;
-    Ok(Told {
+    Ok(Environment {
         socket,
         patience,
         width,
@@ -150,7 +150,7 @@ fn ended(rt: &HostRuntime, ended: Result<u8, Fault>) -> ExitCode
 }
 
 // Does what is asked for, at the usual socket where the words name none. `shows` tells whether standard error is a terminal.
-fn run(rt: &HostRuntime, asked: &Asked<'_>, told: &Told, shows: bool) -> Result<u8, Fault> {
+fn run(rt: &HostRuntime, asked: &Asked<'_>, told: &Environment, shows: bool) -> Result<u8, Fault> {
     let patience = told.patience;
     let screen = Screen {
         shows,
@@ -158,39 +158,39 @@ fn run(rt: &HostRuntime, asked: &Asked<'_>, told: &Told, shows: bool) -> Result<
     };
     if asked.sockets.is_empty() {
         let usual = [told.socket.as_str()];
-        let places = Places {
+        let services = Services {
             sockets: &usual,
             patience,
         };
-        return run_task(rt, places, &asked.task, screen);
+        return run_task(rt, services, &asked.task, screen);
     }
-    let places = Places {
+    let services = Services {
         sockets: asked.sockets.as_slice(),
         patience,
     };
-    run_task(rt, places, &asked.task, screen)
+    run_task(rt, services, &asked.task, screen)
 }
 
 fn run_task(
     rt: &HostRuntime,
-    places: Places<'_, '_>,
+    services: Services<'_, '_>,
     task: &Task<'_>,
     screen: Screen,
 ) -> Result<u8, Fault> {
     match task {
-        Task::Submit(asked) => printing::print_files(rt, places, asked, screen),
-        Task::Status(asked) => tasks::show_status(rt, places, *asked, screen),
-        Task::Queues { json } => tasks::show_queues(rt, places, *json, screen),
-        Task::Watch => tasks::watch(rt, places),
-        Task::Jobs { act, jobs } => tasks::act_on_jobs(rt, places, *act, jobs.as_slice()),
-        Task::Clear { queues } => tasks::clear(rt, places, queues.as_slice()),
-        Task::Queue { name, act } => tasks::act_on_queue(rt, places, name, *act),
+        Task::Submit(asked) => printing::print_files(rt, services, asked, screen),
+        Task::Status(asked) => tasks::show_status(rt, services, *asked, screen),
+        Task::Queues { json } => tasks::show_queues(rt, services, *json, screen),
+        Task::Watch => tasks::watch(rt, services),
+        Task::Jobs { act, jobs } => tasks::act_on_jobs(rt, services, *act, jobs.as_slice()),
+        Task::Clear { queues } => tasks::clear(rt, services, queues.as_slice()),
+        Task::Queue { name, act } => tasks::act_on_queue(rt, services, name, *act),
         Task::Devices => Err(Fault::Words(
             "run `spool_shell --devices`: the service doesn't list devices",
         )),
-        Task::Check => check::check(rt, places),
-        Task::Page { file, follow } => web_page::write_page(rt, places, file, *follow),
-        Task::Lpstat(asked) => cups_forms::show_lpstat(rt, places, asked),
-        Task::Lpq(asked) => cups_forms::show_lpq(rt, places, asked),
+        Task::Check => check::check(rt, services),
+        Task::Page { file, follow } => web_page::write_page(rt, services, file, *follow),
+        Task::Lpstat(asked) => cups_forms::show_lpstat(rt, services, asked),
+        Task::Lpq(asked) => cups_forms::show_lpq(rt, services, asked),
     }
 }

@@ -1,8 +1,8 @@
 //! The task of printing files: each becomes a job.
 ghost use Rattle.std.specs.Prelude.{◌≡◌, IsTrue};
 ghost use Rattle.std.specs.Io.KnownBytes.{IsAtEnd};
-ghost use Rattle.spool_front.specs.Drafts.{IsLastPart};
-ghost use Rattle.spool_front.specs.Replies.{status_at};
+ghost use Rattle.spool_front.specs.JobDrafts.{IsLastPart};
+ghost use Rattle.spool_front.specs.ServiceReplies.{status_at};
 ghost use Rattle.spool_front.specs.Submissions.{was_closed};
 
 use crate::client::{Client, pause};
@@ -11,7 +11,7 @@ use crate::document::Document;
 use crate::draft::draft_of;
 use crate::fault::{Fault, first_failure};
 use crate::host::Screen;
-use crate::places::{Places, client_at, queue_of};
+use crate::services::{Services, client_at, queue_of};
 use crate::submit::Submitting;
 use front_submission::End;
 use front_texts::{JobShown, JobState};
@@ -29,12 +29,12 @@ const NOT_COMPLETED: u8 = 5;
 /// Prints the files, one after the other, and gives the status of the first that fails.
 pub fn print_files(
     rt: &HostRuntime,
-    places: Places<'_, '_>,
+    services: Services<'_, '_>,
     asked: &Submission<'_>,
     screen: Screen,
 ) -> Result<u8, Fault> {
-    let (socket, queue) = queue_of(rt, places, asked.queue)?;
-    let mut client = client_at(rt, places, socket);
+    let (socket, queue) = queue_of(rt, services, asked.queue)?;
+    let mut client = client_at(rt, services, socket);
     let status = print_all(rt, &mut client, asked, queue.as_str(), screen);
     drop(client);
     status
@@ -135,13 +135,13 @@ fn submit<S: Read + Drop>(
     if screen.shows {
         let _ = eprint!(rt; "\r");
     }
-    tell(rt, quiet, draft.queue.as_str(), end, &submitting);
+    report(rt, quiet, draft.queue.as_str(), end, &submitting);
     drop(submitting);
     end
 }
 
 // Tells how a submission ended. That stays its status, also where nobody can be told.
-fn tell(rt: &HostRuntime, quiet: bool, queue: &str, end: End, submitting: &Submitting<'_>) {
+fn report(rt: &HostRuntime, quiet: bool, queue: &str, end: End, submitting: &Submitting<'_>) {
     match end {
         End::Accepted { .. } if quiet => {}
         End::Accepted { job } => {
@@ -157,11 +157,11 @@ fn tell(rt: &HostRuntime, quiet: bool, queue: &str, end: End, submitting: &Submi
             job,
             cause,
             canceled,
-        } => tell_refused(rt, job, submitting.cause_text(cause), canceled),
+        } => report_refused(rt, job, submitting.cause_text(cause), canceled),
     }
 }
 
-fn tell_refused(rt: &HostRuntime, job: Option<u32>, cause: &str, canceled: bool) {
+fn report_refused(rt: &HostRuntime, job: Option<u32>, cause: &str, canceled: bool) {
     let _ = match job {
         Some(job) if canceled => eprintln!(rt; "spool: {cause}, job {job} canceled"),
         Some(job) => eprintln!(rt; "spool: {cause}, job {job} isn't printed"),
@@ -183,25 +183,25 @@ fn wait_for(rt: &HostRuntime, client: &mut Client<'_>, job: u32, screen: Screen)
 // The status, where the job has ended, or can't be seen.
 fn status_of(rt: &HostRuntime, client: &mut Client<'_>, job: u32, screen: Screen) -> Option<u8> {
     match client.job(job) {
-        Ok(Some(shown)) => tell_shown(rt, shown, screen),
+        Ok(Some(shown)) => report_shown(rt, shown, screen),
         Ok(None) => {
             let _ = eprintln!(rt; "spool: job {job} has ended, and is gone");
             Some(NOT_COMPLETED)
         }
-        Err(fault) => Some(tell_unknown(rt, job, fault)),
+        Err(fault) => Some(report_unknown(rt, job, fault)),
     }
 }
 
-fn tell_shown(rt: &HostRuntime, shown: JobShown, screen: Screen) -> Option<u8>
-    ensures { result ≡ status_at shown.course.state }
+fn report_shown(rt: &HostRuntime, shown: JobShown, screen: Screen) -> Option<u8>
+    ensures { result ≡ status_at shown.job_status.state }
 {
-    tell_way(rt, &shown, screen);
+    report_way(rt, &shown, screen);
     let status = end_of(rt, &shown);
     drop(shown);
     status
 }
 
-fn tell_unknown(rt: &HostRuntime, job: u32, fault: Fault) -> u8
+fn report_unknown(rt: &HostRuntime, job: u32, fault: Fault) -> u8
     ensures { result ≡ 3 }
 {
     let _ = eprintln!(rt; "spool: it isn't known how job {job} ends: {fault}");
@@ -209,12 +209,12 @@ fn tell_unknown(rt: &HostRuntime, job: u32, fault: Fault) -> u8
     NOT_KNOWN
 }
 
-fn tell_way(rt: &HostRuntime, shown: &JobShown, screen: Screen) {
+fn report_way(rt: &HostRuntime, shown: &JobShown, screen: Screen) {
     if !screen.shows {
         return;
     }
-    let pages = shown.course.pages;
-    let _ = match shown.course.state {
+    let pages = shown.job_status.pages;
+    let _ = match shown.job_status.state {
         JobState::Processing => eprint!(rt; "\rspool: printing, {pages} pages done "),
         JobState::Completed => eprintln!(rt; "\rspool: done, {pages} pages         "),
         _ => eprint!(rt; "\rspool: queued                 "),
@@ -223,22 +223,22 @@ fn tell_way(rt: &HostRuntime, shown: &JobShown, screen: Screen) {
 
 // The status where the job has ended. Why it isn't completed is told.
 fn end_of(rt: &HostRuntime, shown: &JobShown) -> Option<u8>
-    ensures { result ≡ status_at shown.now.course.state }
+    ensures { result ≡ status_at shown.now.job_status.state }
 {
-    match shown.course.state {
+    match shown.job_status.state {
         JobState::Completed => Some(0),
         JobState::Canceled | JobState::Aborted => {
-            tell_end(rt, shown);
+            report_end(rt, shown);
             Some(NOT_COMPLETED)
         }
         _ => None,
     }
 }
 
-fn tell_end(rt: &HostRuntime, shown: &JobShown) {
+fn report_end(rt: &HostRuntime, shown: &JobShown) {
     let job = shown.asked.number.get();
-    let state = shown.course.state.word();
-    let _ = match &shown.course.reason {
+    let state = shown.job_status.state.word();
+    let _ = match &shown.job_status.reason {
         Some(reason) => {
             let reason = reason.as_str();
             eprintln!(rt; "spool: job {job} is {state}: {reason}")

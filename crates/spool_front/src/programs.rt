@@ -13,9 +13,9 @@ const VARIABLE: &str = "SPOOL_PROGRAMS";
 const USUAL_PROGRAMS: &str = "/etc/cegmandi/programs";
 
 /// Tells each program of the service's file that can't be run as it is. Whether all can.
-pub fn tell_programs(rt: &HostRuntime) -> Result<bool, Fault> {
+pub fn report_programs(rt: &HostRuntime) -> Result<bool, Fault> {
     let list = list_of_file(rt)?;
-    let all = tell_list(rt, &list);
+    let all = report_list(rt, &list);
     drop(list);
     Ok(all?)
 }
@@ -29,25 +29,25 @@ fn list_of_file(rt: &HostRuntime) -> Result<ProgramList, Fault> {
     }
 }
 
-fn tell_list(rt: &HostRuntime, list: &ProgramList) -> io::Result<bool> {
+fn report_list(rt: &HostRuntime, list: &ProgramList) -> io::Result<bool> {
     let mut all = true;
     for filter in list.filters() {
-        let runs = tell_program(rt, "filter", filter.name.as_str(), &filter.program)?;
+        let runs = report_program(rt, "filter", filter.name.as_str(), &filter.program)?;
         all = all && runs;
     }
     for backend in list.backends() {
-        let runs = tell_program(rt, "backend", backend.name.as_str(), &backend.program)?;
+        let runs = report_program(rt, "backend", backend.name.as_str(), &backend.program)?;
         all = all && runs;
     }
     if let Some(side) = list.side() {
-        let runs = tell_program(rt, "side", "program", side)?;
+        let runs = report_program(rt, "side", "program", side)?;
         all = all && runs;
     }
     Ok(all)
 }
 
 // Whether a program can be run. Where it can't it is told.
-fn tell_program(
+fn report_program(
     rt: &HostRuntime,
     kind: &str,
     name: &str,

@@ -2,7 +2,7 @@
 ghost use Rattle.std.specs.Prelude.{◌≡◌};
 ghost use Rattle.std.specs.List.{after_first, before_first};
 ghost use Rattle.front_texts.specs.ReplyLines.{is_space};
-ghost use Rattle.spool_front.specs.Replies.{bytes_as, closed_as, done_as, failed_as, has_reason, is_gone, job_as, reply_as, reply_in, shown_as, shown_of, type_as};
+ghost use Rattle.spool_front.specs.ServiceReplies.{bytes_as, closed_as, done_as, failed_as, has_reason, is_gone, job_as, reply_as, reply_in, shown_as, shown_of, type_as};
 
 use command_lines::job_number;
 use front_submission::{Reply, Shown};
@@ -122,13 +122,13 @@ pub fn is_gone(line: &str) -> bool
 pub fn shown_of(job: &JobShown) -> Shown
     ensures { result ≡ shown_of job.now }
 {
-    let course = &job.course;
+    let job_status = &job.job_status;
     shown_as(
-        course.media.is_some(),
-        course.state,
-        has_reason(&course.reason, "no-filter"),
-        has_reason(&course.reason, "job-incoming"),
-        course.size,
+        job_status.media.is_some(),
+        job_status.state,
+        has_reason(&job_status.reason, "no-filter"),
+        has_reason(&job_status.reason, "job-incoming"),
+        job_status.size,
     )
 }
 

@@ -2,11 +2,11 @@
 ghost use Rattle.std.specs.Prelude.{◌≡◌, ◌<◌, ◌↔◌, ◌⊎◌, IfOk, IsSome, IsTrue, None, Some, cond, false, is_some, length, string_bytes};
 ghost use Rattle.std.specs.Io.KnownBytes.{IsAtEnd};
 ghost use Rattle.std.specs.Str.Iter.{HasSubslice};
-ghost use Rattle.spool_front.specs.Found.{may_be_own, own_job, with_job};
-ghost use Rattle.spool_front.specs.Pieces.{piece_of};
-ghost use Rattle.spool_front.specs.Replies.{reply_in};
+ghost use Rattle.spool_front.specs.FoundJobs.{may_be_own, own_job, with_job};
+ghost use Rattle.spool_front.specs.DocumentPieces.{piece_of};
+ghost use Rattle.spool_front.specs.ServiceReplies.{reply_in};
 ghost use Rattle.spool_front.specs.Submissions.{IsAnswered, IsLooked, IsSupplied, cause_text, is_refusal, lost_after, one_more, was_closed};
-ghost use Rattle.front_submission.specs.Moves.{deserted, heard, lost, unread};
+ghost use Rattle.front_submission.specs.SubmissionSteps.{deserted, heard, lost, unread};
 ghost use Rattle.front_submission.specs.declared.step.Step.{Step};
 
 use crate::client::{Answer, Client, pause};
@@ -292,7 +292,7 @@ impl<'a> Submitting<'a> {
         match self.shown(client, job)? {
             Ok(shown) => {
                 if has_token(shown.asked.options.as_str(), self.draft.token.as_str()) {
-                    *found = with_job(*found, job, shown.course.size);
+                    *found = with_job(*found, job, shown.job_status.size);
                 }
                 drop(shown);
                 Ok(Ok(()))

@@ -2,9 +2,9 @@
 ghost use Rattle.std.specs.Prelude.{◌≡◌, IfOk, filter, filter_map};
 ghost use Rattle.std.specs.List.{list_any};
 ghost use Rattle.std.specs.Option.{option_map};
-ghost use Rattle.command_lines.specs.Grammar.{is_word};
+ghost use Rattle.command_lines.specs.CommandGrammar.{is_word};
 ghost use Rattle.spool_front.specs.Acts.{IsActLine, is_cleared, is_of, number_of, queue_act_line};
-ghost use Rattle.spool_front.specs.Faults.{status_of};
+ghost use Rattle.spool_front.specs.TaskFaults.{status_of};
 
 use crate::client::Client;
 use crate::commands::{Until, hold_line, info_line, job_line, name_line, queue_line};
@@ -12,7 +12,9 @@ use crate::draft::seconds_of;
 use crate::fault::{Fault, first_failure};
 use crate::host::Screen;
 use crate::output::{print_bytes, print_lines};
-use crate::places::{Places, all_jobs, all_queues, client_at, has_queue, only_socket, socket_of};
+use crate::services::{
+    Services, all_jobs, all_queues, client_at, has_queue, only_socket, socket_of,
+};
 use front_texts::{
     JobLine, JobShown, QueueLine, job_page, job_shown_json, jobs_json, jobs_table, queues_json,
     queues_table,
@@ -24,16 +26,16 @@ use std::alloc::{AllocError, Global};
 /// Shows one job, those of a queue, or all.
 pub fn show_status(
     rt: &HostRuntime,
-    places: Places<'_, '_>,
+    services: Services<'_, '_>,
     asked: Status<'_>,
     screen: Screen,
 ) -> Result<u8, Fault>
     ensures { IfOk result (λ status. status ≡ 0) }
 {
     if let Some(job) = asked.job {
-        return show_job(rt, places, job, asked.json, screen);
+        return show_job(rt, services, job, asked.json, screen);
     }
-    let mut jobs = all_jobs(rt, places)?;
+    let mut jobs = all_jobs(rt, services)?;
     keep_of(&mut jobs, asked.queue);
     let shown = print_jobs(rt, &jobs, asked.json, screen);
     drop(jobs);
@@ -77,7 +79,7 @@ fn is_of(queue: Option<&str>, job: &JobLine) -> bool
 // Shows the job of this number of each service that has one.
 fn show_job(
     rt: &HostRuntime,
-    places: Places<'_, '_>,
+    services: Services<'_, '_>,
     job: u32,
     json: bool,
     screen: Screen,
@@ -85,8 +87,8 @@ fn show_job(
     ensures { IfOk result (λ status. status ≡ 0) }
 {
     let mut found = false;
-    for socket in places.sockets {
-        let mut client = client_at(rt, places, socket);
+    for socket in services.sockets {
+        let mut client = client_at(rt, services, socket);
         let shown = client.job(job);
         drop(client);
         if let Some(shown) = shown? {
@@ -119,13 +121,13 @@ fn print_job(rt: &HostRuntime, shown: &JobShown, json: bool, screen: Screen) -> 
 /// Shows the queues.
 pub fn show_queues(
     rt: &HostRuntime,
-    places: Places<'_, '_>,
+    services: Services<'_, '_>,
     json: bool,
     screen: Screen,
 ) -> Result<u8, Fault>
     ensures { IfOk result (λ status. status ≡ 0) }
 {
-    let queues = all_queues(rt, places)?;
+    let queues = all_queues(rt, services)?;
     let shown = print_queues(rt, &queues, json, screen);
     drop(queues);
     shown?;
@@ -147,10 +149,10 @@ fn print_queues(
 }
 
 /// Prints each line that the service tells of what changes, until it goes.
-pub fn watch(rt: &HostRuntime, places: Places<'_, '_>) -> Result<u8, Fault>
+pub fn watch(rt: &HostRuntime, services: Services<'_, '_>) -> Result<u8, Fault>
     ensures { IfOk result (λ status. status ≡ 0) }
 {
-    let mut client = client_at(rt, places, only_socket(places)?);
+    let mut client = client_at(rt, services, only_socket(services)?);
     let ended = watch_by(rt, &mut client);
     drop(client);
     ended?;
@@ -170,11 +172,11 @@ fn watch_by(rt: &HostRuntime, client: &mut Client<'_>) -> Result<(), Fault> {
 /// Does the same to each of these jobs.
 pub fn act_on_jobs(
     rt: &HostRuntime,
-    places: Places<'_, '_>,
+    services: Services<'_, '_>,
     act: JobAct,
     jobs: &[u32],
 ) -> Result<u8, Fault> {
-    let mut client = client_at(rt, places, only_socket(places)?);
+    let mut client = client_at(rt, services, only_socket(services)?);
     let ended = act_by(rt, &mut client, act, jobs);
     drop(client);
     ended
@@ -191,7 +193,7 @@ fn act_by(
     for job in jobs {
         let line = act_line(rt, act, *job)?;
         if let Err(fault) = client.order(line.as_slice()) {
-            let ended = tell_fault(rt, *job, fault)?;
+            let ended = report_fault(rt, *job, fault)?;
             status = first_failure(status, ended);
         }
     }
@@ -199,7 +201,7 @@ fn act_by(
 }
 
 // Tells why something wasn't done to a job, and gives the status. Any other fault is one of all jobs.
-fn tell_fault(rt: &HostRuntime, job: u32, fault: Fault) -> Result<u8, Fault>
+fn report_fault(rt: &HostRuntime, job: u32, fault: Fault) -> Result<u8, Fault>
     ensures { IfOk result (λ status. status ≡ status_of fault) }
 {
     if !matches!(fault, Fault::Refused(_) | Fault::Unknown) {
@@ -230,16 +232,16 @@ fn act_line(rt: &HostRuntime, act: JobAct, job: u32) -> Result<Vec<u8>, Fault>
 }
 
 /// Cancels each job of these queues, or of all, that hasn't ended.
-pub fn clear(rt: &HostRuntime, places: Places<'_, '_>, names: &[&str]) -> Result<u8, Fault> {
-    let queues = all_queues(rt, places)?;
+pub fn clear(rt: &HostRuntime, services: Services<'_, '_>, names: &[&str]) -> Result<u8, Fault> {
+    let queues = all_queues(rt, services)?;
     let known = names.iter().all(|name| has_queue(&queues, name));
     drop(queues);
     if !known {
         return Err(Fault::Words("there is no such queue"));
     }
     let mut status = 0;
-    for socket in places.sockets {
-        let mut client = client_at(rt, places, socket);
+    for socket in services.sockets {
+        let mut client = client_at(rt, services, socket);
         let ended = clear_by(rt, &mut client, names);
         drop(client);
         status = first_failure(status, ended?);
@@ -282,7 +284,7 @@ fn is_among(names: &[&str], queue: &str) -> bool
 /// Does something to a queue.
 pub fn act_on_queue(
     rt: &HostRuntime,
-    places: Places<'_, '_>,
+    services: Services<'_, '_>,
     name: &str,
     act: QueueAct<'_>,
 ) -> Result<u8, Fault>
@@ -290,10 +292,10 @@ pub fn act_on_queue(
 {
     let line = act_text(rt.alloc(), name, act)?;
     let socket = match act {
-        QueueAct::Add(_) => only_socket(places)?,
-        _ => socket_of(rt, places, name)?,
+        QueueAct::Add(_) => only_socket(services)?,
+        _ => socket_of(rt, services, name)?,
     };
-    let mut client = client_at(rt, places, socket);
+    let mut client = client_at(rt, services, socket);
     let ended = client.order(line.as_slice());
     drop(client);
     ended?;

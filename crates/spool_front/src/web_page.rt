@@ -1,10 +1,10 @@
 //! The queues and jobs as a page, written to a file.
 ghost use Rattle.std.specs.Prelude.{◌≡◌, IfOk};
-ghost use Rattle.spool_front.specs.Pages.{IsPage};
+ghost use Rattle.spool_front.specs.StatusPages.{IsPage};
 
 use crate::draft::now;
 use crate::fault::Fault;
-use crate::places::{Places, all_jobs, all_queues};
+use crate::services::{Services, all_jobs, all_queues};
 use front_texts::{JobLine, QueueLine, moment_text, page};
 use spool_types::Moment;
 use std::fs;
@@ -16,17 +16,17 @@ const PAGE_SECONDS: u64 = 5;
 /// Writes the page: to another file first, which then takes its name. With `follow` it does so every five seconds.
 pub fn write_page(
     rt: &HostRuntime,
-    places: Places<'_, '_>,
+    services: Services<'_, '_>,
     file: &str,
     follow: bool,
 ) -> Result<u8, Fault>
     ensures { IfOk result (λ status. status ≡ 0) }
 {
-    write_one_page(rt, places, file, follow)?;
+    write_one_page(rt, services, file, follow)?;
     if follow {
         for _ in 0..u64::MAX {
             std::thread::sleep(rt, Duration::from_secs(PAGE_SECONDS));
-            write_one_page(rt, places, file, follow)?;
+            write_one_page(rt, services, file, follow)?;
         }
     }
     Ok(0)
@@ -34,12 +34,12 @@ pub fn write_page(
 
 fn write_one_page(
     rt: &HostRuntime,
-    places: Places<'_, '_>,
+    services: Services<'_, '_>,
     file: &str,
     follow: bool,
 ) -> Result<(), Fault> {
-    let queues = all_queues(rt, places)?;
-    let text = page_of(rt, places, &queues, follow);
+    let queues = all_queues(rt, services)?;
+    let text = page_of(rt, services, &queues, follow);
     drop(queues);
     write_as(rt, file, &text?)
 }
@@ -47,11 +47,11 @@ fn write_one_page(
 // The page of these queues, and of the jobs.
 fn page_of(
     rt: &HostRuntime,
-    places: Places<'_, '_>,
+    services: Services<'_, '_>,
     queues: &[QueueLine],
     follow: bool,
 ) -> Result<Vec<u8>, Fault> {
-    let jobs = all_jobs(rt, places)?;
+    let jobs = all_jobs(rt, services)?;
     let text = page_at(rt, queues, &jobs, follow);
     drop(jobs);
     text

@@ -7,7 +7,7 @@ use Rattle.std.specs.Cmp.{IsTotalOrder, tied_itself}
 use Rattle.std.specs.FinMap as finite
 use Rattle.std.proofs.Math.ListN.{get_or-map}
 use Rattle.std.proofs.lemmas.List.{get_or_default, length-map}
-use Rattle.job_rows.specs.Places.{IsPlace}
+use Rattle.job_rows.specs.RowPositions.{IsPosition}
 use Rattle.job_table.proofs.Changes.{some_same}
 use Rattle.job_table.proofs.Rows as rows
 use Rattle.job_table.proofs.Tables.{map-same}
@@ -72,7 +72,7 @@ module _ {K X : Type 0} (R : K → K → Ordering) (total : IsTotalOrder R) wher
     in_range : there.0 < length es
     in_range = omega (arith, there.1, length-map es (λ (e : K × X). e.1))
 
-    place : IsPlace R (λ (e : K × X). e.0) es entry.0 there.0
+    place : IsPosition R (λ (e : K × X). e.0) es entry.0 there.0
     place = record {
       in_range = in_range;
       same = λ d. ap (λ (e : K × X). R e.0 entry.0) (get_or_default es there.0 d (k, x) in_range) ∙ tied_itself total entry.0;

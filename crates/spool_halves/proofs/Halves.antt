@@ -10,7 +10,7 @@ use Rattle.std.specs.FinMap as finite
 use Rattle.spool_types.specs.Phases.{has_ended}
 use Rattle.spool_types.specs.State.{State, Job, queue_at, job_at}
 use Rattle.spool_types.specs.declared.rows.QueueRow.{QueueRow}
-use Rattle.half_rows.specs.Half.{is_named, takes}
+use Rattle.split_rows.specs.Half.{is_named, takes}
 use Rattle.job_table.specs.Legal.{IsLegal}
 use Rattle.job_table.specs.Over.{is_over, is_over_by}
 use Rattle.spool_core.specs.Image.{HasDocument, HasDocuments}

@@ -1,5 +1,5 @@
 pub mod Elements
 pub mod Halves
 pub mod Going
-pub mod Told
+pub mod HalfReports
 pub mod ReadBack

@@ -5,12 +5,12 @@ use Rattle.std.proofs.lemmas.List.{take_more}
 use Rattle.spool_types.specs.State.{State}
 use Rattle.spool_disk.specs.Disk.{DiskView}
 use Rattle.job_table.specs.Over.{is_over}
-use Rattle.spool_core.specs.Reading.{IsDocument}
-use Rattle.spool_core.specs.Standing.{Standing}
+use Rattle.spool_core.specs.DocumentReading.{IsDocument}
+use Rattle.spool_core.specs.OpenSpools.{OpenSpool}
 use Rattle.spool_halves.specs.Halves.{IsSameDocument}
 
 -- what was read is the document of each, so equal bytes are equal documents
-pub same_document : {D E : Type 0} (v : DiskView D) (w : DiskView E) (whole : Standing D) (part : Standing E) (s p : State) (j : ℕ) (a b r t : List ℕ)
+pub same_document : {D E : Type 0} (v : DiskView D) (w : DiskView E) (whole : OpenSpool D) (part : OpenSpool E) (s p : State) (j : ℕ) (a b r t : List ℕ)
     → whole.state ≡ s → part.state ≡ p → IsDocument v whole j a → IsDocument w part j b → a ≡ b → v.bytes whole.disk ≡ Some r → w.bytes part.disk ≡ Some t
     → IsSameDocument s p r t j
 same_document v w whole part s p j a b r t of_s of_p there here same tells_r tells_t = λ over_s over_p d e has_d has_e.

@@ -5,7 +5,7 @@ use Rattle.spool_types.specs.Phases.{has_ended}
 use Rattle.spool_types.specs.State.{State, Job, job_at}
 use Rattle.spool_types.specs.declared.rows.QueueRow.{QueueRow}
 use Rattle.spool_types.specs.declared.version.Version.TheVariants.{Two}
-use Rattle.half_rows.specs.Half.{takes}
+use Rattle.split_rows.specs.Half.{takes}
 use Rattle.job_table.specs.Over.{is_over}
 use Rattle.spool_core.specs.Image.{HasDocument, HasTable}
 

@@ -1,11 +1,11 @@
 //! Writing the rows of a half.
 ghost use Rattle.std.specs.Prelude.{◌≡◌};
 ghost use Rattle.spool_disk.specs.Disk.{ChangesNothing};
-ghost use Rattle.half_rows.specs.Writing.{MayWrite};
+ghost use Rattle.split_rows.specs.Writing.{MayWrite};
 
 use crate::reading_back::document_of;
-use half_rows::{Half, HalfFault, Writing, begin};
 use job_rows::Rows;
+use split_rows::{Half, HalfFault, Writing, begin};
 use spool_core::{Spool, Unread, read_whole};
 use spool_disk::Disk;
 use spool_types::{JobId, LONGEST_SEND, Piece, QueueRow, Row};

@@ -4,9 +4,9 @@ ghost use Rattle.spool_types.specs.declared.event.Event.{Event};
 ghost use Rattle.spool_types.specs.declared.rows.QueueRow.{QueueRow};
 ghost use Rattle.spool_types.specs.declared.version.Version.TheVariants.{Two};
 ghost use Rattle.spool_types.specs.State.{State, Job, queue_at, job_at};
-ghost use Rattle.half_rows.specs.Half.{takes};
+ghost use Rattle.split_rows.specs.Half.{takes};
 ghost use Rattle.job_table.specs.Apart.{IsPart, own_events, own_of};
-ghost use Rattle.job_table.specs.Fold.{accepted, after_all};
+ghost use Rattle.job_table.specs.EventFold.{accepted, after_all};
 ghost use Rattle.job_table.specs.Legal.{IsLegal};
 ghost use Rattle.spool_halves.specs.Halves.{IsHalf};
 

@@ -15,7 +15,7 @@
 //!
 //! # How it keeps them
 //!
-//! The rows are written ([`half_rows`]) and the new disk is opened as any spool. Its rows are compared with those of the whole table,
+//! The rows are written ([`split_rows`]) and the new disk is opened as any spool. Its rows are compared with those of the whole table,
 //! and its documents with those of the old disk. Only a disk that passes is handed back, so what is promised rests on what was
 //! read, and not on how it was written.
 //!
@@ -31,6 +31,6 @@ mod listing;
 mod reading_back;
 mod tables;
 
-pub use half_rows::{Half, HalfFault};
 pub use laws::{each_row_in_one_half, halves_go_on};
 pub use listing::list_half;
+pub use split_rows::{Half, HalfFault};

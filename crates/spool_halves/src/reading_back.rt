@@ -2,10 +2,10 @@
 ghost use Rattle.std.specs.Prelude.{◌≡◌, List, ℕ, Some, IfOk, IsTrue};
 ghost use Rattle.std.specs.List.{AllByRecursion};
 ghost use Rattle.spool_disk.specs.Disk.{ChangesNothing};
-ghost use Rattle.spool_core.specs.Reading.{IsDocument};
+ghost use Rattle.spool_core.specs.DocumentReading.{IsDocument};
 ghost use Rattle.spool_halves.specs.Halves.{IsSameDocument};
 
-use half_rows::HalfFault;
+use split_rows::HalfFault;
 use spool_core::{Spool, Unread, read_whole};
 use spool_disk::Disk;
 use spool_types::JobId;

@@ -2,8 +2,8 @@
 ghost use Rattle.std.specs.Prelude.{IfOk, IsTrue};
 ghost use Rattle.spool_halves.specs.Halves.{IsHalf};
 
-use half_rows::{Half, are_jobs, are_queues};
 use job_table::{Table, listings_are_loaded};
+use split_rows::{Half, are_jobs, are_queues};
 use spool_types::Version;
 use std::alloc::{AllocError, Global};
 

@@ -13,7 +13,7 @@
 //! with a word of each, `yes` where the child has ended, or `no`. An empty line follows it. Each look behind the last says
 //! that its child has ended.
 ghost use Rattle.std.specs.Prelude.{◌≡◌, ◌≢◌, ◌<◌, ◌∷◌, ◌++◌, ℕ, List, [], codes, length, map, is_ok, IfOk, IfSome, OnOk};
-ghost use Rattle.child_pipeline.specs.Told.{finish_in};
+ghost use Rattle.child_pipeline.specs.ChildTraces.{finish_in};
 ghost use Rattle.spool_scripts.specs.Outcomes.{is_started, ends_of, first_line, look_word, look_words, TellsLooks};
 
 use crate::fault::CaseFault;

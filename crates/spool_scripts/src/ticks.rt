@@ -1,7 +1,7 @@
 //! What ticks answered, told in lines.
 ghost use Rattle.std.specs.Prelude.{◌≡◌, ◌++◌, OnOk};
 ghost use Rattle.std.specs.String.{string_bytes};
-ghost use Rattle.spool_scripts.specs.Ticks.{counts_line, fault_line, tick_line};
+ghost use Rattle.spool_scripts.specs.TickReports.{counts_line, fault_line, tick_line};
 
 use print_rounds::{Round, RoundFault};
 use std::alloc::AllocError;

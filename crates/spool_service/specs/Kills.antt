@@ -3,7 +3,7 @@ use Rattle.std.specs.Prelude.{ℕ, List, [], ◌∷◌, ◌++◌, codes}
 use Rattle.std.specs.Fmt.{decimal}
 use Rattle.service_loop.specs.declared.signals.Signal.{Signal}
 use Rattle.service_loop.specs.declared.signals.Signal.TheVariants.{Kill, Terminate}
-use Rattle.spool_host.specs.Script.{script_words}
+use Rattle.spool_runtime.specs.ChildScript.{script_words}
 
 -- The script of every signal: nothing of a job is in its text.
 abbrev pub script : List ℕ

@@ -1,4 +1,4 @@
-pub mod Words
+pub mod ServiceArguments
 pub mod Kills
 pub mod Socket
 pub mod Start

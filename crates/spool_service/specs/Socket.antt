@@ -6,22 +6,22 @@ use Rattle.std.specs.declared.io.ErrorKind.{ErrorKind}
 use Rattle.std.specs.declared.io.ErrorKind.TheVariants.{WouldBlock}
 use Rattle.mio.specs.Event.{event_token, is_writable, is_write_closed}
 use Rattle.mio.specs.declared.event.event.Event.{Event}
-use Rattle.service_loop.specs.declared.door.Coming.{Coming}
-use Rattle.service_loop.specs.declared.door.Coming.TheVariants as coming
-use Rattle.service_loop.specs.declared.door.Sign.{Sign}
-use Rattle.service_loop.specs.declared.door.Sign.TheVariants.{Client, Knock}
+use Rattle.service_loop.specs.declared.listener.AcceptOutcome.{AcceptOutcome}
+use Rattle.service_loop.specs.declared.listener.AcceptOutcome.TheVariants as coming
+use Rattle.service_loop.specs.declared.listener.Readiness.{Readiness}
+use Rattle.service_loop.specs.declared.listener.Readiness.TheVariants.{Client, NewClient}
 
 -- Token 0 is the listener's, and a client's is its key and one.
-abbrev pub sign_of : Event → Sign
-sign_of event =
+abbrev pub readiness_of : Event → Readiness
+readiness_of event =
     let token = (event_token event).0 in
-    if token == 0 then Knock else Client (token - 1) (is_writable event) (is_write_closed event)
+    if token == 0 then NewClient else Client (token - 1) (is_writable event) (is_write_closed event)
 
 -- nobody comes in: nobody is there, or who is there can't be let in
-abbrev pub without_client : {L : Type 0} → ErrorKind → Coming L
+abbrev pub without_client : {L : Type 0} → ErrorKind → AcceptOutcome L
 without_client WouldBlock = coming.Nobody
 without_client _ = coming.Failed
 
-abbrev pub coming_of : {L : Type 0} → Result L Error → Coming L
-coming_of (Ok line) = coming.Client line
-coming_of (Err error) = without_client (error_kind error)
+abbrev pub accept_outcome_of : {L : Type 0} → Result L Error → AcceptOutcome L
+accept_outcome_of (Ok line) = coming.Client line
+accept_outcome_of (Err error) = without_client (error_kind error)

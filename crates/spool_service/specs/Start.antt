@@ -7,9 +7,9 @@ use Rattle.service_loop.specs.declared.service.Keeping.{Keeping}
 use Rattle.service_loop.specs.declared.fault.ServiceFault.{ServiceFault}
 use Rattle.service_loop.specs.declared.fault.ServiceFault.TheVariants as service
 use Rattle.spool_areas.specs.Header.{half}
-use Rattle.spool_host.specs.declared.fault.DiskCause.TheVariants.{Failed}
-use Rattle.spool_host.specs.declared.fault.ShellFault.{ShellFault}
-use Rattle.spool_host.specs.declared.fault.ShellFault.TheVariants.{Disk, Memory, Socket}
+use Rattle.spool_runtime.specs.declared.fault.DiskCause.TheVariants.{Failed}
+use Rattle.spool_runtime.specs.declared.fault.ShellFault.{ShellFault}
+use Rattle.spool_runtime.specs.declared.fault.ShellFault.TheVariants.{Disk, Memory, Socket}
 
 -- the file of DIR that is the spool's disk
 abbrev pub disk_of : List ℕ → List ℕ

@@ -4,7 +4,7 @@ ghost use Rattle.std.specs.Process.{SameEnv, clears_env, command_args, command_p
 ghost use Rattle.spool_service.specs.Kills.{arguments_of, name_of, script};
 
 use service_loop::{Signal, Signals};
-use spool_host::{push_number, script_shell};
+use spool_runtime::{push_number, script_shell};
 use std::alloc::{AllocError, Global};
 use std::process::{Command, Processes, Stdio};
 

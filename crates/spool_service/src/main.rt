@@ -16,7 +16,7 @@
 //!
 //! - `read_words` gives what clap finds in the words, or else what is usual, within its limits (`asked`, `in_range`), and refuses them
 //!   exactly where clap finds a fault, DIR is missing or too long, or MODE is no number of octal digits up to 777 (`taken`).
-//! - `SocketDoor::wait` tells what the system has found event by event, in order (`signs`, `sign_of`).
+//! - `SocketListener::wait` tells what the system has found event by event, in order (`signs`, `readiness_of`).
 //! - `command_of` is `/bin/sh` without a variable, with exactly the fixed script, the signal and the number of the child
 //!   (`arguments_of`). The clock of the loop never goes back (`never_back`). Faults are told as they are (`told_as`, `at_socket`).
 //!
@@ -36,7 +36,7 @@ mod start;
 mod words;
 
 use log::Logged;
-use spool_host::{LogLines, given_words, no_words, tell_end, tell_words_fault};
+use spool_runtime::{LogLines, given_words, no_words, report_end, report_words_fault};
 use start::run;
 use std::process::ExitCode;
 use words::read_words;
@@ -48,10 +48,10 @@ fn main(rt: HostRuntime) -> ExitCode {
     };
     let words = match read_words(rt.alloc(), given.as_slice()) {
         Ok(words) => words,
-        Err(fault) => return tell_words_fault(&rt, &fault),
+        Err(fault) => return report_words_fault(&rt, &fault),
     };
     let most = words.level;
     let logged = Logged::new(rt, most, LogLines { rt, most });
     let ended = run(&logged, &rt, words);
-    tell_end(&rt, ended)
+    report_end(&rt, ended)
 }

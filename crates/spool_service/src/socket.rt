@@ -1,14 +1,14 @@
 //! Where clients come in, and what wakes the service: a socket in the file system, over `mio`.
 ghost use Rattle.std.specs.Prelude.{◌≡◌, ◌++◌, [], IfOk, OnOk, map};
 ghost use Rattle.mio.specs.Events.{items};
-ghost use Rattle.spool_service.specs.Socket.{coming_of, sign_of, without_client};
+ghost use Rattle.spool_service.specs.Socket.{accept_outcome_of, readiness_of, without_client};
 
 use mio::event::Event;
 use mio::net::{UnixListener, UnixStream};
 use mio::{Events, Interest, Poll, Token};
-use service_loop::{Coming, Connection, Door, Sign};
+use service_loop::{AcceptOutcome, Connection, Listener, Readiness};
 use service_rules::bounds::MOST_CLIENTS;
-use spool_host::remove_if_there;
+use spool_runtime::remove_if_there;
 use std::alloc::{AllocError, Global};
 use std::fs::{File, Files, Permissions};
 use std::io::{ErrorKind, Read, Write};
@@ -23,10 +23,10 @@ const LISTENER: usize = 0;
 
 /// A client's line at the socket. What comes and goes by it no clause knows, so it tells nothing.
 #[derive(Drop)]
-pub struct SocketLine(UnixStream);
+pub struct SocketConnection(UnixStream);
 
-impl Connection for SocketLine {
-    ghost use Rattle.service_loop.specs.Lines.{silent};
+impl Connection for SocketConnection {
+    ghost use Rattle.service_loop.specs.ConnectionViews.{silent};
 
     ghost view = { silent };
 
@@ -41,22 +41,22 @@ impl Connection for SocketLine {
 
 /// A socket in the file system.
 #[derive(Drop)]
-pub struct SocketDoor {
+pub struct SocketListener {
     listener: UnixListener,
     poll: Poll,
     events: Events<Global>,
-    signs: Vec<Sign>,
+    ready: Vec<Readiness>,
 }
 
-impl SocketDoor {
+impl SocketListener {
     /// Makes the socket, which users may open by this mode. One that an earlier service left goes first: the folder is this
     /// program's.
     pub fn open<R: Files<File = File> + Net + AllocGlobal>(
         rt: &R,
         path: &str,
         mode: u32,
-    ) -> io::Result<SocketDoor>
-        ensures { IfOk result (λ door. door.signs.items ≡ []) }
+    ) -> io::Result<SocketListener>
+        ensures { IfOk result (λ listener. listener.ready.items ≡ []) }
     {
         remove_if_there(rt, Path::new(path))?;
         let mut listener = UnixListener::bind(rt, path)?;
@@ -64,43 +64,47 @@ impl SocketDoor {
         let poll = Poll::new(rt)?;
         let room = MOST_CLIENTS + 1;
         let events = Events::with_capacity(rt.alloc(), room)?;
-        let signs = Vec::with_capacity(rt.alloc(), room)?;
+        let ready = Vec::with_capacity(rt.alloc(), room)?;
         poll.registry()
             .register(&mut listener, Token(LISTENER), Interest::READABLE)?;
-        Ok(SocketDoor {
+        Ok(SocketListener {
             listener,
             poll,
             events,
-            signs,
+            ready,
         })
     }
 }
 
-impl Door for SocketDoor {
-    type Line = SocketLine;
+impl Listener for SocketListener {
+    type Stream = SocketConnection;
 
     fn wait(&mut self, millis: Option<u64>) -> io::Result<()>
-        ensures { OnOk result (self.new.signs.items ≡ map sign_of (items self.new.events)) }
+        ensures { OnOk result (self.new.ready.items ≡ map readiness_of (items self.new.events)) }
     {
-        self.signs.clear();
+        self.ready.clear();
         let longest = match millis {
             Some(millis) => Some(Duration::from_millis(millis)),
             None => None,
         };
         self.poll.poll(&mut self.events, longest)?;
-        push_signs(&self.events, &mut self.signs)?;
+        push_readiness(&self.events, &mut self.ready)?;
         Ok(())
     }
 
-    fn next_sign(&mut self) -> Option<Sign> {
-        self.signs.pop()
+    fn next_readiness(&mut self) -> Option<Readiness> {
+        self.ready.pop()
     }
 
-    fn accept(&mut self) -> Coming<SocketLine> {
-        coming_of(self.listener.accept().map(|(line, _)| SocketLine(line)))
+    fn accept(&mut self) -> AcceptOutcome<SocketConnection> {
+        accept_outcome_of(
+            self.listener
+                .accept()
+                .map(|(line, _)| SocketConnection(line)),
+        )
     }
 
-    fn watch(&mut self, line: &mut SocketLine, key: usize) -> bool {
+    fn watch(&mut self, line: &mut SocketConnection, key: usize) -> bool {
         let both = Interest::READABLE | Interest::WRITABLE;
         match key.checked_add(1) {
             Some(token) => self
@@ -114,24 +118,24 @@ impl Door for SocketDoor {
 }
 
 // Adds the signs of the events, in their order.
-fn push_signs(events: &Events<Global>, signs: &mut Vec<Sign>) -> Result<(), AllocError>
-    ensures { OnOk result (signs.new.items ≡ signs.old.items ++ map sign_of (items events.now)) }
+fn push_readiness(events: &Events<Global>, ready: &mut Vec<Readiness>) -> Result<(), AllocError>
+    ensures { OnOk result (ready.new.items ≡ ready.old.items ++ map readiness_of (items events.now)) }
 {
     for event in events.iter() {
-        signs.push(sign_of(event))?;
+        ready.push(readiness_of(event))?;
     }
     Ok(())
 }
 
 // What an event is a sign of.
-fn sign_of(event: &Event) -> Sign
-    ensures { result ≡ sign_of event.now }
+fn readiness_of(event: &Event) -> Readiness
+    ensures { result ≡ readiness_of event.now }
 {
     let Token(token) = event.token();
     if token == LISTENER {
-        return Sign::Knock;
+        return Readiness::NewClient;
     }
-    Sign::Client {
+    Readiness::Client {
         key: token - 1,
         writable: event.is_writable(),
         gone: event.is_write_closed(),
@@ -139,21 +143,21 @@ fn sign_of(event: &Event) -> Sign
 }
 
 // Who comes in.
-fn coming_of<L: Drop>(accepted: io::Result<L>) -> Coming<L>
-    ensures { result ≡ coming_of accepted }
+fn accept_outcome_of<L: Drop>(accepted: io::Result<L>) -> AcceptOutcome<L>
+    ensures { result ≡ accept_outcome_of accepted }
 {
     match accepted {
-        Ok(line) => Coming::Client(line),
+        Ok(line) => AcceptOutcome::Client(line),
         Err(error) => without_client(error.kind()),
     }
 }
 
 // Who comes in where nobody is let in, by the kind of the system's error.
-fn without_client<L>(kind: ErrorKind) -> Coming<L>
+fn without_client<L>(kind: ErrorKind) -> AcceptOutcome<L>
     ensures { result ≡ without_client kind }
 {
     match kind {
-        ErrorKind::WouldBlock => Coming::Nobody,
-        _ => Coming::Failed,
+        ErrorKind::WouldBlock => AcceptOutcome::Nobody,
+        _ => AcceptOutcome::Failed,
     }
 }

@@ -4,7 +4,7 @@ ghost use Rattle.spool_service.specs.Start.{at_socket, disk_of, keeping_of, sock
 
 use crate::clocks::SystemTimes;
 use crate::kills::Kills;
-use crate::socket::SocketDoor;
+use crate::socket::SocketListener;
 use crate::words::ServiceWords;
 use child_pipeline::Children;
 use filter_args::Place;
@@ -14,9 +14,9 @@ use mime_rules::Types;
 use service_loop::{Keeping, Service, ServiceFault, Watch, WatchedChildren};
 use spool_disk::Disk;
 use spool_engine::Engine;
-use spool_host::{
-    DiskCause, ShellFault, check_child_ends, launcher_in, open_folder_engine, read_rules,
-    remove_if_there, tell_programs,
+use spool_runtime::{
+    DiskCause, ShellFault, check_child_ends, launcher_in, log_programs, open_folder_engine,
+    read_rules, remove_if_there,
 };
 use std::alloc::{AllocError, Global};
 use std::fs;
@@ -37,7 +37,7 @@ where
         check_child_ends(rt)?;
     }
     let (types, convs, programs) = read_rules(logged, words.types, words.convs, words.programs)?;
-    tell_programs(logged, rt, &programs);
+    log_programs(logged, rt, &programs);
     let (launcher, place) = launcher_in(logged, rt, words.root, programs)?;
     let most = words.children;
     let watch = Watch::new(rt.alloc(), most)?;
@@ -91,7 +91,7 @@ fn serve_at_socket<L, H, D, C>(
     logged: &L,
     rt: &H,
     words: &ServiceWords<'_>,
-    service: &mut Service<'_, L, D, C, SocketDoor>,
+    service: &mut Service<'_, L, D, C, SocketListener>,
 ) -> Result<(), ShellFault>
 where
     L: Log,
@@ -100,9 +100,13 @@ where
     C: Children + Drop,
 {
     let socket = socket_name(rt, words)?;
-    let mut door = open_door(rt, socket.as_str(), words.mode)?;
+    let mut listener = open_listener(rt, socket.as_str(), words.mode)?;
     info!(logged; "serves {}", socket.as_str());
-    let served = service.serve(&mut door, &mut SystemTimes::new(rt), &mut Kills::new(rt));
+    let served = service.serve(
+        &mut listener,
+        &mut SystemTimes::new(rt),
+        &mut Kills::new(rt),
+    );
     let _ = remove_if_there(rt, Path::new(socket.as_str()));
     told_as(served)
 }
@@ -146,13 +150,13 @@ fn told_as(served: Result<(), ServiceFault>) -> Result<(), ShellFault>
     }
 }
 
-fn open_door<H: Files<File = File> + Net + AllocGlobal>(
+fn open_listener<H: Files<File = File> + Net + AllocGlobal>(
     rt: &H,
     socket: &str,
     mode: u32,
-) -> Result<SocketDoor, ShellFault> {
-    match SocketDoor::open(rt, socket, mode) {
-        Ok(door) => Ok(door),
+) -> Result<SocketListener, ShellFault> {
+    match SocketListener::open(rt, socket, mode) {
+        Ok(listener) => Ok(listener),
         Err(error) => Err(at_socket(error.kind())),
     }
 }

@@ -2,14 +2,14 @@
 ghost use Rattle.std.specs.Prelude.{◌≡◌, IfErr, IfOk, MatchResult, map};
 ghost use Rattle.std.specs.Option.{SomeIff, option_map};
 ghost use Rattle.clap.specs.Words.{app_of, found_of, matches_of, rows_of};
-ghost use Rattle.spool_host.specs.Words.{IsMistake, RefusesOnly};
-ghost use Rattle.spool_service.specs.Words.{AreFaultless, AreInRange, AreTaken, Fit, HasFlags, HasNumbers, IsAsked, IsMode, SaysMode, level_of, octal_of};
-ghost use Rattle.spool_service.specs.Words.{service_app, with_bounds, with_socket};
+ghost use Rattle.spool_runtime.specs.ProgramArguments.{IsMistake, RefusesOnly};
+ghost use Rattle.spool_service.specs.ServiceArguments.{AreFaultless, AreInRange, AreTaken, Fit, HasFlags, HasNumbers, IsAsked, IsMode, SaysMode, level_of, octal_of};
+ghost use Rattle.spool_service.specs.ServiceArguments.{service_app, with_bounds, with_socket};
 
 use clap::{ArgMatches, Command};
 use log::Level;
 use service_rules::bounds::{KEPT_JOBS, LEAST_ROOM, MOST_CHILDREN};
-use spool_host::{
+use spool_runtime::{
     DEFAULT_SIZE, LONGEST_ROOT, WordsFault, flag_given, flag_option, long_root, mistake,
     number_given, number_option, parse, spool_command, text_option,
 };

@@ -1,10 +1,10 @@
 //! The program: small filters and backends to try a spool with, and the end of a side-channel session.
 //!
-//! Words: `TOOL ..`, the first word naming the tool. All that they ask for is `stage_tools`': what they mean, what each tool
+//! Words: `TOOL ..`, the first word naming the tool. All that they ask for is `builtin_stages`': what they mean, what each tool
 //! does, and how it ends.
 #![tactic(auto)]
 
-use stage_tools::{given_words, run_words};
+use builtin_stages::{given_words, run_words};
 use std::process::ExitCode;
 
 fn main(rt: HostRuntime) -> ExitCode {

@@ -7,17 +7,17 @@ use Rattle.std.specs.List.{slice_split, onto_first, list_any, list_all, flat_map
 use Rattle.spool_types.specs.Values.{is_printable, is_attribute_name}
 use Rattle.spool_types.specs.declared.effect.Effect.TheVariants.{Attribute}
 use Rattle.stderr_lines.specs.declared.prefix.Prefix.{Prefix}
-use Rattle.stderr_lines.specs.Attributes.{attribute_of, cut_pair}
+use Rattle.stderr_lines.specs.AttributeLines.{attribute_of, cut_pair}
 use Rattle.line_words.specs.Quoting.{said}
 use Rattle.line_words.specs.declared.quoting.Quoting.TheVariants.{Bare}
-use Rattle.stderr_lines.specs.Drafts.{IsLineText}
+use Rattle.stderr_lines.specs.EffectDrafts.{IsLineText}
 use Rattle.spool_types.specs.declared.effect.Effect.{Effect}
 use Rattle.line_words.specs.Blanks.{is_blank, after_blanks}
 use Rattle.line_words.specs.Quotes.{with_bytes}
 use Rattle.stderr_lines.specs.Cuts.{cut_at}
 use Rattle.stderr_lines.specs.LineEffects.{is_lf, without_cr, kept_line, prefix_of, shown_byte, shown_text, effects_by, effects_behind, line_effects, effects_of}
-use Rattle.stderr_lines.specs.Held.{IsHeld}
-use Rattle.stderr_lines.specs.Pending.{Pending, Tally, Takes, to_come, told_after}
+use Rattle.stderr_lines.specs.CurrentLine.{IsHeld}
+use Rattle.stderr_lines.specs.PendingEffects.{Pending, Tally, Takes, to_come, told_after}
 use Rattle.stderr_lines.specs.Tallies.{keep_all, begun, joined}
 use Rattle.stderr_lines.proofs.PieceLaws.{onto_front, onto_front-end}
 use Rattle.stderr_lines.proofs.TallyLaws.{told_keep_all, told_behind, told_joined, told_end}

@@ -3,7 +3,7 @@ use Rattle.std.proofs.Common.{◌≡◌, ℕ, suc, ◌&&◌, Bool, true, false, 
 use Rattle.std.proofs.lemmas.Bool.{ne_eqb}
 use Rattle.line_words.specs.Blanks.{is_blank, after_blanks, first_word, after_word, is_nothing}
 use Rattle.spool_types.specs.declared.effect.Effect.{Effect}
-use Rattle.stderr_lines.specs.Pages.{two_words, page_effect}
+use Rattle.stderr_lines.specs.PageLines.{two_words, page_effect}
 
 blank_test : (xs : List ℕ) → eqb (length (after_blanks xs)) 0 ≡ is_nothing xs
 blank_test [] = refl

@@ -5,7 +5,7 @@ use Rattle.std.proofs.lemmas.List.{append_assoc, append-nil, take_all, take_more
 use Rattle.std.specs.List.{list_all, onto_first}
 use Rattle.spool_types.specs.Values.{is_printable}
 use Rattle.line_words.specs.declared.quoting.Quoting.{Quoting}
-use Rattle.stderr_lines.specs.Drafts.{IsLineText}
+use Rattle.stderr_lines.specs.EffectDrafts.{IsLineText}
 use Rattle.line_words.specs.Quoting.{next, keeps, is_cut, said, pieces}
 use Rattle.line_words.specs.declared.quoting.Quoting.TheVariants.{Bare}
 use Rattle.stderr_lines.proofs.PieceLaws.{onto_front, onto_front-push, onto_front-end, onto_front_none}

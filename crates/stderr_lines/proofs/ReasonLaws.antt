@@ -5,7 +5,7 @@ use Rattle.std.specs.Option.{option_to_list}
 use Rattle.std.specs.Str.{is_utf8}
 use Rattle.spool_types.specs.Values.{is_reason}
 use Rattle.spool_types.specs.Effects.{text_size, texts_size}
-use Rattle.stderr_lines.specs.Reasons.{is_separator, reasons_of}
+use Rattle.stderr_lines.specs.ReasonLines.{is_separator, reasons_of}
 use Rattle.stderr_lines.specs.Rests.{pieces_behind, reasons_from}
 use Rattle.stderr_lines.proofs.TextLaws.{reason_test}
 

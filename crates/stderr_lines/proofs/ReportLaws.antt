@@ -14,13 +14,13 @@ use Rattle.stderr_lines.specs.LineEffects.{kept_line, prefix_of, shown_text, eff
 use Rattle.stderr_lines.specs.declared.prefix.Prefix.{Prefix}
 use Rattle.stderr_lines.specs.declared.prefix.Prefix.TheVariants as prefixes
 use Rattle.stderr_lines.specs.Cuts.{cut_at}
-use Rattle.stderr_lines.specs.Pages.{number_of, is_total, pages_of, total_of, two_words, page_effect}
-use Rattle.stderr_lines.specs.Reasons.{reasons_of, unless_none, state_effect}
+use Rattle.stderr_lines.specs.PageLines.{number_of, is_total, pages_of, total_of, two_words, page_effect}
+use Rattle.stderr_lines.specs.ReasonLines.{reasons_of, unless_none, state_effect}
 use Rattle.line_words.specs.Quoting.{said, pieces}
 use Rattle.line_words.specs.declared.quoting.Quoting.TheVariants.{Bare}
-use Rattle.stderr_lines.specs.Attributes.{pair_of, cut_pair, attribute_of, attribute_effects}
+use Rattle.stderr_lines.specs.AttributeLines.{pair_of, cut_pair, attribute_of, attribute_effects}
 use Rattle.stderr_lines.specs.Reports.{fitting, report_of}
-use Rattle.stderr_lines.specs.Pending.{Pending, TakesAll, joined_pieces, to_come}
+use Rattle.stderr_lines.specs.PendingEffects.{Pending, TakesAll, joined_pieces, to_come}
 
 taken : (old new : Pending) (pieces : List (List ℕ)) → TakesAll old pieces new → (more : List ℕ) → to_come old (joined_pieces pieces ++ more) ≡ to_come new more
 taken old new [] e more = ap (λ p. to_come p more) (sym e)

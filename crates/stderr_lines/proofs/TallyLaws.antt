@@ -7,8 +7,8 @@ use Rattle.std.specs.Option.{option_to_list}
 use Rattle.spool_types.specs.declared.effect.Effect.{Effect}
 use Rattle.spool_types.specs.declared.effect.Effect.TheVariants.{Pages, TotalPages, SetReasons, AddReasons, DropReasons, Attribute, Message}
 use Rattle.spool_types.specs.Effects.{list_size, text_size, effect_size}
-use Rattle.stderr_lines.specs.Reports.{Told, fitting, left_out, counted}
-use Rattle.stderr_lines.specs.Pending.{Tally, told_after}
+use Rattle.stderr_lines.specs.Reports.{Reported, fitting, left_out, counted}
+use Rattle.stderr_lines.specs.PendingEffects.{Tally, told_after}
 use Rattle.stderr_lines.specs.Tallies.{keep, keep_all, begun, joined}
 
 -- without room no effect fits
@@ -25,7 +25,7 @@ none_fitting : (es : List Effect) → fitting 0 es ≡ []
 none_fitting [] = refl
 none_fitting (e ∷ es) = ap (λ v. cond v (e ∷ fitting (0 - effect_size e) es) []) (no_room e)
 
-abbrev told : List Effect → ℕ → Told
+abbrev told : List Effect → ℕ → Reported
 told es n = record { effects = es; dropped = n }
 
 same_told : (es fs : List Effect) (m n : ℕ) → es ≡ fs → m ≡ n → told es m ≡ told fs n
@@ -56,7 +56,7 @@ told_keep_all t [] fs = refl
 told_keep_all t (e ∷ es) fs = told_keep t e (es ++ fs) ∙ told_keep_all (keep t e) es fs
 
 -- effects in front of what is told
-abbrev pub told_behind : List Effect → Told → Told
+abbrev pub told_behind : List Effect → Reported → Reported
 told_behind es r = record r { effects = es ++ r.effects }
 
 pub told_joined : (t u : Tally) (es : List Effect) → told_after (joined t u) es ≡ told_behind t.effects (told_after u es)

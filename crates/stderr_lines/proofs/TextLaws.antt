@@ -11,7 +11,7 @@ use Rattle.std.specs.List.{list_all}
 use Rattle.std.specs.Str.{is_utf8}
 use Rattle.spool_types.specs.Values.{is_text_of, is_printable, is_word_byte, is_attribute_byte, is_reason, is_attribute_name, is_message}
 use Rattle.stderr_lines.specs.LineEffects.{shown_byte}
-use Rattle.stderr_lines.specs.Drafts.{IsLineText}
+use Rattle.stderr_lines.specs.EffectDrafts.{IsLineText}
 
 -- ## Texts of ASCII are UTF-8
 

@@ -1,11 +1,11 @@
 pub mod Cuts
-pub mod Pages
-pub mod Reasons
-pub mod Attributes
+pub mod PageLines
+pub mod ReasonLines
+pub mod AttributeLines
 pub mod LineEffects
 pub mod Reports
-pub mod Pending
+pub mod PendingEffects
 pub mod Tallies
-pub mod Drafts
+pub mod EffectDrafts
 pub mod Rests
-pub mod Held
+pub mod CurrentLine

@@ -11,9 +11,9 @@ use Rattle.spool_types.specs.declared.effect.Effect.TheVariants as effects
 use Rattle.stderr_lines.specs.declared.prefix.Prefix.{Prefix}
 use Rattle.stderr_lines.specs.declared.prefix.Prefix.TheVariants.{Silent, Page, State, Attr, Level}
 use Rattle.stderr_lines.specs.Cuts.{cut_at}
-use Rattle.stderr_lines.specs.Pages.{page_effect}
-use Rattle.stderr_lines.specs.Reasons.{state_effect}
-use Rattle.stderr_lines.specs.Attributes.{attribute_effects}
+use Rattle.stderr_lines.specs.PageLines.{page_effect}
+use Rattle.stderr_lines.specs.ReasonLines.{state_effect}
+use Rattle.stderr_lines.specs.AttributeLines.{attribute_effects}
 
 abbrev pub is_lf : ℕ → Bool
 is_lf b = b == 10

@@ -6,12 +6,12 @@ use Rattle.spool_types.specs.Effects.{effect_size, most_effect_bytes}
 use Rattle.stderr_lines.specs.LineEffects.{effects_of}
 
 -- what is told of a child's standard error
-pub record Told : Type 0 where
+pub record Reported : Type 0 where
   pub effects : List Effect
   pub dropped : ℕ
 
 -- a report without where its effects lie in memory
-abbrev pub told_by : Report → Told
+abbrev pub told_by : Report → Reported
 told_by r = record { effects = r.effects.items; dropped = r.dropped }
 
 -- the effects before the first whose code has no room
@@ -28,5 +28,5 @@ abbrev pub counted : ℕ → ℕ
 counted n = min n 4294967295
 
 -- what a text says is reported
-abbrev pub report_of : List ℕ → Told
+abbrev pub report_of : List ℕ → Reported
 report_of text = record { effects = fitting most_effect_bytes (effects_of text); dropped = counted (left_out most_effect_bytes (effects_of text)) }

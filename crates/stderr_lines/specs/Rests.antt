@@ -1,7 +1,7 @@
 -- What is still to be read of a text that is cut into words. No caller needs this.
 use Rattle.std.specs.Prelude.{ℕ, ◌+◌, List, [], Option, None, Some, length}
 use Rattle.std.specs.List.{slice_split}
-use Rattle.stderr_lines.specs.Reasons.{is_separator, reasons_of}
+use Rattle.stderr_lines.specs.ReasonLines.{is_separator, reasons_of}
 use Rattle.line_words.specs.Quoting.{pieces}
 use Rattle.line_words.specs.declared.quoting.Quoting.TheVariants.{Bare}
 

@@ -3,7 +3,7 @@ use Rattle.std.specs.Prelude.{◌+◌, ◌-◌, cond, nat_le, List, [], ◌∷�
 use Rattle.spool_types.specs.declared.effect.Effect.{Effect}
 use Rattle.spool_types.specs.Effects.{effect_size}
 use Rattle.stderr_lines.specs.Reports.{counted}
-use Rattle.stderr_lines.specs.Pending.{Tally}
+use Rattle.stderr_lines.specs.PendingEffects.{Tally}
 
 abbrev pub keep : Tally → Effect → Tally
 keep t e =

@@ -1,9 +1,9 @@
 //! The attributes that a line sets.
 ghost use Rattle.std.specs.Prelude.{◌≡◌, OnOk, IfSome};
 ghost use Rattle.std.specs.Option.{option_map};
-ghost use Rattle.stderr_lines.specs.Attributes.{attribute_of, attribute_effects};
+ghost use Rattle.stderr_lines.specs.AttributeLines.{attribute_of, attribute_effects};
 ghost use Rattle.stderr_lines.specs.Tallies.{keep_all};
-ghost use Rattle.stderr_lines.specs.Drafts.{effect_of, IsLineText, IsSound};
+ghost use Rattle.stderr_lines.specs.EffectDrafts.{effect_of, IsLineText, IsSound};
 
 use crate::cuts::cut_at;
 use crate::draft::Draft;

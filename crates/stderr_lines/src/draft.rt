@@ -1,7 +1,7 @@
 //! Effects whose texts still lie in the line.
 ghost use Rattle.std.specs.Prelude.{◌≡◌, ◌+◌, IfOk};
 ghost use Rattle.spool_types.specs.Effects.{text_size, effect_size};
-ghost use Rattle.stderr_lines.specs.Drafts.{effect_of, changed, IsSound, IsLineText};
+ghost use Rattle.stderr_lines.specs.EffectDrafts.{effect_of, changed, IsSound, IsLineText};
 ghost use Rattle.line_words.specs.Quoting.{said};
 ghost use Rattle.line_words.specs.declared.quoting.Quoting.TheVariants.{Bare};
 

@@ -2,7 +2,7 @@
 ghost use Rattle.std.specs.Prelude.{◌≡◌, ℕ, List, []};
 ghost use Rattle.spool_types.specs.Effects.{AreEffects};
 ghost use Rattle.stderr_lines.specs.Reports.{report_of};
-ghost use Rattle.stderr_lines.specs.Pending.{Pending, TakesAll, joined_pieces, to_come};
+ghost use Rattle.stderr_lines.specs.PendingEffects.{Pending, TakesAll, joined_pieces, to_come};
 
 /// A reader that began before any text and took these pieces will report what their whole text says, wherever it was cut.
 pub fn any_pieces()

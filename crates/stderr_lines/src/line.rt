@@ -2,7 +2,7 @@
 ghost use Rattle.std.specs.Prelude.{◌≡◌, ◌≤◌, length, map, OnOk};
 ghost use Rattle.stderr_lines.specs.LineEffects.{shown_byte, effects_by, line_effects};
 ghost use Rattle.stderr_lines.specs.Tallies.{keep_all};
-ghost use Rattle.stderr_lines.specs.Drafts.{IsLineText};
+ghost use Rattle.stderr_lines.specs.EffectDrafts.{IsLineText};
 
 use crate::attributes::add_attributes;
 use crate::draft::Draft;

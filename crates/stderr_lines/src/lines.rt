@@ -3,9 +3,9 @@ ghost use Rattle.std.specs.Prelude.{◌≡◌, ◌≤◌, ◌-◌, ◌∷◌, �
 ghost use Rattle.std.specs.List.{list_any};
 ghost use Rattle.stderr_lines.specs.LineEffects.{is_lf, without_cr, kept_line, line_effects};
 ghost use Rattle.stderr_lines.specs.Reports.{told_by, report_of};
-ghost use Rattle.stderr_lines.specs.Pending.{Pending, Takes, to_come};
+ghost use Rattle.stderr_lines.specs.PendingEffects.{Pending, Takes, to_come};
 ghost use Rattle.stderr_lines.specs.Tallies.{begun, joined, keep_all};
-ghost use Rattle.stderr_lines.specs.Held.{IsHeld};
+ghost use Rattle.stderr_lines.specs.CurrentLine.{IsHeld};
 
 use crate::line::add_line;
 use crate::tally::Tally;
@@ -38,8 +38,8 @@ pub struct Lines {
 }
 
 impl Model for Lines {
-    ghost use Rattle.stderr_lines.specs.Pending.{Pending};
-    ghost use Rattle.stderr_lines.specs.Held.{IsHeld};
+    ghost use Rattle.stderr_lines.specs.PendingEffects.{Pending};
+    ghost use Rattle.stderr_lines.specs.CurrentLine.{IsHeld};
 
     ghost Value = { Pending };
 

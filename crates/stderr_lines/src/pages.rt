@@ -1,8 +1,8 @@
 //! The pages that a line tells.
 ghost use Rattle.std.specs.Prelude.{◌≡◌, IfSome};
 ghost use Rattle.std.specs.Option.{option_map};
-ghost use Rattle.stderr_lines.specs.Pages.{number_of, page_effect, two_words};
-ghost use Rattle.stderr_lines.specs.Drafts.{effect_of, IsSound};
+ghost use Rattle.stderr_lines.specs.PageLines.{number_of, page_effect, two_words};
+ghost use Rattle.stderr_lines.specs.EffectDrafts.{effect_of, IsSound};
 
 use crate::draft::Draft;
 use line_words::{after_blanks, decimal, first_word};

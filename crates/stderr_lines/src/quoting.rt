@@ -3,7 +3,7 @@ ghost use Rattle.std.specs.Prelude.{◌≡◌, ◌+◌, ◌<◌, ◌≤◌, ◌�
 ghost use Rattle.std.specs.Option.{option_copied};
 ghost use Rattle.line_words.specs.Quoting.{pieces, said};
 ghost use Rattle.stderr_lines.specs.Rests.{words_behind, rest_weight};
-ghost use Rattle.stderr_lines.specs.Drafts.{IsLineText};
+ghost use Rattle.stderr_lines.specs.EffectDrafts.{IsLineText};
 
 use line_words::Quoting;
 use std::alloc::{AllocError, Global};
@@ -16,12 +16,12 @@ pub fn split_word(text: &[u8]) -> (&[u8], Option<&[u8]>)
     ensures word { IsLineText result.0.now }
     ensures rest { IfSome (option_copied result.1) (λ r. IsLineText r) }
 {
-    let mut place = Quoting::Bare;
+    let mut quote_state = Quoting::Bare;
     for (i, b) in text.iter().enumerate() {
-        if place.is_cut(*b) {
+        if quote_state.is_cut(*b) {
             return (&text[..i], Some(&text[i + 1..]));
         }
-        place = place.next(char::from(*b));
+        quote_state = quote_state.next(char::from(*b));
     }
     (text, None)
 }
@@ -32,13 +32,13 @@ pub fn unquoted_len(text: &[u8]) -> usize
     ensures value { result ≡ length (said Quoting.Bare text.now) }
     ensures small { result ≤ 1023 }
 {
-    let mut place = Quoting::Bare;
+    let mut quote_state = Quoting::Bare;
     let mut count = 0;
     for b in text {
-        if place.keeps(char::from(*b)) {
+        if quote_state.keeps(char::from(*b)) {
             count += 1;
         }
-        place = place.next(char::from(*b));
+        quote_state = quote_state.next(char::from(*b));
     }
     count
 }
@@ -47,13 +47,13 @@ pub fn unquoted_len(text: &[u8]) -> usize
 pub fn unquoted(alloc: Global, text: &[u8]) -> Result<Vec<u8>, AllocError>
     ensures { IfOk result (λ bytes. bytes.items ≡ said Quoting.Bare text.now) }
 {
-    let mut place = Quoting::Bare;
+    let mut quote_state = Quoting::Bare;
     let mut bytes = Vec::new(alloc);
     for b in text {
-        if place.keeps(char::from(*b)) {
+        if quote_state.keeps(char::from(*b)) {
             bytes.push(*b)?;
         }
-        place = place.next(char::from(*b));
+        quote_state = quote_state.next(char::from(*b));
     }
     Ok(bytes)
 }

@@ -4,9 +4,9 @@ ghost use Rattle.std.specs.Option.{option_map, option_copied, option_to_list};
 ghost use Rattle.std.specs.List.{slice_split};
 ghost use Rattle.spool_types.specs.Values.{is_reason};
 ghost use Rattle.spool_types.specs.Effects.{texts_size};
-ghost use Rattle.stderr_lines.specs.Reasons.{is_separator, reasons_of, unless_none, state_effect};
+ghost use Rattle.stderr_lines.specs.ReasonLines.{is_separator, reasons_of, unless_none, state_effect};
 ghost use Rattle.stderr_lines.specs.Rests.{pieces_behind, reasons_from, rest_weight};
-ghost use Rattle.stderr_lines.specs.Drafts.{changed, effect_of, IsLineText, IsSound};
+ghost use Rattle.stderr_lines.specs.EffectDrafts.{changed, effect_of, IsLineText, IsSound};
 
 use crate::draft::{Change, Draft};
 use crate::texts::{copy_of, text_in};

@@ -2,9 +2,9 @@
 ghost use Rattle.std.specs.Prelude.{◌≡◌, ◌≤◌, OnOk, OnErr};
 ghost use Rattle.std.specs.Option.{ForSome, option_map, option_to_list};
 ghost use Rattle.stderr_lines.specs.Reports.{told_by};
-ghost use Rattle.stderr_lines.specs.Pending.{nothing_kept};
+ghost use Rattle.stderr_lines.specs.PendingEffects.{nothing_kept};
 ghost use Rattle.stderr_lines.specs.Tallies.{keep, keep_all, begun, joined};
-ghost use Rattle.stderr_lines.specs.Drafts.{effect_of, IsSound};
+ghost use Rattle.stderr_lines.specs.EffectDrafts.{effect_of, IsSound};
 
 use crate::draft::Draft;
 use crate::lines::Report;
@@ -22,7 +22,7 @@ pub struct Tally {
 }
 
 impl Model for Tally {
-    ghost use Rattle.stderr_lines.specs.Pending.{Tally};
+    ghost use Rattle.stderr_lines.specs.PendingEffects.{Tally};
 
     ghost Value = { Tally };
 

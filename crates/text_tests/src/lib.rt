@@ -1,6 +1,6 @@
 //! The tests of the crates that read texts and streams: words, lines, files of rules, URIs, options, programs, commands,
 //! packets. Each public function that takes memory is called with ample memory, and readers and writers are slow, fail and are
-//! cut anywhere. What a text means is told by the examples of `text_facts`.
+//! cut anywhere. What a text means is told by the examples of `text_examples`.
 #![tactic(auto)]
 
 #[cfg(test)]

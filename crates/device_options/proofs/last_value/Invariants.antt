@@ -1,7 +1,7 @@
 -- the last value among the options so far counts where none comes behind
 use Rattle.std.proofs.Common.{◌≡◌, drop}
 use Rattle.std.specs.Option.{option_map}
-use Rattle.device_options.specs.Options.{last_value, or_else}
+use Rattle.device_options.specs.DeviceOptions.{last_value, or_else}
 use Rattle.device_options.proofs.last_value.Given as goal
 
 abbrev pub invariant-loop-option : goal.invariant-loop-option

@@ -1,12 +1,12 @@
 //! The draft of a lane: what stands in it, before its waiting jobs are put in order.
 ghost use Rattle.std.specs.Prelude.{◌≡◌, ℕ, ◌+◌, ◌<◌, ◌≤◌, None, IfOk, OnOk};
-ghost use Rattle.queue_sched.specs.Index.{HasEachOnce};
+ghost use Rattle.queue_sched.specs.WaitingIndex.{HasEachOnce};
 ghost use Rattle.queue_sched.specs.declared.entry.Entry.{Entry};
-ghost use Rattle.job_table.specs.Drafts.{drafted, IsBlank, IsDraft};
+ghost use Rattle.job_table.specs.LaneDrafts.{drafted, IsBlank, IsDraft};
 ghost use Rattle.job_table.specs.Lanes.{IsAdvanced, IsReseated};
-ghost use Rattle.job_table.specs.declared.lane.Standing.{Standing};
+ghost use Rattle.job_table.specs.declared.lane.LaneState.{LaneState};
 
-use super::{Lane, Standing};
+use super::{Lane, LaneState};
 use queue_sched::{Entry, Index};
 use spool_types::{JobId, Moment};
 use std::alloc::{AllocError, Global};
@@ -33,21 +33,21 @@ impl Draft {
     }
 
     /// Puts a job in that isn't there.
-    pub(crate) fn add(&mut self, job: JobId, standing: Standing) -> Result<(), AllocError>
-        requires own { (e : Entry) → standing ≡ Standing.Waiting e → e.id ≡ job }
-        requires alone { standing ≡ Standing.Processing → self.old.processing ≡ None }
+    pub(crate) fn add(&mut self, job: JobId, lane_state: LaneState) -> Result<(), AllocError>
+        requires own { (e : Entry) → lane_state ≡ LaneState.Waiting e → e.id ≡ job }
+        requires alone { lane_state ≡ LaneState.Processing → self.old.processing ≡ None }
         requires few { self.old.live < usize.MAX }
-        ensures draft { OnOk result ((old new : ℕ → Standing) → IsDraft old self.old → old job ≡ Standing.Ended → IsReseated old new job standing → IsDraft new self.new) }
+        ensures draft { OnOk result ((old new : ℕ → LaneState) → IsDraft old self.old → old job ≡ LaneState.Ended → IsReseated old new job lane_state → IsDraft new self.new) }
         ensures live { OnOk result (self.new.live ≤ self.old.live + 1) }
     {
-        match standing {
-            Standing::Ended => {}
-            Standing::Incoming => self.live += 1,
-            Standing::Waiting(entry) => {
+        match lane_state {
+            LaneState::Ended => {}
+            LaneState::Incoming => self.live += 1,
+            LaneState::Waiting(entry) => {
                 self.waiting.extend_from_slice(&[entry])?;
                 self.live += 1;
             }
-            Standing::Processing => {
+            LaneState::Processing => {
                 self.processing = Some(job);
                 self.live += 1;
             }

@@ -1,10 +1,10 @@
 //! Attempts at jobs: the start of an attempt, the end of a stage, and attempts that are lost.
 ghost use Rattle.std.specs.Prelude.{◌≡◌, true, false, None, Some, IsSome};
 ghost use Rattle.job_table.specs.Attempts.{is_in_stage, is_last_stage, is_processing_at, lost_by, with_pages, rule_at, stage_verdict, with_effects};
-ghost use Rattle.job_table.specs.Changes.{change_job, change_queue_of};
+ghost use Rattle.job_table.specs.EventChanges.{change_job, change_queue_of};
 ghost use Rattle.job_table.specs.Contents.{HasNoMore, HasSamePlaces, KeepsPlaces};
 ghost use Rattle.job_table.specs.Legal.{IsLegal};
-ghost use Rattle.row_effects.specs.Fold.{queue_after};
+ghost use Rattle.row_effects.specs.EffectFold.{queue_after};
 ghost use Rattle.row_effects.specs.Room.{HasRoom};
 ghost use Rattle.spool_types.specs.State.{Job, queue_at, job_at};
 ghost use Rattle.job_table.specs.Step.{refusal_of, after, reply_to, phase_found};
@@ -12,7 +12,7 @@ ghost use Rattle.spool_types.specs.declared.event.Event.{Event};
 ghost use Rattle.spool_types.specs.declared.rows.QueueRow.{QueueRow};
 
 use super::Store;
-use super::lookup::queue_place;
+use super::lookup::queue_position;
 use super::row_changes::{add_pages, rule_queue_row, rule_row, start_row};
 use backend_codes::{Verdict, lost_verdict, verdict};
 use row_effects::{fold_queue, queues_stay_in_order};
@@ -85,7 +85,7 @@ impl Store {
         let Some(row) = self.jobs.get(job) else {
             unreachable!()
         };
-        let Ok(queue_at) = queue_place(&self.queues, &row.job.queue) else {
+        let Ok(queue_at) = queue_position(&self.queues, &row.job.queue) else {
             unreachable!()
         };
         fold_queue(&mut self.queues[queue_at], &mut self.spare, effects);
@@ -140,7 +140,7 @@ impl Store {
         let Some(row) = self.jobs.get(job) else {
             unreachable!()
         };
-        let Ok(queue_at) = queue_place(&self.queues, &row.job.queue) else {
+        let Ok(queue_at) = queue_position(&self.queues, &row.job.queue) else {
             unreachable!()
         };
         (&row.job, &self.queues[queue_at])
@@ -159,7 +159,7 @@ impl Store {
     {
         let now = self.moment;
         let row = self.jobs.row_mut(job);
-        let Ok(queue_at) = queue_place(&self.queues, &row.job.queue) else {
+        let Ok(queue_at) = queue_position(&self.queues, &row.job.queue) else {
             unreachable!()
         };
         let interval = self.queues[queue_at].interval;

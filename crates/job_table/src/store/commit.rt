@@ -1,6 +1,6 @@
 //! What an accepted event changes.
 ghost use Rattle.std.specs.Prelude.{◌≡◌, ◌+◌, ◌<◌, ◌^◌, true, None, Some, Ok};
-ghost use Rattle.job_table.specs.Changes.{change_job};
+ghost use Rattle.job_table.specs.EventChanges.{change_job};
 ghost use Rattle.job_table.specs.Step.{creation, refusal_of, step, after, reply_to};
 ghost use Rattle.job_table.specs.RowChanges.{meant, EndsInEnd, IsAsked, IsOfRows};
 ghost use Rattle.job_table.specs.Contents.{IsPrepared, HasNoMore, HasPlace, KeepsPlaces, AddsPlaces, document_room};
@@ -9,7 +9,7 @@ ghost use Rattle.spool_types.specs.Sent.{bytes_behind, sent_by};
 ghost use Rattle.spool_types.specs.State.{job_at};
 
 use super::Store;
-use super::lookup::queue_place;
+use super::lookup::queue_position;
 use super::row_changes::{
     RowChange, add_bytes, change_row, new_job_row, new_queue_row, set_accepting, set_notes,
     set_stopped,
@@ -64,7 +64,7 @@ impl Store {
         ensures places { KeepsPlaces self.old self.new }
     {
         let alloc = *self.queues.allocator();
-        match queue_place(&self.queues, &queue.name) {
+        match queue_position(&self.queues, &queue.name) {
             Ok(_) => unreachable!(),
             Err(at) => {
                 let row = new_queue_row(alloc, queue);
@@ -81,7 +81,7 @@ impl Store {
         ensures room { HasNoMore self.old.room self.new.room }
         ensures places { KeepsPlaces self.old self.new }
     {
-        let Ok(at) = queue_place(&self.queues, &notes.queue) else {
+        let Ok(at) = queue_position(&self.queues, &notes.queue) else {
             unreachable!()
         };
         set_notes(&mut self.queues[at], notes);
@@ -95,7 +95,7 @@ impl Store {
         ensures room { HasNoMore self.old.room self.new.room }
         ensures places { KeepsPlaces self.old self.new }
     {
-        let Ok(at) = queue_place(&self.queues, &queue) else {
+        let Ok(at) = queue_position(&self.queues, &queue) else {
             unreachable!()
         };
         set_accepting(&mut self.queues[at], accepting);
@@ -109,7 +109,7 @@ impl Store {
         ensures room { HasNoMore self.old.room self.new.room }
         ensures places { KeepsPlaces self.old self.new }
     {
-        let Ok(at) = queue_place(&self.queues, &queue) else {
+        let Ok(at) = queue_position(&self.queues, &queue) else {
             unreachable!()
         };
         set_stopped(&mut self.queues[at], stopped);

@@ -8,7 +8,7 @@ ghost use Rattle.spool_types.specs.State.{nothing_in};
 ghost use Rattle.job_table.specs.Contents.{places_at, places_of};
 ghost use Rattle.job_table.specs.Legal.{IsLegal};
 ghost use Rattle.job_table.specs.Loading.{IsAbove, headed, with_queue, with_job};
-ghost use Rattle.job_table.specs.Rows.{HoldsDocument, place_entry};
+ghost use Rattle.job_table.specs.TableRows.{HoldsDocument, place_entry};
 
 use super::Store;
 use spool_types::{Head, JobId, JobRow, QueueName, QueueRow};

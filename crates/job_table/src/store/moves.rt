@@ -5,7 +5,7 @@ ghost use Rattle.std.specs.FinMap as finite;
 ghost use Rattle.spool_types.specs.Phases.{has_ended};
 ghost use Rattle.spool_types.specs.State.{Job, job_at};
 ghost use Rattle.job_table.specs.Contents.{HasMoves, document_room, move_room, places_at, places_of};
-ghost use Rattle.job_table.specs.Rows.{job_entry, HasNew, IsMoved};
+ghost use Rattle.job_table.specs.TableRows.{job_entry, HasNew, IsMoved};
 
 use super::Store;
 use crate::new_places::NewPlaces;

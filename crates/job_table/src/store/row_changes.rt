@@ -5,9 +5,9 @@ ghost use Rattle.spool_types.specs.Limits.{longest_document, greatest_attempts};
 ghost use Rattle.spool_types.specs.Phases.{has_ended, is_processing};
 ghost use Rattle.spool_types.specs.Sent.{bytes_behind, extent_behind};
 ghost use Rattle.job_table.specs.Losses.{HasNextStage};
-ghost use Rattle.job_table.specs.Changes.{new_queue, with_notes, with_accepting, with_stopped, new_job, with_bytes, ended, closed, held};
+ghost use Rattle.job_table.specs.EventChanges.{new_queue, with_notes, with_accepting, with_stopped, new_job, with_bytes, ended, closed, held};
 ghost use Rattle.job_table.specs.RowChanges.{meant, EndsInEnd};
-ghost use Rattle.job_table.specs.Rows.{TakesNone, KeepsDocument};
+ghost use Rattle.job_table.specs.TableRows.{TakesNone, KeepsDocument};
 
 use crate::places::extent_behind;
 use backend_codes::Verdict;

@@ -3,16 +3,16 @@
 //! n log n for n jobs, in whatever order their turns and their deadlines are.
 ghost use Rattle.std.specs.Prelude.{◌≡◌, count_by, is_some, length, IfOk};
 ghost use Rattle.std.specs.List.{All, filter_map};
-ghost use Rattle.queue_sched.specs.Index.{HasEachOnce};
+ghost use Rattle.queue_sched.specs.WaitingIndex.{HasEachOnce};
 ghost use Rattle.job_table.specs.Contents.{no_moves};
-ghost use Rattle.job_table.specs.Drafts.{drafted, AreDrafts, IsBlank};
+ghost use Rattle.job_table.specs.LaneDrafts.{drafted, AreDrafts, IsBlank};
 ghost use Rattle.job_table.specs.Lanes.{AreBeside, IsAdvanced};
 ghost use Rattle.job_table.specs.Legal.{IsLegal};
 ghost use Rattle.job_table.specs.Timely.{deadline_of, IsTimely};
 ghost use Rattle.spool_types.specs.State.{job_at};
 
 use super::Table;
-use crate::lane::{Draft, Lane, standing_of};
+use crate::lane::{Draft, Lane, lane_state_of};
 use crate::new_places::NewPlaces;
 use crate::store::Store;
 use crate::timetable::{Timetable, deadline_of};
@@ -49,10 +49,10 @@ fn drafts_of(alloc: Global, store: &Store) -> Result<Vec<Draft>, AllocError>
     let rows = store.jobs();
     let mut drafts = empty_drafts(alloc, store.queue_count())?;
     for row in rows.iter() {
-        let Ok(place) = store.queue_place(&row.job.queue) else {
+        let Ok(place) = store.queue_position(&row.job.queue) else {
             unreachable!()
         };
-        drafts[place].add(row.job.id, standing_of(&row.job))?;
+        drafts[place].add(row.job.id, lane_state_of(&row.job))?;
     }
     Ok(drafts)
 }

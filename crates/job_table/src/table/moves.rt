@@ -8,7 +8,7 @@ ghost use Rattle.spool_types.specs.Phases.{has_ended};
 ghost use Rattle.spool_types.specs.Sent.{bytes_behind, with_placed};
 ghost use Rattle.spool_types.specs.State.{Job, job_at};
 ghost use Rattle.job_table.specs.Contents.{HasMoves, HasNoMoves, document_room, move_room, no_moves, places_at, places_of};
-ghost use Rattle.job_table.specs.Documents.{document_len};
+ghost use Rattle.job_table.specs.DocumentLengths.{document_len};
 
 use super::Table;
 use crate::new_places::NewPlaces;

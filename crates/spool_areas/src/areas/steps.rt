@@ -7,7 +7,7 @@ ghost use Rattle.spool_areas.specs.Header.{header_len, least_area, newest_versio
 ghost use Rattle.spool_areas.specs.Payloads.{HasVersionAndPayloads};
 ghost use Rattle.spool_areas.specs.Current.{KeepsPayloads};
 ghost use Rattle.spool_areas.specs.Checkpoint.{last_epoch, plan_of, area_len, other_base, ChangesOver};
-ghost use Rattle.spool_areas.specs.Filling.{Change, Fills, change_at, block_len, sum_of};
+ghost use Rattle.spool_areas.specs.AreaFilling.{Change, Fills, change_at, block_len, sum_of};
 
 use super::Areas;
 use crate::checkpoint::have_room_by_sum;

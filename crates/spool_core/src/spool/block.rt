@@ -3,10 +3,10 @@ ghost use Rattle.std.specs.Prelude.{◌≡◌, ◌<◌, ◌≤◌, ◌+◌, ◌^
 ghost use Rattle.spool_types.specs.declared.listing.Row.{Row as RowOf};
 ghost use Rattle.spool_types.specs.declared.version.Version.TheVariants.{Two};
 ghost use Rattle.spool_types.specs.Limits.{longest_send};
-ghost use Rattle.spool_areas.specs.Filling.{block_len};
+ghost use Rattle.spool_areas.specs.AreaFilling.{block_len};
 ghost use Rattle.event_codec.specs.RowSpelling.{IsLegalJob, IsLegalRow, IsOrderedQueue, IsRowSpellable};
-ghost use Rattle.job_table.specs.Documents.{document_len};
-ghost use Rattle.spool_core.specs.Filling.{block_room, free_head, IsPut};
+ghost use Rattle.job_table.specs.DocumentLengths.{document_len};
+ghost use Rattle.spool_core.specs.ListingFilling.{block_room, free_head, IsPut};
 
 use event_codec::{encode_job_onto, encode_queue_onto, encode_row_onto};
 use spool_types::{Head, Job, JobId, QueueRow, Row};

@@ -2,12 +2,12 @@
 ghost use Rattle.std.specs.Prelude.{◌≡◌, ◌≤◌, ◌+◌, ◌↔◌, [], List, ℕ, false, Some, OnOk, OnErr, IfOk, IsErrOf, IsSome, vec_capacity};
 ghost use Rattle.spool_types.specs.Limits.{greatest_number};
 ghost use Rattle.spool_disk.specs.Disk.{Blames, IsSynced, LeavesOnly};
-ghost use Rattle.spool_areas.specs.Filling.{sum_of};
+ghost use Rattle.spool_areas.specs.AreaFilling.{sum_of};
 ghost use Rattle.job_table.specs.Contents.{AreSized, HasNoMoves, HasOwnPlaces};
 ghost use Rattle.job_table.specs.Legal.{IsLegal};
 ghost use Rattle.spool_core.specs.Image.{HasInEitherVersion, HasTable, HasDocuments};
-ghost use Rattle.spool_core.specs.Seen.{standing_at, IsStandingAt};
-ghost use Rattle.spool_core.specs.Filling.{block_room, HasMoveRoom};
+ghost use Rattle.spool_core.specs.SpoolFields.{open_spool_at, IsOpenSpoolAt};
+ghost use Rattle.spool_core.specs.ListingFilling.{block_room, HasMoveRoom};
 ghost use Rattle.spool_core.specs.Checkpointing.{HasEpoch, IsCheckpoint, IsCheckpointed, blank, fault_for, listed_payloads};
 
 use super::block::BLOCK_ROOM;
@@ -57,9 +57,9 @@ fn change_areas<D: Disk>(
     areas: &mut Areas<D>,
     table: &mut Table,
 ) -> Result<(), CheckpointFault>
-    requires { IsStandingAt D.device areas.old table.old }
+    requires { IsOpenSpoolAt D.device areas.old table.old }
 
-    ensures answer { IsCheckpoint D.device (standing_at areas.old table.old.state) result (standing_at areas.new table.new.state) }
+    ensures answer { IsCheckpoint D.device (open_spool_at areas.old table.old.state) result (open_spool_at areas.new table.new.state) }
     ensures blames { Blames (D.device.failures areas.old.disk) (D.device.failures areas.new.disk) (IsErrOf result CheckpointFault.Disk) }
     ensures fixed { D.device.size areas.new.disk ≡ D.device.size areas.old.disk }
     ensures told { IsSome (D.device.bytes areas.new.disk) ↔ IsSome (D.device.bytes areas.old.disk) }
@@ -69,7 +69,7 @@ fn change_areas<D: Disk>(
         LeavesOnly D.device areas.old.disk areas.new.disk (HasDocuments table.old.state documents) }
     ensures listed { OnOk result (IsSome (D.device.bytes areas.old.disk) → (c : List ℕ) → D.device.image areas.new.disk c → IsCheckpointed table.old.state areas.new.epoch c) }
     ensures same { OnErr result (table.new.state ≡ table.old.state) }
-    ensures standing { IsStandingAt D.device areas.new table.new }
+    ensures open_spool { IsOpenSpoolAt D.device areas.new table.new }
     ensures durable { OnOk result (IsSynced D.device areas.new.disk) }
 {
     // Before any memory is taken.

@@ -8,19 +8,19 @@ ghost use Rattle.spool_types.specs.State.{Job as JobOf, job_at};
 ghost use Rattle.spool_types.specs.declared.listing.Row.{Row as RowOf};
 ghost use Rattle.spool_types.specs.declared.version.Version.TheVariants.{Two};
 ghost use Rattle.gate_journal.specs.Appends.{kept_room};
-ghost use Rattle.spool_areas.specs.Filling.{block_len};
+ghost use Rattle.spool_areas.specs.AreaFilling.{block_len};
 ghost use Rattle.spool_areas.specs.Header.{header_len};
-ghost use Rattle.spool_areas.specs.Seen.{IsArea};
+ghost use Rattle.spool_areas.specs.AreaFields.{IsArea};
 ghost use Rattle.spool_areas.specs.Checkpoint.{area_len, other_base, plan_of};
 ghost use Rattle.event_codec.specs.RowSpelling.{row_spelling, IsOrderedQueue, IsRowSpellable};
 ghost use Rattle.job_table.specs.Contents.{HasNoMoves, move_room, places_at};
-ghost use Rattle.job_table.specs.Documents.{document_len};
+ghost use Rattle.job_table.specs.DocumentLengths.{document_len};
 ghost use Rattle.job_table.specs.Listing.{listing};
 ghost use Rattle.documents.specs.Documents.{joined, LieIn};
 ghost use Rattle.spool_core.specs.Checkpointing.{blank, blank_rows, MayBeListed};
-ghost use Rattle.spool_core.specs.Seen.{DocumentsLieIn, IsStandingAt};
-ghost use Rattle.spool_core.specs.Standing.{len_at};
-ghost use Rattle.spool_core.specs.Filling.{block_room, filling, filling_at, next_place, IsPut, records_len, HasMoveRoom, MayFill, IsFillingOn, IsReadOn, AddsRows, TellsBut, IsPieceAdded, IsPieceNoted, IsDue, IsDocumentAdded, IsDocumentNoted, AreJobsAdded, AreJobsNoted, IsListingAdded, AreDocumentsNoted, IsFilledOver};
+ghost use Rattle.spool_core.specs.SpoolFields.{DocumentsLieIn, IsOpenSpoolAt};
+ghost use Rattle.spool_core.specs.OpenSpools.{len_at};
+ghost use Rattle.spool_core.specs.ListingFilling.{block_room, filling, filling_at, next_place, IsPut, records_len, HasMoveRoom, MayFill, IsFillingOn, IsReadOn, AddsRows, TellsBut, IsPieceAdded, IsPieceNoted, IsDue, IsDocumentAdded, IsDocumentNoted, AreJobsAdded, AreJobsNoted, IsListingAdded, AreDocumentsNoted, IsFilledOver};
 
 use super::block::{PIECE_HEAD, put_head, put_job, put_piece, put_queue};
 use documents::read_joined;
@@ -44,7 +44,7 @@ pub(super) fn fill_other<D: Disk>(
     block: Vec<u8>,
 ) -> Result<(), AreaFault>
     requires alive { areas.old.dead ≡ false }
-    requires stands { IsStandingAt D.device areas.old table.old }
+    requires stands { IsOpenSpoolAt D.device areas.old table.old }
     requires plan { plan_of areas.old [] ≡ Ok (other_base areas.old + header_len) }
     requires room { other_base areas.old + header_len + records_len (listing table.old.state (blank table.old.state)) + kept_room ≤ other_base areas.old + area_len areas.old }
     requires empty { block.items ≡ [] }

@@ -8,8 +8,8 @@ ghost use Rattle.spool_disk.specs.Disk.{Blames, IsSynced, LeavesOnly};
 ghost use Rattle.job_table.specs.Contents.{Contents, IsPrepared, HasPlace, AddsPlaces, KeepsPlaces};
 ghost use Rattle.spool_types.specs.Sent.{sent_by};
 ghost use Rattle.spool_core.specs.Image.{HasDocuments, HasBeforeOrAfterEvent, HasWholeBeforeOrAfterEvent, IsReopeningFault, documents_after_one};
-ghost use Rattle.spool_core.specs.Seen.{standing_at, IsStandingAt};
-ghost use Rattle.spool_core.specs.Standing.{IsJournalled, IsFrameOf, record_len};
+ghost use Rattle.spool_core.specs.SpoolFields.{open_spool_at, IsOpenSpoolAt};
+ghost use Rattle.spool_core.specs.OpenSpools.{IsJournalled, IsFrameOf, record_len};
 
 use super::ApplyFault;
 use event_codec::encode_onto;
@@ -28,9 +28,9 @@ pub(super) fn journal<D: Disk>(
     frame: &mut Vec<u8>,
     event: &Event,
 ) -> Result<u64, ApplyFault>
-    requires { IsStandingAt D.device areas.old table.old }
+    requires { IsOpenSpoolAt D.device areas.old table.old }
 
-    ensures answer { IsJournalled D.device (standing_at areas.old table.old.state) event.now result (standing_at areas.new table.old.state) }
+    ensures answer { IsJournalled D.device (open_spool_at areas.old table.old.state) event.now result (open_spool_at areas.new table.old.state) }
     ensures same { table.new.state ≡ table.old.state }
     ensures places { table.new.places ≡ table.old.places }
     ensures moves { table.new.moves ≡ table.old.moves }
@@ -53,8 +53,8 @@ pub(super) fn journal<D: Disk>(
         (c : List ℕ) → D.device.image areas.new.disk c → HasDocuments (after table.old.state event.now) (documents_after_one table.old.state documents event.now) c) }
 
     // After Ok a crash leaves the one after it, and nothing is unsynced; after an error, but of the device, the one before.
-    ensures added { IfOk result (λ place. (c : Contents) → c.state ≡ after table.old.state event.now → AddsPlaces place (sent_by event.now) table.new c → IsStandingAt D.device areas.new c) }
-    ensures kept { OnErr result (IsStandingAt D.device areas.new table.new) }
+    ensures added { IfOk result (λ place. (c : Contents) → c.state ≡ after table.old.state event.now → AddsPlaces place (sent_by event.now) table.new c → IsOpenSpoolAt D.device areas.new c) }
+    ensures kept { OnErr result (IsOpenSpoolAt D.device areas.new table.new) }
     ensures durable { OnOk result (IsSynced D.device areas.new.disk) }
 {
     ended_jobs_stay();
@@ -86,7 +86,7 @@ pub(super) fn journal_reopening<D: Disk>(
     table: &mut Table,
     frame: &mut Vec<u8>,
 ) -> Result<u64, OpenFault>
-    requires standing { IsStandingAt D.device areas.old table.old }
+    requires open_spool { IsOpenSpoolAt D.device areas.old table.old }
     requires alive { areas.old.dead ≡ false }
     requires legal { IsLegal table.old.state }
     requires busy { ¬ (HasNoProcessing table.old.state) }
@@ -112,9 +112,9 @@ pub(super) fn journal_reopening<D: Disk>(
 
     // It leaves the documents.
     ensures documents { LeavesOnly D.device areas.old.disk areas.new.disk (λ c. (r : List ℕ) (documents : ℕ → List ℕ) → D.device.bytes areas.old.disk ≡ Some r → HasDocuments table.old.state documents r → HasDocuments table.old.state documents c) }
-    ensures added { OnOk result ((c : Contents) → c.state ≡ reopened table.old.state → KeepsPlaces table.new c → IsStandingAt D.device areas.new c) }
+    ensures added { OnOk result ((c : Contents) → c.state ≡ reopened table.old.state → KeepsPlaces table.new c → IsOpenSpoolAt D.device areas.new c) }
     ensures idle { HasNoProcessing (reopened table.old.state) }
-    ensures kept { OnErr result (IsStandingAt D.device areas.new table.new) }
+    ensures kept { OnErr result (IsOpenSpoolAt D.device areas.new table.new) }
 {
     ended_jobs_stay();
     reopening();

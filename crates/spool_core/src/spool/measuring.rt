@@ -6,7 +6,7 @@ ghost use Rattle.spool_types.specs.Limits.{longest_send};
 ghost use Rattle.spool_types.specs.State.{job_of};
 ghost use Rattle.gate_journal.specs.Entries.{records};
 ghost use Rattle.std.specs.List.{flat_map};
-ghost use Rattle.spool_areas.specs.Filling.{sum_of};
+ghost use Rattle.spool_areas.specs.AreaFilling.{sum_of};
 ghost use Rattle.event_codec.specs.RowSpelling.{row_spelling};
 ghost use Rattle.spool_core.specs.Checkpointing.{blank, blank_rows, listed_payloads};
 ghost use Rattle.spool_core.specs.Measuring.{IsSumMore};

@@ -8,7 +8,7 @@ ghost use Rattle.spool_disk.specs.Disk.{Blames, LeavesOnly, ChangesNothing};
 ghost use Rattle.gate_journal.specs.Appends.{kept_room};
 ghost use Rattle.spool_core.specs.Image.{HasTable, HasDocuments, HasRoom, HasBeforeOrAfterEvent, IsReopenedFrom, IsMidway, IsFaultOf, IsReopeningFault};
 ghost use Rattle.spool_core.specs.Checkpointing.{HasEpoch};
-ghost use Rattle.spool_core.specs.Standing.{LeavesRoom, record_len};
+ghost use Rattle.spool_core.specs.OpenSpools.{LeavesRoom, record_len};
 
 use super::Spool;
 use super::journalling::journal_reopening;

@@ -1,6 +1,6 @@
 use Rattle.std.proofs.Common.{◌≡◌, [], take, ap, sym, ◌∙◌}
 use Rattle.std.proofs.lemmas.List.{append-nil, take_min}
-use Rattle.stderr_lines.specs.Pending.{to_come}
+use Rattle.stderr_lines.specs.PendingEffects.{to_come}
 use Rattle.stderr_lines.specs.Reports.{report_of}
 use Rattle.child_pipeline.specs.Finishes.{most_errors}
 use Rattle.child_pipeline.proofs.reports.report.Goals as goal

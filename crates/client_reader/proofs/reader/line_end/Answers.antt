@@ -1,6 +1,6 @@
 use Rattle.std.proofs.Common.{get_or, take, ap, ◌∙◌}
 use Rattle.std.proofs.lemmas.List.{take_more}
-use Rattle.command_lines.specs.Lines.{has_lf}
+use Rattle.command_lines.specs.TextLines.{has_lf}
 use Rattle.client_reader.proofs.Lines.{has_lf_append, no_lf}
 use Rattle.client_reader.proofs.reader.line_end.Goals as goal
 

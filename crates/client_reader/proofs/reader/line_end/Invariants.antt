@@ -1,5 +1,5 @@
 use Rattle.std.proofs.Common.{◌≡◌, false, take}
-use Rattle.command_lines.specs.Lines.{has_lf}
+use Rattle.command_lines.specs.TextLines.{has_lf}
 use Rattle.client_reader.proofs.reader.line_end.Given as goal
 
 abbrev pub invariant-loop-i : goal.invariant-loop-i

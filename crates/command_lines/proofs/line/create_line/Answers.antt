@@ -1,7 +1,7 @@
 use Rattle.std.proofs.Common.{arith}
 use Rattle.std.proofs.lemmas.Bool.{ltb-true, ltb-false}
 use Rattle.std.proofs.lemmas.Bool.Decides.{nat_tests}
-use Rattle.line_words.specs.Seen.{bytes_of}
+use Rattle.line_words.specs.WordFields.{bytes_of}
 use Rattle.command_lines.proofs.GrammarLaws.{no_creation}
 use Rattle.command_lines.proofs.line.create_line.Goals as goal
 use Rattle.command_lines.proofs.line.create_line.Goals.{in_default-via-then-words-lt6, in_default-via-else-words-lt6+else-words-lt7}

@@ -2,7 +2,7 @@ use Rattle.std.proofs.Common.{arith, sym, ◌∙◌}
 use Rattle.std.proofs.lemmas.Bool.{ltb-true, ltb-false}
 use Rattle.std.proofs.lemmas.Bool.Decides.{nat_tests}
 use Rattle.std.proofs.lemmas.Grind.{common_steps}
-use Rattle.line_words.specs.Seen.{bytes_of}
+use Rattle.line_words.specs.WordFields.{bytes_of}
 use Rattle.command_lines.proofs.GrammarLaws.{no_creation_by}
 use Rattle.command_lines.proofs.line.createby_line.Goals as goal
 use Rattle.command_lines.proofs.line.createby_line.Goals.{in_default-via-then-words-lt7, in_default-via-else-words-lt7+else-words-lt8}

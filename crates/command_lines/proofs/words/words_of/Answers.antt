@@ -1,7 +1,7 @@
 use Rattle.std.proofs.Common.{map, ◌∷◌, [], ap, sym, ◌∙◌}
 use Rattle.std.proofs.lemmas.List.{map-append}
-use Rattle.command_lines.specs.Words.{words_of}
-use Rattle.line_words.specs.Seen.{bytes_of}
+use Rattle.command_lines.specs.CommandWords.{words_of}
+use Rattle.line_words.specs.WordFields.{bytes_of}
 use Rattle.command_lines.specs.Fronts.{front_of}
 use Rattle.command_lines.proofs.WordLaws.{with_words, words_end, words_break, words_more, rest_shorter}
 use Rattle.command_lines.proofs.words.words_of.Goals as goal

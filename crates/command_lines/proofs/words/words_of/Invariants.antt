@@ -1,6 +1,6 @@
 use Rattle.std.proofs.Common.{◌≡◌, length, map}
-use Rattle.command_lines.specs.Words.{words_of}
-use Rattle.line_words.specs.Seen.{bytes_of}
+use Rattle.command_lines.specs.CommandWords.{words_of}
+use Rattle.line_words.specs.WordFields.{bytes_of}
 use Rattle.command_lines.proofs.WordLaws.{with_words}
 use Rattle.command_lines.proofs.words.words_of.Given as goal
 

@@ -1,7 +1,7 @@
 use Rattle.std.proofs.Common.{◌<◌, length, Some, refl, sym, ap, ◌∙◌, inl, inr}
 use Rattle.std.proofs.lemmas.Bool.{cases_lt, false≢true}
 use Rattle.std.specs.Option.{option_map}
-use Rattle.line_words.specs.Seen.{bytes_of}
+use Rattle.line_words.specs.WordFields.{bytes_of}
 use Rattle.device_uri.proofs.FieldForm.{no_quote, open_quote, short_field, long_field}
 use Rattle.device_uri.proofs.fields.read_field.Goals as goal
 

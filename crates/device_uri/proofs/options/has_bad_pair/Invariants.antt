@@ -1,6 +1,6 @@
 use Rattle.std.proofs.Common.{◌≡◌, ◌≤◌}
 use Rattle.form_urlencoded.specs.Form.{raw_pairs}
-use Rattle.device_uri.specs.Options.{is_bad}
+use Rattle.device_uri.specs.UriOptions.{is_bad}
 use Rattle.device_uri.proofs.OptionLaws.{is_bad_after}
 use Rattle.device_uri.proofs.options.has_bad_pair.Given as goal
 

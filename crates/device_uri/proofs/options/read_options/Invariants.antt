@@ -1,6 +1,6 @@
 use Rattle.std.proofs.Common.{◌≡◌, ◌++◌, map}
 use Rattle.form_urlencoded.specs.Form.{raw_pairs}
-use Rattle.device_uri.specs.Options.{option_of}
+use Rattle.device_uri.specs.UriOptions.{option_of}
 use Rattle.device_uri.proofs.options.read_options.Given as goal
 
 abbrev pub invariant-loop-name : goal.invariant-loop-name

@@ -1,7 +1,7 @@
 use Rattle.std.proofs.Common.{◌∷◌, [], Ok, ap, arith, length-append}
 use Rattle.std.proofs.lemmas.Result.{err_from_is_err_and}
 use Rattle.spool_types.specs.Effects.{most_effect_bytes}
-use Rattle.event_codec.specs.Reading.{◌>>=◌, effect_within, list_at, listed_at}
+use Rattle.event_codec.specs.EventReading.{◌>>=◌, effect_within, list_at, listed_at}
 use Rattle.event_codec.proofs.Loop.{front_starts, goes_on, ends, is_done, fails_then}
 use Rattle.event_codec.proofs.effect_reading.listed_at.Goals as goal
 

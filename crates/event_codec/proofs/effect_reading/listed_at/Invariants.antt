@@ -1,5 +1,5 @@
 use Rattle.spool_types.specs.Effects.{most_effect_bytes}
-use Rattle.event_codec.specs.Reading.{effect_within}
+use Rattle.event_codec.specs.EventReading.{effect_within}
 use Rattle.event_codec.proofs.Loop.{IsFront}
 use Rattle.event_codec.proofs.effect_reading.listed_at.Given as goal
 

@@ -1,6 +1,6 @@
 use Rattle.std.proofs.Common.{◌∷◌, [], arith, length-append}
 use Rattle.std.proofs.lemmas.Result.{err_from_is_err_and}
-use Rattle.event_codec.specs.Reading.{text_at, list_at}
+use Rattle.event_codec.specs.EventReading.{text_at, list_at}
 use Rattle.event_codec.proofs.Loop.{front_starts, goes_on, ends, is_done}
 use Rattle.event_codec.proofs.fields.texts_at.Goals as goal
 

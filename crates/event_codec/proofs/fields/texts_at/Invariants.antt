@@ -1,4 +1,4 @@
-use Rattle.event_codec.specs.Reading.{text_at}
+use Rattle.event_codec.specs.EventReading.{text_at}
 use Rattle.event_codec.proofs.Loop.{IsFront}
 use Rattle.event_codec.proofs.fields.texts_at.Given as goal
 

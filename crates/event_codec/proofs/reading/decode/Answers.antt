@@ -1,5 +1,5 @@
 use Rattle.std.proofs.Common.{ap, subst, ◌∙◌, arith}
-use Rattle.event_codec.specs.Reading.{Gives, reading}
+use Rattle.event_codec.specs.EventReading.{Gives, reading}
 use Rattle.event_codec.proofs.EventLaws.{is_found, reading_again}
 use Rattle.event_codec.proofs.reading.decode.Goals as goal
 

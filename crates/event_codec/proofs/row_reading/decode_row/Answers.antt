@@ -1,5 +1,5 @@
 use Rattle.std.proofs.Common.{ap, subst, ◌∙◌, arith}
-use Rattle.event_codec.specs.Reading.{Gives}
+use Rattle.event_codec.specs.EventReading.{Gives}
 use Rattle.event_codec.specs.RowReading.{row_reading}
 use Rattle.event_codec.proofs.RowLaws.{is_found_row, row_reading_again}
 use Rattle.event_codec.proofs.row_reading.decode_row.Goals as goal

@@ -1,6 +1,6 @@
 use Rattle.std.proofs.Common.{◌∷◌, [], Some, None, map, arith, length-append}
 use Rattle.std.proofs.lemmas.Result.{err_from_is_err_and}
-use Rattle.event_codec.specs.Reading.{list_at}
+use Rattle.event_codec.specs.EventReading.{list_at}
 use Rattle.event_codec.specs.RowSpelling.{name_of}
 use Rattle.event_codec.specs.RowReading.{last_of, attribute_after}
 use Rattle.event_codec.proofs.Loop.{front_starts, goes_on, ends, is_done}

@@ -1,6 +1,6 @@
 use Rattle.std.proofs.Common.{◌∷◌, [], Some, None, arith, length-append}
 use Rattle.std.proofs.lemmas.Result.{err_from_is_err_and}
-use Rattle.event_codec.specs.Reading.{list_at}
+use Rattle.event_codec.specs.EventReading.{list_at}
 use Rattle.event_codec.specs.RowReading.{last_of, reason_after}
 use Rattle.event_codec.proofs.Loop.{front_starts, goes_on, ends, is_done}
 use Rattle.event_codec.proofs.OrderLaws.{last_pushed}

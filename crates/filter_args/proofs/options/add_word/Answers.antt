@@ -1,5 +1,5 @@
 use Rattle.std.proofs.Common.{sym, ◌∙◌}
-use Rattle.filter_args.specs.Seen.{pairs_of}
+use Rattle.filter_args.specs.OptionFields.{pairs_of}
 use Rattle.filter_args.proofs.PairLaws.{some_from, with_word-put}
 use Rattle.filter_args.proofs.WordLaws.{word_fault_told}
 use Rattle.filter_args.proofs.options.add_word.Goals as goal

@@ -2,7 +2,7 @@ use Rattle.std.proofs.Common.{◌≡◌, ◌<◌, ◌≤◌, None, length, subst
 use Rattle.std.proofs.lemmas.Bool.Decides.{nat_tests}
 use Rattle.std.specs.Result.{result_err}
 use Rattle.line_words.specs.declared.quoting.Quoting.TheVariants.{Bare}
-use Rattle.filter_args.specs.Reading.{word_here, words_of, pairs_in, joined, reading, with_word}
+use Rattle.filter_args.specs.OptionTexts.{word_here, words_of, pairs_in, joined, reading, with_word}
 use Rattle.filter_args.proofs.WordLaws.{after_word_shorter, fault_told, ok_value, pair_told}
 use Rattle.filter_args.proofs.options.first_fault.Goals as goal
 

@@ -3,7 +3,7 @@ use Rattle.std.proofs.Common.{◌≡◌, List, length}
 use denote.Text.{Utf8}
 use denote.Shadow.{shadow}
 use Rattle.filter_args.specs.Pairs.{Pair}
-use Rattle.filter_args.specs.Reading.{words_of, pairs_in, joined, reading}
+use Rattle.filter_args.specs.OptionTexts.{words_of, pairs_in, joined, reading}
 use Rattle.filter_args.proofs.options.first_fault.Given as goal
 
 abbrev pub invariant-loop-rest : goal.invariant-loop-rest

@@ -1,7 +1,7 @@
 -- the word and the rest, of which the bytes so far are read
 use Rattle.std.proofs.Common.{◌≡◌, ◌++◌, take, drop}
 use Rattle.line_words.specs.declared.quoting.Quoting.TheVariants.{Bare}
-use Rattle.filter_args.specs.Reading.{word_here, after_word}
+use Rattle.filter_args.specs.OptionTexts.{word_here, after_word}
 use Rattle.filter_args.proofs.reading.split_word.Given as goal
 
 abbrev pub invariant-loop-i : goal.invariant-loop-i

@@ -1,6 +1,6 @@
 use Rattle.std.proofs.Common.{ℕ, List, codes, ap}
 use Rattle.filter_args.specs.Environment.{variable}
-use Rattle.filter_args.specs.Seen.{texts}
+use Rattle.filter_args.specs.OptionFields.{texts}
 use Rattle.filter_args.proofs.ListLaws.{two}
 use Rattle.filter_args.proofs.variables.push_device.Goals as goal
 

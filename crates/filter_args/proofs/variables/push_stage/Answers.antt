@@ -1,7 +1,7 @@
 use Rattle.std.proofs.Common.{ℕ, List, codes, ap, ◌∙◌}
 use Rattle.std.specs.Fmt.{decimal}
 use Rattle.filter_args.specs.Environment.{variable}
-use Rattle.filter_args.specs.Seen.{texts}
+use Rattle.filter_args.specs.OptionFields.{texts}
 use Rattle.filter_args.proofs.ListLaws.{four}
 use Rattle.filter_args.proofs.variables.push_stage.Goals as goal
 

@@ -2,7 +2,7 @@
 use Rattle.std.proofs.Common.{◌≡◌, ℕ, Bool, List, subst}
 use Rattle.front_submission.specs.declared.step.End.{End}
 use Rattle.front_submission.specs.declared.step.Step.TheVariants.{Ended}
-use Rattle.front_submission.specs.Runs.{Event, ArePieces, end_of, joined}
+use Rattle.front_submission.specs.SubmissionRuns.{Event, ArePieces, end_of, joined}
 use Rattle.front_submission.proofs.Keeping.{Keeps, KeepsEnd, end_keeps, closes_once, accepted_once, unprintable_once, refused_never}
 use Rattle.front_submission.proofs.Alone.{none_behind}
 use Rattle.front_submission.proofs.laws.acts_once.Goals as goal

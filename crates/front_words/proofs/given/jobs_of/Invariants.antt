@@ -1,5 +1,5 @@
 use Rattle.std.proofs.Common.{◌≡◌, drop, map}
-use Rattle.front_words.specs.Values.{jobs_of, jobs_on}
+use Rattle.front_words.specs.ArgumentValues.{jobs_of, jobs_on}
 use Rattle.front_words.proofs.given.jobs_of.Given as goal
 
 abbrev pub invariant-loop-text : goal.invariant-loop-text

@@ -1,5 +1,5 @@
 use Rattle.std.proofs.Common.{◌≡◌, length}
-use Rattle.front_words.specs.Values.{last_part, part_of}
+use Rattle.front_words.specs.ArgumentValues.{last_part, part_of}
 use Rattle.front_words.proofs.given.last_part.Given as goal
 
 abbrev pub invariant-loop-byte : goal.invariant-loop-byte

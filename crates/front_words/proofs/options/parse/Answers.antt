@@ -5,7 +5,7 @@ use Rattle.clap.specs.Simple.{is_simple}
 use Rattle.clap.specs.Words.{app_of, fault_of, kind_of}
 use Rattle.clap.specs.declared.error.kind.ErrorKind.{ErrorKind}
 use Rattle.clap.specs.declared.error.kind.ErrorKind.TheVariants.{OutOfMemory}
-use Rattle.front_words.specs.Faults.{RefusesOnly}
+use Rattle.front_words.specs.WordFaults.{RefusesOnly}
 use Rattle.front_words.specs.declared.fault.WordsFault.{WordsFault}
 use Rattle.front_words.specs.declared.fault.WordsFault.TheVariants.{Refused, Memory}
 use Rattle.front_words.proofs.options.parse.Goals as goal

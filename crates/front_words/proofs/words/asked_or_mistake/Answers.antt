@@ -1,5 +1,5 @@
 use Rattle.clap.specs.Words.{found_of, rows_of}
-use Rattle.front_words.specs.Asked.{Fit}
+use Rattle.front_words.specs.AskedTasks.{Fit}
 use Rattle.front_words.proofs.Blames.{tells_mistake}
 use Rattle.front_words.proofs.words.asked_or_mistake.Goals as goal
 

@@ -3,10 +3,10 @@ use Rattle.std.proofs.Common.{◌≡◌, ◌∙◌, List, true, ap, drop, map, s
 use Rattle.std.specs.Prelude.{IfOk, MatchResult}
 use Rattle.clap.specs.Words.{App, Row, Text, app_of, found_of, is_simple_and_free, matches_of, rows_of}
 use Rattle.front_words.specs.Apps.{app_for}
-use Rattle.front_words.specs.Asked.{AreTaken, Fit, IsAskedIn, found_in}
-use Rattle.front_words.specs.Faults.{RefusesOnly}
+use Rattle.front_words.specs.AskedTasks.{AreTaken, Fit, IsAskedIn, found_in}
+use Rattle.front_words.specs.WordFaults.{RefusesOnly}
 use Rattle.front_words.specs.Forms.{form_in, skipped}
-use Rattle.front_words.specs.Options.{AreFaultlessFor}
+use Rattle.front_words.specs.CommandOptions.{AreFaultlessFor}
 use Rattle.front_words.specs.declared.forms.Form.{Form}
 use Rattle.front_words.proofs.Blames.{less_refused, taken_so}
 use Rattle.front_words.proofs.Simple.{is_simple}

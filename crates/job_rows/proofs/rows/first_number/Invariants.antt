@@ -1,5 +1,5 @@
 use Rattle.std.proofs.Common.{◌≡◌, length}
-use Rattle.job_rows.specs.Slots.{first_number}
+use Rattle.job_rows.specs.RowSlots.{first_number}
 use Rattle.job_rows.proofs.rows.first_number.Given as goal
 
 -- only gone slots were passed over

@@ -3,7 +3,7 @@ use Rattle.std.proofs.Common.{rules}
 use Rattle.std.proofs.lemmas.List.Sorted.{IsPartitionPoint-from_clause}
 use Rattle.std.proofs.Math.Dec.{leb}
 use Rattle.job_rows.specs.declared.slot.Slot.{Slot}
-use Rattle.job_rows.specs.Slots.{number_of}
+use Rattle.job_rows.specs.RowSlots.{number_of}
 use Rattle.job_rows.proofs.Holding.{parted_rows, parted_point}
 use Rattle.job_rows.proofs.slot.count_up_to.Goals as goal
 

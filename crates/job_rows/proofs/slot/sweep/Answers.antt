@@ -4,7 +4,7 @@ use Rattle.std.specs.FinMap as finite
 use Rattle.std.specs.Ordering.{nat_cmp}
 use Rattle.std.proofs.lemmas.Fn.{filter_same}
 use Rattle.job_rows.specs.declared.slot.Slot.{Slot}
-use Rattle.job_rows.specs.Slots.{slot_entry, held, numbers, gone_count, EndsHeld}
+use Rattle.job_rows.specs.RowSlots.{slot_entry, held, numbers, gone_count, EndsHeld}
 use Rattle.job_rows.proofs.Ending.{is_row, held_swept, numbers_swept, none_swept, sorted_swept, ends_swept}
 use Rattle.job_rows.proofs.slot.sweep.Goals as goal
 

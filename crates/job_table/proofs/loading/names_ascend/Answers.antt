@@ -1,7 +1,7 @@
 -- each two neighbours were compared
 use Rattle.std.proofs.Common.{rules}
 use Rattle.std.proofs.lemmas.List.Sorted.{answers_always}
-use Rattle.row_effects.specs.Attributes.{name_of}
+use Rattle.row_effects.specs.QueueAttributes.{name_of}
 use Rattle.job_table.proofs.Ascending.{is_lower, ascends_as}
 use Rattle.job_table.proofs.loading.names_ascend.Goals as goal
 

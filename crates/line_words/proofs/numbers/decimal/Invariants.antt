@@ -2,7 +2,7 @@
 use Rattle.std.proofs.Common.{◌≡◌, ◌≤◌, true, take, drop}
 use Rattle.std.specs.List.{list_all}
 use Rattle.std.specs.Char.{is_ascii_digit}
-use Rattle.line_words.specs.Numbers.{read_on}
+use Rattle.line_words.specs.DecimalNumbers.{read_on}
 use Rattle.line_words.proofs.numbers.decimal.Given as goal
 
 abbrev pub invariant-loop-b : goal.invariant-loop-b

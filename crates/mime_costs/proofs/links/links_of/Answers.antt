@@ -1,12 +1,12 @@
 -- one more link, of the places that the sources have
 use Rattle.std.proofs.Common.{ℕ, [], ◌∷◌, ◌++◌, map, take, get_or, ap, sym, ◌∙◌}
 use Rattle.std.proofs.lemmas.List.{take_more, map-append}
-use Rattle.mime_costs.specs.Index.{sources_of, place_in, places_in, link_of}
+use Rattle.mime_costs.specs.SourceIndex.{sources_of, position_in, positions_in, link_of}
 use Rattle.mime_costs.specs.declared.links.Link.{Link}
-use Rattle.mime_costs.specs.declared.links.Places.{Places}
+use Rattle.mime_costs.specs.declared.links.Positions.{Positions}
 use Rattle.mime_costs.proofs.links.links_of.Goals as goal
 
-abbrev linked : ℕ → Places → Link
+abbrev linked : ℕ → Positions → Link
 linked group next = record { group = group; next = next }
 
 pub loop-conversion-preserved : goal.loop-conversion-preserved
@@ -17,10 +17,10 @@ loop-conversion-preserved c =
     let i = c.loop-conversion.conversion-index in
     let x = c.conversion-item.result in
     let known = c.in_ok-sources.ensures in
-    let group = c.place_of-group.ensures sources known ∙ ap (place_in sources) c.as_str.ensures.value in
-    let next = c.in_ok-next.ensures sources known ∙ ap (places_in sources) c.as_str-in-loop-conversion.ensures.value in
-    let one = ap (linked c.place_of-group.result) next ∙ ap (λ g. linked g (places_in sources x.destination)) group ∙ ap link c.conversion-item.is in
+    let group = c.position_of-group.ensures sources known ∙ ap (position_in sources) c.as_str.ensures.value in
+    let next = c.in_ok-next.ensures sources known ∙ ap (positions_in sources) c.as_str-in-loop-conversion.ensures.value in
+    let one = ap (linked c.position_of-group.result) next ∙ ap (λ g. linked g (positions_in sources x.destination)) group ∙ ap link c.conversion-item.is in
     c.in_ok-push.ensures.items
-    ∙ ap (λ links. links ++ linked c.place_of-group.result c.in_ok-next.next ∷ []) c.loop-conversion.invariant
+    ∙ ap (λ links. links ++ linked c.position_of-group.result c.in_ok-next.next ∷ []) c.loop-conversion.invariant
     ∙ ap (λ v. map link (take i file) ++ v ∷ []) one
     ∙ sym (ap (map link) (take_more file i x c.loop-conversion-test.true) ∙ map-append link (take i file) (get_or file i x ∷ []))

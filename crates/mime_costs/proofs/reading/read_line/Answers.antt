@@ -1,6 +1,6 @@
 use Rattle.std.proofs.Common.{ap, sym, ◌∙◌}
-use Rattle.mime_costs.specs.Reading.{of_words, with_filter}
-use Rattle.mime_costs.specs.Seen.{words_in}
+use Rattle.mime_costs.specs.ConversionFiles.{of_words, with_filter}
+use Rattle.mime_costs.specs.ConversionFields.{words_in}
 use Rattle.mime_costs.proofs.ReadLaws.{bad_source, bad_destination, bad_cost, with_parts}
 use Rattle.mime_costs.proofs.reading.read_line.Goals as goal
 

@@ -2,8 +2,8 @@ use Rattle.std.proofs.Common.{ap, sym, ◌∙◌}
 use Rattle.std.proofs.lemmas.List.{take_all}
 use Rattle.std.proofs.lemmas.List.Folds.{flat_map-map}
 use Rattle.std.specs.List.{flat_map}
-use Rattle.mime_lines.specs.Seen.{line_of}
-use Rattle.mime_costs.specs.Reading.{conversion_of, taken, refused}
+use Rattle.mime_lines.specs.LineFields.{line_of}
+use Rattle.mime_costs.specs.ConversionFiles.{conversion_of, taken, refused}
 use Rattle.mime_costs.proofs.reading.read_lines.Goals as goal
 
 pub returns-clause-conversions : goal.returns-clause-conversions

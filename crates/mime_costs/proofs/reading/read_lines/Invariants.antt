@@ -1,8 +1,8 @@
 -- what the lines so far say
 use Rattle.std.proofs.Common.{◌≡◌, take}
 use Rattle.std.specs.List.{flat_map}
-use Rattle.mime_lines.specs.Seen.{line_of}
-use Rattle.mime_costs.specs.Reading.{conversion_of, taken, refused}
+use Rattle.mime_lines.specs.LineFields.{line_of}
+use Rattle.mime_costs.specs.ConversionFiles.{conversion_of, taken, refused}
 use Rattle.mime_costs.proofs.reading.read_lines.Given as goal
 
 abbrev pub invariant-loop-line : goal.invariant-loop-line

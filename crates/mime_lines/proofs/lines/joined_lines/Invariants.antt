@@ -2,7 +2,7 @@
 use Rattle.std.proofs.Common.{◌≡◌, ◌+◌, ◌≤◌, ◌++◌, length, map}
 use Rattle.std.specs.Option.{option_map}
 use Rattle.mime_lines.specs.JoinedLines.{lines_of, joined_from, joined_lines}
-use Rattle.mime_lines.specs.Seen.{line_of}
+use Rattle.mime_lines.specs.LineFields.{line_of}
 use Rattle.mime_lines.proofs.lines.joined_lines.Given as goal
 
 abbrev pub invariant-loop-line : goal.invariant-loop-line

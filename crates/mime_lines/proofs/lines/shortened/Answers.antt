@@ -1,6 +1,6 @@
 use Rattle.std.proofs.Common.{ap, sym, ◌∙◌, ◌-◌, take}
 use Rattle.mime_lines.specs.JoinedLines.{without_last}
-use Rattle.mime_lines.specs.Seen.{text_of}
+use Rattle.mime_lines.specs.LineFields.{text_of}
 use Rattle.mime_lines.proofs.LineLaws.{take_last}
 use Rattle.mime_lines.proofs.lines.shortened.Goals as goal
 

@@ -1,5 +1,5 @@
 use Rattle.std.proofs.Common.{◌≡◌, ◌+◌, ◌*◌, drop, min, ap, ◌∙◌, arith}
-use Rattle.mime_lines.specs.Numbers.{read_on}
+use Rattle.mime_lines.specs.RuleNumbers.{read_on}
 use Rattle.mime_lines.proofs.NumberLaws.{read_more}
 use Rattle.mime_lines.proofs.numbers.digits_value.Goals as goal
 

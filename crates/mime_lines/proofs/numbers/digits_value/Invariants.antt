@@ -1,6 +1,6 @@
 -- the digits so far were read, up to the greatest number and one
 use Rattle.std.proofs.Common.{◌≡◌, ◌≤◌, drop, min}
-use Rattle.mime_lines.specs.Numbers.{read_on}
+use Rattle.mime_lines.specs.RuleNumbers.{read_on}
 use Rattle.mime_lines.proofs.numbers.digits_value.Given as goal
 
 abbrev pub invariant-loop-b : goal.invariant-loop-b

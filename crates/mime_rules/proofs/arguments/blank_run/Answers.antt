@@ -1,6 +1,6 @@
 use Rattle.std.proofs.Common.{ap, sym, ◌∙◌, ◌∷◌}
-use Rattle.mime_rules.specs.Arguments.{text_from, bare}
-use Rattle.mime_rules.specs.Seen.{with_bytes}
+use Rattle.mime_rules.specs.TestArguments.{text_from, bare}
+use Rattle.mime_rules.specs.RuleFields.{with_bytes}
 use Rattle.mime_rules.proofs.ReadLaws.{with_bytes_append, blank_dropped, blanks_dropped, blank_counts, grown_from}
 use Rattle.mime_rules.proofs.arguments.blank_run.Goals as goal
 

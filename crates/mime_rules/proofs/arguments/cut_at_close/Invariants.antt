@@ -1,6 +1,6 @@
 use Rattle.std.proofs.Common.{◌≡◌, ◌++◌, take, drop}
-use Rattle.mime_rules.specs.Reading.{before, from}
-use Rattle.mime_rules.specs.Arguments.{is_close}
+use Rattle.mime_rules.specs.RuleReading.{before, from}
+use Rattle.mime_rules.specs.TestArguments.{is_close}
 use Rattle.mime_rules.proofs.arguments.cut_at_close.Given as goal
 
 abbrev pub invariant-loop-i : goal.invariant-loop-i

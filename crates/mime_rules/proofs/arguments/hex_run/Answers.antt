@@ -1,6 +1,6 @@
 use Rattle.std.proofs.Common.{ap, sym, ◌∙◌, arith}
-use Rattle.mime_rules.specs.Arguments.{text_from, hex, pair_at}
-use Rattle.mime_rules.specs.Seen.{with_bytes}
+use Rattle.mime_rules.specs.TestArguments.{text_from, hex, pair_at}
+use Rattle.mime_rules.specs.RuleFields.{with_bytes}
 use Rattle.mime_rules.proofs.ReadLaws.{with_bytes_append, with_bytes_wrong, hex_empty, hex_ends, hex_more, hex_rest, pair_fault}
 use Rattle.mime_rules.proofs.arguments.hex_run.Goals as goal
 

@@ -1,6 +1,6 @@
 use Rattle.std.proofs.Common.{◌≡◌, ◌≤◌, length, false}
-use Rattle.mime_rules.specs.Arguments.{text_from, bare, is_closing}
-use Rattle.mime_rules.specs.Seen.{with_bytes}
+use Rattle.mime_rules.specs.TestArguments.{text_from, bare, is_closing}
+use Rattle.mime_rules.specs.RuleFields.{with_bytes}
 use Rattle.mime_rules.proofs.arguments.push_blanks.Given as goal
 
 abbrev pub invariant-loop-b : goal.invariant-loop-b

@@ -1,6 +1,6 @@
 use Rattle.std.proofs.Common.{ap, sym, ◌∙◌, arith}
-use Rattle.mime_rules.specs.Arguments.{text_from, quoted}
-use Rattle.mime_rules.specs.Seen.{with_bytes}
+use Rattle.mime_rules.specs.TestArguments.{text_from, quoted}
+use Rattle.mime_rules.specs.RuleFields.{with_bytes}
 use Rattle.mime_rules.proofs.ReadLaws.{with_bytes_append, with_bytes_wrong, quote_empty, quote_more}
 use Rattle.mime_rules.proofs.arguments.quoted_run.Goals as goal
 

@@ -1,6 +1,6 @@
 use Rattle.std.proofs.Common.{ap, sym, ◌∙◌}
-use Rattle.mime_rules.specs.Arguments.{text_from, bare}
-use Rattle.mime_rules.specs.Seen.{with_bytes}
+use Rattle.mime_rules.specs.TestArguments.{text_from, bare}
+use Rattle.mime_rules.specs.RuleFields.{with_bytes}
 use Rattle.mime_rules.proofs.ReadLaws.{with_bytes_wrong, with_bytes_read, text_empty, text_close}
 use Rattle.mime_rules.proofs.arguments.text_at.Goals as goal
 

@@ -1,7 +1,7 @@
 use Rattle.std.proofs.Common.{◌≡◌, ◌≤◌, length}
 use Rattle.line_words.specs.Blanks.{after_blanks}
-use Rattle.mime_rules.specs.Arguments.{text_from, bare}
-use Rattle.mime_rules.specs.Seen.{with_bytes}
+use Rattle.mime_rules.specs.TestArguments.{text_from, bare}
+use Rattle.mime_rules.specs.RuleFields.{with_bytes}
 use Rattle.mime_rules.proofs.arguments.text_at.Given as goal
 
 abbrev pub invariant-runs : goal.invariant-runs

@@ -1,7 +1,7 @@
 use Rattle.std.proofs.Common.{◌≡◌, length, map, refl, ap, sym, ◌∙◌, arith, rules, Some}
 use Rattle.std.specs.Option.{option_map}
-use Rattle.mime_rules.specs.Reading.{read}
-use Rattle.mime_rules.specs.Seen.{token_of, meaning_of}
+use Rattle.mime_rules.specs.RuleReading.{read}
+use Rattle.mime_rules.specs.RuleFields.{token_of, meaning_of}
 use Rattle.mime_rules.proofs.GrammarLaws.{factor_stops, factor_with_bangs, item_stops, item_ends, item_goes_on, list_begins, list_stops, list_breaks, list_goes_on, list_ends, nothing_left, factor_along, popped, test_says, priority_says, opened_reads, wrong_says, no_bang, behind_none, shorter_map, no_longer_map}
 use Rattle.mime_rules.proofs.grammar.+grammar.Goals as goal
 

@@ -1,8 +1,8 @@
 use Rattle.std.proofs.Common.{◌+◌, ◌*◌, ◌≤◌, Bool, Option, length, map}
-use Rattle.mime_rules.specs.Reading.{Read}
+use Rattle.mime_rules.specs.RuleReading.{Read}
 use Rattle.mime_rules.specs.Tests.{Subject}
 use Rattle.mime_rules.specs.Tokens.{Token}
-use Rattle.mime_rules.specs.Seen.{token_of, meaning_of, ListSays, ItemSays}
+use Rattle.mime_rules.specs.RuleFields.{token_of, meaning_of, ListSays, ItemSays}
 use Rattle.mime_rules.proofs.GrammarLaws.{HereSays, any_before, all_before}
 use Rattle.mime_rules.proofs.grammar.+grammar.Given as goal
 

@@ -1,6 +1,6 @@
 use Rattle.std.proofs.Common.{◌≡◌, ◌≤◌, length, map}
-use Rattle.mime_rules.specs.Grammar.{after_separators}
-use Rattle.mime_rules.specs.Seen.{token_of}
+use Rattle.mime_rules.specs.RuleGrammar.{after_separators}
+use Rattle.mime_rules.specs.RuleFields.{token_of}
 use Rattle.mime_rules.proofs.grammar.drop_separators.Given as goal
 
 abbrev pub invariant-loop-token : goal.invariant-loop-token

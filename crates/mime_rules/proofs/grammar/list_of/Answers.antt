@@ -1,5 +1,5 @@
 use Rattle.std.proofs.Common.{map}
-use Rattle.mime_rules.specs.Seen.{token_of, meaning_of}
+use Rattle.mime_rules.specs.RuleFields.{token_of, meaning_of}
 use Rattle.mime_rules.proofs.GrammarLaws.{line_stops, line_left, line_good}
 use Rattle.mime_rules.proofs.grammar.list_of.Goals as goal
 

@@ -1,6 +1,6 @@
 use Rattle.std.proofs.Common.{◌≡◌, drop, map}
-use Rattle.mime_rules.specs.Grammar.{last_priority, priority_of}
-use Rattle.mime_rules.specs.Seen.{token_of}
+use Rattle.mime_rules.specs.RuleGrammar.{last_priority, priority_of}
+use Rattle.mime_rules.specs.RuleFields.{token_of}
 use Rattle.mime_rules.proofs.grammar.priority_of.Given as goal
 
 abbrev pub invariant-loop-i : goal.invariant-loop-i

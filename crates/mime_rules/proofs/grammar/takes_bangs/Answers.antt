@@ -1,6 +1,6 @@
 use Rattle.std.proofs.Common.{sym, ◌∙◌, map, arith}
-use Rattle.mime_rules.specs.Grammar.{negated}
-use Rattle.mime_rules.specs.Seen.{token_of}
+use Rattle.mime_rules.specs.RuleGrammar.{negated}
+use Rattle.mime_rules.specs.RuleFields.{token_of}
 use Rattle.mime_rules.proofs.GrammarLaws.{bang_taken, more_bangs}
 use Rattle.mime_rules.proofs.grammar.takes_bangs.Goals as goal
 

@@ -1,8 +1,8 @@
 use Rattle.std.proofs.Common.{◌≤◌, ℕ, Bool, Option, length, map}
-use Rattle.mime_rules.specs.Reading.{Read}
+use Rattle.mime_rules.specs.RuleReading.{Read}
 use Rattle.mime_rules.specs.Tests.{Subject}
 use Rattle.mime_rules.specs.Tokens.{Token}
-use Rattle.mime_rules.specs.Seen.{token_of, with_bangs, FactorSays}
+use Rattle.mime_rules.specs.RuleFields.{token_of, with_bangs, FactorSays}
 use Rattle.mime_rules.proofs.grammar.takes_bangs.Given as goal
 
 abbrev pub invariant-bangs : goal.invariant-bangs

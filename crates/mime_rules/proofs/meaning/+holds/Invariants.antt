@@ -1,5 +1,5 @@
 use Rattle.std.proofs.Common.{◌≡◌, drop}
-use Rattle.mime_rules.specs.Seen.{all_mean, any_means, subject_of}
+use Rattle.mime_rules.specs.RuleFields.{all_mean, any_means, subject_of}
 use Rattle.mime_rules.proofs.meaning.+holds.Given as goal
 
 abbrev pub invariant-all_hold-loop-rule : goal.invariant-all_hold-loop-rule

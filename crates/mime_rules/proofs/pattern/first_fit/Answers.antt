@@ -1,6 +1,6 @@
 use Rattle.std.proofs.Common.{sym, ◌∙◌, map}
 use Rattle.mime_rules.specs.Patterns.{matching}
-use Rattle.mime_rules.specs.Seen.{piece_of, rest_matches}
+use Rattle.mime_rules.specs.RuleFields.{piece_of, rest_matches}
 use Rattle.mime_rules.proofs.PatternLaws.{first_value}
 use Rattle.mime_rules.proofs.pattern.first_fit.Goals as goal
 

@@ -1,7 +1,7 @@
 use Rattle.std.proofs.Common.{ap, sym, ◌∙◌, ◌∷◌, map, arith}
 use Rattle.mime_rules.specs.Tests.{some_end}
 use Rattle.mime_rules.specs.Patterns.{matching}
-use Rattle.mime_rules.specs.Seen.{piece_of, rest_matches}
+use Rattle.mime_rules.specs.RuleFields.{piece_of, rest_matches}
 use Rattle.mime_rules.proofs.PatternLaws.{run_leads, step_leads, step_value}
 use Rattle.mime_rules.proofs.pattern.fit.Goals as goal
 

@@ -1,7 +1,7 @@
 use Rattle.std.proofs.Common.{◌≡◌, ◌≤◌, true, length, map}
 use Rattle.mime_rules.specs.Tests.{some_end}
 use Rattle.mime_rules.specs.Patterns.{matching}
-use Rattle.mime_rules.specs.Seen.{piece_of}
+use Rattle.mime_rules.specs.RuleFields.{piece_of}
 use Rattle.mime_rules.proofs.pattern.fit.Given as goal
 
 abbrev pub invariant-loop-piece : goal.invariant-loop-piece

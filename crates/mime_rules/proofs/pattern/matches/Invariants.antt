@@ -1,7 +1,7 @@
 use Rattle.std.proofs.Common.{◌≡◌, false, length, map}
 use Rattle.std.specs.Prelude.{MatchOption}
 use Rattle.mime_rules.specs.Patterns.{matching}
-use Rattle.mime_rules.specs.Seen.{piece_of, rest_matches, size_of}
+use Rattle.mime_rules.specs.RuleFields.{piece_of, rest_matches, size_of}
 use Rattle.mime_rules.proofs.pattern.matches.Given as goal
 
 abbrev pub invariant-loop-found : goal.invariant-loop-found

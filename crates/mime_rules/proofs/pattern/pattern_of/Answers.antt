@@ -1,7 +1,7 @@
 use Rattle.std.proofs.Common.{[], ◌∷◌, ap, sym, ◌∙◌, map, None}
 use Rattle.std.proofs.lemmas.List.{map-append}
 use Rattle.mime_rules.specs.Patterns.{pieces_in}
-use Rattle.mime_rules.specs.Seen.{piece_of}
+use Rattle.mime_rules.specs.RuleFields.{piece_of}
 use Rattle.mime_rules.proofs.PatternLaws.{with_pieces, with_pieces_append, with_pieces_some, pattern_ends, pattern_breaks}
 use Rattle.mime_rules.proofs.pattern.pattern_of.Goals as goal
 

@@ -1,6 +1,6 @@
 use Rattle.std.proofs.Common.{◌≡◌, None, length, map}
 use Rattle.mime_rules.specs.Patterns.{pieces_in}
-use Rattle.mime_rules.specs.Seen.{piece_of}
+use Rattle.mime_rules.specs.RuleFields.{piece_of}
 use Rattle.mime_rules.proofs.PatternLaws.{with_pieces}
 use Rattle.mime_rules.proofs.pattern.pattern_of.Given as goal
 

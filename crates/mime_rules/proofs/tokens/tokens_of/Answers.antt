@@ -1,6 +1,6 @@
 use Rattle.std.proofs.Common.{◌≡◌, [], ◌∷◌, sym, ◌∙◌, map}
 use Rattle.std.proofs.lemmas.List.{append-nil}
-use Rattle.mime_rules.specs.Seen.{token_of, EndsBy}
+use Rattle.mime_rules.specs.RuleFields.{token_of, EndsBy}
 use Rattle.mime_rules.specs.Tokens.{tokens_of}
 use Rattle.mime_rules.proofs.TokenLaws.{says_token, stop_ends, if_ok, says_end, says_all, pushed, not_empty, is_empty}
 use Rattle.mime_rules.proofs.tokens.tokens_of.Goals as goal

@@ -1,6 +1,6 @@
 use Rattle.std.proofs.Common.{List, ◌++◌, length, map}
 use Rattle.mime_rules.specs.Tokens.{Token}
-use Rattle.mime_rules.specs.Seen.{token_of}
+use Rattle.mime_rules.specs.RuleFields.{token_of}
 use Rattle.mime_rules.proofs.TokenLaws.{TokensSay}
 use Rattle.mime_rules.proofs.tokens.tokens_of.Given as goal
 

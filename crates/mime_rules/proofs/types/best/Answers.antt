@@ -1,7 +1,7 @@
 use Rattle.std.proofs.Common.{[], ◌∷◌, ap, sym, ◌∙◌, map, Some}
 use Rattle.std.specs.Option.{option_map}
 use Rattle.std.proofs.lemmas.List.{map-append}
-use Rattle.mime_rules.specs.Seen.{alternative_of, subject_of}
+use Rattle.mime_rules.specs.RuleFields.{alternative_of, subject_of}
 use Rattle.mime_rules.proofs.BestLaws.{best_onto, best_onto_none, best_true, best_false}
 use Rattle.mime_rules.proofs.types.best.Goals as goal
 

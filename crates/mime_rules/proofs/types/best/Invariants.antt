@@ -1,7 +1,7 @@
 use Rattle.std.proofs.Common.{◌≡◌, length, map}
 use Rattle.std.specs.Option.{option_map}
-use Rattle.mime_rules.specs.Best.{best}
-use Rattle.mime_rules.specs.Seen.{alternative_of, subject_of}
+use Rattle.mime_rules.specs.BestType.{best}
+use Rattle.mime_rules.specs.RuleFields.{alternative_of, subject_of}
 use Rattle.mime_rules.proofs.BestLaws.{best_onto}
 use Rattle.mime_rules.proofs.types.best.Given as goal
 

@@ -1,8 +1,8 @@
 use Rattle.std.proofs.Common.{[], ◌∷◌, ◌+◌, ◌++◌, ap, sym, ◌∙◌, drop, map, append_assoc}
 use Rattle.std.proofs.lemmas.List.{drop_more}
-use Rattle.mime_lines.specs.Seen.{line_of}
-use Rattle.mime_rules.specs.Lines.{alternatives_in, warnings_in}
-use Rattle.mime_rules.specs.Seen.{alternative_of}
+use Rattle.mime_lines.specs.LineFields.{line_of}
+use Rattle.mime_rules.specs.RuleLines.{alternatives_in, warnings_in}
+use Rattle.mime_rules.specs.RuleFields.{alternative_of}
 use Rattle.mime_rules.proofs.LineLaws.{alternatives_more, warnings_more}
 use Rattle.mime_rules.proofs.types.read_lines.Goals as goal
 

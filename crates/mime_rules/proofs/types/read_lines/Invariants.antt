@@ -1,7 +1,7 @@
 use Rattle.std.proofs.Common.{◌≡◌, ◌++◌, drop, map}
-use Rattle.mime_lines.specs.Seen.{line_of}
-use Rattle.mime_rules.specs.Lines.{alternatives_in, warnings_in}
-use Rattle.mime_rules.specs.Seen.{alternative_of}
+use Rattle.mime_lines.specs.LineFields.{line_of}
+use Rattle.mime_rules.specs.RuleLines.{alternatives_in, warnings_in}
+use Rattle.mime_rules.specs.RuleFields.{alternative_of}
 use Rattle.mime_rules.proofs.types.read_lines.Given as goal
 
 abbrev pub invariant-loop-line : goal.invariant-loop-line

@@ -1,7 +1,7 @@
 use Rattle.std.proofs.Common.{sym, subst, ap, ◌∙◌}
 use Rattle.std.proofs.lemmas.List.{take_all}
 use Rattle.print_rounds.specs.Finished.{AreDistinct, AllRest}
-use Rattle.print_rounds.specs.Looks.{idle_among}
+use Rattle.print_rounds.specs.StageChecks.{idle_among}
 use Rattle.print_rounds.proofs.BusyLaws.{idle_distinct, idle_rests}
 use Rattle.print_rounds.proofs.busy.list_idle.Goals as goal
 

@@ -1,7 +1,7 @@
 -- the idle ones of the jobs so far
 use Rattle.std.proofs.Common.{◌≡◌, ◌≤◌, take, vec_len}
 use Rattle.std.specs.Prelude.{vec_capacity}
-use Rattle.print_rounds.specs.Looks.{idle_among}
+use Rattle.print_rounds.specs.StageChecks.{idle_among}
 use Rattle.print_rounds.proofs.busy.list_idle.Given as goal
 
 abbrev pub invariant-loop-job : goal.invariant-loop-job

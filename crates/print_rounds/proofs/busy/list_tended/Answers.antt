@@ -5,7 +5,7 @@ use Rattle.std.proofs.lemmas.List.{take_all}
 use Rattle.job_table.specs.Attempts.{busy_of}
 use Rattle.print_rounds.specs.Choice.{busy_jobs}
 use Rattle.print_rounds.specs.Finished.{AreDistinct}
-use Rattle.print_rounds.specs.Looks.{is_stray, tended_jobs}
+use Rattle.print_rounds.specs.StageChecks.{is_stray, tended_jobs}
 use Rattle.print_rounds.proofs.BusyLaws.{all_distinct, part_distinct, tended_further, tended_of}
 use Rattle.print_rounds.proofs.StartLaws.{name_at, queue_count}
 use Rattle.print_rounds.proofs.busy.list_tended.Goals as goal

@@ -2,7 +2,7 @@
 use Rattle.std.proofs.Common.{◌≡◌, ◌≤◌, take, vec_len}
 use Rattle.std.specs.Prelude.{vec_capacity}
 use Rattle.std.specs.FinMap as finite
-use Rattle.print_rounds.specs.Looks.{tended_jobs}
+use Rattle.print_rounds.specs.StageChecks.{tended_jobs}
 use Rattle.print_rounds.proofs.busy.list_tended.Given as goal
 
 abbrev pub invariant-loop-queue : goal.invariant-loop-queue

@@ -2,14 +2,14 @@ use Rattle.std.proofs.Common.{◌≡◌, true, false, Some, None, [], ◌∷◌,
 use Rattle.std.specs.FinMap as finite
 use Rattle.std.proofs.lemmas.Bool.{and_left, and_right}
 use Rattle.spool_types.specs.State.{job_at}
-use Rattle.child_pipeline.specs.Slots.{IsNextJob}
-use Rattle.print_rounds.specs.Looks.{is_of_queue, runs}
+use Rattle.child_pipeline.specs.StageSlots.{IsNextJob}
+use Rattle.print_rounds.specs.StageChecks.{is_of_queue, runs}
 use Rattle.print_rounds.specs.Passes.{unblocked}
 use Rattle.print_rounds.proofs.BlockLaws.{first_flags, flags_free, flags_set, flags_stay, flags_to}
 use Rattle.print_rounds.proofs.LookLaws.{all_jobs, jobs_to, next_jobs}
 use Rattle.print_rounds.proofs.StartLaws.{queue_count}
 use Rattle.print_rounds.proofs.busy.mark_blocked.Goals as goal
-use Rattle.print_rounds.proofs.busy.mark_blocked.Goals.{then-has_child+in-Some-queue_place, then-has_child+in_default-queue_place, else-has_child}
+use Rattle.print_rounds.proofs.busy.mark_blocked.Goals.{then-has_child+in-Some-queue_position, then-has_child+in_default-queue_position, else-has_child}
 
 pub loop-job-init : goal.loop-job-init
 loop-job-init g c =
@@ -29,14 +29,14 @@ loop-job-preserved g c =
     let further : flags_to s slots (js ++ job ∷ []) names ≡ flags_to s slots (jobs_to (Some job) (finite.keys slots)) names =
     ap (λ ks. flags_to s slots ks names) (sym (next_jobs slots c.loop-job.behind job next)) in
     elim c.if-has_child.branch [
-      | then-has_child+in-Some-queue_place w ↦
-          let (r, there, place) = w.in-Some-queue_place.ensures.place in
+      | then-has_child+in-Some-queue_position w ↦
+          let (r, there, place) = w.in-Some-queue_position.ensures.place in
           ap (λ v. v.items) w.blocked-is
-          ∙ ap (λ fs. set fs w.in-Some-queue_place.place true) c.loop-job.invariant
-          ∙ flags_set s slots js job r names w.in-Some-queue_place.place (sym c.has_child.ensures ∙ w.if-has_child.true) there place
+          ∙ ap (λ fs. set fs w.in-Some-queue_position.place true) c.loop-job.invariant
+          ∙ flags_set s slots js job r names w.in-Some-queue_position.place (sym c.has_child.ensures ∙ w.if-has_child.true) there place
           ∙ further
-      | then-has_child+in_default-queue_place w ↦
-          let gone = w.in_default-queue_place.ensures.none refl in
+      | then-has_child+in_default-queue_position w ↦
+          let gone = w.in_default-queue_position.ensures.none refl in
           ap (λ v. v.items) w.blocked-is
           ∙ c.loop-job.invariant
           ∙ flags_stay s slots js job names (λ name. and_right (runs slots job) (is_of_queue name (job_at s job)) (ap (is_of_queue name) gone))

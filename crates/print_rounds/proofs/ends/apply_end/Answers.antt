@@ -1,6 +1,6 @@
 use Rattle.std.proofs.Common.{subst}
 use Rattle.spool_types.specs.declared.event.Event.{Event}
-use Rattle.print_rounds.specs.Courses.{IsApplied}
+use Rattle.print_rounds.specs.RunStates.{IsApplied}
 use Rattle.print_rounds.proofs.ends.apply_end.Goals as goal
 
 pub returns : goal.returns

@@ -1,15 +1,15 @@
 use Rattle.std.proofs.Common.{◌+◌, [], ◌∷◌, ◌++◌, arith, refl, sym, ap, ◌∙◌}
 use Rattle.std.specs.Option.{option_or}
 use Rattle.print_rounds.specs.Counts.{ending_fault, report_fault, told_by, told_in}
-use Rattle.print_rounds.specs.Courses.{Ending, course}
+use Rattle.print_rounds.specs.RunStates.{Ending, run_state}
 use Rattle.print_rounds.proofs.TraceLaws.{more_ends, one_count, one_fault, one_further}
 use Rattle.print_rounds.proofs.ends.end_stages.Goals as goal
 
 pub loop-job-preserved : goal.loop-job-preserved
 loop-job-preserved g c =
-    let before = course c.args.spool.now c.args.runner.now (g.C.Children.tells c.args.children.now) in
-    let now = course c.loop-job.spool c.loop-job.runner (g.C.Children.tells c.loop-job.children) in
-    let next = course c.end_stage-report.new.spool c.end_stage-report.new.runner (g.C.Children.tells c.end_stage-report.new.children) in
+    let before = run_state c.args.spool.now c.args.runner.now (g.C.Children.tells c.args.children.now) in
+    let now = run_state c.loop-job.spool c.loop-job.runner (g.C.Children.tells c.loop-job.children) in
+    let next = run_state c.end_stage-report.new.spool c.end_stage-report.new.runner (g.C.Children.tells c.end_stage-report.new.children) in
     let (es, ends, jobs, count, fault) = c.loop-job.invariant.ends in
     let (kept, is) = c.end_stage-report.ensures in
     let end : Ending g.row.D.Denot = record { job = c.job-item.result; kept = kept; report = c.end_stage-report.result; next = next } in

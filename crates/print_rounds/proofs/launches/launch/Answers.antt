@@ -1,7 +1,7 @@
 -- What is prepared is due, and is started with the document that was read for it.
 use Rattle.std.proofs.Common.{◌≡◌, false, true, None, Err, refl, sym, ap, subst, ◌∙◌}
 use Rattle.spool_types.specs.State.{State, job_at, queue_at}
-use Rattle.child_pipeline.specs.Slots.{slot_in}
+use Rattle.child_pipeline.specs.StageSlots.{slot_in}
 use Rattle.print_rounds.specs.Launches.{IsPrepared, IsUnprepared, IsDocumentFor, has_output}
 use Rattle.print_rounds.specs.declared.outcome.Launch.TheVariants.{Unlaunched, NoMemory}
 use Rattle.print_rounds.proofs.PrepareLaws.{unprepared_as, prepared_as, broken_as}

@@ -2,7 +2,7 @@ use Rattle.std.proofs.Common.{◌+◌, [], ◌∷◌, ◌++◌, arith, refl, sym
 use Rattle.std.specs.Option.{option_or}
 use Rattle.spool_types.specs.State.{State, job_at}
 use Rattle.print_rounds.specs.Counts.{launch_fault, launching_fault, started_by, started_in}
-use Rattle.print_rounds.specs.Courses.{Launching, IsLaunch}
+use Rattle.print_rounds.specs.RunStates.{Launching, IsLaunch}
 use Rattle.print_rounds.proofs.LaunchLaws.{HasNumbers, rests_on}
 use Rattle.print_rounds.proofs.ReadLaws.{reads_state}
 use Rattle.print_rounds.proofs.TraceLaws.{more_launches, more_reads, one_count, one_fault, one_further}

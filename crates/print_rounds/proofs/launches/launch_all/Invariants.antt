@@ -1,7 +1,7 @@
 -- the starts of the jobs so far
 use Rattle.std.proofs.Common.{◌≡◌, ◌≤◌, List, map, take}
 use Rattle.print_rounds.specs.Counts.{launching_fault, started_in}
-use Rattle.print_rounds.specs.Courses.{Launching, AreLaunchings, AreReads}
+use Rattle.print_rounds.specs.RunStates.{Launching, AreLaunchings, AreReads}
 use Rattle.print_rounds.proofs.launches.launch_all.Given as goal
 
 abbrev pub invariant-loop-job : goal.invariant-loop-job

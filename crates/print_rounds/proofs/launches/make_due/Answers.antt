@@ -1,6 +1,6 @@
 use Rattle.std.proofs.Common.{Some, ap, sym, subst, ◌∙◌}
 use Rattle.std.specs.FinMap as finite
-use Rattle.child_pipeline.specs.Slots.{begun_in, IsDue}
+use Rattle.child_pipeline.specs.StageSlots.{begun_in, IsDue}
 use Rattle.print_rounds.proofs.MadeLaws.{made_due, made_ready}
 use Rattle.print_rounds.proofs.launches.make_due.Goals as goal
 

@@ -2,7 +2,7 @@ use Rattle.std.proofs.Common.{ap, sym, subst, ◌∙◌}
 use Rattle.std.specs.FinMap as finite
 use Rattle.std.specs.Option.{option_map, option_copied}
 use Rattle.spool_types.specs.State.{job_of}
-use Rattle.child_pipeline.specs.Slots.{IsTicketless}
+use Rattle.child_pipeline.specs.StageSlots.{IsTicketless}
 use Rattle.print_rounds.proofs.PrepareLaws.{if_ok, on_err, prepared, unprepared}
 use Rattle.print_rounds.proofs.launches.prepare.Goals as goal
 

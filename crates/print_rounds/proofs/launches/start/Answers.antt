@@ -3,7 +3,7 @@ use Rattle.std.proofs.Common.{◌≡◌, Some, ap, sym, subst, ◌∙◌}
 use Rattle.std.specs.FinMap as finite
 use Rattle.std.specs.Option.{option_map, option_copied}
 use Rattle.spool_types.specs.State.{Job, job_of, job_at}
-use Rattle.child_pipeline.specs.Slots.{IsDue}
+use Rattle.child_pipeline.specs.StageSlots.{IsDue}
 use Rattle.print_rounds.proofs.LaunchLaws.{some_of}
 use Rattle.print_rounds.proofs.launches.start.Goals as goal
 

@@ -1,6 +1,6 @@
 use Rattle.std.proofs.Common.{true, false, Some, refl, sym, subst, ◌∙◌}
-use Rattle.child_pipeline.specs.Slots.{IsNextJob}
-use Rattle.print_rounds.specs.Looks.{Dropping, IsDropped, IsLook}
+use Rattle.child_pipeline.specs.StageSlots.{IsNextJob}
+use Rattle.print_rounds.specs.StageChecks.{Dropping, IsDropped, IsLook}
 use Rattle.print_rounds.proofs.LookLaws.{AreDroppedTo, all_dropped, none_dropped, dropped_same, passes, seen_to}
 use Rattle.print_rounds.proofs.looks.drop_strays.Goals as goal
 use Rattle.print_rounds.proofs.looks.drop_strays.Goals.{then-is_stray+then-is_ripe, else-is_stray, else-is_stray-via-then-is_stray+else-is_ripe, else-is_stray-via-else-is_stray}

@@ -1,6 +1,6 @@
 use Rattle.std.proofs.Common.{◌≡◌, ◌+◌, cond, [], ◌∷◌, ◌++◌, map, take, vec_len, arith, refl, sym, subst, ap, ◌∙◌, append-nil}
 use Rattle.std.specs.Prelude.{vec_capacity}
-use Rattle.print_rounds.specs.Looks.{Look, IsLook, ripe_in}
+use Rattle.print_rounds.specs.StageChecks.{Look, IsLook, ripe_in}
 use Rattle.print_rounds.proofs.LookLaws.{more_looks, more_ripe}
 use Rattle.print_rounds.proofs.TraceLaws.{one_further}
 use Rattle.print_rounds.proofs.looks.list_ripe.Goals as goal

@@ -1,7 +1,7 @@
 -- the looks at the jobs so far
 use Rattle.std.proofs.Common.{◌≡◌, ◌≤◌, List, map, take, vec_len}
 use Rattle.std.specs.Prelude.{vec_capacity}
-use Rattle.print_rounds.specs.Looks.{Look, AreLooks, ripe_in}
+use Rattle.print_rounds.specs.StageChecks.{Look, AreLooks, ripe_in}
 use Rattle.print_rounds.proofs.looks.list_ripe.Given as goal
 
 abbrev pub invariant-loop-job : goal.invariant-loop-job

@@ -5,10 +5,10 @@ use Rattle.std.specs.Option.{option_or}
 use Rattle.std.specs.FinMap as finite
 use Rattle.spool_types.specs.State.{State}
 use Rattle.print_rounds.specs.Counts.{counts_of, launching_fault, result_of, started_in, starting_fault}
-use Rattle.print_rounds.specs.Courses.{course, AreEndings}
-use Rattle.print_rounds.specs.Looks.{idle_among, idle_slots, strays, tended_jobs}
+use Rattle.print_rounds.specs.RunStates.{run_state, AreEndings}
+use Rattle.print_rounds.specs.StageChecks.{idle_among, idle_slots, strays, tended_jobs}
 use Rattle.print_rounds.specs.Finished.{AreDistinct, AllRest}
-use Rattle.print_rounds.specs.Places.{in_turn}
+use Rattle.print_rounds.specs.StartLimits.{rotated}
 use Rattle.print_rounds.proofs.PassParts.{failed_pass, queues_chosen, room_left, whole_pass}
 use Rattle.print_rounds.proofs.PlaceLaws.{in_turn_part, part_once, part_rest}
 use Rattle.print_rounds.proofs.passes.pass.Goals as goal
@@ -44,15 +44,15 @@ choose_jobs-requires-clause-room g c =
 pub launch_all-launches-requires-clause-distinct : goal.launch_all-launches-requires-clause-distinct
 launch_all-launches-requires-clause-distinct g c =
     let idle = c.list_idle.new.idle.items in
-    subst AreDistinct (sym (c.deref-4.ensures.value ∙ c.choose_jobs.ensures.value ∙ ap (in_turn c.args.places) c.deref-3.ensures.value))
-    (part_once (in_turn c.args.places idle) idle (in_turn_part c.args.places idle) c.list_idle.ensures.distinct)
+    subst AreDistinct (sym (c.deref-4.ensures.value ∙ c.choose_jobs.ensures.value ∙ ap (rotated c.args.start_room) c.deref-3.ensures.value))
+    (part_once (rotated c.args.start_room idle) idle (in_turn_part c.args.start_room idle) c.list_idle.ensures.distinct)
 
 pub launch_all-launches-requires-clause-rest : goal.launch_all-launches-requires-clause-rest
 launch_all-launches-requires-clause-rest g c =
     let idle = c.list_idle.new.idle.items in
     let slots = c.free_idle.new.runner in
-    subst (AllRest slots) (sym (c.deref-4.ensures.value ∙ c.choose_jobs.ensures.value ∙ ap (in_turn c.args.places) c.deref-3.ensures.value))
-    (part_rest slots (in_turn c.args.places idle) idle (in_turn_part c.args.places idle) c.list_idle.ensures.rest)
+    subst (AllRest slots) (sym (c.deref-4.ensures.value ∙ c.choose_jobs.ensures.value ∙ ap (rotated c.args.start_room) c.deref-3.ensures.value))
+    (part_rest slots (rotated c.args.start_room idle) idle (in_turn_part c.args.start_room idle) c.list_idle.ensures.rest)
 
 pub list_ripe-requires-clause-room : goal.list_ripe-requires-clause-room
 list_ripe-requires-clause-room g c =
@@ -68,35 +68,35 @@ list_ripe-requires-clause-room g c =
 
 pub returns-then-is_dead-2 : goal.returns-then-is_dead-2
 returns-then-is_dead-2 g c =
-    let old = course c.args.spool.now c.args.runner.now (g.C.Children.tells c.args.children.now) in
+    let old = run_state c.args.spool.now c.args.runner.now (g.C.Children.tells c.args.children.now) in
     let (ts, starts, queues, fault) = c.start_free-fault.ensures in
-    failed_pass g.D.Disk.device c.args.place.now c.args.waits c.args.places old (sym c.is_dead.ensures ∙ c.if-is_dead.false)
+    failed_pass g.D.Disk.device c.args.place.now c.args.waits c.args.start_room old (sym c.is_dead.ensures ∙ c.if-is_dead.false)
     c.free_idle.new.runner (c.free_idle.ensures ∙ ap (λ s. idle_slots s c.args.runner.now) c.table-table.ensures.table)
     c.start_free-fault.new.spool ts starts
-    (queues_chosen c.args.places _ c.free_idle.new.runner c.table-table.result.now.state c.args.spool.now.state c.table-table.ensures.table c.deref.result.now c.hold_back.new.blocked.items c.deref.ensures.value c.hold_back.ensures.chosen queues)
+    (queues_chosen c.args.start_room _ c.free_idle.new.runner c.table-table.result.now.state c.args.spool.now.state c.table-table.ensures.table c.deref.result.now c.hold_back.new.blocked.items c.deref.ensures.value c.hold_back.ensures.chosen queues)
     (sym c.is_dead-2.ensures ∙ c.if-is_dead-2.true) c.unless.result (c.unless.ensures ∙ ap (result_of (record { started = 0; finished = 0 })) fault)
 
 pub returns : goal.returns
 returns g c =
-    let old = course c.args.spool.now c.args.runner.now (g.C.Children.tells c.args.children.now) in
+    let old = run_state c.args.spool.now c.args.runner.now (g.C.Children.tells c.args.children.now) in
     let (ts, starts, queues, fault) = c.start_free-fault.ensures in
     let (ls, launches, reads, launched, started, later) = c.launch_all-launches.ensures in
     let (looks, look, seen, ripe) = c.list_ripe.ensures.looks in
     let (es, ends, ended, told, last) = c.end_stages-ends.ensures in
     let (ds, drops, left) = c.drop_strays.ensures in
     let looked = g.C.Children.tells c.list_ripe.new.children in
-    let behind = course c.end_stages-ends.new.spool c.end_stages-ends.new.runner (g.C.Children.tells c.end_stages-ends.new.children) in
-    let new = course c.end_stages-ends.new.spool c.drop_strays.new.runner (g.C.Children.tells c.drop_strays.new.children) in
-    whole_pass g.D.Disk.device c.args.place.now c.args.waits c.args.places old (sym c.is_dead.ensures ∙ c.if-is_dead.false)
+    let behind = run_state c.end_stages-ends.new.spool c.end_stages-ends.new.runner (g.C.Children.tells c.end_stages-ends.new.children) in
+    let new = run_state c.end_stages-ends.new.spool c.drop_strays.new.runner (g.C.Children.tells c.drop_strays.new.children) in
+    whole_pass g.D.Disk.device c.args.place.now c.args.waits c.args.start_room old (sym c.is_dead.ensures ∙ c.if-is_dead.false)
     c.free_idle.new.runner (c.free_idle.ensures ∙ ap (λ s. idle_slots s c.args.runner.now) c.table-table.ensures.table)
     c.start_free-fault.new.spool ts starts
-    (queues_chosen c.args.places _ c.free_idle.new.runner c.table-table.result.now.state c.args.spool.now.state c.table-table.ensures.table c.deref.result.now c.hold_back.new.blocked.items c.deref.ensures.value c.hold_back.ensures.chosen queues)
+    (queues_chosen c.args.start_room _ c.free_idle.new.runner c.table-table.result.now.state c.args.spool.now.state c.table-table.ensures.table c.deref.result.now c.hold_back.new.blocked.items c.deref.ensures.value c.hold_back.ensures.chosen queues)
     (sym c.is_dead-2.ensures ∙ c.if-is_dead-2.false)
     c.list_tended.new.jobs.items (c.list_tended.ensures.value ∙ ap (λ (s : State). tended_jobs s c.free_idle.new.runner (finite.keys s.queues)) c.table-2.ensures.table)
     ls c.launch_all-launches.new.spool c.launch_all-launches.new.runner (g.C.Children.tells c.launch_all-launches.new.children) launches reads
-    (launched ∙ c.deref-4.ensures.value ∙ c.choose_jobs.ensures.value ∙ ap (in_turn c.args.places) (c.deref-3.ensures.value ∙ c.list_idle.ensures.value ∙ ap (idle_among c.free_idle.new.runner) c.deref-2.ensures.value))
+    (launched ∙ c.deref-4.ensures.value ∙ c.choose_jobs.ensures.value ∙ ap (rotated c.args.start_room) (c.deref-3.ensures.value ∙ c.list_idle.ensures.value ∙ ap (idle_among c.free_idle.new.runner) c.deref-2.ensures.value))
     looks looked look (seen ∙ c.deref-5.ensures.value)
-    es behind (subst (λ m. AreEndings g.D.Disk.device (course c.launch_all-launches.new.spool m looked) es behind) c.list_ripe.ensures.slots ends) (ended ∙ c.deref-6.ensures.value ∙ ripe)
+    es behind (subst (λ m. AreEndings g.D.Disk.device (run_state c.launch_all-launches.new.spool m looked) es behind) c.list_ripe.ensures.slots ends) (ended ∙ c.deref-6.ensures.value ∙ ripe)
     ds new drops (left ∙ ap (λ s. strays s c.end_stages-ends.new.runner) c.table-3.ensures.table) refl
     c.unless-2.result
     (c.unless-2.ensures

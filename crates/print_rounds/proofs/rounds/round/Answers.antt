@@ -1,14 +1,14 @@
 -- it is a pass that waits
 use Rattle.std.proofs.Common.{subst}
 use Rattle.job_table.specs.Legal.{IsLegal}
-use Rattle.print_rounds.specs.Courses.{course}
+use Rattle.print_rounds.specs.RunStates.{run_state}
 use Rattle.print_rounds.proofs.WaitLaws.{waited_round}
 use Rattle.print_rounds.proofs.rounds.round.Goals as goal
 
 pub returns : goal.returns
 returns g c =
-    let old = course c.args.spool.now c.args.runner.now (g.C.Children.tells c.args.children.now) in
-    let new = course c.pass.new.spool c.pass.new.runner (g.C.Children.tells c.pass.new.children) in
+    let old = run_state c.args.spool.now c.args.runner.now (g.C.Children.tells c.args.children.now) in
+    let new = run_state c.pass.new.spool c.pass.new.runner (g.C.Children.tells c.pass.new.children) in
     let (round, leaves) =
     waited_round g.D.Disk.device g.met.D.Disk.lawful c.args.place.now old c.table.ensures.kept
     (record {

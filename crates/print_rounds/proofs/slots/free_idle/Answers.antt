@@ -1,5 +1,5 @@
 use Rattle.std.proofs.Common.{rules, tests, ◌≡◌, true, false, Some, sym, subst, ◌∙◌}
-use Rattle.child_pipeline.specs.Slots.{IsNextJob}
+use Rattle.child_pipeline.specs.StageSlots.{IsNextJob}
 use Rattle.std.specs.FinMap as finite
 use Rattle.spool_types.specs.State.{job_at}
 use Rattle.print_rounds.proofs.FreeLaws.{IsFreedTo, none_freed, stays, goes, all_freed, off_rests}

@@ -3,7 +3,7 @@ use Rattle.std.specs.FinMap as finite
 use Rattle.std.specs.Option.{option_or}
 use Rattle.std.proofs.lemmas.List.{get_or_default, map-append}
 use Rattle.print_rounds.specs.Counts.{start_fault, starting_fault}
-use Rattle.print_rounds.specs.Courses.{Starting, AreStartings}
+use Rattle.print_rounds.specs.RunStates.{Starting, AreStartings}
 use Rattle.print_rounds.specs.Passes.{unblocked}
 use Rattle.print_rounds.proofs.BlockLaws.{unblocked_more}
 use Rattle.print_rounds.proofs.StartLaws.{queue_count, starts_keys}

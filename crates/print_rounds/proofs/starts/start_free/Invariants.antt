@@ -2,7 +2,7 @@
 use Rattle.std.proofs.Common.{◌≡◌, List, map, take}
 use Rattle.std.specs.FinMap as finite
 use Rattle.print_rounds.specs.Counts.{starting_fault}
-use Rattle.print_rounds.specs.Courses.{Starting, AreStartings}
+use Rattle.print_rounds.specs.RunStates.{Starting, AreStartings}
 use Rattle.print_rounds.specs.Passes.{unblocked}
 use Rattle.print_rounds.proofs.starts.start_free.Given as goal
 

@@ -3,7 +3,7 @@ use Rattle.std.specs.FinMap as finite
 use Rattle.spool_types.specs.declared.event.Event.TheVariants.{Start}
 use Rattle.spool_types.specs.State.{State}
 use Rattle.job_table.specs.Step.{refusal_of}
-use Rattle.print_rounds.specs.Courses.{IsApplied}
+use Rattle.print_rounds.specs.RunStates.{IsApplied}
 use Rattle.print_rounds.proofs.StartLaws.{starting_at}
 use Rattle.print_rounds.proofs.starts.start_next.Goals as goal
 

@@ -1,5 +1,5 @@
 use Rattle.std.proofs.Common.{Some, sym, subst}
-use Rattle.child_pipeline.specs.Slots.{IsNextJob}
+use Rattle.child_pipeline.specs.StageSlots.{IsNextJob}
 use Rattle.print_rounds.proofs.FinishLaws.{AreFinishedTo, all_finished, all_rest_then, finished_off, none_yet, stays, waits}
 use Rattle.print_rounds.proofs.ticks.finish_children.Goals.{then-is_running, else-is_running}
 use Rattle.print_rounds.proofs.ticks.finish_children.Goals as goal

@@ -1,8 +1,8 @@
 -- the pass is a tick
 use Rattle.std.proofs.Common.{false, Option, subst}
 use Rattle.job_table.specs.Legal.{IsLegal}
-use Rattle.child_pipeline.specs.declared.children.Places.{Places}
-use Rattle.print_rounds.specs.Courses.{course}
+use Rattle.child_pipeline.specs.declared.children.StartRoom.{StartRoom}
+use Rattle.print_rounds.specs.RunStates.{run_state}
 use Rattle.print_rounds.specs.Passes.{IsPassBy}
 use Rattle.print_rounds.proofs.HoldLaws.{Laws}
 use Rattle.print_rounds.proofs.TickTickets.{TicketLaws}
@@ -11,8 +11,8 @@ use Rattle.print_rounds.proofs.ticks.tick.Goals as goal
 
 pub returns : goal.returns
 returns g c =
-    let old = course c.args.spool.now c.args.runner.now (g.C.Children.tells c.args.children.now) in
-    let new = course c.pass.new.spool c.pass.new.runner (g.C.Children.tells c.pass.new.children) in
+    let old = run_state c.args.spool.now c.args.runner.now (g.C.Children.tells c.args.children.now) in
+    let new = run_state c.pass.new.spool c.pass.new.runner (g.C.Children.tells c.pass.new.children) in
     let legal = subst IsLegal c.table.ensures.table c.jobs-legal.ensures.legal in
     let laws : Laws = record {
       legal = c.legal_tables_stay_legal.ensures.stays;
@@ -29,13 +29,13 @@ returns g c =
       looks = c.tickets_stay.ensures.looks;
       releases = c.tickets_stay.ensures.releases;
     } in
-    let places = c.places-places.result in
-    let asked = λ (p : Option Places). (then : g.row.C.Denot) × g.C.Children.rooms c.args.children.now p then in
-    let passed : IsPassBy g.D.Disk.device c.args.place.now false places old c.args.spool.now.dead new c.pass.result =
-    subst (λ told. IsPassBy g.D.Disk.device c.args.place.now false places (course c.args.spool.now c.args.runner.now told) c.args.spool.now.dead new c.pass.result) c.places-places.ensures.told c.pass.ensures in
-    let left = passed_device g.D.Disk.device g.met.D.Disk.lawful laws tickets c.args.place.now places old new c.pass.result legal c.args.spool.now.dead passed in
+    let start_room = c.start_room-start_room.result in
+    let asked = λ (p : Option StartRoom). (then : g.row.C.Denot) × g.C.Children.rooms c.args.children.now p then in
+    let passed : IsPassBy g.D.Disk.device c.args.place.now false start_room old c.args.spool.now.dead new c.pass.result =
+    subst (λ told. IsPassBy g.D.Disk.device c.args.place.now false start_room (run_state c.args.spool.now c.args.runner.now told) c.args.spool.now.dead new c.pass.result) c.start_room-start_room.ensures.told c.pass.ensures in
+    let left = passed_device g.D.Disk.device g.met.D.Disk.lawful laws tickets c.args.place.now start_room old new c.pass.result legal c.args.spool.now.dead passed in
     record {
-      tick = passed_tick g.D.Disk.device g.met.D.Disk.lawful laws tickets c.args.place.now places old new c.pass.result legal c.places-places.ensures.always asked (c.places-places.new.self, c.places-places.ensures.answer) c.table.ensures.kept passed;
+      tick = passed_tick g.D.Disk.device g.met.D.Disk.lawful laws tickets c.args.place.now start_room old new c.pass.result legal c.start_room-start_room.ensures.always asked (c.start_room-start_room.new.self, c.start_room-start_room.ensures.answer) c.table.ensures.kept passed;
       later = left.0;
       told = left.1;
     }

@@ -5,7 +5,7 @@ use Rattle.std.proofs.lemmas.Iterator.Consumers.{map_from_collect, YieldsList-fr
 use Rattle.std.proofs.lemmas.Iterator.Search.{YieldsList-from_take_while}
 use Rattle.std.proofs.lemmas.Iterator.Splits.{YieldsList-from_slice_split}
 use Rattle.line_words.specs.Blanks.{is_blank}
-use Rattle.program_lists.specs.Lines.{is_empty, begins_remark}
+use Rattle.program_lists.specs.ProgramLines.{is_empty, begins_remark}
 use Rattle.program_lists.proofs.line.words_of.Goals as goal
 
 pub returns : goal.returns

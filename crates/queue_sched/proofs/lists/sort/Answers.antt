@@ -2,7 +2,7 @@
 use Rattle.std.proofs.Common.{◌≡◌, rules}
 use Rattle.std.proofs.lemmas.Fn.{always_returns_same}
 use Rattle.std.specs.Ordering.{is_lt}
-use Rattle.queue_sched.specs.Index.{goes_before}
+use Rattle.queue_sched.specs.WaitingIndex.{goes_before}
 use Rattle.queue_sched.proofs.Sorted.{ranked, once_moved, in_order}
 use Rattle.queue_sched.proofs.lists.sort.Goals as goal
 

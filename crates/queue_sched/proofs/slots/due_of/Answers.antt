@@ -1,6 +1,6 @@
 -- one slot more
 use Rattle.std.proofs.Common.{ap, sym, ◌∙◌}
-use Rattle.queue_sched.specs.Slots.{items_of}
+use Rattle.queue_sched.specs.OrderSlots.{items_of}
 use Rattle.queue_sched.proofs.Due.{none_so_far, none_left}
 use Rattle.queue_sched.proofs.SlotLoops.{due_passed, due_waiting, no_items}
 use Rattle.queue_sched.proofs.slots.due_of.Goals as goal

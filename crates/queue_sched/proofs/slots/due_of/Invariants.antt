@@ -1,6 +1,6 @@
 -- the entries so far may be started as they may now
 use Rattle.std.specs.VecDeque.Iter.{deque_iter_rest}
-use Rattle.queue_sched.specs.Slots.{items_of}
+use Rattle.queue_sched.specs.OrderSlots.{items_of}
 use Rattle.queue_sched.proofs.Due.{IsSameSoFar}
 use Rattle.queue_sched.proofs.slots.due_of.Given as goal
 

@@ -1,6 +1,6 @@
 -- the other entry has the slot
 use Rattle.std.proofs.Common.{arith}
-use Rattle.queue_sched.specs.Slots.{there_of}
+use Rattle.queue_sched.specs.OrderSlots.{there_of}
 use Rattle.queue_sched.proofs.SlotLists.{exchanged, first_set, order_same_turn, stands}
 use Rattle.std.proofs.Common.{refl}
 use Rattle.queue_sched.proofs.slots.exchange_slot.Goals as goal

@@ -1,7 +1,7 @@
 -- the slots of the entries so far, and no memory is taken
 use Rattle.std.proofs.Common.{◌≡◌, map, take}
 use Rattle.std.specs.VecDeque.{deque_len, deque_capacity}
-use Rattle.queue_sched.specs.Slots.{there_of}
+use Rattle.queue_sched.specs.OrderSlots.{there_of}
 use Rattle.queue_sched.proofs.slots.fill_slots.Given as goal
 
 abbrev pub invariant-loop-entry : goal.invariant-loop-entry

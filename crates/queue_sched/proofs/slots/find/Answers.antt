@@ -1,6 +1,6 @@
 -- one slot more
 use Rattle.std.proofs.Common.{ap, sym, ◌∙◌}
-use Rattle.queue_sched.specs.Slots.{items_of}
+use Rattle.queue_sched.specs.OrderSlots.{items_of}
 use Rattle.queue_sched.proofs.SlotLists.{all_left}
 use Rattle.queue_sched.proofs.SlotLoops.{sought_here, sought_none, sought_on}
 use Rattle.queue_sched.proofs.slots.find.Goals as goal

@@ -1,6 +1,6 @@
 -- where the job is there, it is among those that are left
 use Rattle.std.specs.VecDeque.Iter.{deque_iter_rest}
-use Rattle.queue_sched.specs.Slots.{items_of}
+use Rattle.queue_sched.specs.OrderSlots.{items_of}
 use Rattle.queue_sched.proofs.SlotLists.{IsSought}
 use Rattle.queue_sched.proofs.slots.find.Given as goal
 

@@ -1,6 +1,6 @@
 -- what a pass over the gone ones leaves
 use Rattle.std.proofs.Common.{length, sym, ap, subst, ◌∙◌, arith}
-use Rattle.queue_sched.specs.Slots.{items_of, InSlotOrder, IsFirstThere}
+use Rattle.queue_sched.specs.OrderSlots.{items_of, InSlotOrder, IsFirstThere}
 use Rattle.queue_sched.proofs.SlotLists.{swept, swept_count, swept_first, swept_in_order, few_items}
 use Rattle.queue_sched.proofs.slots.free_slot.Goals as goal
 

@@ -1,6 +1,6 @@
 -- what a pass over the gone ones leaves
 use Rattle.std.proofs.Common.{length, sym, ap, subst, ◌∙◌, arith}
-use Rattle.queue_sched.specs.Slots.{items_of, InSlotOrder, IsFirstThere}
+use Rattle.queue_sched.specs.OrderSlots.{items_of, InSlotOrder, IsFirstThere}
 use Rattle.queue_sched.proofs.SlotLists.{few_items, swept, swept_count, swept_first, swept_in_order}
 use Rattle.queue_sched.proofs.slots.let_go.Goals as goal
 

@@ -3,8 +3,8 @@ use Rattle.std.proofs.Common.{◌≡◌, ◌+◌, ◌≤◌, ◌++◌, ◌&&◌,
 use Rattle.std.specs.List.{filter}
 use Rattle.std.specs.VecDeque.{deque_len, deque_capacity}
 use Rattle.std.specs.VecDeque.Iter.{deque_iter_rest}
-use Rattle.queue_sched.specs.Index.{is_startable}
-use Rattle.queue_sched.specs.Slots.{is_there, items_of}
+use Rattle.queue_sched.specs.WaitingIndex.{is_startable}
+use Rattle.queue_sched.specs.OrderSlots.{is_there, items_of}
 use Rattle.queue_sched.proofs.slots.pick_ready.Given as goal
 
 abbrev pub invariant-loop-slot : goal.invariant-loop-slot

@@ -1,7 +1,7 @@
 -- the closure says whether an entry goes before the one that is looked for
 use Rattle.std.proofs.Common.{rules}
 use Rattle.std.proofs.lemmas.List.Sorted.{IsPartitionPoint-from_clause}
-use Rattle.queue_sched.specs.Index.{goes_before}
+use Rattle.queue_sched.specs.WaitingIndex.{goes_before}
 use Rattle.queue_sched.proofs.SlotLists.{parted}
 use Rattle.queue_sched.proofs.slots.place_of.Goals as goal
 

@@ -2,8 +2,8 @@
 use Rattle.std.proofs.Common.{rules, ◌≡◌, get_or, sym, subst}
 use Rattle.std.proofs.lemmas.List.{get_or_default}
 use Rattle.std.specs.List.{insert}
-use Rattle.queue_sched.specs.Slots.{items_of, there_of, InSlotOrder}
-use Rattle.queue_sched.specs.Turned.{IsMore}
+use Rattle.queue_sched.specs.OrderSlots.{items_of, there_of, InSlotOrder}
+use Rattle.queue_sched.specs.OrderedEntries.{IsMore}
 use Rattle.queue_sched.proofs.SlotLists.{put_held, put_open, is_gone, order_held, order_open}
 use Rattle.queue_sched.proofs.slots.put_slot.Goals as goal
 

@@ -1,7 +1,7 @@
 -- the closure says whether the entry is there
 use Rattle.std.proofs.Common.{rules}
 use Rattle.std.proofs.lemmas.List.Elements.{filter_from_retain}
-use Rattle.queue_sched.specs.Slots.{is_there}
+use Rattle.queue_sched.specs.OrderSlots.{is_there}
 use Rattle.queue_sched.proofs.slots.sweep.Goals as goal
 
 pub returns-clause-items : goal.returns-clause-items

@@ -1,7 +1,7 @@
 -- the slot of the entry is marked
 use Rattle.queue_sched.proofs.SlotLists.{gone_of, order_same_turn, stands, take_marked}
 use Rattle.std.proofs.Common.{refl, arith}
-use Rattle.queue_sched.specs.Slots.{there_of}
+use Rattle.queue_sched.specs.OrderSlots.{there_of}
 use Rattle.queue_sched.proofs.slots.take_slot.Goals as goal
 
 pub returns-clause-items : goal.returns-clause-items

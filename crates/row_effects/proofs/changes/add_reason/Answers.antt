@@ -1,7 +1,7 @@
 -- a new word goes into its gap where there is room, and one that is there changes nothing
 use Rattle.std.proofs.Common.{◌≡◌, true, length, ap, sym, subst, ◌∙◌, arith}
 use Rattle.row_effects.specs.Keys.{is_ascending}
-use Rattle.row_effects.specs.Reasons.{word_of}
+use Rattle.row_effects.specs.QueueReasons.{word_of}
 use Rattle.row_effects.proofs.Kept.{kept_gap, kept_dropped, ascends_kept}
 use Rattle.row_effects.proofs.ReasonSteps.{kept_word}
 use Rattle.row_effects.proofs.changes.add_reason.Goals as goal

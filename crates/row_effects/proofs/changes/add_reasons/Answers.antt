@@ -1,7 +1,7 @@
 -- one more word
 use Rattle.std.proofs.Common.{ap, sym, ◌∙◌, arith}
 use Rattle.std.proofs.lemmas.List.Sums.{fold_push}
-use Rattle.row_effects.specs.Reasons.{add_reason}
+use Rattle.row_effects.specs.QueueReasons.{add_reason}
 use Rattle.row_effects.proofs.changes.add_reasons.Goals as goal
 
 pub loop-word-preserved : goal.loop-word-preserved

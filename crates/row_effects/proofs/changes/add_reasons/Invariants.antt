@@ -1,7 +1,7 @@
 -- the reasons are those after the words so far
 use Rattle.std.proofs.Common.{◌≡◌, ◌≤◌, true, vec_capacity}
 use Rattle.row_effects.specs.Keys.{is_ascending}
-use Rattle.row_effects.specs.Reasons.{word_of, add_reasons}
+use Rattle.row_effects.specs.QueueReasons.{word_of, add_reasons}
 use Rattle.row_effects.proofs.changes.add_reasons.Given as goal
 
 abbrev pub invariant-loop-word : goal.invariant-loop-word

@@ -1,7 +1,7 @@
 -- the word at its place is removed, and one that isn't there changes nothing
 use Rattle.std.proofs.Common.{◌≡◌, true, [], ◌∷◌, sym, subst, ◌∙◌}
 use Rattle.row_effects.specs.Keys.{is_ascending}
-use Rattle.row_effects.specs.Reasons.{word_of}
+use Rattle.row_effects.specs.QueueReasons.{word_of}
 use Rattle.row_effects.proofs.ReasonSteps.{dropped_place, dropped_absent, ascends_dropped}
 use Rattle.row_effects.proofs.changes.drop_reason.Goals as goal
 

@@ -1,6 +1,6 @@
 -- one more word
 use Rattle.std.proofs.Common.{◌∷◌, [], ap, sym, ◌∙◌, arith}
-use Rattle.row_effects.specs.Reasons.{drop_reasons}
+use Rattle.row_effects.specs.QueueReasons.{drop_reasons}
 use Rattle.row_effects.proofs.ReasonSteps.{dropped_none, dropped_more}
 use Rattle.row_effects.proofs.changes.drop_reasons.Goals as goal
 

@@ -1,7 +1,7 @@
 -- an attribute takes the place of the one of its name, or goes into its gap where there is room
 use Rattle.std.proofs.Common.{◌≡◌, true, length, ap, sym, subst, ◌∙◌, arith}
 use Rattle.row_effects.specs.Keys.{is_ascending}
-use Rattle.row_effects.specs.Attributes.{name_of}
+use Rattle.row_effects.specs.QueueAttributes.{name_of}
 use Rattle.row_effects.proofs.Kept.{kept_place, kept_gap, kept_dropped, ascends_kept}
 use Rattle.row_effects.proofs.changes.set_attribute.Goals as goal
 

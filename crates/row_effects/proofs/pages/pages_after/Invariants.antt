@@ -1,6 +1,6 @@
 -- the pages after the effects so far
 use Rattle.std.proofs.Common.{◌≡◌, take}
-use Rattle.row_effects.specs.Fold.{pages_after}
+use Rattle.row_effects.specs.EffectFold.{pages_after}
 use Rattle.row_effects.proofs.pages.pages_after.Given as goal
 
 abbrev pub invariant-loop-effect : goal.invariant-loop-effect

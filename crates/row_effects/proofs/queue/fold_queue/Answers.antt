@@ -1,7 +1,7 @@
 -- the lists stay as short as a row's
 use Rattle.std.proofs.Common.{◌≤◌, length, ap, sym, subst, ◌∙◌}
 use Rattle.row_effects.specs.Keys.{most_kept}
-use Rattle.row_effects.specs.Fold.{reasons_after, attributes_after}
+use Rattle.row_effects.specs.EffectFold.{reasons_after, attributes_after}
 use Rattle.row_effects.proofs.Order.{stays_in_order}
 use Rattle.row_effects.proofs.queue.fold_queue.Goals as goal
 

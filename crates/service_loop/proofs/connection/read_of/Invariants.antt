@@ -5,7 +5,7 @@ use Rattle.service_loop.proofs.connection.read_of.Given as goal
 
 abbrev pub invariant-loop : goal.invariant-loop
 invariant-loop g l = record {
-  remaining : Keeps (g.L.Connection.view.remaining l.fn.line) (g.L.Connection.view.remaining l.line);
-  contents : Keeps (g.L.Connection.view.contents l.fn.line) (g.L.Connection.view.contents l.line);
-  other : g.L.Connection.view.took l.line ≡ g.L.Connection.view.took l.fn.line;
+  remaining : Keeps (g.L.Connection.view.remaining l.fn.connection) (g.L.Connection.view.remaining l.connection);
+  contents : Keeps (g.L.Connection.view.contents l.fn.connection) (g.L.Connection.view.contents l.connection);
+  other : g.L.Connection.view.took l.connection ≡ g.L.Connection.view.took l.fn.connection;
 }

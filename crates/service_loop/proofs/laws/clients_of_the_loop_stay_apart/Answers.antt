@@ -1,4 +1,4 @@
-use Rattle.service_loop.proofs.VisitLaws.{answers_come_in_order, told_once}
+use Rattle.service_loop.proofs.ClientStepLaws.{answers_come_in_order, told_once}
 use Rattle.service_loop.proofs.laws.clients_of_the_loop_stay_apart.Goals as goal
 
 pub returns-clause-asks : goal.returns-clause-asks

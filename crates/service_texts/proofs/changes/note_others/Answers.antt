@@ -1,6 +1,6 @@
 use Rattle.std.proofs.Common.{◌+◌, drop, sym, ap, ◌∙◌}
 use Rattle.std.proofs.lemmas.List.{at_drop_more}
-use Rattle.service_texts.specs.Changes.{with_other, with_others}
+use Rattle.service_texts.specs.Notices.{with_other, with_others}
 use Rattle.service_texts.proofs.changes.note_others.Goals as goal
 
 pub loop-stage-preserved : goal.loop-stage-preserved

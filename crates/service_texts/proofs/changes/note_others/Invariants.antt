@@ -1,6 +1,6 @@
 -- what is left to be noted
 use Rattle.std.proofs.Common.{◌≡◌, drop}
-use Rattle.service_texts.specs.Changes.{with_others}
+use Rattle.service_texts.specs.Notices.{with_others}
 use Rattle.service_texts.proofs.changes.note_others.Given as goal
 
 abbrev pub invariant-loop-stage : goal.invariant-loop-stage

@@ -1,7 +1,7 @@
 -- the lines of the jobs so far were added
 use Rattle.std.proofs.Common.{◌≡◌, ◌++◌, take}
 use Rattle.std.specs.List.{flat_map}
-use Rattle.service_texts.specs.Changes.{job_told}
+use Rattle.service_texts.specs.Notices.{job_told}
 use Rattle.service_texts.proofs.notes.push_jobs.Given as goal
 
 abbrev pub invariant-loop-job : goal.invariant-loop-job

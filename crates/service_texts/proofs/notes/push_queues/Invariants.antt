@@ -1,7 +1,7 @@
 -- the lines of the queues so far were added
 use Rattle.std.proofs.Common.{◌≡◌, ◌++◌, take}
 use Rattle.std.specs.List.{flat_map}
-use Rattle.service_texts.specs.Changes.{queue_told}
+use Rattle.service_texts.specs.Notices.{queue_told}
 use Rattle.service_texts.proofs.notes.push_queues.Given as goal
 
 abbrev pub invariant-loop-name : goal.invariant-loop-name

@@ -2,7 +2,7 @@
 use Rattle.std.proofs.Common.{◌≡◌, take}
 use Rattle.std.specs.List.{flat_map}
 use Rattle.spool_types.specs.declared.rows.QueueRow.{QueueRow}
-use Rattle.service_texts.specs.Changes.{listed, queue_stage}
+use Rattle.service_texts.specs.Notices.{listed, queue_stage}
 use Rattle.service_texts.proofs.stages.stages_in.Given as goal
 
 abbrev pub invariant-loop-row : goal.invariant-loop-row

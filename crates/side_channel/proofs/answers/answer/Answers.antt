@@ -1,5 +1,5 @@
 use Rattle.std.proofs.Common.{ap, ◌∙◌}
-use Rattle.side_channel.specs.Answers.{answer_of}
+use Rattle.side_channel.specs.SideAnswers.{answer_of}
 use Rattle.side_channel.proofs.answers.answer.Goals as goal
 
 pub returns : goal.returns

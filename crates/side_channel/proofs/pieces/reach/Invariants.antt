@@ -1,6 +1,6 @@
 use Rattle.std.proofs.Common.{◌≤◌, ◌-◌, ◌++◌, length, take}
-use Rattle.side_channel.specs.Pieces.{to_come}
-use Rattle.side_channel.specs.Bytes.{Comes}
+use Rattle.side_channel.specs.SessionPieces.{to_come}
+use Rattle.side_channel.specs.SessionBytes.{Comes}
 use Rattle.side_channel.specs.declared.pieces.Came.TheVariants.{Part}
 use Rattle.side_channel.proofs.pieces.reach.Given as goal
 

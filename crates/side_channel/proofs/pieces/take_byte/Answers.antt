@@ -1,6 +1,6 @@
 use Rattle.std.proofs.Common.{◌<◌, ap, ◌∙◌, ◌∷◌, subst, sym}
-use Rattle.side_channel.specs.Pieces.{to_come}
-use Rattle.side_channel.specs.Bytes.{IsHeld, after_head}
+use Rattle.side_channel.specs.SessionPieces.{to_come}
+use Rattle.side_channel.specs.SessionBytes.{IsHeld, after_head}
 use Rattle.side_channel.proofs.PieceLaws.{comes_as, fourth, one_less}
 use Rattle.side_channel.proofs.pieces.take_byte.Goals as goal
 use Rattle.side_channel.proofs.pieces.take_byte.Goals.{After-take_data}

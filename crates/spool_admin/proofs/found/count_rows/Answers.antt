@@ -1,7 +1,7 @@
 use Rattle.std.proofs.Common.{◌∙◌, List, ap, length, subst}
 use Rattle.std.specs.FinMap as finite
 use Rattle.spool_types.specs.State.{Job}
-use Rattle.spool_admin.specs.Found.{AreCounted}
+use Rattle.spool_admin.specs.DiskContents.{AreCounted}
 use Rattle.spool_admin.proofs.found.count_rows.Goals as goal
 
 pub returns-clause-counts : goal.returns-clause-counts

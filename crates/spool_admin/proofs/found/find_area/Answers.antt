@@ -1,7 +1,7 @@
 use Rattle.std.proofs.Common.{◌∙◌, ◌+◌, ap, arith, subst, sym}
 use Rattle.spool_areas.specs.Header.{epoch_of, half, header_at, header_len, version_of}
 use Rattle.spool_areas.specs.Payloads.{HasPayloads}
-use Rattle.spool_areas.specs.Extents.{EndsSo, payloads_at}
+use Rattle.spool_areas.specs.PayloadExtents.{EndsSo, payloads_at}
 use Rattle.spool_core.proofs.FoldLaws.{follow_le}
 use Rattle.spool_admin.proofs.Damage.{untorn}
 use Rattle.spool_admin.proofs.Pieces.{told_long}

@@ -2,7 +2,7 @@
 use Rattle.std.proofs.Common.{◌∙◌, Option, List, ℕ, false, subst, sym}
 use Rattle.spool_types.specs.State.{State}
 use Rattle.spool_disk.proofs.Moments.{twice_still}
-use Rattle.spool_admin.specs.Halves.{LeavesHalf}
+use Rattle.spool_admin.specs.HalfImages.{LeavesHalf}
 use Rattle.spool_admin.proofs.halves.list_halves.Goals as goal
 
 pub returns-clause-part : goal.returns-clause-part

@@ -6,7 +6,7 @@ use Rattle.std.specs.Prelude.{IfNone, IfOk, IfSome, Result, unwrap_or}
 use Rattle.std.specs.Option.{option_map}
 use Rattle.clap.specs.Words.{Text, all_of, found_of, rows_of}
 use Rattle.clap.proofs.WalkLemmas.{raw_values-rows}
-use Rattle.spool_admin.specs.Words.{IsFor, IsOfTask}
+use Rattle.spool_admin.specs.AdminArguments.{IsFor, IsOfTask}
 use Rattle.spool_admin.specs.declared.words.Asked.{Asked}
 use Rattle.spool_admin.proofs.words.asked_with_rest.Goals as goal
 

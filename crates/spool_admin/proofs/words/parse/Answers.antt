@@ -2,8 +2,8 @@ use Rattle.std.proofs.Common.{ap, map, subst}
 use Rattle.clap.specs.Words.{App, fault_of, kind_of}
 use Rattle.clap.specs.Kinds.{HasKind}
 use Rattle.clap.specs.Faults.{is_simple_and_free}
-use Rattle.spool_host.proofs.Refusals.{refused_by_clap}
-use Rattle.spool_admin.specs.Words.{admin_app}
+use Rattle.spool_runtime.proofs.Refusals.{refused_by_clap}
+use Rattle.spool_admin.specs.AdminArguments.{admin_app}
 use Rattle.spool_admin.proofs.words.parse.Goals as goal
 
 pub returns-in-Err-clause-taken : goal.returns-in-Err-clause-taken

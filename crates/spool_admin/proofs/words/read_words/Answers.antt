@@ -2,8 +2,8 @@
 use Rattle.std.proofs.Common.{◌≡◌, List, Option, Some, None, map, subst, sym}
 use Rattle.std.specs.Prelude.{IfNone}
 use Rattle.clap.specs.Words.{Row, found_of, matches_of, rows_of}
-use Rattle.spool_host.proofs.Refusals.{refuses}
-use Rattle.spool_admin.specs.Words.{AreTaken, HasTask, admin_app}
+use Rattle.spool_runtime.proofs.Refusals.{refuses}
+use Rattle.spool_admin.specs.AdminArguments.{AreTaken, HasTask, admin_app}
 use Rattle.spool_admin.proofs.words.read_words.Goals as goal
 
 no_task : {T : Type 0} (asked : Option T) (found given : List Row) → asked ≡ None → IfNone asked (HasTask found → ⊥) → found ≡ given → HasTask given → ⊥

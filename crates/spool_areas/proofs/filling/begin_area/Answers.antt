@@ -1,7 +1,7 @@
 use Rattle.std.proofs.Common.{◌+◌, List, ℕ, subst, arith}
 use Rattle.spool_disk.specs.Disk.{IsWritten}
 use Rattle.spool_disk.proofs.Moments.{wider_change, part_then}
-use Rattle.spool_areas.specs.Filling.{change_of}
+use Rattle.spool_areas.specs.AreaFilling.{change_of}
 use Rattle.spool_areas.proofs.Changes.{part_one}
 use Rattle.spool_areas.proofs.Fillings.{still_old, is_begun}
 use Rattle.spool_areas.proofs.filling.begin_area.Goals as goal

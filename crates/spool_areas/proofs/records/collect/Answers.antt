@@ -2,7 +2,7 @@ use Rattle.std.proofs.Common.{◌+◌, List, ◌++◌, [], ◌∷◌, refl, sym,
 use Rattle.spool_disk.proofs.Moments.{no_change, twice_still}
 use Rattle.gate_journal.specs.Entries.{HasFirst}
 use Rattle.extents.specs.declared.extent.Extent.{Extent}
-use Rattle.spool_areas.specs.Extents.{Follow, payloads_at}
+use Rattle.spool_areas.specs.PayloadExtents.{Follow, payloads_at}
 use Rattle.spool_areas.proofs.Collected.{none_first, follow_push, first_push, found_lies, made}
 use Rattle.spool_areas.proofs.records.collect.Goals as goal
 

@@ -2,7 +2,7 @@ use Rattle.std.proofs.Common.{◌≡◌, ◌<◌, List, ℕ, Some, ◌-◌}
 use Rattle.spool_disk.specs.Disk.{ChangesNothing}
 use Rattle.gate_journal.specs.Entries.{HasFirst}
 use Rattle.gate_journal.specs.Window.{Holds}
-use Rattle.spool_areas.specs.Extents.{payloads_at, Follow}
+use Rattle.spool_areas.specs.PayloadExtents.{payloads_at, Follow}
 use Rattle.spool_areas.proofs.records.collect.Given as goal
 
 abbrev pub invariant-loop-found : goal.invariant-loop-found

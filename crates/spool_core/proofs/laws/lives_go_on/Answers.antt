@@ -6,13 +6,13 @@ use Rattle.spool_types.specs.declared.event.Event.TheVariants.{Reopen}
 use Rattle.spool_types.specs.State.{State, job_at, nothing_in}
 use Rattle.job_table.specs.Attempts.{reopened}
 use Rattle.job_table.specs.Ended.{IsKeptOrPurged}
-use Rattle.job_table.specs.Fold.{after_all}
+use Rattle.job_table.specs.EventFold.{after_all}
 use Rattle.job_table.specs.Legal.{IsLegal}
 use Rattle.job_table.specs.Over.{HasOver, late_refusal}
 use Rattle.job_table.specs.Step.{creation, refusal_of}
 use Rattle.spool_core.specs.Driving.{documents_after}
 use Rattle.spool_core.specs.Image.{HasTable, HasDocuments}
-use Rattle.spool_core.specs.Lives.{Life, next_table, history_of, later_events}
+use Rattle.spool_core.specs.SpoolLives.{Life, next_table, history_of, later_events}
 use Rattle.spool_core.proofs.DocumentLaws.{documents_stay}
 use Rattle.spool_core.proofs.ImageLaws.{over_after}
 use Rattle.spool_core.proofs.LifeLaws.{one_history, one_history_sends, legal_found, after_acknowledged, further}

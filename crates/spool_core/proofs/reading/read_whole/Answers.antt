@@ -4,16 +4,16 @@ use Rattle.std.specs.Prelude.{IfOk}
 use Rattle.std.proofs.Math.Seq.{take-length}
 use Rattle.spool_types.specs.State.{State}
 use Rattle.spool_disk.specs.Disk.{DiskView}
-use Rattle.spool_core.specs.Reading.{IsDocument, IsPart}
-use Rattle.spool_core.specs.Standing.{Standing, len_at}
+use Rattle.spool_core.specs.DocumentReading.{IsDocument, IsPart}
+use Rattle.spool_core.specs.OpenSpools.{OpenSpool, len_at}
 use Rattle.spool_core.proofs.reading.read_whole.Goals as goal
 
 -- as many as there are are all
-whole_part : {D : Type 0} (v : DiskView D) (s : Standing D) (j n : ℕ) (part : List ℕ) → n ≡ len_at s.state j → IsPart v s j 0 n part → IsDocument v s j part
+whole_part : {D : Type 0} (v : DiskView D) (s : OpenSpool D) (j n : ℕ) (part : List ℕ) → n ≡ len_at s.state j → IsPart v s j 0 n part → IsDocument v s j part
 whole_part v s j n part all is =
     subst (IsDocument v s j) (sym (is.part_is ∙ ap (λ (m : ℕ). take m is.document) (all ∙ sym is.is.long) ∙ take-length is.document)) is.is
 
-ok_whole : {X E D : Type 0} (bytes : X → List ℕ) (r : Result X E) (v : DiskView D) (s : Standing D) (j n : ℕ) → n ≡ len_at s.state j → IfOk r (λ x. IsPart v s j 0 n (bytes x)) → IfOk r (λ x. IsDocument v s j (bytes x))
+ok_whole : {X E D : Type 0} (bytes : X → List ℕ) (r : Result X E) (v : DiskView D) (s : OpenSpool D) (j n : ℕ) → n ≡ len_at s.state j → IfOk r (λ x. IsPart v s j 0 n (bytes x)) → IfOk r (λ x. IsDocument v s j (bytes x))
 ok_whole bytes (Ok x) v s j n all is = whole_part v s j n (bytes x) all is
 ok_whole bytes (Err e) v s j n all is = tt
 

@@ -1,4 +1,4 @@
-use Rattle.spool_engine.specs.EventTurns.{setting}
+use Rattle.spool_engine.specs.EventSteps.{setting}
 use Rattle.spool_engine.proofs.ClientLaws.{acts_call, answers_apart, commands_apart, first_apart, replies_apart}
 use Rattle.spool_engine.proofs.laws.clients_stay_apart.Goals as goal
 

@@ -1,4 +1,4 @@
-use Rattle.spool_engine.specs.EventTurns.{setting}
+use Rattle.spool_engine.specs.EventSteps.{setting}
 use Rattle.spool_engine.proofs.CallCrashLaws.{along_later_calls, whole_along_later_calls}
 use Rattle.spool_engine.proofs.laws.crashes_between_calls.Goals as goal
 

@@ -1,4 +1,4 @@
-use Rattle.spool_engine.specs.EventTurns.{setting}
+use Rattle.spool_engine.specs.EventSteps.{setting}
 use Rattle.spool_engine.proofs.HandedOnLaws.{calls_right, first_right}
 use Rattle.spool_engine.proofs.InputLaws.{later_right}
 use Rattle.spool_engine.proofs.laws.stages_have_right_input.Goals as goal

@@ -3,9 +3,9 @@ use Rattle.std.proofs.lemmas.List.{take_all}
 use Rattle.std.proofs.lemmas.List.Folds.{flat_map-map}
 use Rattle.std.specs.Prelude.{codes}
 use Rattle.std.specs.List.{flat_map}
-use Rattle.mime_lines.specs.Seen.{line_of}
+use Rattle.mime_lines.specs.LineFields.{line_of}
 use Rattle.spool_types.specs.Values.{media_in}
-use Rattle.spool_front.specs.Chains.{kind_of, listed}
+use Rattle.spool_front.specs.ReachableTypes.{kind_of, listed}
 use Rattle.spool_front.proofs.chains.kinds_in.Goals as goal
 
 pub returns : goal.returns

@@ -1,7 +1,7 @@
 use Rattle.std.proofs.Common.{rules, tests}
 use Rattle.std.proofs.lemmas.Iterator.Search.{any_from_yields_List}
 use Rattle.std.proofs.lemmas.Iterator.Splits.{YieldsList-from_slice_split}
-use Rattle.command_lines.specs.Grammar.{is_word}
+use Rattle.command_lines.specs.CommandGrammar.{is_word}
 use Rattle.spool_front.specs.CupsForms.{is_between}
 use Rattle.spool_front.proofs.cups_forms.is_part.Goals as goal
 

@@ -2,7 +2,7 @@
 use Rattle.std.proofs.Common.{◌≡◌, take}
 use Rattle.std.specs.Prelude.{string_bytes}
 use Rattle.std.specs.List.{flat_map}
-use Rattle.spool_front.specs.Drafts.{option_text}
+use Rattle.spool_front.specs.JobDrafts.{option_text}
 use Rattle.spool_front.proofs.draft.options_of.Given as goal
 
 abbrev pub invariant-loop-option : goal.invariant-loop-option

@@ -1,7 +1,7 @@
 use Rattle.std.proofs.Common.{◌++◌, ap, append_assoc, string_bytes, sym, ◌∙◌}
 use Rattle.std.specs.Prelude.{codes}
 use Rattle.std.specs.Option.{option_map}
-use Rattle.spool_front.specs.Drafts.{option_text, pages_option}
+use Rattle.spool_front.specs.JobDrafts.{option_text, pages_option}
 use Rattle.spool_front.proofs.draft.push_pages.Goals as goal
 
 pub returns : goal.returns

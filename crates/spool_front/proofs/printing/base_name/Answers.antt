@@ -1,7 +1,7 @@
 use Rattle.std.proofs.Common.{◌≡◌, arith, sym, ap, subst, ◌∙◌, ◌++◌, ◌∷◌, inl, inr, take, drop, refl}
 use Rattle.std.proofs.lemmas.List.{take-append-drop}
 use Rattle.std.proofs.lemmas.Str.Pattern.{NoCharPasses-char, drop_at_char}
-use Rattle.spool_front.specs.Drafts.{HasNoSlash}
+use Rattle.spool_front.specs.JobDrafts.{HasNoSlash}
 use Rattle.spool_front.proofs.printing.base_name.Goals as goal
 
 pub returns-in-Some : goal.returns-in-Some

@@ -1,5 +1,5 @@
 -- More rows may be written.
-use Rattle.half_rows.specs.Writing.{MayWrite}
+use Rattle.split_rows.specs.Writing.{MayWrite}
 use Rattle.spool_halves.proofs.filling.put_job.Given as goal
 
 abbrev pub invariant-loop-piece : goal.invariant-loop-piece

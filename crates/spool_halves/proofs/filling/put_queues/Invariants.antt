@@ -1,5 +1,5 @@
 -- More rows may be written.
-use Rattle.half_rows.specs.Writing.{MayWrite}
+use Rattle.split_rows.specs.Writing.{MayWrite}
 use Rattle.spool_halves.proofs.filling.put_queues.Given as goal
 
 abbrev pub invariant-loop-queue : goal.invariant-loop-queue

@@ -1,7 +1,7 @@
 -- More rows may be written, and the whole spool is as it was.
 use Rattle.std.proofs.Common.{◌≡◌}
 use Rattle.spool_disk.specs.Disk.{ChangesNothing}
-use Rattle.half_rows.specs.Writing.{MayWrite}
+use Rattle.split_rows.specs.Writing.{MayWrite}
 use Rattle.spool_halves.proofs.filling.write_half.Given as goal
 
 abbrev pub invariant-loop-job : goal.invariant-loop-job

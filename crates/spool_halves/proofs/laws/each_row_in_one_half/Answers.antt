@@ -1,7 +1,7 @@
 use Rattle.std.proofs.Common.{◌≡◌, ◌∙◌, ℕ, Bool, true, false, not, List, None, Some, inl, inr, refl, ap, subst}
 use Rattle.std.specs.Prelude.{◌⊎◌}
 use Rattle.spool_types.specs.State.{State, Job, queue_at, job_at}
-use Rattle.half_rows.specs.Half.{takes}
+use Rattle.split_rows.specs.Half.{takes}
 use Rattle.job_table.specs.Legal.{IsLegal}
 use Rattle.spool_halves.specs.Halves.{IsHalf}
 use Rattle.spool_halves.proofs.Halves.{job_absent, job_from, job_to, other_half, queue_from, queue_same}

@@ -2,7 +2,7 @@ use Rattle.std.proofs.Common.{◌≡◌, ◌∙◌, ℕ, Bool, true, List, sym, 
 use Rattle.spool_types.specs.declared.event.Event.{Event}
 use Rattle.spool_types.specs.State.{State, queue_at, job_at}
 use Rattle.job_table.specs.Apart.{IsPart, own_events}
-use Rattle.job_table.specs.Fold.{accepted, after_all}
+use Rattle.job_table.specs.EventFold.{accepted, after_all}
 use Rattle.spool_halves.proofs.Going.{part_of_half, same_rows}
 use Rattle.spool_halves.proofs.laws.halves_go_on.Goals as goal
 

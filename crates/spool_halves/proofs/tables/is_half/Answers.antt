@@ -2,10 +2,10 @@ use Rattle.std.proofs.Common.{◌≡◌, ◌∙◌, ◌≤◌, List, subst, sym,
 use Rattle.std.specs.List.{AllByRecursion}
 use Rattle.spool_types.specs.Limits.{greatest_number}
 use Rattle.event_codec.specs.RowSpelling.{IsOrderedQueue}
-use Rattle.half_rows.specs.Tellable.{IsTellable}
+use Rattle.split_rows.specs.Tellable.{IsTellable}
 use Rattle.spool_core.specs.Checkpointing.{blank}
 use Rattle.spool_core.proofs.AllLaws.{blank_fits}
-use Rattle.spool_halves.proofs.Told.{jobs_told, queues_told}
+use Rattle.spool_halves.proofs.HalfReports.{jobs_told, queues_told}
 use Rattle.spool_halves.proofs.tables.is_half.Goals as goal
 
 pub are_queues-requires-clause-whole : goal.are_queues-requires-clause-whole

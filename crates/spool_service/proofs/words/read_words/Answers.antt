@@ -2,11 +2,11 @@ use Rattle.std.proofs.Common.{◌∙◌, ap, subst, refl, codes, map}
 use Rattle.std.specs.Prelude.{IfOk, MatchResult, Ok, Err, Result}
 use Rattle.clap.specs.Words.{App, matches_of}
 use Rattle.clap.specs.declared.parser.matches.ArgMatches.{ArgMatches}
-use Rattle.spool_host.specs.Words.{AreFaultlessFor, IsMistake, PassParsers, RefusesOnly}
-use Rattle.spool_host.specs.declared.options.WordsFault.{WordsFault}
-use Rattle.spool_host.specs.declared.options.WordsFault.TheVariants.{Refused, Memory}
-use Rattle.spool_host.proofs.Accepted.{has_flag, has_number}
-use Rattle.spool_service.specs.Words.{AreFaultless, AreTaken, Fit, HasFlags, HasNumbers, IsAsked, service_app}
+use Rattle.spool_runtime.specs.ProgramArguments.{AreFaultlessFor, IsMistake, PassParsers, RefusesOnly}
+use Rattle.spool_runtime.specs.declared.options.WordsFault.{WordsFault}
+use Rattle.spool_runtime.specs.declared.options.WordsFault.TheVariants.{Refused, Memory}
+use Rattle.spool_runtime.proofs.Accepted.{has_flag, has_number}
+use Rattle.spool_service.specs.ServiceArguments.{AreFaultless, AreTaken, Fit, HasFlags, HasNumbers, IsAsked, service_app}
 use Rattle.spool_service.specs.declared.words.ServiceWords.{ServiceWords}
 use Rattle.spool_service.proofs.words.read_words.Goals as goal
 

@@ -1,7 +1,7 @@
 use Rattle.std.proofs.Common.{rules, ap, ap₂, ◌∙◌}
 use Rattle.std.proofs.lemmas.Result.{IfOk-weaker}
 use Rattle.clap.specs.Words.{with_rule}
-use Rattle.spool_service.specs.Words.{with_bounds, with_socket}
+use Rattle.spool_service.specs.ServiceArguments.{with_bounds, with_socket}
 use Rattle.spool_service.proofs.words.service_command.Goals as goal
 
 pub returns : goal.returns

@@ -6,9 +6,9 @@ use Rattle.std.specs.Option.{option_map}
 use Rattle.clap.specs.Words.{Text, first_of, first_value, found_of, one_of, rows_of}
 use Rattle.clap.specs.declared.parser.matches.Found.{Found}
 use Rattle.clap.proofs.WalkLemmas.{first_value-rows}
-use Rattle.spool_host.specs.Words.{number_or}
-use Rattle.spool_host.proofs.Refusals.{refuses}
-use Rattle.spool_service.specs.Words.{Fit, IsMode, SaysMode}
+use Rattle.spool_runtime.specs.ProgramArguments.{number_or}
+use Rattle.spool_runtime.proofs.Refusals.{refuses}
+use Rattle.spool_service.specs.ServiceArguments.{Fit, IsMode, SaysMode}
 use Rattle.spool_service.proofs.words.words_in.Goals as goal
 
 -- a text that `get_str` answers is the first value in the rows

@@ -2,8 +2,8 @@ use Rattle.std.proofs.Common.{ap, sym, ◌∙◌, subst}
 use Rattle.std.specs.Prelude.{IfSome}
 use Rattle.std.specs.List.{filter_map}
 use Rattle.std.specs.Option.{option_copied, option_to_list}
-use Rattle.stderr_lines.specs.Attributes.{attribute_of}
-use Rattle.stderr_lines.specs.Drafts.{IsLineText}
+use Rattle.stderr_lines.specs.AttributeLines.{attribute_of}
+use Rattle.stderr_lines.specs.EffectDrafts.{IsLineText}
 use Rattle.stderr_lines.specs.Rests.{words_behind}
 use Rattle.stderr_lines.specs.Tallies.{keep_all}
 use Rattle.stderr_lines.proofs.TallyLaws.{keep_option}

@@ -3,8 +3,8 @@ use Rattle.std.proofs.Common.{◌≡◌}
 use Rattle.std.specs.Prelude.{IfSome}
 use Rattle.std.specs.List.{filter_map}
 use Rattle.std.specs.Option.{option_copied}
-use Rattle.stderr_lines.specs.Attributes.{attribute_of, attribute_effects}
-use Rattle.stderr_lines.specs.Drafts.{IsLineText}
+use Rattle.stderr_lines.specs.AttributeLines.{attribute_of, attribute_effects}
+use Rattle.stderr_lines.specs.EffectDrafts.{IsLineText}
 use Rattle.stderr_lines.specs.Rests.{words_behind, rest_weight}
 use Rattle.stderr_lines.specs.Tallies.{keep_all}
 use Rattle.stderr_lines.proofs.attributes.add_attributes.Given as goal

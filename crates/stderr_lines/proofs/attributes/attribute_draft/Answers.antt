@@ -1,7 +1,7 @@
 use Rattle.std.proofs.Common.{ap, ◌∙◌}
 use Rattle.std.specs.Option.{option_map}
 use Rattle.spool_types.specs.Values.{is_attribute_name}
-use Rattle.stderr_lines.specs.Drafts.{effect_of}
+use Rattle.stderr_lines.specs.EffectDrafts.{effect_of}
 use Rattle.stderr_lines.proofs.LineLaws.{no_pair, value_text}
 use Rattle.stderr_lines.proofs.TextLaws.{attribute_name, no_attribute_name}
 use Rattle.stderr_lines.proofs.attributes.attribute_draft.Goals as goal

@@ -1,5 +1,5 @@
 use Rattle.std.proofs.Common.{sym, ◌∙◌, subst}
-use Rattle.stderr_lines.specs.Drafts.{IsLineText}
+use Rattle.stderr_lines.specs.EffectDrafts.{IsLineText}
 use Rattle.line_words.specs.declared.quoting.Quoting.TheVariants.{Bare}
 use Rattle.stderr_lines.proofs.QuotingLaws.{unquoted_text}
 use Rattle.stderr_lines.proofs.draft.read_value.Goals as goal

@@ -1,6 +1,6 @@
 use Rattle.std.proofs.Common.{◌+◌, take, get_or, sym, subst, ◌∷◌, []}
 use Rattle.std.proofs.lemmas.List.{take_more, take_all}
-use Rattle.stderr_lines.specs.Pending.{Takes}
+use Rattle.stderr_lines.specs.PendingEffects.{Takes}
 use Rattle.stderr_lines.proofs.LineLaws.{is, takes_none, takes_more}
 use Rattle.stderr_lines.proofs.lines.take_piece.Goals as goal
 

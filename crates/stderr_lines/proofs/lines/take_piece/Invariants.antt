@@ -1,7 +1,7 @@
 -- the bytes so far are taken
 use Rattle.std.proofs.Common.{take}
-use Rattle.stderr_lines.specs.Held.{IsHeld}
-use Rattle.stderr_lines.specs.Pending.{Takes}
+use Rattle.stderr_lines.specs.CurrentLine.{IsHeld}
+use Rattle.stderr_lines.specs.PendingEffects.{Takes}
 use Rattle.stderr_lines.proofs.LineLaws.{is}
 use Rattle.stderr_lines.proofs.lines.take_piece.Given as goal
 

@@ -6,4 +6,4 @@ use Rattle.stderr_lines.proofs.PieceLaws.{onto_front}
 use Rattle.stderr_lines.proofs.quoting.split_word.Given as goal
 
 abbrev pub invariant-loop-i : goal.invariant-loop-i
-invariant-loop-i l = onto_front (take l.i l.text) (pieces l.place (drop l.i l.text)) ≡ pieces Bare l.text
+invariant-loop-i l = onto_front (take l.i l.text) (pieces l.quote_state (drop l.i l.text)) ≡ pieces Bare l.text

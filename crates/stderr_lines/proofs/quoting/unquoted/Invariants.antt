@@ -5,4 +5,4 @@ use Rattle.line_words.specs.declared.quoting.Quoting.TheVariants.{Bare}
 use Rattle.stderr_lines.proofs.quoting.unquoted.Given as goal
 
 abbrev pub invariant-loop-b : goal.invariant-loop-b
-invariant-loop-b l = l.bytes.items ++ said l.place (drop l.b-index l.text) ≡ said Bare l.text
+invariant-loop-b l = l.bytes.items ++ said l.quote_state (drop l.b-index l.text) ≡ said Bare l.text

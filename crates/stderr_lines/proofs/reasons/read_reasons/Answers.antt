@@ -2,7 +2,7 @@ use Rattle.std.proofs.Common.{◌≡◌, ◌≤◌, ◌++◌, length, ap, sym, �
 use Rattle.std.proofs.lemmas.Bool.{false≢true}
 use Rattle.std.proofs.lemmas.List.{append-nil}
 use Rattle.std.specs.Option.{option_copied}
-use Rattle.stderr_lines.specs.Reasons.{reasons_of}
+use Rattle.stderr_lines.specs.ReasonLines.{reasons_of}
 use Rattle.stderr_lines.specs.Rests.{reasons_from}
 use Rattle.stderr_lines.proofs.ReasonLaws.{reasons_count_bound}
 use Rattle.stderr_lines.proofs.reasons.read_reasons.Goals as goal

@@ -1,7 +1,7 @@
 -- the reasons so far are read
 use Rattle.std.proofs.Common.{◌≡◌, ◌++◌, length}
 use Rattle.std.specs.Option.{option_copied}
-use Rattle.stderr_lines.specs.Reasons.{reasons_of}
+use Rattle.stderr_lines.specs.ReasonLines.{reasons_of}
 use Rattle.stderr_lines.specs.Rests.{reasons_from, rest_weight}
 use Rattle.stderr_lines.proofs.reasons.read_reasons.Given as goal
 

@@ -2,7 +2,7 @@
 use Rattle.std.proofs.Common.{◌≡◌, ◌+◌, length}
 use Rattle.std.specs.Option.{option_copied}
 use Rattle.spool_types.specs.Effects.{texts_size}
-use Rattle.stderr_lines.specs.Reasons.{reasons_of}
+use Rattle.stderr_lines.specs.ReasonLines.{reasons_of}
 use Rattle.stderr_lines.specs.Rests.{reasons_from, rest_weight}
 use Rattle.stderr_lines.proofs.reasons.reasons_size.Given as goal
 

@@ -1,7 +1,7 @@
 use Rattle.std.proofs.Common.{◌+◌, ◌∷◌, take, ap, sym, ◌∙◌}
 use Rattle.std.proofs.lemmas.List.{take_rest}
 use Rattle.std.specs.List.{slice_split}
-use Rattle.stderr_lines.specs.Reasons.{is_separator}
+use Rattle.stderr_lines.specs.ReasonLines.{is_separator}
 use Rattle.stderr_lines.proofs.PieceLaws.{split_begin, split_here, split_more, split_end}
 use Rattle.stderr_lines.proofs.reasons.split_word.Goals as goal
 

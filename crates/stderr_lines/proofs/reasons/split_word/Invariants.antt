@@ -1,7 +1,7 @@
 -- the bytes so far stand in the first word
 use Rattle.std.proofs.Common.{◌≡◌, take, drop}
 use Rattle.std.specs.List.{slice_split}
-use Rattle.stderr_lines.specs.Reasons.{is_separator}
+use Rattle.stderr_lines.specs.ReasonLines.{is_separator}
 use Rattle.stderr_lines.proofs.PieceLaws.{onto_front}
 use Rattle.stderr_lines.proofs.reasons.split_word.Given as goal
 

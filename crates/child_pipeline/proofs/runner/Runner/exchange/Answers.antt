@@ -3,7 +3,7 @@ use Rattle.std.specs.Option.{is_some, IsSome}
 use Rattle.std.specs.FinMap as finite
 use Rattle.slab.proofs.SlabLemmas.{Updates-with_value}
 use Rattle.slab.specs.Slab.{with_value}
-use Rattle.child_pipeline.specs.Slots.{numbered}
+use Rattle.child_pipeline.specs.StageSlots.{numbered}
 use Rattle.child_pipeline.proofs.SlotLaws.{no_slot, slot_there, inserted, own_alone, kept_exchanged}
 use Rattle.child_pipeline.proofs.runner.Runner.exchange.Goals as goal
 

@@ -1,6 +1,6 @@
 use Rattle.std.proofs.Common.{subst, sym, ap, ◌∙◌, None, refl}
 use Rattle.std.specs.FinMap as finite
-use Rattle.child_pipeline.specs.Slots.{FinishesFrom, put_progress, slot_in, with_progress, IsEnded}
+use Rattle.child_pipeline.specs.StageSlots.{FinishesFrom, put_progress, slot_in, with_progress, IsEnded}
 use Rattle.child_pipeline.specs.declared.runner.Progress.TheVariants.{Ready, Ended}
 use Rattle.child_pipeline.proofs.PutLaws.{put_twice, finish_kept, get_own}
 use Rattle.child_pipeline.proofs.runner.Runner.finish.Goals as goal

@@ -1,6 +1,6 @@
 use Rattle.std.proofs.Common.{subst, sym}
 use Rattle.std.specs.FinMap as finite
-use Rattle.child_pipeline.specs.Slots.{Slots, IsEnded}
+use Rattle.child_pipeline.specs.StageSlots.{Slots, IsEnded}
 use Rattle.child_pipeline.proofs.PutLaws.{ended_if}
 use Rattle.child_pipeline.proofs.runner.Runner.finish_stage.Goals.{then-is_running, else-is_running}
 use Rattle.child_pipeline.proofs.runner.Runner.finish_stage.Goals as goal

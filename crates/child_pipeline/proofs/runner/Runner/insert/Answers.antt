@@ -2,8 +2,8 @@ use Rattle.std.proofs.Common.{◌≡◌, ◌≢◌, ℕ, Some, None, refl, ap, s
 use Rattle.std.specs.Option.{IsSome}
 use Rattle.std.specs.FinMap as finite
 use Rattle.slab.specs.Slab.{get, Updates}
-use Rattle.child_pipeline.specs.Slots.{numbered}
-use Rattle.child_pipeline.specs.Kept.{key_in}
+use Rattle.child_pipeline.specs.StageSlots.{numbered}
+use Rattle.child_pipeline.specs.RunnerFields.{key_in}
 use Rattle.child_pipeline.proofs.SlotLaws.{has_slot, no_key, still_kept, inserted, own_key, other_key, vacant_alone}
 use Rattle.child_pipeline.proofs.runner.Runner.insert.Goals as goal
 

@@ -2,7 +2,7 @@ use Rattle.std.proofs.Common.{subst}
 use Rattle.std.specs.Ordering.{nat_cmp}
 use Rattle.std.specs.BTreeMap.Range.{IsRangeOf}
 use Rattle.std.specs.declared.ops.Bound.TheVariants.{Unbounded}
-use Rattle.child_pipeline.specs.Slots.{bound_behind}
+use Rattle.child_pipeline.specs.StageSlots.{bound_behind}
 use Rattle.child_pipeline.proofs.NextLaws.{none_behind, first_behind}
 use Rattle.child_pipeline.proofs.SlotLaws.{has_slot}
 use Rattle.child_pipeline.proofs.runner.Runner.next_job.Goals as goal

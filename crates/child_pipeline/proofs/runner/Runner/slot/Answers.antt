@@ -1,8 +1,8 @@
 use Rattle.std.proofs.Common.{ap, sym, ◌∙◌}
 use Rattle.std.specs.Option.{option_map, option_copied}
 use Rattle.std.specs.FinMap as finite
-use Rattle.child_pipeline.specs.Kept.{slot_at}
-use Rattle.child_pipeline.specs.Slots.{numbered}
+use Rattle.child_pipeline.specs.RunnerFields.{slot_at}
+use Rattle.child_pipeline.specs.StageSlots.{numbered}
 use Rattle.child_pipeline.proofs.SlotLaws.{get_slots, shown}
 use Rattle.child_pipeline.proofs.runner.Runner.slot.Goals as goal
 

@@ -1,6 +1,6 @@
 use Rattle.std.proofs.Common.{◌≡◌, ◌-◌, ◌≤◌, [], arith, ap, length, ◌∙◌}
 use Rattle.command_lines.specs.declared.command.Mode.TheVariants.{Counting}
-use Rattle.command_lines.specs.Pending.{Pending}
+use Rattle.command_lines.specs.PendingCommands.{Pending}
 use Rattle.command_lines.proofs.StepLaws.{is, counts}
 use Rattle.command_lines.proofs.commands.Commands.counting_step.Goals as goal
 

@@ -1,7 +1,7 @@
 use Rattle.std.proofs.Common.{◌≡◌, [], eqb, ap, length, ◌∙◌, sym}
 use Rattle.command_lines.specs.declared.command.Mode.TheVariants.{Line}
 use Rattle.std.proofs.lemmas.List.{nil_from_length}
-use Rattle.command_lines.specs.Grammar.{kind_of}
+use Rattle.command_lines.specs.CommandGrammar.{kind_of}
 use Rattle.command_lines.proofs.StepLaws.{is, ends_empty, ends_skipped, ends_blank, ends_plain, ends_takes, is_zero, not_zero}
 use Rattle.command_lines.proofs.commands.Commands.last.Goals as goal
 

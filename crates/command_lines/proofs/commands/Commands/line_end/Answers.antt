@@ -1,7 +1,7 @@
 use Rattle.std.proofs.Common.{◌≡◌, ◌+◌, ◌-◌, arith, ap, length, take, drop, length-drop, ◌∙◌, sym, subst}
 use Rattle.std.proofs.lemmas.List.{take_rest}
-use Rattle.command_lines.specs.Lines.{has_lf}
-use Rattle.command_lines.specs.Moves.{IsAt}
+use Rattle.command_lines.specs.TextLines.{has_lf}
+use Rattle.command_lines.specs.ReaderSteps.{IsAt}
 use Rattle.command_lines.proofs.LineLaws.{more_scanned, all_scanned, place_scanned, no_lf_front}
 use Rattle.command_lines.proofs.commands.Commands.line_end.Goals as goal
 use Rattle.command_lines.proofs.commands.Commands.line_end.Goals.{After-lf_place}

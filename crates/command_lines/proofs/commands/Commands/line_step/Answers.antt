@@ -1,7 +1,7 @@
 use Rattle.std.proofs.Common.{◌≡◌, ◌+◌, ap, take, drop, ◌∙◌}
 use Rattle.command_lines.specs.declared.command.Mode.TheVariants.{Line}
-use Rattle.command_lines.specs.Pending.{Pending}
-use Rattle.command_lines.specs.Grammar.{kind_of}
+use Rattle.command_lines.specs.PendingCommands.{Pending}
+use Rattle.command_lines.specs.CommandGrammar.{kind_of}
 use Rattle.command_lines.proofs.StepLaws.{is, takes_line}
 use Rattle.command_lines.proofs.commands.Commands.line_step.Goals as goal
 

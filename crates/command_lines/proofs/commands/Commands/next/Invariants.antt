@@ -1,5 +1,5 @@
 use Rattle.std.proofs.Common.{◌≤◌, []}
-use Rattle.command_lines.specs.Pending.{Leads, weight}
+use Rattle.command_lines.specs.PendingCommands.{Leads, weight}
 use Rattle.command_lines.proofs.commands.Commands.next.Given as goal
 
 abbrev pub invariant-loop-command : goal.invariant-loop-command

@@ -1,7 +1,7 @@
 use Rattle.std.proofs.Common.{◌≡◌, [], true, false, arith, ap, length, ◌∙◌, sym}
 use Rattle.command_lines.specs.declared.command.Mode.TheVariants.{Skip}
-use Rattle.command_lines.specs.Pending.{Pending}
-use Rattle.command_lines.specs.Moves.{starts_remark}
+use Rattle.command_lines.specs.PendingCommands.{Pending}
+use Rattle.command_lines.specs.ReaderSteps.{starts_remark}
 use Rattle.command_lines.proofs.StepLaws.{is, drops_remark, drops_long}
 use Rattle.command_lines.proofs.commands.Commands.part_step.Goals as goal
 

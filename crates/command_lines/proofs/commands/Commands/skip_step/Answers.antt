@@ -1,6 +1,6 @@
 use Rattle.std.proofs.Common.{◌≡◌, ◌+◌, [], ap, drop, ◌∙◌}
 use Rattle.command_lines.specs.declared.command.Mode.TheVariants.{Line, Skip}
-use Rattle.command_lines.specs.Pending.{Pending}
+use Rattle.command_lines.specs.PendingCommands.{Pending}
 use Rattle.command_lines.proofs.StepLaws.{is, drops_rest, ends_rest}
 use Rattle.command_lines.proofs.commands.Commands.skip_step.Goals as goal
 

@@ -3,8 +3,8 @@ use Rattle.std.proofs.lemmas.Bool.Decides.{nat_tests}
 use Rattle.std.specs.Result.{result_err}
 use Rattle.filter_args.specs.declared.fault.OptionFault.TheVariants.{Memory}
 use Rattle.line_words.specs.declared.quoting.Quoting.TheVariants.{Bare}
-use Rattle.filter_args.specs.Reading.{word_here, words_of, pairs_in, joined, reading, with_word}
-use Rattle.filter_args.specs.Seen.{pairs_of}
+use Rattle.filter_args.specs.OptionTexts.{word_here, words_of, pairs_in, joined, reading, with_word}
+use Rattle.filter_args.specs.OptionFields.{pairs_of}
 use Rattle.filter_args.proofs.PairLaws.{with_word-options}
 use Rattle.filter_args.proofs.WordLaws.{after_word_shorter, fault_is, ok_from, no_fault_yet, pair_told, reading_said}
 use Rattle.filter_args.proofs.options.Options.parse.Goals as goal

@@ -3,8 +3,8 @@ use Rattle.std.proofs.Common.{◌≡◌, true, length}
 use denote.Text.{Utf8}
 use denote.Shadow.{shadow}
 use Rattle.filter_args.specs.Pairs.{are_options}
-use Rattle.filter_args.specs.Reading.{words_of, pairs_in, joined, reading}
-use Rattle.filter_args.specs.Seen.{pairs_of}
+use Rattle.filter_args.specs.OptionTexts.{words_of, pairs_in, joined, reading}
+use Rattle.filter_args.specs.OptionFields.{pairs_of}
 use Rattle.filter_args.proofs.options.Options.parse.Given as goal
 
 abbrev pub invariant-loop-rest : goal.invariant-loop-rest

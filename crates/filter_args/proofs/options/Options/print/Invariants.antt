@@ -1,7 +1,7 @@
 -- the text so far and the pairs that are left
 use Rattle.std.proofs.Common.{◌≡◌, ◌++◌, string_bytes, flat_map}
 use Rattle.filter_args.specs.Printing.{after_blank, printed}
-use Rattle.filter_args.specs.Seen.{pairs_of}
+use Rattle.filter_args.specs.OptionFields.{pairs_of}
 use Rattle.filter_args.proofs.options.Options.print.Given as goal
 
 abbrev pub invariant-loop-name : goal.invariant-loop-name

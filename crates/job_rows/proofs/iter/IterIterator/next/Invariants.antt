@@ -1,5 +1,5 @@
 use Rattle.std.proofs.Common.{◌≡◌, length}
-use Rattle.job_rows.specs.Slots.{held}
+use Rattle.job_rows.specs.RowSlots.{held}
 use Rattle.job_rows.proofs.iter.IterIterator.next.Given as goal
 
 -- only gone slots were passed over

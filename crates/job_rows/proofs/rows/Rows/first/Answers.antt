@@ -1,8 +1,8 @@
 -- the first slot that holds a row has the least number
 use Rattle.std.proofs.Common.{ap, ◌∙◌}
 use Rattle.std.specs.Prelude.{slice_get}
-use Rattle.job_rows.specs.Rows.{Listed}
-use Rattle.job_rows.specs.Slots.{first_number}
+use Rattle.job_rows.specs.NumberedRows.{Listed}
+use Rattle.job_rows.specs.RowSlots.{first_number}
 use Rattle.job_rows.proofs.Ending.{first_is}
 use Rattle.job_rows.proofs.rows.Rows.first.Goals as goal
 

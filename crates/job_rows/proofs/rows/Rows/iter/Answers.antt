@@ -1,6 +1,6 @@
 -- no more rows than slots
 use Rattle.std.proofs.Common.{◌<◌, ◌^◌, length, arith}
-use Rattle.job_rows.specs.Slots.{held}
+use Rattle.job_rows.specs.RowSlots.{held}
 use Rattle.job_rows.proofs.Holding.{length_held}
 use Rattle.job_rows.proofs.rows.Rows.iter.Goals as goal
 

@@ -1,7 +1,7 @@
 -- the last slot holds the last row
 use Rattle.std.proofs.Common.{◌-◌, length, sym, ap, ◌∙◌}
 use Rattle.std.specs.Prelude.{slice_get}
-use Rattle.job_rows.specs.Rows.{Listed}
+use Rattle.job_rows.specs.NumberedRows.{Listed}
 use Rattle.job_rows.proofs.Ending.{last_of}
 use Rattle.job_rows.proofs.rows.Rows.last.Goals as goal
 

@@ -1,8 +1,8 @@
 -- what is not gone is held
 use Rattle.std.proofs.Common.{◌≡◌, ◌-◌, length, ap, subst, ◌∙◌, arith}
 use Rattle.std.specs.List.Sorted.{IsStrictlyIncreasing}
-use Rattle.job_rows.specs.Rows.{Listed}
-use Rattle.job_rows.specs.Slots.{held, numbers}
+use Rattle.job_rows.specs.NumberedRows.{Listed}
+use Rattle.job_rows.specs.RowSlots.{held, numbers}
 use Rattle.job_rows.proofs.Holding.{length_held, length_numbers}
 use Rattle.job_rows.proofs.Ending.{ascending}
 use Rattle.job_rows.proofs.rows.Rows.len.Goals as goal

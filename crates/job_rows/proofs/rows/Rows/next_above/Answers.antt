@@ -3,8 +3,8 @@ use Rattle.std.proofs.Common.{◌≡◌, ◌+◌, ◌-◌, List, length, take, d
 use Rattle.std.proofs.lemmas.List.{take_all}
 use Rattle.std.specs.Prelude.{slice_get}
 use Rattle.job_rows.specs.declared.slot.Slot.{Slot}
-use Rattle.job_rows.specs.Rows.{Listed, first_above}
-use Rattle.job_rows.specs.Slots.{IsParted, first_number}
+use Rattle.job_rows.specs.NumberedRows.{Listed, first_above}
+use Rattle.job_rows.specs.RowSlots.{IsParted, first_number}
 use Rattle.job_rows.proofs.Ending.{first_parted, first_higher, first_there, first_behind}
 use Rattle.job_rows.proofs.rows.Rows.next_above.Goals as goal
 

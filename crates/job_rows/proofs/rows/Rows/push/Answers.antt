@@ -6,8 +6,8 @@ use Rattle.std.specs.Ordering.{nat_cmp}
 use Rattle.std.proofs.lemmas.List.{length_push}
 use Rattle.job_rows.specs.declared.slot.Slot.{Slot}
 use Rattle.job_rows.specs.declared.slot.Slot.TheVariants.{Held}
-use Rattle.job_rows.specs.Rows.{Listed}
-use Rattle.job_rows.specs.Slots.{slot_entry, held, numbers, gone_count, EndsHeld}
+use Rattle.job_rows.specs.NumberedRows.{Listed}
+use Rattle.job_rows.specs.RowSlots.{slot_entry, held, numbers, gone_count, EndsHeld}
 use Rattle.job_rows.proofs.Ending.{held_append, numbers_append, count_append, sorted_push, ends_push}
 use Rattle.job_rows.proofs.rows.Rows.push.Goals as goal
 

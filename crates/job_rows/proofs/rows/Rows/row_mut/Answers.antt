@@ -2,9 +2,9 @@
 use Rattle.std.proofs.Common.{◌≡◌, get_or, length-set, refl, sym, ap, subst, ◌∙◌, arith}
 use Rattle.std.specs.Ordering.{nat_cmp}
 use Rattle.job_rows.specs.declared.slot.Slot.TheVariants.{Held}
-use Rattle.job_rows.specs.Places.{IsPlace}
-use Rattle.job_rows.specs.Rows.{Listed, HasNumber, HasRow}
-use Rattle.job_rows.specs.Slots.{number_of}
+use Rattle.job_rows.specs.RowPositions.{IsPosition}
+use Rattle.job_rows.specs.NumberedRows.{Listed, HasNumber, HasRow}
+use Rattle.job_rows.specs.RowSlots.{number_of}
 use Rattle.job_rows.proofs.Holding.{no_gap, has_row, slot_is, count_set, ends_set, order_set}
 use Rattle.job_rows.proofs.Found.{taken_found, lent_is}
 use Rattle.job_rows.proofs.rows.Rows.row_mut.Goals as goal
@@ -28,7 +28,7 @@ invariant_of-self-lent c w =
     let at = c.in-Ok.at in
     let s = c.index_mut.result.now in
     let row = c.row_mut.result.now in
-    let place : IsPlace nat_cmp number_of ss c.args.id at = rw c.deref.ensures.value at c.in-Ok.ensures.found in
+    let place : IsPosition nat_cmp number_of ss c.args.id at = rw c.deref.ensures.value at c.in-Ok.ensures.found in
     let is : get_or ss at s ≡ Held (number_of s) row = slot_is ss at s row c.index_mut.ensures.value c.row_mut.ensures.value in
     record {
       order = order_set ss c.self.invariant.order c.args.id at s (Held (number_of s) w) place (ap number_of (sym c.index_mut.ensures.value));
@@ -43,7 +43,7 @@ returns c =
     let at = c.in-Ok.at in
     let s = c.index_mut.result.now in
     let row = c.row_mut.result.now in
-    let place : IsPlace nat_cmp number_of ss c.args.id at = rw c.deref.ensures.value at c.in-Ok.ensures.found in (
+    let place : IsPosition nat_cmp number_of ss c.args.id at = rw c.deref.ensures.value at c.in-Ok.ensures.found in (
       (refl, λ w. lent_is c.self.inside c.self.invariant c.args.id at place s row c.index_mut.ensures.value c.row_mut.ensures.value w c.args.self.now c.self.view_is),
       record { lends = tt; found = subst (λ (v : Listed). HasRow v c.args.id row) c.self.view_is (taken_found c.self.inside c.self.invariant c.args.id at place s row c.index_mut.ensures.value c.row_mut.ensures.value) },
     )

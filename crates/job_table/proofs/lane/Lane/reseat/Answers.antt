@@ -1,6 +1,6 @@
 -- the job leaves, and is put in again, or keeps its place
 use Rattle.std.proofs.Common.{◌≡◌, sym, ap, ◌∙◌}
-use Rattle.job_table.specs.declared.lane.Standing.TheVariants.{Ended, Processing}
+use Rattle.job_table.specs.declared.lane.LaneState.TheVariants.{Ended, Processing}
 use Rattle.job_table.specs.Lanes.{IsLane}
 use Rattle.job_table.proofs.Lanes.{changed_waiting, taken, taken_own, put_back, none_left}
 use Rattle.job_table.proofs.lane.Lane.reseat.Goals as goal

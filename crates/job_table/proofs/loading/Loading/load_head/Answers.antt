@@ -1,6 +1,6 @@
 -- nothing was read before the head
 use Rattle.std.proofs.Common.{refl, sym, subst}
-use Rattle.job_table.specs.Reading.{progress_of, IsReading}
+use Rattle.job_table.specs.LoadingFields.{progress_of, IsReading}
 use Rattle.job_table.proofs.Loaded.{progress_is, reading_head}
 use Rattle.job_table.specs.Loading.{loaded}
 use Rattle.spool_types.specs.declared.listing.Row.TheVariants.{Head as HeadRow}

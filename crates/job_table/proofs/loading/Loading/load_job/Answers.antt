@@ -4,8 +4,8 @@ use Rattle.spool_types.specs.State.{Job}
 use Rattle.spool_types.specs.declared.listing.Row.TheVariants.{Job as JobRow}
 use Rattle.job_table.specs.Contents.{places_of}
 use Rattle.job_table.specs.Loading.{IsNextJob, begun_part, Loaded}
-use Rattle.job_table.specs.Reading.{progress_of}
-use Rattle.job_table.specs.Rows.{place_entry}
+use Rattle.job_table.specs.LoadingFields.{progress_of}
+use Rattle.job_table.specs.TableRows.{place_entry}
 use Rattle.job_table.proofs.Loaded.{settled, read_on}
 use Rattle.job_table.proofs.Rooms.{places_first}
 use Rattle.job_table.proofs.Settled.{last_none}

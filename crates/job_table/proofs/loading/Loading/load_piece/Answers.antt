@@ -5,8 +5,8 @@ use Rattle.spool_types.specs.declared.listing.Row.TheVariants.{Piece}
 use Rattle.spool_types.specs.Sent.{with_placed}
 use Rattle.job_table.specs.Contents.{places_of}
 use Rattle.job_table.specs.Loading.{IsPieceOf, with_next_piece, Loaded}
-use Rattle.job_table.specs.Reading.{progress_of, part_of, IsGrown}
-use Rattle.job_table.specs.Rows.{place_entry}
+use Rattle.job_table.specs.LoadingFields.{progress_of, part_of, IsGrown}
+use Rattle.job_table.specs.TableRows.{place_entry}
 use Rattle.job_table.proofs.Loaded.{settled_piece, read_on, grown_parts}
 use Rattle.job_table.proofs.Settled.{grown_places, grown_measured}
 use Rattle.job_table.proofs.loading.Loading.load_piece.Goals as goal

@@ -1,7 +1,7 @@
 -- a queue that may come next
 use Rattle.std.proofs.Common.{refl, sym, subst}
 use Rattle.job_table.specs.Loading.{IsNextQueue, Loaded}
-use Rattle.job_table.specs.Reading.{progress_of}
+use Rattle.job_table.specs.LoadingFields.{progress_of}
 use Rattle.spool_types.specs.declared.listing.Row.TheVariants.{Queue}
 use Rattle.job_table.proofs.Loaded.{legal_next_queue, progress_is, read_on}
 use Rattle.job_table.proofs.loading.Loading.load_queue.Goals as goal

@@ -4,7 +4,7 @@ use Rattle.std.specs.FinMap as finite
 use Rattle.spool_types.specs.declared.event.Event.TheVariants.{AddQueue}
 use Rattle.std.specs.List.{insert}
 use Rattle.job_table.specs.Contents.{Contents, places_at}
-use Rattle.job_table.specs.Seen.{contents_of}
+use Rattle.job_table.specs.TableFields.{contents_of}
 use Rattle.job_table.specs.Step.{after, refusal_of}
 use Rattle.job_table.proofs.Accepted.{accepted_queue}
 use Rattle.job_table.proofs.Legal.{legal_after}

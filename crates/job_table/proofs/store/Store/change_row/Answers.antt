@@ -3,10 +3,10 @@ use Rattle.std.proofs.Common.{◌≡◌, None, Some, sym, ap, subst, ◌∙◌, 
 use Rattle.std.specs.FinMap as finite
 use Rattle.spool_types.specs.State.{job_of, job_at}
 use Rattle.job_table.specs.Contents.{Contents, places_at}
-use Rattle.job_table.specs.Changes.{change_job}
+use Rattle.job_table.specs.EventChanges.{change_job}
 use Rattle.job_table.specs.Legal.{IsLegal}
 use Rattle.job_table.specs.RowChanges.{meant}
-use Rattle.job_table.specs.Seen.{contents_of}
+use Rattle.job_table.specs.TableFields.{contents_of}
 use Rattle.job_table.specs.Shapes.{Change, causes_of, made}
 use Rattle.job_table.specs.Step.{row, refusal_of}
 use Rattle.job_table.proofs.Accepted.{has_job, job_live}
@@ -14,7 +14,7 @@ use Rattle.job_table.proofs.Legal.{KeepsBy, legal_after}
 use Rattle.job_table.proofs.RowChanges.{meant_id}
 use Rattle.job_table.proofs.Steps.{change_state, change_ordered, change_room, change_places}
 use Rattle.job_table.proofs.Rooms.{room_seen}
-use Rattle.job_rows.specs.Rows.{place_in}
+use Rattle.job_rows.specs.NumberedRows.{position_in}
 use Rattle.job_table.proofs.Numbered.{needs_number, row_place, row_there}
 use Rattle.job_table.proofs.store.Store.change_row.Goals as goal
 
@@ -38,27 +38,27 @@ invariant_of-self c =
     let s = (contents_of c.self.inside).state in
     let is = c.requires.asked.changes in
     let accepted : refusal_of s c.requires.asked.event ≡ None = ap (λ v. refusal_of v.state c.requires.asked.event) c.self.view_is ∙ c.requires.asked.accepted in
-    change_ordered c.self.inside c.self.invariant c.args.job (place_in c.self.inside.jobs.numbers c.args.job) c.row_mut.result.now c.change_row.new.row (sym c.row_mut.ensures.found.is)
+    change_ordered c.self.inside c.self.invariant c.args.job (position_in c.self.inside.jobs.numbers c.args.job) c.row_mut.result.now c.change_row.new.row (sym c.row_mut.ensures.found.is)
     (row_place c.self.inside.jobs c.self.invariant.own c.self.invariant.jobs c.args.job c.row_mut.result.now c.row_mut.ensures.found) (meant c.args.change) (meant_id c.args.change)
     c.change_row.ensures.row c.change_row.ensures.memory
     (subst (λ (change : Change). IsLegal (made s change)) is (legal_after s c.requires.asked.event (subst KeepsBy (sym is) tt) accepted c.self.invariant.legal))
 
 pub returns-clause-state : goal.returns-clause-state
 returns-clause-state c =
-    change_state c.self.inside c.self.invariant c.args.job (place_in c.self.inside.jobs.numbers c.args.job) c.row_mut.result.now c.change_row.new.row (sym c.row_mut.ensures.found.is)
+    change_state c.self.inside c.self.invariant c.args.job (position_in c.self.inside.jobs.numbers c.args.job) c.row_mut.result.now c.change_row.new.row (sym c.row_mut.ensures.found.is)
     (row_place c.self.inside.jobs c.self.invariant.own c.self.invariant.jobs c.args.job c.row_mut.result.now c.row_mut.ensures.found) (meant c.args.change) (meant_id c.args.change)
     c.change_row.ensures.row c.change_row.ensures.memory
     ∙ ap (λ v. change_job v.state c.args.job (meant c.args.change)) c.self.view_is
 
 pub returns-clause-room : goal.returns-clause-room
 returns-clause-room c = room_seen c.self.view_is
-    (change_room c.self.inside c.self.invariant c.args.job (place_in c.self.inside.jobs.numbers c.args.job) c.row_mut.result.now c.change_row.new.row (sym c.row_mut.ensures.found.is)
+    (change_room c.self.inside c.self.invariant c.args.job (position_in c.self.inside.jobs.numbers c.args.job) c.row_mut.result.now c.change_row.new.row (sym c.row_mut.ensures.found.is)
     (row_place c.self.inside.jobs c.self.invariant.own c.self.invariant.jobs c.args.job c.row_mut.result.now c.row_mut.ensures.found) (meant c.args.change) (meant_id c.args.change)
     c.change_row.ensures.row c.change_row.ensures.memory)
 
 pub returns-clause-places : goal.returns-clause-places
 returns-clause-places c = λ j lives.
-    change_places c.self.inside c.self.invariant c.args.job (place_in c.self.inside.jobs.numbers c.args.job) c.row_mut.result.now c.change_row.new.row (sym c.row_mut.ensures.found.is)
+    change_places c.self.inside c.self.invariant c.args.job (position_in c.self.inside.jobs.numbers c.args.job) c.row_mut.result.now c.change_row.new.row (sym c.row_mut.ensures.found.is)
     (row_place c.self.inside.jobs c.self.invariant.own c.self.invariant.jobs c.args.job c.row_mut.result.now c.row_mut.ensures.found) (meant c.args.change) (meant_id c.args.change)
     c.change_row.ensures.row c.change_row.ensures.memory
     c.change_row.ensures.document j lives

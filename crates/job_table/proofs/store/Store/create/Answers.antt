@@ -4,9 +4,9 @@ use Rattle.std.specs.Prelude.{All}
 use Rattle.std.specs.List.{insert}
 use Rattle.spool_types.specs.Limits.{greatest_number}
 use Rattle.spool_types.specs.declared.rows.JobRow.{JobRow}
-use Rattle.job_rows.specs.Rows.{Listed}
+use Rattle.job_rows.specs.NumberedRows.{Listed}
 use Rattle.job_table.specs.Contents.{Contents, places_at}
-use Rattle.job_table.specs.Seen.{contents_of}
+use Rattle.job_table.specs.TableFields.{contents_of}
 use Rattle.job_table.specs.Step.{creation, after, refusal_of}
 use Rattle.job_table.proofs.Above.{insert_last}
 use Rattle.job_table.proofs.Accepted.{accepted_create}

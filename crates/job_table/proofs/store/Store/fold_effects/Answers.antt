@@ -1,10 +1,10 @@
 -- the queue keeps the job
 use Rattle.std.proofs.Common.{IsSome, sym, ap, subst, ◌∙◌}
-use Rattle.row_effects.specs.Fold.{queue_after}
+use Rattle.row_effects.specs.EffectFold.{queue_after}
 use Rattle.row_effects.specs.Room.{HasRoom}
 use Rattle.spool_types.specs.State.{State, job_at}
 use Rattle.job_table.specs.Attempts.{with_pages}
-use Rattle.job_table.specs.Changes.{change_job, change_queue_of}
+use Rattle.job_table.specs.EventChanges.{change_job, change_queue_of}
 use Rattle.job_table.proofs.Changes.{change_own_other}
 use Rattle.job_table.proofs.Rooms.{no_more_then}
 use Rattle.job_table.proofs.store.Store.fold_effects.Goals as goal

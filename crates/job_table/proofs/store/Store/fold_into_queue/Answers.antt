@@ -1,12 +1,12 @@
 -- the queue of the job is changed where it stands
 use Rattle.std.proofs.Common.{◌≡◌, Some, refl, sym, ap, subst, ◌∙◌}
 use Rattle.std.specs.FinMap as finite
-use Rattle.row_effects.specs.Fold.{queue_after}
+use Rattle.row_effects.specs.EffectFold.{queue_after}
 use Rattle.row_effects.specs.Room.{HasRoom}
 use Rattle.spool_types.specs.State.{job_of, job_at}
 use Rattle.job_table.specs.Contents.{Contents, places_at}
-use Rattle.job_table.specs.Changes.{change_own_queue, change_queue_of}
-use Rattle.job_table.specs.Seen.{contents_of}
+use Rattle.job_table.specs.EventChanges.{change_own_queue, change_queue_of}
+use Rattle.job_table.specs.TableFields.{contents_of}
 use Rattle.job_table.proofs.Changes.{legal_change_queue}
 use Rattle.job_table.proofs.Rooms.{room_seen}
 use Rattle.job_table.proofs.Steps.{change_queue_state, change_queue_ordered, change_queue_room}
@@ -20,11 +20,11 @@ unreachable-requires c =
     (no_row c.self.inside.jobs c.self.invariant.own c.self.invariant.jobs c.args.job c.in_default.ensures.absent)
     (ap (λ v. finite.get v.state.jobs c.args.job) c.self.view_is)
 
-pub unreachable-requires-in_default-queue_place : goal.unreachable-requires-in_default-queue_place
-unreachable-requires-in_default-queue_place c =
+pub unreachable-requires-in_default-queue_position : goal.unreachable-requires-in_default-queue_position
+unreachable-requires-in_default-queue_position c =
     let there : job_at (contents_of c.self.inside).state c.args.job ≡ Some (job_of c.in-Some.row.now) =
     row_there c.self.inside.jobs c.self.invariant.own c.self.invariant.jobs c.args.job c.in-Some.row.now c.in-Some.ensures.found in
-    let none = get_no_queue c.self.inside.queues.items c.self.invariant.queues c.in-Some.row.now.job.queue c.in_default-queue_place.field-0 (rw c.deref.ensures.value at c.in_default-queue_place.ensures.absent) in
+    let none = get_no_queue c.self.inside.queues.items c.self.invariant.queues c.in-Some.row.now.job.queue c.in_default-queue_position.field-0 (rw c.deref.ensures.value at c.in_default-queue_position.ensures.absent) in
     needed_and_not _ _ (c.self.invariant.legal.jobs c.args.job (job_of c.in-Some.row.now) there).queue none (λ i. finite.get (contents_of c.self.inside).state.queues c.in-Some.row.now.job.queue)
 
 pub fold_queue-requires-clause-order : goal.fold_queue-requires-clause-order

@@ -6,9 +6,9 @@ use Rattle.std.specs.FinMap as finite
 use Rattle.extents.specs.Extents.{size_of}
 use Rattle.spool_types.specs.Phases.{has_ended}
 use Rattle.spool_types.specs.declared.rows.JobRow.{JobRow}
-use Rattle.job_rows.specs.Rows.{HasRow}
+use Rattle.job_rows.specs.NumberedRows.{HasRow}
 use Rattle.job_table.specs.Contents.{places_at}
-use Rattle.job_table.specs.Documents.{document_len}
+use Rattle.job_table.specs.DocumentLengths.{document_len}
 use Rattle.job_table.proofs.Numbered.{looked_at}
 use Rattle.job_table.proofs.Steps.{row_seen}
 use Rattle.job_table.proofs.store.Store.job.Goals as goal

@@ -1,6 +1,6 @@
 -- each row has its document at the new places
 use Rattle.std.proofs.Common.{refl, sym, ap, subst, ◌∙◌}
-use Rattle.job_rows.specs.Rows.{Listed}
+use Rattle.job_rows.specs.NumberedRows.{Listed}
 use Rattle.job_table.specs.Contents.{Contents, HasMoves}
 use Rattle.job_table.proofs.Relocated.{each_new, moved_state, moved_ordered, moved_all, rooms_all}
 use Rattle.job_table.proofs.store.Store.move_documents.Goals as goal

@@ -3,7 +3,7 @@ use Rattle.std.proofs.Common.{map, refl, sym, ap, subst, arith}
 use Rattle.std.specs.Ordering.{nat_cmp}
 use Rattle.std.specs.Cmp.Lexicographic.{slice_cmp}
 use Rattle.job_table.specs.Legal.{IsLegal}
-use Rattle.job_table.specs.Rows.{place_entry}
+use Rattle.job_table.specs.TableRows.{place_entry}
 use Rattle.job_table.proofs.Rows.{map_none}
 use Rattle.job_table.proofs.Legal.{legal_nothing}
 use Rattle.job_table.proofs.store.Store.new.Goals as goal

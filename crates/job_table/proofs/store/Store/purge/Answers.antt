@@ -3,9 +3,9 @@ use Rattle.std.proofs.Common.{◌≡◌, Some, sym, ap, ◌∙◌}
 use Rattle.std.specs.FinMap as finite
 use Rattle.spool_types.specs.declared.event.Event.TheVariants.{Purge}
 use Rattle.spool_types.specs.State.{job_of, job_at}
-use Rattle.job_rows.specs.Rows.{Listed, place_in}
+use Rattle.job_rows.specs.NumberedRows.{Listed, position_in}
 use Rattle.job_table.specs.Contents.{Contents, places_at}
-use Rattle.job_table.specs.Seen.{contents_of}
+use Rattle.job_table.specs.TableFields.{contents_of}
 use Rattle.job_table.specs.Step.{row, after, refusal_of}
 use Rattle.job_table.proofs.Accepted.{accepted_purge, gone_found}
 use Rattle.job_table.proofs.Changes.{at_most_highest}
@@ -25,13 +25,13 @@ remove-requires c =
 pub invariant_of-self : goal.invariant_of-self
 invariant_of-self c =
     let s = (contents_of c.self.inside).state in
-    purge_ordered c.self.inside c.self.invariant c.args.job (place_in c.self.inside.jobs.numbers c.args.job) (row_place c.self.inside.jobs c.self.invariant.own c.self.invariant.jobs c.args.job c.remove.result c.remove.ensures.found) c.remove.new.self (ap (λ (v : Listed). v.items) c.remove.ensures.rows)
+    purge_ordered c.self.inside c.self.invariant c.args.job (position_in c.self.inside.jobs.numbers c.args.job) (row_place c.self.inside.jobs c.self.invariant.own c.self.invariant.jobs c.args.job c.remove.result c.remove.ensures.found) c.remove.new.self (ap (λ (v : Listed). v.items) c.remove.ensures.rows)
     (ap (λ (v : Listed). v.numbers) c.remove.ensures.rows)
     (legal_after s (Purge c.args.job) tt (ap (λ v. refusal_of v.state (Purge c.args.job)) c.self.view_is ∙ c.requires) c.self.invariant.legal)
 
 pub returns-clause-state : goal.returns-clause-state
 returns-clause-state c =
-    purge_state c.self.inside c.self.invariant c.args.job (place_in c.self.inside.jobs.numbers c.args.job) (row_place c.self.inside.jobs c.self.invariant.own c.self.invariant.jobs c.args.job c.remove.result c.remove.ensures.found) c.remove.new.self (ap (λ (v : Listed). v.items) c.remove.ensures.rows)
+    purge_state c.self.inside c.self.invariant c.args.job (position_in c.self.inside.jobs.numbers c.args.job) (row_place c.self.inside.jobs c.self.invariant.own c.self.invariant.jobs c.args.job c.remove.result c.remove.ensures.found) c.remove.new.self (ap (λ (v : Listed). v.items) c.remove.ensures.rows)
     ∙ ap (λ v. after v.state (Purge c.args.job)) c.self.view_is
 
 pub returns-clause-row : goal.returns-clause-row
@@ -51,10 +51,10 @@ returns-clause-places c = λ j lives.
     let s = (contents_of c.self.inside).state in
     let there : job_at s c.args.job ≡ Some (job_of c.remove.result) =
     row_there c.self.inside.jobs c.self.invariant.own c.self.invariant.jobs c.args.job c.remove.result c.remove.ensures.found in
-    purge_places c.self.inside c.self.invariant c.args.job (place_in c.self.inside.jobs.numbers c.args.job) (row_place c.self.inside.jobs c.self.invariant.own c.self.invariant.jobs c.args.job c.remove.result c.remove.ensures.found) c.remove.new.self (ap (λ (v : Listed). v.items) c.remove.ensures.rows)
+    purge_places c.self.inside c.self.invariant c.args.job (position_in c.self.inside.jobs.numbers c.args.job) (row_place c.self.inside.jobs c.self.invariant.own c.self.invariant.jobs c.args.job c.remove.result c.remove.ensures.found) c.remove.new.self (ap (λ (v : Listed). v.items) c.remove.ensures.rows)
     (at_most_highest s c.args.job (job_of c.remove.result) c.self.invariant.legal there) j lives
     ∙ ap (λ (v : Contents). places_at v j) c.self.view_is
 
 pub returns-clause-room : goal.returns-clause-room
 returns-clause-room c = room_seen c.self.view_is
-    (purge_room c.self.inside c.self.invariant c.args.job (place_in c.self.inside.jobs.numbers c.args.job) (row_place c.self.inside.jobs c.self.invariant.own c.self.invariant.jobs c.args.job c.remove.result c.remove.ensures.found) c.remove.new.self (ap (λ (v : Listed). v.items) c.remove.ensures.rows))
+    (purge_room c.self.inside c.self.invariant c.args.job (position_in c.self.inside.jobs.numbers c.args.job) (row_place c.self.inside.jobs c.self.invariant.own c.self.invariant.jobs c.args.job c.remove.result c.remove.ensures.found) c.remove.new.self (ap (λ (v : Listed). v.items) c.remove.ensures.rows))

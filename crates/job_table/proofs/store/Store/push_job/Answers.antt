@@ -7,7 +7,7 @@ use Rattle.spool_types.specs.State.{job_of}
 use Rattle.job_table.specs.Legal.{IsLegal}
 use Rattle.job_table.specs.Loading.{IsAbove, with_job}
 use Rattle.job_table.specs.Contents.{places_of}
-use Rattle.job_table.specs.Rows.{place_entry}
+use Rattle.job_table.specs.TableRows.{place_entry}
 use Rattle.job_table.proofs.Tables.{keys_jobs}
 use Rattle.job_table.proofs.Pushed.{all_above, push_job_state, push_job_ordered, push_job_places}
 use Rattle.job_table.proofs.store.Store.push_job.Goals as goal

@@ -6,7 +6,7 @@ use Rattle.std.proofs.lemmas.Result.{on_ok_weaker}
 use Rattle.spool_types.specs.State.{job_of}
 use Rattle.spool_types.specs.declared.rows.JobRow.{JobRow}
 use Rattle.job_table.specs.Contents.{document_room}
-use Rattle.job_rows.specs.Rows.{place_in}
+use Rattle.job_rows.specs.NumberedRows.{position_in}
 use Rattle.job_table.proofs.Numbered.{needs_number, row_place, row_there}
 use Rattle.job_table.proofs.Steps.{document_fits, kept_state, kept_ordered, kept_places, kept_room}
 use Rattle.job_table.proofs.store.Store.reserve_extent.Goals as goal
@@ -16,7 +16,7 @@ row_mut-requires c = needs_number c.self.inside.jobs c.self.invariant.own c.self
     (subst (λ v. IsSome (finite.get v.state.jobs c.args.job)) (sym c.self.view_is) c.requires.there)
 
 pub invariant_of-self : goal.invariant_of-self
-invariant_of-self c = kept_ordered c.self.inside c.self.invariant c.args.job (place_in c.self.inside.jobs.numbers c.args.job) c.row_mut.result.now (record c.row_mut.result.now { document = c.reserve.new.self })
+invariant_of-self c = kept_ordered c.self.inside c.self.invariant c.args.job (position_in c.self.inside.jobs.numbers c.args.job) c.row_mut.result.now (record c.row_mut.result.now { document = c.reserve.new.self })
     (row_place c.self.inside.jobs c.self.invariant.own c.self.invariant.jobs c.args.job c.row_mut.result.now c.row_mut.ensures.found)
     (ap job_of (sym c.row_mut.ensures.found.is))
     (c.requires.live (job_of c.row_mut.result.now) (
@@ -26,7 +26,7 @@ invariant_of-self c = kept_ordered c.self.inside c.self.invariant c.args.job (pl
 
 pub returns-clause-same : goal.returns-clause-same
 returns-clause-same c =
-    kept_state c.self.inside c.self.invariant c.args.job (place_in c.self.inside.jobs.numbers c.args.job) c.row_mut.result.now (record c.row_mut.result.now { document = c.reserve.new.self })
+    kept_state c.self.inside c.self.invariant c.args.job (position_in c.self.inside.jobs.numbers c.args.job) c.row_mut.result.now (record c.row_mut.result.now { document = c.reserve.new.self })
     (row_place c.self.inside.jobs c.self.invariant.own c.self.invariant.jobs c.args.job c.row_mut.result.now c.row_mut.ensures.found)
     (ap job_of (sym c.row_mut.ensures.found.is))
     (c.requires.live (job_of c.row_mut.result.now) (
@@ -37,7 +37,7 @@ returns-clause-same c =
 
 pub returns-clause-room : goal.returns-clause-room
 returns-clause-room c =
-    let room = kept_room c.self.inside c.self.invariant c.args.job (place_in c.self.inside.jobs.numbers c.args.job) c.row_mut.result.now (record c.row_mut.result.now { document = c.reserve.new.self })
+    let room = kept_room c.self.inside c.self.invariant c.args.job (position_in c.self.inside.jobs.numbers c.args.job) c.row_mut.result.now (record c.row_mut.result.now { document = c.reserve.new.self })
     (row_place c.self.inside.jobs c.self.invariant.own c.self.invariant.jobs c.args.job c.row_mut.result.now c.row_mut.ensures.found)
     (ap job_of (sym c.row_mut.ensures.found.is))
     (c.requires.live (job_of c.row_mut.result.now) (
@@ -48,13 +48,13 @@ returns-clause-room c =
 
 pub returns-clause-ready : goal.returns-clause-ready
 returns-clause-ready c = λ room. c.reserve.ensures.succeeds
-    (document_fits c.self.inside c.self.invariant c.args.job (place_in c.self.inside.jobs.numbers c.args.job) c.row_mut.result.now (row_place c.self.inside.jobs c.self.invariant.own c.self.invariant.jobs c.args.job c.row_mut.result.now c.row_mut.ensures.found) 1
+    (document_fits c.self.inside c.self.invariant c.args.job (position_in c.self.inside.jobs.numbers c.args.job) c.row_mut.result.now (row_place c.self.inside.jobs c.self.invariant.own c.self.invariant.jobs c.args.job c.row_mut.result.now c.row_mut.ensures.found) 1
     (subst (λ v. 1 ≤ document_room v.room c.args.job) (sym c.self.view_is) room)
     c.row_mut.result.now (sym c.row_mut.ensures.found.is))
 
 pub returns-clause-places : goal.returns-clause-places
 returns-clause-places c =
-    kept_places c.self.inside c.self.invariant c.args.job (place_in c.self.inside.jobs.numbers c.args.job) c.row_mut.result.now (record c.row_mut.result.now { document = c.reserve.new.self })
+    kept_places c.self.inside c.self.invariant c.args.job (position_in c.self.inside.jobs.numbers c.args.job) c.row_mut.result.now (record c.row_mut.result.now { document = c.reserve.new.self })
     (row_place c.self.inside.jobs c.self.invariant.own c.self.invariant.jobs c.args.job c.row_mut.result.now c.row_mut.ensures.found)
     (ap job_of (sym c.row_mut.ensures.found.is))
     (c.requires.live (job_of c.row_mut.result.now) (

@@ -7,13 +7,13 @@ use Rattle.spool_types.specs.Phases.{is_incoming}
 use Rattle.spool_types.specs.State.{job_of, job_at}
 use Rattle.spool_types.specs.Sent.{with_placed}
 use Rattle.job_table.specs.Contents.{document_room, Contents, places_at}
-use Rattle.job_table.specs.Changes.{with_bytes}
+use Rattle.job_table.specs.EventChanges.{with_bytes}
 use Rattle.job_table.specs.Step.{after, refusal_of, size_found}
 use Rattle.job_table.proofs.Rooms.{room_seen}
-use Rattle.job_rows.specs.Rows.{place_in}
+use Rattle.job_rows.specs.NumberedRows.{position_in}
 use Rattle.job_table.proofs.Numbered.{has_number, row_place, row_there}
 use Rattle.job_table.proofs.Accepted.{job_there, job_must, accepted_short}
-use Rattle.job_table.specs.Seen.{contents_of}
+use Rattle.job_table.specs.TableFields.{contents_of}
 use Rattle.job_table.proofs.Legal.{legal_after, not_ended}
 use Rattle.job_table.proofs.Steps.{change_state, change_ordered, change_room, document_fits, more_places}
 use Rattle.job_table.proofs.store.Store.send.Goals as goal
@@ -26,7 +26,7 @@ row_mut-requires c =
 
 pub add_bytes-requires-clause-room : goal.add_bytes-requires-clause-room
 add_bytes-requires-clause-room c =
-    let fits = document_fits c.self.inside c.self.invariant c.args.job (place_in c.self.inside.jobs.numbers c.args.job) c.row_mut.result.now (row_place c.self.inside.jobs c.self.invariant.own c.self.invariant.jobs c.args.job c.row_mut.result.now c.row_mut.ensures.found) 1
+    let fits = document_fits c.self.inside c.self.invariant c.args.job (position_in c.self.inside.jobs.numbers c.args.job) c.row_mut.result.now (row_place c.self.inside.jobs c.self.invariant.own c.self.invariant.jobs c.args.job c.row_mut.result.now c.row_mut.ensures.found) 1
     (subst (λ v. 1 ≤ document_room v.room c.args.job) (sym c.self.view_is) c.requires.room)
     c.row_mut.result.now (sym c.row_mut.ensures.found.is) in
     omega (arith, fits)
@@ -47,21 +47,21 @@ add_bytes-requires-clause-short c =
     c.requires.accepted
 
 pub invariant_of-self : goal.invariant_of-self
-invariant_of-self c = change_ordered c.self.inside c.self.invariant c.args.job (place_in c.self.inside.jobs.numbers c.args.job) c.row_mut.result.now c.add_bytes.new.row (sym c.row_mut.ensures.found.is)
+invariant_of-self c = change_ordered c.self.inside c.self.invariant c.args.job (position_in c.self.inside.jobs.numbers c.args.job) c.row_mut.result.now c.add_bytes.new.row (sym c.row_mut.ensures.found.is)
     (row_place c.self.inside.jobs c.self.invariant.own c.self.invariant.jobs c.args.job c.row_mut.result.now c.row_mut.ensures.found) (with_bytes c.args.bytes) (λ x. refl)
     c.add_bytes.ensures.row c.add_bytes.ensures.memory
     (legal_after (contents_of c.self.inside).state (Send c.args.job c.args.bytes) tt (ap (λ v. refusal_of v.state (Send c.args.job c.args.bytes)) c.self.view_is ∙ c.requires.accepted) c.self.invariant.legal)
 
 pub returns-clause-state : goal.returns-clause-state
 returns-clause-state c =
-    change_state c.self.inside c.self.invariant c.args.job (place_in c.self.inside.jobs.numbers c.args.job) c.row_mut.result.now c.add_bytes.new.row (sym c.row_mut.ensures.found.is)
+    change_state c.self.inside c.self.invariant c.args.job (position_in c.self.inside.jobs.numbers c.args.job) c.row_mut.result.now c.add_bytes.new.row (sym c.row_mut.ensures.found.is)
     (row_place c.self.inside.jobs c.self.invariant.own c.self.invariant.jobs c.args.job c.row_mut.result.now c.row_mut.ensures.found) (with_bytes c.args.bytes) (λ x. refl)
     c.add_bytes.ensures.row c.add_bytes.ensures.memory
     ∙ ap (λ v. after v.state (Send c.args.job c.args.bytes)) c.self.view_is
 
 pub returns-clause-room : goal.returns-clause-room
 returns-clause-room c = room_seen c.self.view_is
-    (change_room c.self.inside c.self.invariant c.args.job (place_in c.self.inside.jobs.numbers c.args.job) c.row_mut.result.now c.add_bytes.new.row (sym c.row_mut.ensures.found.is)
+    (change_room c.self.inside c.self.invariant c.args.job (position_in c.self.inside.jobs.numbers c.args.job) c.row_mut.result.now c.add_bytes.new.row (sym c.row_mut.ensures.found.is)
     (row_place c.self.inside.jobs c.self.invariant.own c.self.invariant.jobs c.args.job c.row_mut.result.now c.row_mut.ensures.found) (with_bytes c.args.bytes) (λ x. refl)
     c.add_bytes.ensures.row c.add_bytes.ensures.memory)
 
@@ -73,7 +73,7 @@ returns-clause-reply c =
 
 pub returns-clause-places : goal.returns-clause-places
 returns-clause-places c = λ j lives.
-    more_places c.self.inside c.self.invariant c.args.job (place_in c.self.inside.jobs.numbers c.args.job) c.row_mut.result.now c.add_bytes.new.row (sym c.row_mut.ensures.found.is)
+    more_places c.self.inside c.self.invariant c.args.job (position_in c.self.inside.jobs.numbers c.args.job) c.row_mut.result.now c.add_bytes.new.row (sym c.row_mut.ensures.found.is)
     (row_place c.self.inside.jobs c.self.invariant.own c.self.invariant.jobs c.args.job c.row_mut.result.now c.row_mut.ensures.found) (with_bytes c.args.bytes) (λ x. refl)
     c.add_bytes.ensures.row c.add_bytes.ensures.memory c.args.at c.args.bytes c.add_bytes.ensures.document j lives
     ∙ ap (λ (v : Contents). with_placed (places_at v j) c.args.at j (Some (c.args.job, c.args.bytes))) c.self.view_is

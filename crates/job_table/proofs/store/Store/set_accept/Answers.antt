@@ -3,9 +3,9 @@ use Rattle.std.proofs.Common.{refl, ap, ◌∙◌}
 use Rattle.std.specs.FinMap as finite
 use Rattle.spool_types.specs.declared.event.Event.TheVariants.{SetAccept}
 use Rattle.job_table.specs.Contents.{Contents, places_at}
-use Rattle.job_table.specs.Changes.{with_accepting}
+use Rattle.job_table.specs.EventChanges.{with_accepting}
 use Rattle.job_table.specs.Step.{after, refusal_of}
-use Rattle.job_table.specs.Seen.{contents_of}
+use Rattle.job_table.specs.TableFields.{contents_of}
 use Rattle.job_table.proofs.Accepted.{queue_there}
 use Rattle.job_table.proofs.Legal.{legal_after}
 use Rattle.job_table.proofs.Steps.{change_queue_state, change_queue_ordered, change_queue_room}

@@ -8,14 +8,14 @@ use Rattle.job_table.specs.Attempts.{started}
 use Rattle.spool_types.specs.State.{Job, job_of, job_at}
 use Rattle.spool_types.specs.Phases.{is_waiting}
 use Rattle.job_table.specs.Step.{after, refusal_of, phase_found}
-use Rattle.job_table.specs.Seen.{contents_of}
+use Rattle.job_table.specs.TableFields.{contents_of}
 use Rattle.job_table.proofs.Accepted.{job_there, job_must}
 use Rattle.job_table.proofs.Legal.{legal_after}
 use Rattle.job_table.proofs.Rules.{few_attempts, waiting_alive}
 use Rattle.job_table.proofs.Steps.{change_state, change_ordered, change_room, change_places}
 use Rattle.job_table.proofs.Changes.{changed_there}
 use Rattle.job_table.proofs.Rooms.{room_seen}
-use Rattle.job_rows.specs.Rows.{place_in}
+use Rattle.job_rows.specs.NumberedRows.{position_in}
 use Rattle.job_table.proofs.Numbered.{has_number, row_place, row_there}
 use Rattle.job_table.proofs.store.Store.start.Goals as goal
 
@@ -41,21 +41,21 @@ start_row-requires-clause-live c =
     (job_must (contents_of c.self.inside).state (Start c.args.job) c.args.job (λ r. is_waiting r.phase) _ _ (job_of c.row_mut.result.now) refl there (ap (λ v. refusal_of v.state (Start c.args.job)) c.self.view_is ∙ c.requires))
 
 pub invariant_of-self : goal.invariant_of-self
-invariant_of-self c = change_ordered c.self.inside c.self.invariant c.args.job (place_in c.self.inside.jobs.numbers c.args.job) c.row_mut.result.now c.start_row.new.row (sym c.row_mut.ensures.found.is)
+invariant_of-self c = change_ordered c.self.inside c.self.invariant c.args.job (position_in c.self.inside.jobs.numbers c.args.job) c.row_mut.result.now c.start_row.new.row (sym c.row_mut.ensures.found.is)
     (row_place c.self.inside.jobs c.self.invariant.own c.self.invariant.jobs c.args.job c.row_mut.result.now c.row_mut.ensures.found) started (λ x. refl)
     c.start_row.ensures.row c.start_row.ensures.memory
     (legal_after (contents_of c.self.inside).state (Start c.args.job) tt (ap (λ v. refusal_of v.state (Start c.args.job)) c.self.view_is ∙ c.requires) c.self.invariant.legal)
 
 pub returns-clause-state : goal.returns-clause-state
 returns-clause-state c =
-    change_state c.self.inside c.self.invariant c.args.job (place_in c.self.inside.jobs.numbers c.args.job) c.row_mut.result.now c.start_row.new.row (sym c.row_mut.ensures.found.is)
+    change_state c.self.inside c.self.invariant c.args.job (position_in c.self.inside.jobs.numbers c.args.job) c.row_mut.result.now c.start_row.new.row (sym c.row_mut.ensures.found.is)
     (row_place c.self.inside.jobs c.self.invariant.own c.self.invariant.jobs c.args.job c.row_mut.result.now c.row_mut.ensures.found) started (λ x. refl)
     c.start_row.ensures.row c.start_row.ensures.memory
     ∙ ap (λ v. after v.state (Start c.args.job)) c.self.view_is
 
 pub returns-clause-room : goal.returns-clause-room
 returns-clause-room c = room_seen c.self.view_is
-    (change_room c.self.inside c.self.invariant c.args.job (place_in c.self.inside.jobs.numbers c.args.job) c.row_mut.result.now c.start_row.new.row (sym c.row_mut.ensures.found.is)
+    (change_room c.self.inside c.self.invariant c.args.job (position_in c.self.inside.jobs.numbers c.args.job) c.row_mut.result.now c.start_row.new.row (sym c.row_mut.ensures.found.is)
     (row_place c.self.inside.jobs c.self.invariant.own c.self.invariant.jobs c.args.job c.row_mut.result.now c.row_mut.ensures.found) started (λ x. refl)
     c.start_row.ensures.row c.start_row.ensures.memory)
 
@@ -71,7 +71,7 @@ returns-clause-reply c =
 
 pub returns-clause-places : goal.returns-clause-places
 returns-clause-places c = λ j lives.
-    change_places c.self.inside c.self.invariant c.args.job (place_in c.self.inside.jobs.numbers c.args.job) c.row_mut.result.now c.start_row.new.row (sym c.row_mut.ensures.found.is)
+    change_places c.self.inside c.self.invariant c.args.job (position_in c.self.inside.jobs.numbers c.args.job) c.row_mut.result.now c.start_row.new.row (sym c.row_mut.ensures.found.is)
     (row_place c.self.inside.jobs c.self.invariant.own c.self.invariant.jobs c.args.job c.row_mut.result.now c.row_mut.ensures.found) started (λ x. refl)
     c.start_row.ensures.row c.start_row.ensures.memory
     (λ lives. ap (λ d. d.items) c.start_row.ensures.document) j lives

@@ -3,8 +3,8 @@ use Rattle.std.proofs.Common.{◌≡◌, ◌<◌, ◌≤◌, ℕ, ◌+◌, lengt
 use Rattle.std.specs.Prelude.{slice_get}
 use Rattle.std.proofs.lemmas.List.{length-set, get_or_default}
 use Rattle.spool_types.specs.declared.rows.JobRow.{JobRow}
-use Rattle.job_rows.specs.Rows.{Listed, HasNumber, place_in}
-use Rattle.job_table.specs.Rows.{HasNew, IsMoved}
+use Rattle.job_rows.specs.NumberedRows.{Listed, HasNumber, position_in}
+use Rattle.job_table.specs.TableRows.{HasNew, IsMoved}
 use Rattle.job_table.proofs.Lanes.{none_left, set_done, set_rest}
 use Rattle.job_table.proofs.Numbered.{as_many, none_reached, reached_row, within_reach}
 use Rattle.job_table.proofs.Relocated.{moved_as, ids_apart}
@@ -54,7 +54,7 @@ loop-next-preserved c =
         next =
             c.next_above-next.ensures.behind at (ap (λ (rows : Listed). slice_get rows.numbers at) before.same ∙ here ∙ ap Some (sym c.get.ensures.value))
             ∙ ap (λ (rows : Listed). slice_get rows.numbers (at + 1)) before.same;
-        same = ap (λ (rows : Listed). record rows { items = set now (place_in c.loop-next.rows.numbers job) new }) before.same;
+        same = ap (λ (rows : Listed). record rows { items = set now (position_in c.loop-next.rows.numbers job) new }) before.same;
         count = rw reached.place (length-set now at new ∙ before.count);
         done = rw reached.place (set_done (IsMoved noted) first.items now at new within before.done
             (λ d. subst (λ (r : JobRow). IsMoved noted r new) (get_or_default first.items at x d reached.within) moved));

@@ -5,7 +5,7 @@ use Rattle.std.specs.Ordering.{nat_cmp}
 use Rattle.std.specs.FinMap as finite
 use Rattle.spool_types.specs.declared.rows.JobRow.{JobRow}
 use Rattle.job_table.specs.Contents.{move_room}
-use Rattle.job_table.specs.Rows.{IsMoved}
+use Rattle.job_table.specs.TableRows.{IsMoved}
 use Rattle.job_table.proofs.Numbered.{numbers_left}
 use Rattle.job_table.proofs.store.moves.move_rows.Given as goal
 

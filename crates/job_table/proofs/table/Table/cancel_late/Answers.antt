@@ -4,9 +4,9 @@ use Rattle.std.specs.List.{Contains}
 use Rattle.spool_types.specs.declared.event.Event.TheVariants.{Cancel}
 use Rattle.spool_types.specs.State.{State, Job, job_at}
 use Rattle.queue_sched.specs.declared.deadlines.Deadline.{Deadline}
-use Rattle.job_table.specs.Changes.{is_late}
+use Rattle.job_table.specs.EventChanges.{is_late}
 use Rattle.job_table.specs.Contents.{Contents}
-use Rattle.job_table.specs.Held.{table_of, IsInLanes}
+use Rattle.job_table.specs.TableInvariant.{table_of, IsInLanes}
 use Rattle.job_table.specs.Legal.{IsLegal}
 use Rattle.job_table.specs.Timely.{IsTimely}
 use Rattle.job_table.specs.declared.table.Table.TheInside.{Inside}

@@ -1,6 +1,6 @@
 -- the jobs that are still to be canceled, and that nothing else has changed
 use Rattle.std.proofs.Common.{◌≡◌}
-use Rattle.job_table.specs.Changes.{at_moment, change_jobs}
+use Rattle.job_table.specs.EventChanges.{at_moment, change_jobs}
 use Rattle.job_table.specs.Contents.{HasNoMore, KeepsPlaces}
 use Rattle.job_table.proofs.Late.{waiting_count}
 use Rattle.job_table.proofs.table.Table.cancel_late.Given as goal

@@ -4,7 +4,7 @@ use Rattle.std.specs.Prelude.{is_some}
 use Rattle.spool_types.specs.Sent.{sent_by, with_placed}
 use Rattle.spool_types.specs.State.{job_at}
 use Rattle.job_table.specs.Contents.{Contents, places_at}
-use Rattle.job_table.specs.Lanes.{standing_of, is_live}
+use Rattle.job_table.specs.Lanes.{lane_state_of, is_live}
 use Rattle.job_table.specs.Step.{refusal_of}
 use Rattle.job_table.specs.Timely.{deadline_found, IsRetimed, MayRetime}
 use Rattle.job_table.proofs.Held.{stepped}
@@ -35,24 +35,24 @@ pub reseat-requires-clause-there : goal.reseat-requires-clause-there
 reseat-requires-clause-there c =
     let g = rows (goal.at.reseat-requires-clause-there c).After-commit-reply in
     goes_from _ _ _ g c.self.inside.vacant c.self.inside.lanes.items c.self.invariant.lanes c.seat-place.result.0 (c.seat-place.ensures.place g.row g.there)
-    c.index_mut.result.now c.index_mut.ensures.value c.seat-place.result.1 (c.seat-place.ensures.standing g.row g.there)
+    c.index_mut.result.now c.index_mut.ensures.value c.seat-place.result.1 (c.seat-place.ensures.lane_state g.row g.there)
 
 pub reseat-requires-clause-own : goal.reseat-requires-clause-own
 reseat-requires-clause-own c = λ e waits.
     let g = rows (goal.at.reseat-requires-clause-own c).After-commit-reply in
-    goes_number _ _ _ g e (sym (c.seat-to.ensures.standing (gone _ _ _ g) (gone_there _ _ _ g)) ∙ waits)
+    goes_number _ _ _ g e (sym (c.seat-to.ensures.lane_state (gone _ _ _ g) (gone_there _ _ _ g)) ∙ waits)
 
 -- it hasn't ended before
 pub reseat-requires-clause-room : goal.reseat-requires-clause-room
 reseat-requires-clause-room c = λ live dead.
     let g = rows (goal.at.reseat-requires-clause-room c).After-commit-reply in
-    absurd (g.alive (ap is_live (sym (c.seat-place.ensures.standing g.row g.there)) ∙ dead))
+    absurd (g.alive (ap is_live (sym (c.seat-place.ensures.lane_state g.row g.there)) ∙ dead))
 
 pub reseat-requires-clause-alone : goal.reseat-requires-clause-alone
 reseat-requires-clause-alone c = λ busy.
     let g = rows (goal.at.reseat-requires-clause-alone c).After-commit-reply in
     goes_alone _ _ _ g c.self.inside.vacant c.self.inside.lanes.items c.self.invariant.lanes c.seat-place.result.0 (c.seat-place.ensures.place g.row g.there)
-    c.index_mut.result.now c.index_mut.ensures.value (sym (c.seat-to.ensures.standing (gone _ _ _ g) (gone_there _ _ _ g)) ∙ busy)
+    c.index_mut.result.now c.index_mut.ensures.value (sym (c.seat-to.ensures.lane_state (gone _ _ _ g) (gone_there _ _ _ g)) ∙ busy)
 
 -- its deadline goes, comes or stays
 pub change-requires : goal.change-requires
@@ -69,8 +69,8 @@ invariant_of-self c =
     let g = rows (goal.at.invariant_of-self c).After-commit-reply in
     let s = c.self.inside.store.state in
     let new = c.reseat.new.self in
-    let from = c.seat-place.ensures.standing g.row g.there in
-    let to = c.seat-to.ensures.standing (gone _ _ _ g) (gone_there _ _ _ g) in
+    let from = c.seat-place.ensures.lane_state g.row g.there in
+    let to = c.seat-to.ensures.lane_state (gone _ _ _ g) (gone_there _ _ _ g) in
     let changed : IsReseatedLane c.args.job c.seat-place.result.1 c.seat-to.result.1 c.index_mut.result.now new = record {
       lane = c.reseat.ensures.lane;
       live = c.reseat.ensures.live;
@@ -87,7 +87,7 @@ invariant_of-self c =
       lanes =
           goes_lanes _ _ _ g c.self.inside.vacant c.self.inside.lanes.items c.self.invariant.lanes c.seat-place.result.0 (c.seat-place.ensures.place g.row g.there)
           c.index_mut.result.now c.index_mut.ensures.value new
-          (subst (λ x. IsReseatedLane c.args.job x (standing_of (gone _ _ _ g)) c.index_mut.result.now new) from
+          (subst (λ x. IsReseatedLane c.args.job x (lane_state_of (gone _ _ _ g)) c.index_mut.result.now new) from
           (subst (λ x. IsReseatedLane c.args.job c.seat-place.result.1 x c.index_mut.result.now new) to changed));
     }
 

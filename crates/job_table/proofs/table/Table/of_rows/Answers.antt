@@ -1,7 +1,7 @@
 -- each queue has its lane, and each deadline is in the timetable
 use Rattle.std.proofs.Common.{subst, arith}
 use Rattle.job_table.specs.Lanes.{AreBeside, IsAdvanced}
-use Rattle.job_table.specs.Drafts.{drafted}
+use Rattle.job_table.specs.LaneDrafts.{drafted}
 use Rattle.job_table.proofs.Drafts.{lanes_become, waiting_once}
 use Rattle.job_table.proofs.table.Table.of_rows.Goals as goal
 

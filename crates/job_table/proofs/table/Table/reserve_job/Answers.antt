@@ -3,7 +3,7 @@ use Rattle.std.proofs.Common.{◌≡◌, ℕ, ◌+◌, ◌<◌, ◌≤◌, List,
 use Rattle.std.specs.Vec.{with_items}
 use Rattle.std.proofs.lemmas.List.{with_items_is}
 use Rattle.spool_types.specs.State.{State, job_at}
-use Rattle.job_table.specs.Held.{IsInLanes}
+use Rattle.job_table.specs.TableInvariant.{IsInLanes}
 use Rattle.job_table.specs.Lanes.{AreLanes, IsSameLane}
 use Rattle.job_table.specs.declared.lane.Lane.{Lane}
 use Rattle.job_table.specs.declared.table.Table.TheInside.{Inside}

@@ -2,7 +2,7 @@
 use Rattle.std.proofs.Common.{◌+◌, ◌≤◌, [], ◌∷◌, length, set, sym, ap, subst, ◌∙◌, arith}
 use Rattle.std.proofs.lemmas.List.{length-append, length-map}
 use Rattle.spool_types.specs.State.{job_of}
-use Rattle.job_table.specs.Drafts.{IsDraft}
+use Rattle.job_table.specs.LaneDrafts.{IsDraft}
 use Rattle.job_table.specs.Lanes.{IsReseated}
 use Rattle.job_table.proofs.Walked.{turned, ended}
 use Rattle.job_table.proofs.Begun.{AreBegun, row_stands, begun_blank, begun_all, begun_more, own_draft, this_alone, this_queue}
@@ -23,7 +23,7 @@ add-requires-clause-alone c = λ busy.
     let this = row_stands c.args.store.now.state c.jobs-rows.result.now.items c.jobs-rows.ensures.rows (length c.loop-row.yielded) c.in-Some.row.now turn.0 turn.1 in
     ap (λ d. d.processing) c.index_mut.ensures.value
     ∙ this_alone c.args.store.now.state c.jobs-rows.ensures.legal (length c.loop-row.yielded) c.loop-row.drafts.items c.loop-row.invariant (job_of c.in-Some.row.now) this
-    c.in-Ok.place c.in-Ok.ensures.found c.index_mut.result.now (sym c.standing_of.ensures ∙ busy)
+    c.in-Ok.place c.in-Ok.ensures.found c.index_mut.result.now (sym c.lane_state_of.ensures ∙ busy)
 
 pub add-requires-clause-few : goal.add-requires-clause-few
 add-requires-clause-few c =
@@ -41,7 +41,7 @@ loop-row-preserved c =
     (begun_more c.args.store.now.state c.jobs-rows.ensures.legal (length c.loop-row.yielded) c.loop-row.drafts.items c.loop-row.invariant (job_of c.in-Some.row.now) this
     c.in-Ok.place c.in-Ok.ensures.found c.index_mut.result.now c.add.new.self
     (λ before after is ended seated. c.in_ok-add.ensures.draft before after (subst (IsDraft before) (sym c.index_mut.ensures.value) is) ended
-    (subst (IsReseated before after c.in-Some.row.now.job.id) (sym c.standing_of.ensures) seated))
+    (subst (IsReseated before after c.in-Some.row.now.job.id) (sym c.lane_state_of.ensures) seated))
     (subst (λ d. c.add.new.self.live ≤ d.live + 1) c.index_mut.ensures.value c.in_ok-add.ensures.live))
 
 pub returns-clause-drafts : goal.returns-clause-drafts

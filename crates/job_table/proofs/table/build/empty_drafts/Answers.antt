@@ -3,7 +3,7 @@ use Rattle.std.proofs.Common.{◌+◌, [], ◌∷◌, length, sym, ap, subst, �
 use Rattle.std.proofs.lemmas.List.{length-append}
 use Rattle.std.proofs.lemmas.List.Elements.{All-push}
 use Rattle.std.specs.List.{All}
-use Rattle.job_table.specs.Drafts.{IsBlank}
+use Rattle.job_table.specs.LaneDrafts.{IsBlank}
 use Rattle.job_table.proofs.table.build.empty_drafts.Goals as goal
 
 pub loop-preserved : goal.loop-preserved

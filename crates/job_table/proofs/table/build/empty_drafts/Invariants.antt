@@ -1,7 +1,7 @@
 -- the drafts so far have no jobs
 use Rattle.std.proofs.Common.{◌≡◌, length}
 use Rattle.std.specs.List.{All}
-use Rattle.job_table.specs.Drafts.{IsBlank}
+use Rattle.job_table.specs.LaneDrafts.{IsBlank}
 use Rattle.job_table.proofs.table.build.empty_drafts.Given as goal
 
 abbrev pub invariant-loop : goal.invariant-loop

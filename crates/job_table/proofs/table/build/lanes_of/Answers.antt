@@ -1,6 +1,6 @@
 -- one lane more
 use Rattle.std.proofs.Common.{sym, subst}
-use Rattle.job_table.specs.Drafts.{drafted}
+use Rattle.job_table.specs.LaneDrafts.{drafted}
 use Rattle.job_table.specs.Lanes.{AreBeside, IsAdvanced}
 use Rattle.job_table.proofs.Drafts.{beside_push}
 use Rattle.job_table.proofs.table.build.lanes_of.Goals as goal

@@ -1,5 +1,5 @@
 -- the lanes so far are those of the drafts so far
-use Rattle.job_table.specs.Drafts.{drafted}
+use Rattle.job_table.specs.LaneDrafts.{drafted}
 use Rattle.job_table.specs.Lanes.{AreBeside, IsAdvanced}
 use Rattle.job_table.proofs.table.build.lanes_of.Given as goal
 

@@ -1,6 +1,6 @@
 use Rattle.std.proofs.Common.{◌≡◌, map, subst, sym, ap, ◌∙◌}
 use Rattle.std.specs.List.{Contains}
-use Rattle.mime_costs.specs.Index.{Ascends}
+use Rattle.mime_costs.specs.SourceIndex.{Ascends}
 use Rattle.mime_costs.specs.Walks.{line_of}
 use Rattle.mime_costs.proofs.StepLaws.{same_line}
 use Rattle.mime_costs.proofs.WalkLaws.{missed}

@@ -3,7 +3,7 @@ use Rattle.std.specs.Prelude.{IfSome}
 use Rattle.std.specs.Option.{option_map}
 use Rattle.std.specs.List.{Contains, All}
 use Rattle.mime_costs.specs.Walks.{line_of}
-use Rattle.mime_costs.specs.Seen.{worth_of_chain}
+use Rattle.mime_costs.specs.ConversionFields.{worth_of_chain}
 use Rattle.mime_costs.proofs.WalkLaws.{filters_found}
 use Rattle.mime_costs.proofs.convs.Convs.filters.Goals as goal
 

@@ -1,5 +1,5 @@
 use Rattle.std.proofs.Common.{subst, sym, ap, ◌∙◌}
-use Rattle.mime_costs.specs.Index.{links_in, Ascends, AreCheap}
+use Rattle.mime_costs.specs.SourceIndex.{links_in, Ascends, AreCheap}
 use Rattle.mime_costs.proofs.ReadLaws.{text_rises, text_cheap}
 use Rattle.mime_costs.proofs.convs.Convs.read.Goals as goal
 

@@ -1,6 +1,6 @@
 use Rattle.std.proofs.Common.{rules, ◌≡◌, ℕ, Bool, true, false, List, [], map, get_or, take, ap, sym, ◌∙◌, Bor}
 use Rattle.std.proofs.lemmas.List.{take_all}
-use Rattle.program_lists.specs.Lines.{words_of, said_by, said_in}
+use Rattle.program_lists.specs.ProgramLines.{words_of, said_by, said_in}
 use Rattle.program_lists.specs.Programs.{Programs, programs_of, reads_of, fits, with_said}
 use Rattle.program_lists.specs.declared.line.Said.{Said}
 use Rattle.program_lists.proofs.ListLaws.{says, more_read, more_programs, unread, lines_said}

@@ -1,7 +1,7 @@
 -- the entries are those of the list
 use Rattle.std.proofs.Common.{subst}
 use Rattle.std.specs.Option.{IsNone}
-use Rattle.queue_sched.specs.Index.{LacksJob}
+use Rattle.queue_sched.specs.WaitingIndex.{LacksJob}
 use Rattle.queue_sched.proofs.index.Index.entry.Goals as goal
 
 pub returns-clause-absent : goal.returns-clause-absent

@@ -1,7 +1,7 @@
 -- an entry more
 use Rattle.std.proofs.Common.{◌≡◌, ◌+◌, ◌<◌, ◌⊎◌, ◌↔◌, length, true, false, sym, ap, subst, ◌∙◌, arith}
 use Rattle.std.specs.List.{Contains}
-use Rattle.queue_sched.specs.Index.{LacksJob, is_startable}
+use Rattle.queue_sched.specs.WaitingIndex.{LacksJob, is_startable}
 use Rattle.queue_sched.proofs.Due.{with_ready, with_waiting}
 use Rattle.queue_sched.proofs.More.{has_it, has_one_more, counts_one_more, has_passed, passed_over, put_among, fewer}
 use Rattle.queue_sched.proofs.index.Index.insert.Goals as goal

@@ -1,7 +1,7 @@
 -- the first of those that may be started
 use Rattle.std.proofs.Common.{◌≡◌, ◌<◌, length, get_or, refl, subst, ap, arith}
 use Rattle.std.specs.List.{filter}
-use Rattle.queue_sched.specs.Index.{is_startable, IsFirstStartable, NoneIsStartable}
+use Rattle.queue_sched.specs.WaitingIndex.{is_startable, IsFirstStartable, NoneIsStartable}
 use Rattle.queue_sched.specs.Lists.{waits_of}
 use Rattle.queue_sched.proofs.Indexed.{first_of, head_is, no_head, none_of}
 use Rattle.queue_sched.proofs.index.Index.next.Goals as goal

@@ -1,7 +1,7 @@
 -- an entry in the place of another one
 use Rattle.std.proofs.Common.{◌≡◌, ◌⊎◌, ◌↔◌, length, true, false, sym, ap, subst, ◌∙◌, arith}
 use Rattle.std.specs.List.{Contains, filter}
-use Rattle.queue_sched.specs.Index.{InOrder, is_startable}
+use Rattle.queue_sched.specs.WaitingIndex.{InOrder, is_startable}
 use Rattle.queue_sched.specs.declared.entry.Entry.{Entry}
 use Rattle.queue_sched.proofs.Due.{with_ready, with_waiting}
 use Rattle.queue_sched.proofs.More.{as_many, counts_one_more, drop_among, fewer, has_exchanged, has_one_less, has_one_more, has_passed, in_order_passed, passed_over, put_among}

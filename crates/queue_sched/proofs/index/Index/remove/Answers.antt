@@ -1,7 +1,7 @@
 -- an entry less
 use Rattle.std.proofs.Common.{◌≡◌, ◌+◌, ◌↔◌, length, refl, sym, subst, arith}
 use Rattle.std.specs.List.{Contains}
-use Rattle.queue_sched.specs.Index.{InOrder, is_startable}
+use Rattle.queue_sched.specs.WaitingIndex.{InOrder, is_startable}
 use Rattle.queue_sched.proofs.More.{has_one_less, counts_one_more, has_passed, drop_among, in_order_passed}
 use Rattle.queue_sched.proofs.index.Index.remove.Goals as goal
 

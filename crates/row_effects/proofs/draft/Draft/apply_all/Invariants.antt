@@ -1,7 +1,7 @@
 -- the draft is the one after the effects so far
 use Rattle.std.proofs.Common.{◌≡◌, ◌≤◌}
-use Rattle.row_effects.specs.Drafts.{IsAscendingDraft, room_of}
-use Rattle.row_effects.specs.Fold.{reasons_after, attributes_after, message_after}
+use Rattle.row_effects.specs.QueueDrafts.{IsAscendingDraft, room_of}
+use Rattle.row_effects.specs.EffectFold.{reasons_after, attributes_after, message_after}
 use Rattle.row_effects.proofs.draft.Draft.apply_all.Given as goal
 
 abbrev pub invariant-loop-effect : goal.invariant-loop-effect

@@ -1,6 +1,6 @@
 -- one deed: a tick, or a turn of the engine
 use Rattle.std.proofs.Common.{refl, ◌∙◌}
-use Rattle.service_loop.proofs.VisitLaws.{answered_by_tick, answered_by_turn, is_round_one, is_no_round}
+use Rattle.service_loop.proofs.ClientStepLaws.{answered_by_tick, answered_by_turn, is_round_one, is_no_round}
 use Rattle.service_loop.proofs.client.Client.answer_command.Goals as goal
 
 pub returns-in_ok-add-in-Round-clause-done : goal.returns-in_ok-add-in-Round-clause-done

@@ -1,8 +1,8 @@
 -- what was written so far, and then some more
 use Rattle.std.proofs.Common.{◌≡◌, ◌≤◌, false, arith}
-use Rattle.service_loop.specs.Clients.{unread}
+use Rattle.service_loop.specs.AdmissionViews.{unread}
 use Rattle.service_loop.proofs.ProgressLaws.{fewer_by, given_then, heard_then}
-use Rattle.service_loop.proofs.VisitLaws.{goes_then}
+use Rattle.service_loop.proofs.ClientStepLaws.{goes_then}
 use Rattle.service_loop.proofs.client.Client.give.Goals as goal
 
 pub loop-self-preserved : goal.loop-self-preserved

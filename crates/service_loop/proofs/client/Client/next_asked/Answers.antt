@@ -1,5 +1,5 @@
 use Rattle.std.proofs.Common.{refl}
-use Rattle.service_loop.proofs.VisitLaws.{gives_next}
+use Rattle.service_loop.proofs.ClientStepLaws.{gives_next}
 use Rattle.service_loop.proofs.client.Client.next_asked.Goals as goal
 
 pub returns-clause-next : goal.returns-clause-next

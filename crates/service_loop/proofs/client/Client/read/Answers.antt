@@ -1,6 +1,6 @@
 -- what came of the line is what the reader takes
 use Rattle.std.proofs.Common.{refl, take}
-use Rattle.service_loop.proofs.VisitLaws.{goes_read}
+use Rattle.service_loop.proofs.ClientStepLaws.{goes_read}
 use Rattle.service_loop.proofs.client.Client.read.Goals as goal
 
 pub returns-in_ok-take-in-Ok-clause-goes : goal.returns-in_ok-take-in-Ok-clause-goes

@@ -2,7 +2,7 @@
 use Rattle.std.proofs.Common.{refl, subst, ℕ, ◌≤◌, List, length, take, arith}
 use Rattle.std.specs.Io.KnownBytes.{Appends}
 use Rattle.std.proofs.lemmas.List.{length-drop}
-use Rattle.service_loop.proofs.VisitLaws.{goes_then, goes_written, unwritten}
+use Rattle.service_loop.proofs.ClientStepLaws.{goes_then, goes_written, unwritten}
 use Rattle.service_loop.proofs.client.Client.write_some.Goals as goal
 
 pub returns-in-Ok-clause-goes : goal.returns-in-Ok-clause-goes
@@ -13,7 +13,7 @@ returns-in-Ok-clause-goes g c =
     let count_fits = subst (λ (l : List ℕ). c.in-Ok.count ≤ length l) piece wrote.bound in
     goes_then _ _ _ _ _ _ _ _ (goes_written _ client c.in-Ok.count _ (record {
       kept = wrote.kept;
-      wrote = subst (λ (l : List ℕ). Appends (g.L.Connection.view.contents client.line) (g.L.Connection.view.contents c.write_to.new.line) (take c.in-Ok.count l)) piece wrote.bytes;
+      wrote = subst (λ (l : List ℕ). Appends (g.L.Connection.view.contents client.connection) (g.L.Connection.view.contents c.write_to.new.connection) (take c.in-Ok.count l)) piece wrote.bytes;
       reader = refl;
       taken = refl;
       replies = refl;

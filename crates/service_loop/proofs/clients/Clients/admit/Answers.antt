@@ -1,10 +1,10 @@
 -- where there is no place nobody has changed
 use Rattle.std.proofs.Common.{refl, inl}
-use Rattle.service_loop.specs.Places.{HasGone}
+use Rattle.service_loop.specs.ClientSlots.{HasGone}
 use Rattle.service_loop.proofs.clients.Clients.admit.Goals as goal
 
 pub returns-in-Busy-clause-lets_in : goal.returns-in-Busy-clause-lets_in
 returns-in-Busy-clause-lets_in g c =
-    let places = c.args.self.now.places in
-    let gone : HasGone c.admit-admission.result places places = (rw c.in-Busy.is (λ key. refl)) in
-    record { left = places; gone = gone; entered = inl (λ key. refl) }
+    let slots = c.args.self.now.slots in
+    let gone : HasGone c.admit-admission.result slots slots = (rw c.in-Busy.is (λ key. refl)) in
+    record { left = slots; gone = gone; entered = inl (λ key. refl) }

@@ -1,8 +1,8 @@
 -- each place had its turn behind the others, and so each client had one of its own
 use Rattle.std.proofs.Common.{◌≡◌, ◌+◌, ◌≤◌, ◌||◌, ℕ, Bool, true, false, cond, ap, refl, sym, ◌∙◌, subst, arith}
-use Rattle.service_loop.specs.Places.{HasNoneNow, HaveTurns, leaves_more}
+use Rattle.service_loop.specs.ClientSlots.{HasNoneNow, HaveTurns, leaves_more}
 use Rattle.service_loop.specs.Progress.{IsGiven}
-use Rattle.service_loop.specs.Visits.{is_starved}
+use Rattle.service_loop.specs.ClientSteps.{is_starved}
 use Rattle.service_loop.specs.declared.clients.Turns.{Turns}
 use Rattle.service_loop.proofs.CallLaws.{by_turns}
 use Rattle.service_loop.proofs.PlaceLaws.{each_more, each_own, given_there, none_yet, one_more, rests_there, untouched}
@@ -27,11 +27,11 @@ loop-key-preserved g c =
     let turn = c.serve_at.ensures in
     record {
       starved = elim c.match-serve_at.branch [
-        | in-Some w ↦ rw w.turns-is (let more = one_went _ _ (is_starved w.in-Some.turn.parting) (ap (λ (t : Turns). t.starved) w.add.ensures) in omega arith)
+        | in-Some w ↦ rw w.turns-is (let more = one_went _ _ (is_starved w.in-Some.turn.disconnect) (ap (λ (t : Turns). t.starved) w.add.ensures) in omega arith)
         | in_default w ↦ rw w.turns-is (omega arith)
       ];
       turns = one_more _ _ _ _ _ _ _ c.serve_at.result _ _ so_far.turns turn;
-      given = each_more IsGiven c.loop-key.self.places c.serve_at.new.self.places c.loop-key.key turn.others so_far.given (given_there g.D.Disk.device g.L.Connection.view _ _ c.serve_at.result _ _ turn.own);
+      given = each_more IsGiven c.loop-key.self.slots c.serve_at.new.self.slots c.loop-key.key turn.others so_far.given (given_there g.D.Disk.device g.L.Connection.view _ _ c.serve_at.result _ _ turn.own);
       rests = λ none.
           let quiet : (c.loop-key.turns.more ≡ false) × (leaves_more c.serve_at.result ≡ false) =
           elim c.match-serve_at.branch [
@@ -41,7 +41,7 @@ loop-key-preserved g c =
                 )
             | in_default w ↦ (sym (ap (λ (t : Turns). t.more) w.turns-is) ∙ none, ap leaves_more w.in_default.is)
           ] in
-          each_more HasNoneNow c.loop-key.self.places c.serve_at.new.self.places c.loop-key.key turn.others (so_far.rests quiet.0) (rests_there g.D.Disk.device g.L.Connection.view _ _ c.serve_at.result _ _ turn.own quiet.1);
+          each_more HasNoneNow c.loop-key.self.slots c.serve_at.new.self.slots c.loop-key.key turn.others (so_far.rests quiet.0) (rests_there g.D.Disk.device g.L.Connection.view _ _ c.serve_at.result _ _ turn.own quiet.1);
     }
 
 pub returns-clause-calls : goal.returns-clause-calls
@@ -51,10 +51,10 @@ pub returns-clause-own : goal.returns-clause-own
 returns-clause-own g c =
     let all : c.loop-key.key ≡ 64 = omega arith in
     each_own _ _ _ _ 64 _ _
-    (subst (λ (n : ℕ). HaveTurns g.D.Disk.device g.L.Connection.view c.args.office.now.engine c.args.self.now.places n c.loop-key.office.engine c.loop-key.self.places) all c.loop-key.invariant.turns)
+    (subst (λ (n : ℕ). HaveTurns g.D.Disk.device g.L.Connection.view c.args.shared.now.engine c.args.self.now.slots n c.loop-key.shared.engine c.loop-key.self.slots) all c.loop-key.invariant.turns)
 
 pub returns-clause-others : goal.returns-clause-others
 returns-clause-others g c =
     let all : c.loop-key.key ≡ 64 = omega arith in
     untouched _ _ _ _ 64 _ _
-    (subst (λ (n : ℕ). HaveTurns g.D.Disk.device g.L.Connection.view c.args.office.now.engine c.args.self.now.places n c.loop-key.office.engine c.loop-key.self.places) all c.loop-key.invariant.turns)
+    (subst (λ (n : ℕ). HaveTurns g.D.Disk.device g.L.Connection.view c.args.shared.now.engine c.args.self.now.slots n c.loop-key.shared.engine c.loop-key.self.slots) all c.loop-key.invariant.turns)

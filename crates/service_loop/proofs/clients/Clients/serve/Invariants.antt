@@ -1,14 +1,14 @@
 -- the places below this one had their turns, and no more clients went than there are places
 use Rattle.std.proofs.Common.{◌≡◌, ◌<◌, ◌≤◌, ℕ, false, IfSome}
 use Rattle.slab.specs.Slab.{get}
-use Rattle.service_loop.specs.Places.{HasNoneNow, HaveTurns}
+use Rattle.service_loop.specs.ClientSlots.{HasNoneNow, HaveTurns}
 use Rattle.service_loop.specs.Progress.{IsGiven}
 use Rattle.service_loop.proofs.clients.Clients.serve.Given as goal
 
 abbrev pub invariant-loop-key : goal.invariant-loop-key
 invariant-loop-key g l = record {
   starved : l.turns.starved ≤ l.key;
-  turns : HaveTurns g.D.Disk.device g.L.Connection.view l.fn.office.engine l.fn.self.places l.key l.office.engine l.self.places;
-  given : (key : ℕ) → key < l.key → IfSome (get l.self.places key) IsGiven;
-  rests : l.turns.more ≡ false → (key : ℕ) → key < l.key → IfSome (get l.self.places key) HasNoneNow;
+  turns : HaveTurns g.D.Disk.device g.L.Connection.view l.fn.shared.engine l.fn.self.slots l.key l.shared.engine l.self.slots;
+  given : (key : ℕ) → key < l.key → IfSome (get l.self.slots key) IsGiven;
+  rests : l.turns.more ≡ false → (key : ℕ) → key < l.key → IfSome (get l.self.slots key) HasNoneNow;
 }

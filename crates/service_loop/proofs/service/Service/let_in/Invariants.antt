@@ -3,4 +3,4 @@ use Rattle.std.proofs.Common.{◌≡◌}
 use Rattle.service_loop.proofs.service.Service.let_in.Given as goal
 
 abbrev pub invariant-loop : goal.invariant-loop
-invariant-loop g l = l.self.office.engine ≡ l.fn.self.office.engine
+invariant-loop g l = l.self.shared.engine ≡ l.fn.self.shared.engine

@@ -13,13 +13,13 @@ loop-preserved g c = calls_then g.D.Disk.device _ _ _ c.loop.invariant c.turn.en
 pub returns-clause-calls : goal.returns-clause-calls
 returns-clause-calls g c =
     elim c.loop-test.branch [
-      | else-loop-test w ↦ calls_kept g.D.Disk.device _ _ _ c.loop.invariant (ap (λ s. s.office.engine) w.self-is)
-      | then-loop-test+in_ok-turn+then-not-branch w ↦ calls_kept g.D.Disk.device _ _ _ (calls_then g.D.Disk.device _ _ _ c.loop.invariant w.turn.ensures.calls) (ap (λ s. s.office.engine) w.self-is)
+      | else-loop-test w ↦ calls_kept g.D.Disk.device _ _ _ c.loop.invariant (ap (λ s. s.shared.engine) w.self-is)
+      | then-loop-test+in_ok-turn+then-not-branch w ↦ calls_kept g.D.Disk.device _ _ _ (calls_then g.D.Disk.device _ _ _ c.loop.invariant w.turn.ensures.calls) (ap (λ s. s.shared.engine) w.self-is)
     ]
 
 pub returns-2-clause-calls : goal.returns-2-clause-calls
 returns-2-clause-calls g c =
     elim c.loop-test.branch [
-      | else-loop-test w ↦ calls_kept g.D.Disk.device _ _ _ c.loop.invariant (ap (λ s. s.office.engine) w.self-is)
-      | then-loop-test+in_ok-turn+then-not-branch w ↦ calls_kept g.D.Disk.device _ _ _ (calls_then g.D.Disk.device _ _ _ c.loop.invariant w.turn.ensures.calls) (ap (λ s. s.office.engine) w.self-is)
+      | else-loop-test w ↦ calls_kept g.D.Disk.device _ _ _ c.loop.invariant (ap (λ s. s.shared.engine) w.self-is)
+      | then-loop-test+in_ok-turn+then-not-branch w ↦ calls_kept g.D.Disk.device _ _ _ (calls_then g.D.Disk.device _ _ _ c.loop.invariant w.turn.ensures.calls) (ap (λ s. s.shared.engine) w.self-is)
     ]

@@ -1,55 +1,55 @@
 -- the clients' turns, the tick and the house are calls, and nothing else touches the engine
 use Rattle.std.proofs.Common.{ap, sym, subst, ◌∙◌, Ok}
-use Rattle.service_loop.specs.Calls.{GoesByCalls}
-use Rattle.service_loop.specs.Turns.{HasTriedAtMost, KeepsTime, is_knocked}
+use Rattle.service_loop.specs.ServiceCalls.{GoesByCalls}
+use Rattle.service_loop.specs.ServiceTurns.{HasTriedAtMost, KeepsTime, has_new_client_waiting}
 use Rattle.service_loop.proofs.CallLaws.{calls_kept, turn_calls}
 use Rattle.service_loop.proofs.TurnLaws.{no_reason}
 use Rattle.service_loop.proofs.service.Service.turn.Goals as goal
 
 pub returns-in_err-kept-clause-calls : goal.returns-in_err-kept-clause-calls
 returns-in_err-kept-clause-calls g c =
-    turn_calls g.D.Disk.device _ _ _ _ _ _ c.wait.ensures.engine c.let_in.ensures c.serve_clients-turns.ensures.calls c.tick-ticked.ensures.calls c.keep_house.ensures.calls
+    turn_calls g.D.Disk.device _ _ _ _ _ _ c.wait.ensures.engine c.let_in.ensures c.serve_clients-turns.ensures.calls c.tick-ticked.ensures.calls c.maintain.ensures.calls
 
 pub returns-in_err-note_stages-clause-calls : goal.returns-in_err-note_stages-clause-calls
 returns-in_err-note_stages-clause-calls g c =
     calls_kept g.D.Disk.device _ _ _
-    (turn_calls g.D.Disk.device _ _ _ _ _ _ c.wait.ensures.engine c.let_in.ensures c.serve_clients-turns.ensures.calls c.tick-ticked.ensures.calls c.keep_house.ensures.calls)
-    (c.note_stages.ensures.engine ∙ ap (λ s. s.office.engine) c.note_more.ensures.kept)
+    (turn_calls g.D.Disk.device _ _ _ _ _ _ c.wait.ensures.engine c.let_in.ensures c.serve_clients-turns.ensures.calls c.tick-ticked.ensures.calls c.maintain.ensures.calls)
+    (c.note_stages.ensures.engine ∙ ap (λ s. s.shared.engine) c.note_more.ensures.kept)
 
-pub returns-in_err-tell_changes-clause-calls : goal.returns-in_err-tell_changes-clause-calls
-returns-in_err-tell_changes-clause-calls g c =
+pub returns-in_err-notify_changes-clause-calls : goal.returns-in_err-notify_changes-clause-calls
+returns-in_err-notify_changes-clause-calls g c =
     calls_kept g.D.Disk.device _ _ _
-    (turn_calls g.D.Disk.device _ _ _ _ _ _ c.wait.ensures.engine c.let_in.ensures c.serve_clients-turns.ensures.calls c.tick-ticked.ensures.calls c.keep_house.ensures.calls)
-    (c.tell_changes.ensures.engine ∙ c.note_stages.ensures.engine ∙ ap (λ s. s.office.engine) c.note_more.ensures.kept)
+    (turn_calls g.D.Disk.device _ _ _ _ _ _ c.wait.ensures.engine c.let_in.ensures c.serve_clients-turns.ensures.calls c.tick-ticked.ensures.calls c.maintain.ensures.calls)
+    (c.notify_changes.ensures.engine ∙ c.note_stages.ensures.engine ∙ ap (λ s. s.shared.engine) c.note_more.ensures.kept)
 
 pub returns-then-met_fault-clause-calls : goal.returns-then-met_fault-clause-calls
 returns-then-met_fault-clause-calls g c =
     calls_kept g.D.Disk.device _ _ _
-    (turn_calls g.D.Disk.device _ _ _ _ _ _ c.wait.ensures.engine c.let_in.ensures c.serve_clients-turns.ensures.calls c.tick-ticked.ensures.calls c.keep_house.ensures.calls)
-    (c.tell_changes.ensures.engine ∙ c.note_stages.ensures.engine ∙ ap (λ s. s.office.engine) c.note_more.ensures.kept)
+    (turn_calls g.D.Disk.device _ _ _ _ _ _ c.wait.ensures.engine c.let_in.ensures c.serve_clients-turns.ensures.calls c.tick-ticked.ensures.calls c.maintain.ensures.calls)
+    (c.notify_changes.ensures.engine ∙ c.note_stages.ensures.engine ∙ ap (λ s. s.shared.engine) c.note_more.ensures.kept)
 
 pub returns-clause-calls : goal.returns-clause-calls
 returns-clause-calls g c =
     calls_kept g.D.Disk.device _ _ _
-    (turn_calls g.D.Disk.device _ _ _ _ _ _ c.wait.ensures.engine c.let_in.ensures c.serve_clients-turns.ensures.calls c.tick-ticked.ensures.calls c.keep_house.ensures.calls)
-    (c.tell_changes.ensures.engine ∙ c.note_stages.ensures.engine ∙ ap (λ s. s.office.engine) c.note_more.ensures.kept)
+    (turn_calls g.D.Disk.device _ _ _ _ _ _ c.wait.ensures.engine c.let_in.ensures c.serve_clients-turns.ensures.calls c.tick-ticked.ensures.calls c.maintain.ensures.calls)
+    (c.notify_changes.ensures.engine ∙ c.note_stages.ensures.engine ∙ ap (λ s. s.shared.engine) c.note_more.ensures.kept)
 
 pub returns-clause-turned : goal.returns-clause-turned
 returns-clause-turned g c =
-    let same_engine = c.tell_changes.ensures.engine ∙ c.note_stages.ensures.engine ∙ ap (λ s. s.office.engine) c.note_more.ensures.kept in
-    let same_house = ap (λ s. s.house) c.tell_changes.ensures.kept ∙ ap (λ s. s.house) c.note_stages.ensures.kept ∙ ap (λ s. s.house) c.note_more.ensures.kept in
+    let same_engine = c.notify_changes.ensures.engine ∙ c.note_stages.ensures.engine ∙ ap (λ s. s.shared.engine) c.note_more.ensures.kept in
+    let same_maintenance = ap (λ s. s.maintenance) c.notify_changes.ensures.kept ∙ ap (λ s. s.maintenance) c.note_stages.ensures.kept ∙ ap (λ s. s.maintenance) c.note_more.ensures.kept in
     record {
-      before = c.serve_clients-turns.new.self.office.engine;
-      behind = c.tick-ticked.new.self.office.engine;
+      before = c.serve_clients-turns.new.self.shared.engine;
+      behind = c.tick-ticked.new.self.shared.engine;
       moved = c.tick-ticked.result;
-      clients = subst (λ e. GoesByCalls g.D.Disk.device e c.serve_clients-turns.new.self.office.engine) (c.let_in.ensures ∙ c.wait.ensures.engine) c.serve_clients-turns.ensures.calls;
+      clients = subst (λ e. GoesByCalls g.D.Disk.device e c.serve_clients-turns.new.self.shared.engine) (c.let_in.ensures ∙ c.wait.ensures.engine) c.serve_clients-turns.ensures.calls;
       tick = c.tick-ticked.ensures.ticked;
       kept =
-          subst (λ e. KeepsTime g.D.Disk.device c.tick-ticked.new.self.office.engine c.tell_changes.new.self.house (g.T.Times.told c.keep_house.new.times) e) (sym same_engine)
-          (subst (λ h. KeepsTime g.D.Disk.device c.tick-ticked.new.self.office.engine h (g.T.Times.told c.keep_house.new.times) c.keep_house.new.self.office.engine) (sym same_house) c.in_ok-kept.ensures.time);
+          subst (λ e. KeepsTime g.D.Disk.device c.tick-ticked.new.self.shared.engine c.notify_changes.new.self.maintenance (g.T.Times.told c.maintain.new.times) e) (sym same_engine)
+          (subst (λ h. KeepsTime g.D.Disk.device c.tick-ticked.new.self.shared.engine h (g.T.Times.told c.maintain.new.times) c.maintain.new.self.shared.engine) (sym same_maintenance) c.in_ok-kept.ensures.time);
       still = λ rests.
           let more = ap (λ s. s.more) c.note_stages.ensures.kept in
           let reasons = no_reason c.serve_clients-turns.result.more c.serve_clients-turns.result.served c.tick-ticked.result c.in_ok-kept.kept
-          (is_knocked c.keep_house.new.self.knocks c.keep_house.new.self.barred c.keep_house.new.self.ends) (sym c.note_more.ensures.more ∙ sym more ∙ (c.in_ok-tell_changes.ensures.still rests).0) in
-          (reasons.0, subst (λ e. HasTriedAtMost g.D.Disk.device c.tick-ticked.new.self.office.engine e) (sym same_engine) (c.keep_house.ensures.idle (c.in_ok-kept.was ∙ ap Ok reasons.1)).1);
+          (has_new_client_waiting c.maintain.new.self.has_new_client c.maintain.new.self.barred c.maintain.new.self.ends) (sym c.note_more.ensures.more ∙ sym more ∙ (c.in_ok-notify_changes.ensures.still rests).0) in
+          (reasons.0, subst (λ e. HasTriedAtMost g.D.Disk.device c.tick-ticked.new.self.shared.engine e) (sym same_engine) (c.maintain.ensures.idle (c.in_ok-kept.was ∙ ap Ok reasons.1)).1);
     }

@@ -1,5 +1,5 @@
 use Rattle.std.proofs.Common.{[], sym, ap, ◌∙◌}
-use Rattle.side_channel.specs.Pieces.{to_come}
+use Rattle.side_channel.specs.SessionPieces.{to_come}
 use Rattle.side_channel.proofs.SessionLaws.{session-nothing}
 use Rattle.side_channel.proofs.PieceLaws.{cut_here}
 use Rattle.side_channel.proofs.pieces.Session.ending.Goals as goal

@@ -1,5 +1,5 @@
 use Rattle.std.proofs.Common.{[], subst}
-use Rattle.side_channel.specs.Pieces.{Feeds}
+use Rattle.side_channel.specs.SessionPieces.{Feeds}
 use Rattle.side_channel.proofs.PieceLaws.{answers, finishes, wants}
 use Rattle.side_channel.proofs.pieces.Session.feed.Goals as goal
 use Rattle.side_channel.proofs.pieces.Session.feed.Goals.{in-Part, in-Request, in-End}

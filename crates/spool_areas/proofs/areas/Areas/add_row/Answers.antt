@@ -1,5 +1,5 @@
 use Rattle.std.proofs.Common.{◌+◌, ◌++◌, ◌∷◌, [], List, ℕ, take, drop, sym, subst, arith, length-drop}
-use Rattle.spool_areas.specs.Filling.{Fills}
+use Rattle.spool_areas.specs.AreaFilling.{Fills}
 use Rattle.spool_areas.proofs.Fillings.{fills_now, one_more, with_ok}
 use Rattle.spool_areas.proofs.areas.Areas.add_row.Goals as goal
 

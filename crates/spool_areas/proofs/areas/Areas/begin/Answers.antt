@@ -4,8 +4,8 @@ use Rattle.spool_disk.proofs.Moments.{started, wider_change}
 use Rattle.spool_areas.specs.Payloads.{HasVersionAndPayloads}
 use Rattle.spool_areas.specs.Current.{KeepsPayloads}
 use Rattle.spool_areas.specs.Checkpoint.{area_len, other_base, plan_of}
-use Rattle.spool_areas.specs.Seen.{current_of}
-use Rattle.spool_areas.specs.Filling.{CanChange, Fills, change_of, change_at}
+use Rattle.spool_areas.specs.AreaFields.{current_of}
+use Rattle.spool_areas.specs.AreaFilling.{CanChange, Fills, change_of, change_at}
 use Rattle.spool_areas.proofs.Plans.{plan_ok, plan_epoch, can_change, other_within}
 use Rattle.spool_areas.proofs.areas.Areas.begin.Goals as goal
 

@@ -3,8 +3,8 @@ use Rattle.spool_disk.specs.Disk.{ChangesOnly}
 use Rattle.spool_disk.proofs.Moments.{wider_change}
 use Rattle.spool_areas.specs.Checkpoint.{area_len, other_base}
 use Rattle.spool_areas.specs.Header.{newest_version}
-use Rattle.spool_areas.specs.Seen.{current_of}
-use Rattle.spool_areas.specs.Filling.{Fills}
+use Rattle.spool_areas.specs.AreaFields.{current_of}
+use Rattle.spool_areas.specs.AreaFilling.{Fills}
 use Rattle.spool_areas.proofs.Fillings.{all_written, not_opened}
 use Rattle.spool_areas.proofs.Plans.{other_within, moved, keeps_new}
 use Rattle.spool_areas.proofs.areas.Areas.open_other.Goals as goal

@@ -2,8 +2,8 @@ use Rattle.std.proofs.Common.{sym, ap, subst, arith}
 use Rattle.spool_disk.specs.Disk.{ChangesOnly}
 use Rattle.spool_disk.proofs.Moments.{wider_change}
 use Rattle.spool_areas.specs.Checkpoint.{area_len, other_base}
-use Rattle.spool_areas.specs.Seen.{current_of}
-use Rattle.spool_areas.specs.Filling.{Fills}
+use Rattle.spool_areas.specs.AreaFields.{current_of}
+use Rattle.spool_areas.specs.AreaFilling.{Fills}
 use Rattle.spool_areas.proofs.Fillings.{fills_now}
 use Rattle.spool_areas.proofs.areas.Areas.write_rows.Goals as goal
 

@@ -8,7 +8,7 @@ use Rattle.spool_disk.specs.Disk.{LeavesOnly}
 use Rattle.spool_disk.proofs.Moments.{both_runs, at_return}
 use Rattle.spool_areas.specs.declared.fault.OpenFault.{OpenFault}
 use Rattle.spool_core.specs.Image.{HasTable, HasDocuments, IsMidway}
-use Rattle.spool_core.specs.Standing.{Standing, record_len}
+use Rattle.spool_core.specs.OpenSpools.{OpenSpool, record_len}
 use Rattle.spool_core.proofs.DocumentLaws.{documents_stay}
 use Rattle.spool_core.proofs.ImageLaws.{over_after}
 use Rattle.spool_core.proofs.ReadingLaws.{one_table, one_room}
@@ -17,7 +17,7 @@ use Rattle.spool_core.proofs.spool.Spool.open.Goals as goal
 
 pub returns-then-is_idle-clause-opened : goal.returns-then-is_idle-clause-opened
 returns-then-is_idle-clause-opened g c = λ r tells.
-    let idle : HasNoProcessing c.in-Ok.spool.state = subst (λ (v : Standing g.row.D.Denot). HasNoProcessing v.state) c.spool.view_is (c.if-is_idle.ensures.idle refl) in
+    let idle : HasNoProcessing c.in-Ok.spool.state = subst (λ (v : OpenSpool g.row.D.Denot). HasNoProcessing v.state) c.spool.view_is (c.if-is_idle.ensures.idle refl) in
     record { table = c.in-Ok.spool.state; found = c.in-Ok.ensures.opened r tells; reopened_is = sym (c.reopening.ensures.idle c.in-Ok.spool.state idle) }
 
 pub returns-then-is_idle-clause-synced : goal.returns-then-is_idle-clause-synced
@@ -38,7 +38,7 @@ returns-then-is_idle-clause-documents g c = λ r t documents tells found has ima
 
 pub returns-then-is_idle-clause-left : goal.returns-then-is_idle-clause-left
 returns-then-is_idle-clause-left g c = λ r t room tells has roomy.
-    let idle : HasNoProcessing c.in-Ok.spool.state = subst (λ (v : Standing g.row.D.Denot). HasNoProcessing v.state) c.spool.view_is (c.if-is_idle.ensures.idle refl) in
+    let idle : HasNoProcessing c.in-Ok.spool.state = subst (λ (v : OpenSpool g.row.D.Denot). HasNoProcessing v.state) c.spool.view_is (c.if-is_idle.ensures.idle refl) in
     let same : t ≡ c.in-Ok.spool.state = one_table r t c.in-Ok.spool.state has (c.in-Ok.ensures.opened r tells) in
     record {
       idle = λ none. one_room r c.in-Ok.spool.room room (c.in-Ok.ensures.room r tells) roomy;
@@ -50,7 +50,7 @@ returns-then-is_idle-clause-room g c = λ r tells. c.in-Ok.ensures.room r (sym c
 
 pub reopen-requires-clause-busy : goal.reopen-requires-clause-busy
 reopen-requires-clause-busy g c =
-    subst (λ (v : Standing g.row.D.Denot). ¬ (HasNoProcessing v.state)) c.spool.view_is (c.if-is_idle.ensures.busy refl)
+    subst (λ (v : OpenSpool g.row.D.Denot). ¬ (HasNoProcessing v.state)) c.spool.view_is (c.if-is_idle.ensures.busy refl)
 
 pub returns-in-Ok-reopen-clause-opened : goal.returns-in-Ok-reopen-clause-opened
 returns-in-Ok-reopen-clause-opened g c = λ r tells.
@@ -61,7 +61,7 @@ returns-in-Ok-reopen-clause-documents g c = λ r t documents tells found has ima
     let disk = g.D.Disk in
     let loaded = c.in-Ok.spool in
     let new = c.reopen.new.self in
-    let legal : IsLegal loaded.state = subst (λ (v : Standing g.row.D.Denot). IsLegal v.state) c.spool.view_is c.is_idle.ensures.legal in
+    let legal : IsLegal loaded.state = subst (λ (v : OpenSpool g.row.D.Denot). IsLegal v.state) c.spool.view_is c.is_idle.ensures.legal in
     let same : t ≡ loaded.state = one_table r t loaded.state found (c.in-Ok.ensures.opened r tells) in
     let kept = at_return disk.device g.met.D.Disk.lawful loaded.disk new.disk
     (λ b. (r : List ℕ) (documents : ℕ → List ℕ) → disk.device.bytes loaded.disk ≡ Some r → HasDocuments loaded.state documents r → HasDocuments loaded.state documents b)
@@ -71,7 +71,7 @@ returns-in-Ok-reopen-clause-documents g c = λ r t documents tells found has ima
 
 pub returns-in-Ok-reopen-clause-left : goal.returns-in-Ok-reopen-clause-left
 returns-in-Ok-reopen-clause-left g c = λ r t room tells has roomy.
-    let busy = subst (λ (v : Standing g.row.D.Denot). ¬ (HasNoProcessing v.state)) c.spool.view_is (c.if-is_idle.ensures.busy refl) in
+    let busy = subst (λ (v : OpenSpool g.row.D.Denot). ¬ (HasNoProcessing v.state)) c.spool.view_is (c.if-is_idle.ensures.busy refl) in
     let same : t ≡ c.in-Ok.spool.state = one_table r t c.in-Ok.spool.state has (c.in-Ok.ensures.opened r tells) in
     record {
       idle = λ none. absurd (busy (subst HasNoProcessing same none));
@@ -85,13 +85,13 @@ returns-in-Ok-reopen-clause-epoch g c = λ r tells.
 
 pub returns-in-Ok-reopen-clause-unwritten : goal.returns-in-Ok-reopen-clause-unwritten
 returns-in-Ok-reopen-clause-unwritten g c = λ r t tells has idle.
-    let busy = subst (λ (v : Standing g.row.D.Denot). ¬ (HasNoProcessing v.state)) c.spool.view_is (c.if-is_idle.ensures.busy refl) in
+    let busy = subst (λ (v : OpenSpool g.row.D.Denot). ¬ (HasNoProcessing v.state)) c.spool.view_is (c.if-is_idle.ensures.busy refl) in
     absurd (busy (subst HasNoProcessing (one_table r t c.in-Ok.spool.state has (c.in-Ok.ensures.opened r tells)) idle))
 
 pub returns-in-Ok-reopen-clause-synced : goal.returns-in-Ok-reopen-clause-synced
 returns-in-Ok-reopen-clause-synced g c =
     let disk = g.D.Disk in
-    let busy = subst (λ (v : Standing g.row.D.Denot). ¬ (HasNoProcessing v.state)) c.spool.view_is (c.if-is_idle.ensures.busy refl) in
+    let busy = subst (λ (v : OpenSpool g.row.D.Denot). ¬ (HasNoProcessing v.state)) c.spool.view_is (c.if-is_idle.ensures.busy refl) in
     let w = c.in-Ok.ensures.synced in (
       w.0,
       w.1,
@@ -112,13 +112,13 @@ pub returns-in-Err-reopen-clause-back : goal.returns-in-Err-reopen-clause-back
 returns-in-Err-reopen-clause-back g c = λ other.
     let disk = g.D.Disk in
     let memory = wants_memory c.in-Err-reopen.fault c.in-Err-reopen.ensures.fault other in
-    let same = c.into_disk-disk.ensures ∙ ap (λ (v : Standing g.row.D.Denot). v.disk) (c.in-Err-reopen.ensures.unchanged (ap (λ (f : OpenFault). Err f) memory)) in
+    let same = c.into_disk-disk.ensures ∙ ap (λ (v : OpenSpool g.row.D.Denot). v.disk) (c.in-Err-reopen.ensures.unchanged (ap (λ (f : OpenFault). Err f) memory)) in
     (ap disk.device.bytes same ∙ c.in-Ok.ensures.same.bytes, subst (λ d. LeavesOnly disk.device c.args.disk d (disk.device.image c.args.disk)) (sym same) c.in-Ok.ensures.same.images)
 
 pub returns-in-Err-reopen-clause-failed : goal.returns-in-Err-reopen-clause-failed
 returns-in-Err-reopen-clause-failed g c =
     let disk = g.D.Disk in
-    let busy = subst (λ (v : Standing g.row.D.Denot). ¬ (HasNoProcessing v.state)) c.spool.view_is (c.if-is_idle.ensures.busy refl) in
+    let busy = subst (λ (v : OpenSpool g.row.D.Denot). ¬ (HasNoProcessing v.state)) c.spool.view_is (c.if-is_idle.ensures.busy refl) in
     let w = c.in-Ok.ensures.synced in
     inr (
       w.0,

@@ -6,10 +6,10 @@ use Rattle.spool_disk.proofs.Moments.{no_change}
 use Rattle.spool_disk.proofs.Ranges.{tells_still}
 use Rattle.spool_areas.specs.Checkpoint.{other_base, plan_of}
 use Rattle.job_table.specs.Contents.{HasMoves, places_of}
-use Rattle.job_table.specs.Versions.{raised}
+use Rattle.job_table.specs.TableVersions.{raised}
 use Rattle.spool_core.specs.Checkpointing.{blank, fault_for, listed_payloads, IsCheckpoint, IsCheckpointed, IsListed, IsUnlisted}
 use Rattle.spool_core.specs.Image.{HasInEitherVersion, HasDocuments}
-use Rattle.spool_core.specs.Seen.{standing_at}
+use Rattle.spool_core.specs.SpoolFields.{open_spool_at}
 use Rattle.spool_core.specs.declared.spool.checkpoint_fault.CheckpointFault.{CheckpointFault}
 use Rattle.spool_core.proofs.ImageLaws.{go_on, stands_on, told_before}
 use Rattle.spool_core.proofs.CheckpointLaws.{alive_planned, blames_none, unlisted_for}
@@ -40,8 +40,8 @@ returns-in-Err-prepare-clause-documents g c alive r documents tells has =
     let a = c.args.areas.now in
     still_documents v g.met.D.Disk.lawful a c.args.table.now c.requires alive a.disk (no_change v a.disk g.met.D.Disk.lawful) r documents tells has
 
-pub returns-in-Err-prepare-clause-standing : goal.returns-in-Err-prepare-clause-standing
-returns-in-Err-prepare-clause-standing g c =
+pub returns-in-Err-prepare-clause-open_spool : goal.returns-in-Err-prepare-clause-open_spool
+returns-in-Err-prepare-clause-open_spool g c =
     let v = g.D.Disk.device in
     let a = c.args.areas.now in
     let t = c.prepare.new.table in
@@ -60,8 +60,8 @@ returns-in-Err-plan_by_sum-clause-documents g c alive r documents tells has =
     let a = c.args.areas.now in
     still_documents v g.met.D.Disk.lawful a c.args.table.now c.requires alive a.disk (no_change v a.disk g.met.D.Disk.lawful) r documents tells has
 
-pub returns-in-Err-plan_by_sum-clause-standing : goal.returns-in-Err-plan_by_sum-clause-standing
-returns-in-Err-plan_by_sum-clause-standing g c =
+pub returns-in-Err-plan_by_sum-clause-open_spool : goal.returns-in-Err-plan_by_sum-clause-open_spool
+returns-in-Err-plan_by_sum-clause-open_spool g c =
     let v = g.D.Disk.device in
     let a = c.args.areas.now in
     let t = c.prepare.new.table in
@@ -77,8 +77,8 @@ returns-in-Err-plan_by_sum-clause-answer g c =
     let fault = c.in-Err-plan_by_sum.fault in
     let all = listed_payloads t.state (blank t.state) in
     let plan : plan_of a (map length all) ≡ Err fault = sym (c.plan_by_sum.ensures.exact all c.in-Ok-prepare.ensures.sum) ∙ c.in-Err-plan_by_sum.is in
-    subst (λ (f : CheckpointFault). IsCheckpoint v (standing_at a c.args.table.now.state) (Err f) (standing_at a t.state)) (sym c.fault_of-in-Err-plan_by_sum.ensures)
-    (subst (λ (s : State). IsCheckpoint v (standing_at a s) (Err (fault_for fault)) (standing_at a t.state)) c.prepare.ensures.same
+    subst (λ (f : CheckpointFault). IsCheckpoint v (open_spool_at a c.args.table.now.state) (Err f) (open_spool_at a t.state)) (sym c.fault_of-in-Err-plan_by_sum.ensures)
+    (subst (λ (s : State). IsCheckpoint v (open_spool_at a s) (Err (fault_for fault)) (open_spool_at a t.state)) c.prepare.ensures.same
     (unlisted_for v a stands.area.end_is t.state fault plan))
 
 pub returns-in-Err-plan_by_sum-clause-blames : goal.returns-in-Err-plan_by_sum-clause-blames
@@ -91,8 +91,8 @@ returns-in-Err-plan_by_sum-clause-blames g c =
     let all = listed_payloads t.state (blank t.state) in
     let plan : plan_of a (map length all) ≡ Err fault = sym (c.plan_by_sum.ensures.exact all c.in-Ok-prepare.ensures.sum) ∙ c.in-Err-plan_by_sum.is in
     blames_none v a c.args.table.now.state t.state c.fault_of-in-Err-plan_by_sum.result
-    (subst (λ (f : CheckpointFault). IsCheckpoint v (standing_at a c.args.table.now.state) (Err f) (standing_at a t.state)) (sym c.fault_of-in-Err-plan_by_sum.ensures)
-    (subst (λ (s : State). IsCheckpoint v (standing_at a s) (Err (fault_for fault)) (standing_at a t.state)) c.prepare.ensures.same
+    (subst (λ (f : CheckpointFault). IsCheckpoint v (open_spool_at a c.args.table.now.state) (Err f) (open_spool_at a t.state)) (sym c.fault_of-in-Err-plan_by_sum.ensures)
+    (subst (λ (s : State). IsCheckpoint v (open_spool_at a s) (Err (fault_for fault)) (open_spool_at a t.state)) c.prepare.ensures.same
     (unlisted_for v a stands.area.end_is t.state fault plan)))
 
 pub fill_other-requires-clause-alive : goal.fill_other-requires-clause-alive
@@ -140,7 +140,7 @@ returns-in-Ok-fill_other-clause-answer g c =
     let all = listed_payloads t.state (blank t.state) in
     let plan : plan_of a (map length all) ≡ Ok first = sym (c.plan_by_sum.ensures.exact all ok.sum) ∙ c.in-Ok-plan_by_sum.is in
     let over = c.in-Ok-fill_other.ensures.over in
-    subst (λ (s : State). IsListed v (standing_at a s) (standing_at c.fill_other.new.areas c.raise.new.self.state)) c.prepare.ensures.same
+    subst (λ (s : State). IsListed v (open_spool_at a s) (open_spool_at c.fill_other.new.areas c.raise.new.self.state)) c.prepare.ensures.same
     (listed_answer v g.met.D.Disk.lawful a t stands ok.legal.0 ok.legal.1 ok.sized first plan over.listed.rows over.listed.listing_is c.fill_other.new.areas c.raise.new.self.state
     (c.raise.ensures.state ∙ ap raised (c.commit_moves.ensures.same ∙ c.fill_other.ensures.same)) over.listed.changed over.alive)
 
@@ -198,8 +198,8 @@ returns-in-Ok-fill_other-clause-listed g c tells image left =
     (checkpointed v g.met.D.Disk.lawful a t stands ok.legal.0 ok.legal.1 ok.sized first plan over.listed.rows over.listed.listing_is told.0 told.1 c.fill_other.new.areas over.listed.changed.version
     (over.listed.kept keeps.payloads keeps.kept) image left)
 
-pub returns-in-Ok-fill_other-clause-standing : goal.returns-in-Ok-fill_other-clause-standing
-returns-in-Ok-fill_other-clause-standing g c =
+pub returns-in-Ok-fill_other-clause-open_spool : goal.returns-in-Ok-fill_other-clause-open_spool
+returns-in-Ok-fill_other-clause-open_spool g c =
     let v = g.D.Disk.device in
     let a = c.args.areas.now in
     let t = c.prepare.new.table in
@@ -229,7 +229,7 @@ returns-in-Err-fill_other-clause-answer g c =
     let all = listed_payloads t.state (blank t.state) in
     let plan : plan_of a (map length all) ≡ Ok first = sym (c.plan_by_sum.ensures.exact all ok.sum) ∙ c.in-Ok-plan_by_sum.is in
     let over = c.in-Err-fill_other.ensures.over in
-    subst (λ (s : State). IsUnlisted v (standing_at a s) (standing_at c.fill_other.new.areas c.fill_other.new.table.state)) c.prepare.ensures.same
+    subst (λ (s : State). IsUnlisted v (open_spool_at a s) (open_spool_at c.fill_other.new.areas c.fill_other.new.table.state)) c.prepare.ensures.same
     (unlisted_answer v g.met.D.Disk.lawful a t stands ok.legal.0 ok.legal.1 ok.sized first plan c.fill_other.new.areas c.fill_other.new.table.state c.fill_other.ensures.same over.held over.dead over.cause)
 
 pub returns-in-Err-fill_other-clause-any_moment : goal.returns-in-Err-fill_other-clause-any_moment
@@ -261,8 +261,8 @@ returns-in-Err-fill_other-clause-documents g c alive r documents tells has =
     subst (λ (s : State). LeavesOnly v a.disk b.disk (HasDocuments s documents)) c.prepare.ensures.same
     (leaves_whole v g.met.D.Disk.lawful a t stands ok.legal.0 ok.legal.1 ok.sized first plan b c.fill_other.ensures.over.changes c.fill_other.ensures.over.leaves r tells ok.own documents (subst (λ (s : State). HasDocuments s documents r) (sym c.prepare.ensures.same) has))
 
-pub returns-in-Err-fill_other-clause-standing : goal.returns-in-Err-fill_other-clause-standing
-returns-in-Err-fill_other-clause-standing g c =
+pub returns-in-Err-fill_other-clause-open_spool : goal.returns-in-Err-fill_other-clause-open_spool
+returns-in-Err-fill_other-clause-open_spool g c =
     let v = g.D.Disk.device in
     let a = c.args.areas.now in
     let t = c.prepare.new.table in

@@ -5,12 +5,12 @@ use Rattle.spool_types.specs.Phases.{has_ended}
 use Rattle.spool_types.specs.State.{State, Job, job_at}
 use Rattle.spool_types.specs.declared.listing.Row.TheVariants.{Job as JobRow, Piece}
 use Rattle.job_table.specs.Contents.{move_room, places_at, places_of}
-use Rattle.job_table.specs.Documents.{document_len}
+use Rattle.job_table.specs.DocumentLengths.{document_len}
 use Rattle.job_table.specs.Listing.{pieces}
 use Rattle.job_table.specs.Over.{is_over_by}
 use Rattle.documents.specs.Documents.{LieIn}
-use Rattle.spool_core.specs.Filling.{filling_at, MayFill, TellsBut, IsPieceAdded, IsPieceNoted}
-use Rattle.spool_core.specs.Standing.{len_found}
+use Rattle.spool_core.specs.ListingFilling.{filling_at, MayFill, TellsBut, IsPieceAdded, IsPieceNoted}
+use Rattle.spool_core.specs.OpenSpools.{len_found}
 use Rattle.spool_core.proofs.AddLaws.{end_room, end_short, end_spare, end_whole, err_on, may_first, put_adds, put_back, put_on, then_on}
 use Rattle.spool_core.proofs.ListedLaws.{lying_long}
 use Rattle.spool_core.proofs.PartLaws.{IsPartAdded, due_row, lives_here, part_begun, part_next, part_noted, part_whole, piece_may, room_there}

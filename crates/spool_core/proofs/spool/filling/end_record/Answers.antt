@@ -1,5 +1,5 @@
 use Rattle.std.proofs.Common.{inr, take}
-use Rattle.spool_core.specs.Filling.{filling}
+use Rattle.spool_core.specs.ListingFilling.{filling}
 use Rattle.spool_core.proofs.AddLaws.{err_on, fault_disk, lives_on, step_failed, step_on}
 use Rattle.spool_core.proofs.spool.filling.end_record.Goals as goal
 

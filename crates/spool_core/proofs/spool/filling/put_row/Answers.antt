@@ -3,9 +3,9 @@ use Rattle.spool_types.specs.State.{Job, job_of}
 use Rattle.spool_types.specs.declared.listing.Row.TheVariants.{Job as JobRow}
 use Rattle.spool_types.specs.declared.version.Version.TheVariants.{Two}
 use Rattle.event_codec.specs.RowSpelling.{IsRowSpellable}
-use Rattle.job_table.specs.Documents.{document_len}
+use Rattle.job_table.specs.DocumentLengths.{document_len}
 use Rattle.spool_core.specs.Checkpointing.{MayBeListed}
-use Rattle.spool_core.specs.Filling.{IsPut}
+use Rattle.spool_core.specs.ListingFilling.{IsPut}
 use Rattle.spool_core.proofs.ListingLaws.{legal_job}
 use Rattle.spool_core.proofs.ReadOn.{some_same}
 use Rattle.spool_core.proofs.spool.filling.put_row.Goals as goal

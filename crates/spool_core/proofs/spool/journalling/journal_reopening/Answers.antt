@@ -13,14 +13,14 @@ use Rattle.spool_areas.specs.AreaAppends.{AreaAppends}
 use Rattle.spool_areas.specs.Current.{Current}
 use Rattle.spool_core.specs.Folding.{StayOver}
 use Rattle.spool_core.specs.Image.{HasBeforeOrAfterEvent}
-use Rattle.spool_core.specs.Seen.{IsStandingAt}
-use Rattle.spool_core.specs.Standing.{record_len}
+use Rattle.spool_core.specs.SpoolFields.{IsOpenSpoolAt}
+use Rattle.spool_core.specs.OpenSpools.{record_len}
 use Rattle.spool_core.proofs.ImageLaws.{IsPayloadOf, KeepsDocuments, framed_payload, told_before, told_after, is_told, over_after, shows_documents, unmoved, leaves_tables, leaves_documents, stands_next, where_told, GoOn, go_on, stands_on}
 use Rattle.spool_core.proofs.spool.journalling.journal_reopening.Goals as goal
 
 -- what the append leaves meanwhile
 module _ {D : Type 0} (v : DiskView D) (lawful : IsLawful v) (old new : Current D) (t : Contents) (frame filled : List ℕ) (result : Result ℕ JournalFault)
-    (stands : IsStandingAt v old t) (alive : old.dead ≡ false) (is : IsPayloadOf t.state Reopen (payload_of frame)) (added : AreaAppends v 1 old new frame filled result) where
+    (stands : IsOpenSpoolAt v old t) (alive : old.dead ≡ false) (is : IsPayloadOf t.state Reopen (payload_of frame)) (added : AreaAppends v 1 old new frame filled result) where
   long : LeavesOnly v old.disk new.disk (λ c. length c ≡ v.size old.disk)
   long = as_long v old.disk new.disk _ _ lawful added.appends.changes
 
@@ -71,7 +71,7 @@ module _ {D : Type 0} (v : DiskView D) (lawful : IsLawful v) (old new : Current 
     }
 
 -- no append leaves the table, and its documents
-module _ {D : Type 0} (v : DiskView D) (lawful : IsLawful v) (areas : Current D) (t : Contents) (stands : IsStandingAt v areas t) (alive : areas.dead ≡ false) where
+module _ {D : Type 0} (v : DiskView D) (lawful : IsLawful v) (areas : Current D) (t : Contents) (stands : IsOpenSpoolAt v areas t) (alive : areas.dead ≡ false) where
   still : LeavesOnly v areas.disk areas.disk (λ c. IsSome (v.bytes areas.disk) → HasBeforeOrAfterEvent t.state Reopen c)
   still =
       where_told v areas.disk areas.disk (HasBeforeOrAfterEvent t.state Reopen) (λ c. length c ≡ v.size areas.disk) (v.bytes areas.disk)
@@ -86,35 +86,35 @@ module _ {D : Type 0} (v : DiskView D) (lawful : IsLawful v) (areas : Current D)
       (lawful.only_now areas.disk c left))
 
 pub returns-in-Err-filled-clause-any_moment : goal.returns-in-Err-filled-clause-any_moment
-returns-in-Err-filled-clause-any_moment g c = still g.D.Disk.device g.met.D.Disk.lawful c.args.areas.now c.args.table.now c.requires.standing c.requires.alive
+returns-in-Err-filled-clause-any_moment g c = still g.D.Disk.device g.met.D.Disk.lawful c.args.areas.now c.args.table.now c.requires.open_spool c.requires.alive
 
 pub returns-in-Err-filled-clause-documents : goal.returns-in-Err-filled-clause-documents
-returns-in-Err-filled-clause-documents g c = still_documents g.D.Disk.device g.met.D.Disk.lawful c.args.areas.now c.args.table.now c.requires.standing c.requires.alive
+returns-in-Err-filled-clause-documents g c = still_documents g.D.Disk.device g.met.D.Disk.lawful c.args.areas.now c.args.table.now c.requires.open_spool c.requires.alive
 
 pub returns-in-Err-filled-clause-kept : goal.returns-in-Err-filled-clause-kept
 returns-in-Err-filled-clause-kept g c =
     let v = g.D.Disk.device in
     let a = c.args.areas.now in
-    stands_on v a a c.args.table.now c.prepare-prepared.new.self (go_on v a) c.prepare-prepared.ensures.same c.prepare-prepared.ensures.places c.requires.standing
+    stands_on v a a c.args.table.now c.prepare-prepared.new.self (go_on v a) c.prepare-prepared.ensures.same c.prepare-prepared.ensures.places c.requires.open_spool
 
 pub returns-in-Ok-append_kept-clause-any_moment : goal.returns-in-Ok-append_kept-clause-any_moment
 returns-in-Ok-append_kept-clause-any_moment g c =
     let s = c.args.table.now.state in
     let payload = framed_payload c.prepare-prepared.new.self s Reopen c.fill_frame-filled.new.frame.items c.deref_mut.result.now c.in-Ok.ensures.ok c.prepare-prepared.ensures.same c.in-Ok-filled.ensures c.deref_mut.ensures.value in
-    tables g.D.Disk.device g.met.D.Disk.lawful c.args.areas.now c.append_kept.new.self c.args.table.now _ _ c.append_kept.result c.requires.standing c.requires.alive payload c.append_kept.ensures
+    tables g.D.Disk.device g.met.D.Disk.lawful c.args.areas.now c.append_kept.new.self c.args.table.now _ _ c.append_kept.result c.requires.open_spool c.requires.alive payload c.append_kept.ensures
     (c.reopening.ensures.none s c.requires.legal)
 
 pub returns-in-Ok-append_kept-clause-documents : goal.returns-in-Ok-append_kept-clause-documents
 returns-in-Ok-append_kept-clause-documents g c =
     let payload = framed_payload c.prepare-prepared.new.self c.args.table.now.state Reopen c.fill_frame-filled.new.frame.items c.deref_mut.result.now c.in-Ok.ensures.ok c.prepare-prepared.ensures.same c.in-Ok-filled.ensures c.deref_mut.ensures.value in
-    documents g.D.Disk.device g.met.D.Disk.lawful c.args.areas.now c.append_kept.new.self c.args.table.now _ _ c.append_kept.result c.requires.standing c.requires.alive payload c.append_kept.ensures
+    documents g.D.Disk.device g.met.D.Disk.lawful c.args.areas.now c.append_kept.new.self c.args.table.now _ _ c.append_kept.result c.requires.open_spool c.requires.alive payload c.append_kept.ensures
 
 pub returns-in-Ok-append_kept-clause-added : goal.returns-in-Ok-append_kept-clause-added
 returns-in-Ok-append_kept-clause-added g c = λ d next keeps.
     let v = g.D.Disk.device in
     let a = c.args.areas.now in
     let t = c.args.table.now in
-    let stands = c.requires.standing in
+    let stands = c.requires.open_spool in
     let payload = framed_payload c.prepare-prepared.new.self t.state Reopen c.fill_frame-filled.new.frame.items c.deref_mut.result.now c.in-Ok.ensures.ok c.prepare-prepared.ensures.same c.in-Ok-filled.ensures c.deref_mut.ensures.value in
     let len : length c.deref_mut.result.now ≡ record_len Reopen = ap length c.deref_mut.ensures.value ∙ c.in-Ok-filled.ensures.len in
     let idle : HasNoProcessing (reopened t.state) = c.reopening.ensures.none t.state c.requires.legal in
@@ -134,23 +134,23 @@ pub returns-in-Err-Disk-clause-any_moment : goal.returns-in-Err-Disk-clause-any_
 returns-in-Err-Disk-clause-any_moment g c =
     let s = c.args.table.now.state in
     let payload = framed_payload c.prepare-prepared.new.self s Reopen c.fill_frame-filled.new.frame.items c.deref_mut.result.now c.in-Ok.ensures.ok c.prepare-prepared.ensures.same c.in-Ok-filled.ensures c.deref_mut.ensures.value in
-    tables g.D.Disk.device g.met.D.Disk.lawful c.args.areas.now c.append_kept.new.self c.args.table.now _ _ c.append_kept.result c.requires.standing c.requires.alive payload c.append_kept.ensures
+    tables g.D.Disk.device g.met.D.Disk.lawful c.args.areas.now c.append_kept.new.self c.args.table.now _ _ c.append_kept.result c.requires.open_spool c.requires.alive payload c.append_kept.ensures
     (c.reopening.ensures.none s c.requires.legal)
 
 pub returns-in-Err-Disk-clause-documents : goal.returns-in-Err-Disk-clause-documents
 returns-in-Err-Disk-clause-documents g c =
     let payload = framed_payload c.prepare-prepared.new.self c.args.table.now.state Reopen c.fill_frame-filled.new.frame.items c.deref_mut.result.now c.in-Ok.ensures.ok c.prepare-prepared.ensures.same c.in-Ok-filled.ensures c.deref_mut.ensures.value in
-    documents g.D.Disk.device g.met.D.Disk.lawful c.args.areas.now c.append_kept.new.self c.args.table.now _ _ c.append_kept.result c.requires.standing c.requires.alive payload c.append_kept.ensures
+    documents g.D.Disk.device g.met.D.Disk.lawful c.args.areas.now c.append_kept.new.self c.args.table.now _ _ c.append_kept.result c.requires.open_spool c.requires.alive payload c.append_kept.ensures
 
 pub returns-in-Ok-append_kept-clause-alive : goal.returns-in-Ok-append_kept-clause-alive
 returns-in-Ok-append_kept-clause-alive g c =
     let payload = framed_payload c.prepare-prepared.new.self c.args.table.now.state Reopen c.fill_frame-filled.new.frame.items c.deref_mut.result.now c.in-Ok.ensures.ok c.prepare-prepared.ensures.same c.in-Ok-filled.ensures c.deref_mut.ensures.value in
-    lives g.D.Disk.device g.met.D.Disk.lawful c.args.areas.now c.append_kept.new.self c.args.table.now _ _ c.append_kept.result c.requires.standing c.requires.alive payload c.append_kept.ensures _ c.in-Ok-append_kept.is
+    lives g.D.Disk.device g.met.D.Disk.lawful c.args.areas.now c.append_kept.new.self c.args.table.now _ _ c.append_kept.result c.requires.open_spool c.requires.alive payload c.append_kept.ensures _ c.in-Ok-append_kept.is
 
 pub returns-in-Ok-append_kept-clause-blames : goal.returns-in-Ok-append_kept-clause-blames
 returns-in-Ok-append_kept-clause-blames g c =
     let payload = framed_payload c.prepare-prepared.new.self c.args.table.now.state Reopen c.fill_frame-filled.new.frame.items c.deref_mut.result.now c.in-Ok.ensures.ok c.prepare-prepared.ensures.same c.in-Ok-filled.ensures c.deref_mut.ensures.value in
-    blames_none g.D.Disk.device g.met.D.Disk.lawful c.args.areas.now c.append_kept.new.self c.args.table.now _ _ c.append_kept.result c.requires.standing c.requires.alive payload c.append_kept.ensures _ c.in-Ok-append_kept.is _ (λ fault. absurd (cc))
+    blames_none g.D.Disk.device g.met.D.Disk.lawful c.args.areas.now c.append_kept.new.self c.args.table.now _ _ c.append_kept.result c.requires.open_spool c.requires.alive payload c.append_kept.ensures _ c.in-Ok-append_kept.is _ (λ fault. absurd (cc))
 
 pub returns-in-Ok-append_kept-clause-told : goal.returns-in-Ok-append_kept-clause-told
 returns-in-Ok-append_kept-clause-told g c = (told_before _ _ _ c.append_kept.ensures.appends.changes.bytes, told_after _ _ _ c.append_kept.ensures.appends.changes.bytes)
@@ -158,11 +158,11 @@ returns-in-Ok-append_kept-clause-told g c = (told_before _ _ _ c.append_kept.ens
 pub returns-in-Err-Disk-clause-blames : goal.returns-in-Err-Disk-clause-blames
 returns-in-Err-Disk-clause-blames g c =
     let payload = framed_payload c.prepare-prepared.new.self c.args.table.now.state Reopen c.fill_frame-filled.new.frame.items c.deref_mut.result.now c.in-Ok.ensures.ok c.prepare-prepared.ensures.same c.in-Ok-filled.ensures c.deref_mut.ensures.value in
-    blames_it g.D.Disk.device g.met.D.Disk.lawful c.args.areas.now c.append_kept.new.self c.args.table.now _ _ c.append_kept.result c.requires.standing c.requires.alive payload c.append_kept.ensures (c.in-Err-Disk.is ∙ ap (λ (f : JournalFault). Err f) c.in-Err-Disk.field-0-is) _ refl
+    blames_it g.D.Disk.device g.met.D.Disk.lawful c.args.areas.now c.append_kept.new.self c.args.table.now _ _ c.append_kept.result c.requires.open_spool c.requires.alive payload c.append_kept.ensures (c.in-Err-Disk.is ∙ ap (λ (f : JournalFault). Err f) c.in-Err-Disk.field-0-is) _ refl
 
 pub returns-in-Err-Disk-clause-kept : goal.returns-in-Err-Disk-clause-kept
 returns-in-Err-Disk-clause-kept g c =
     let payload = framed_payload c.prepare-prepared.new.self c.args.table.now.state Reopen c.fill_frame-filled.new.frame.items c.deref_mut.result.now c.in-Ok.ensures.ok c.prepare-prepared.ensures.same c.in-Ok-filled.ensures c.deref_mut.ensures.value in
     stands_on g.D.Disk.device c.args.areas.now c.append_kept.new.self c.args.table.now c.prepare-prepared.new.self
-    (goes_on g.D.Disk.device g.met.D.Disk.lawful c.args.areas.now c.append_kept.new.self c.args.table.now _ _ c.append_kept.result c.requires.standing c.requires.alive payload c.append_kept.ensures (c.in-Err-Disk.is ∙ ap (λ (f : JournalFault). Err f) c.in-Err-Disk.field-0-is) c.in-Err-Disk.ensures.appends.held)
-    c.prepare-prepared.ensures.same c.prepare-prepared.ensures.places c.requires.standing
+    (goes_on g.D.Disk.device g.met.D.Disk.lawful c.args.areas.now c.append_kept.new.self c.args.table.now _ _ c.append_kept.result c.requires.open_spool c.requires.alive payload c.append_kept.ensures (c.in-Err-Disk.is ∙ ap (λ (f : JournalFault). Err f) c.in-Err-Disk.field-0-is) c.in-Err-Disk.ensures.appends.held)
+    c.prepare-prepared.ensures.same c.prepare-prepared.ensures.places c.requires.open_spool

@@ -2,15 +2,15 @@
 use Rattle.std.proofs.Common.{List, ℕ, subst}
 use Rattle.std.specs.String.{string_bytes}
 use Rattle.spool_types.specs.declared.event.Event.{Event}
-use Rattle.print_rounds.specs.Courses.{Course}
-use Rattle.spool_engine.specs.EventTurns.{setting}
-use Rattle.spool_engine.specs.Rounds.{IsRan}
-use Rattle.spool_engine.specs.Runs.{Engine}
+use Rattle.print_rounds.specs.RunStates.{RunState}
+use Rattle.spool_engine.specs.EventSteps.{setting}
+use Rattle.spool_engine.specs.EngineRounds.{IsRan}
+use Rattle.spool_engine.specs.EngineRuns.{Engine}
 use Rattle.spool_engine.proofs.engine.Engine.round.Goals as goal
 
 pub returns-clause-round : goal.returns-clause-round
 returns-clause-round g c =
-    subst (λ (e : Engine g.row.D.Denot). (settled : Course g.row.D.Denot) × (tried : List Event) × (documents : ℕ → List ℕ) × IsRan (setting g.D.Disk.device e.mime e.place) e.course (record { settled = settled; next = c.round.new.self; result = c.round.result; tried = tried; documents = documents })) c.self.view_is
+    subst (λ (e : Engine g.row.D.Denot). (settled : RunState g.row.D.Denot) × (tried : List Event) × (documents : ℕ → List ℕ) × IsRan (setting g.D.Disk.device e.mime e.place) e.run_state (record { settled = settled; next = c.round.new.self; result = c.round.result; tried = tried; documents = documents })) c.self.view_is
     (c.round.ensures (record { types = c.self.inside.types; convs = c.self.inside.convs; locale = string_bytes c.self.inside.place.lang }))
 
 pub returns-clause-rests : goal.returns-clause-rests

@@ -1,11 +1,11 @@
 -- where no child ran before the turns none runs after them
 use Rattle.std.proofs.Common.{sym, subst}
 use Rattle.print_rounds.specs.Finished.{HasNoneRunning}
-use Rattle.spool_engine.specs.Runs.{Engine}
+use Rattle.spool_engine.specs.EngineRuns.{Engine}
 use Rattle.spool_engine.proofs.RestLaws.{lead_rests}
 use Rattle.spool_engine.proofs.engine.Engine.run.Goals as goal
 
 pub returns-clause-rests : goal.returns-clause-rests
 returns-clause-rests g c = λ none.
     let (text, turns, h) = c.serve.ensures in
-    lead_rests _ c.self.inside.printer turns c.serve.new.self h.lead (subst (λ (e : Engine g.row.D.Denot). HasNoneRunning e.course.slots) (sym c.self.view_is) none)
+    lead_rests _ c.self.inside.printer turns c.serve.new.self h.lead (subst (λ (e : Engine g.row.D.Denot). HasNoneRunning e.run_state.slots) (sym c.self.view_is) none)

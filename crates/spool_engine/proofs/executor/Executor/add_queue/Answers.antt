@@ -1,9 +1,9 @@
 -- a queue is made where its URI is that of a device
 use Rattle.std.proofs.Common.{sym, ap, ◌∙◌, codes, Err}
 use Rattle.spool_types.specs.declared.event.Event.TheVariants.{AddQueue}
-use Rattle.device_uri.specs.Devices.{is_device_uri}
+use Rattle.device_uri.specs.DeviceUris.{is_device_uri}
 use Rattle.command_lines.specs.declared.command.Command.TheVariants.{Queue}
-use Rattle.spool_engine.specs.EventTurns.{setting}
+use Rattle.spool_engine.specs.EventSteps.{setting}
 use Rattle.spool_engine.specs.Script.{reply_line}
 use Rattle.spool_engine.proofs.EventLaws.{event_told, said_told, unread_told, queue_event, no_queue_event, kept_as}
 use Rattle.spool_engine.proofs.executor.Executor.add_queue.Goals as goal

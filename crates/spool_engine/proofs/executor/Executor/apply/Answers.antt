@@ -1,7 +1,7 @@
 -- the spool's answer, and what a crash leaves then
 use Rattle.std.proofs.Common.{subst}
-use Rattle.spool_core.specs.Standing.{Standing}
-use Rattle.spool_engine.specs.Answers.{IsApplied}
+use Rattle.spool_core.specs.OpenSpools.{OpenSpool}
+use Rattle.spool_engine.specs.EventAnswers.{IsApplied}
 use Rattle.spool_engine.proofs.EventLaws.{spool_applied}
 use Rattle.spool_engine.proofs.executor.Executor.apply.Goals as goal
 
@@ -10,5 +10,5 @@ invariant_of-self g c =
     (spool_applied g.D.Disk.device c.self.inside.spool c.apply.new.self c.args.event c.apply.result g.met.D.Disk.lawful c.apply.ensures.answer c.apply.ensures.later c.apply.ensures.told c.apply.ensures.any_moment c.apply.ensures.documents c.apply.ensures.kept c.apply.ensures.sent c.self.invariant).kept
 
 pub returns : goal.returns
-returns g c = subst (λ (s : Standing g.row.D.Denot). IsApplied g.D.Disk.device s c.args.event c.apply.result c.apply.new.self) c.self.view_is
+returns g c = subst (λ (s : OpenSpool g.row.D.Denot). IsApplied g.D.Disk.device s c.args.event c.apply.result c.apply.new.self) c.self.view_is
     (spool_applied g.D.Disk.device c.self.inside.spool c.apply.new.self c.args.event c.apply.result g.met.D.Disk.lawful c.apply.ensures.answer c.apply.ensures.later c.apply.ensures.told c.apply.ensures.any_moment c.apply.ensures.documents c.apply.ensures.kept c.apply.ensures.sent c.self.invariant)

@@ -3,7 +3,7 @@ use Rattle.std.proofs.Common.{List, ℕ, refl, sym, ap, ◌∙◌, codes, []}
 use Rattle.spool_types.specs.declared.event.Event.TheVariants.{Close as Closes}
 use Rattle.job_table.specs.Step.{refusal_of}
 use Rattle.command_lines.specs.Replies.{refusal_line}
-use Rattle.spool_engine.specs.EventTurns.{setting}
+use Rattle.spool_engine.specs.EventSteps.{setting}
 use Rattle.spool_engine.specs.Mime.{media_of}
 use Rattle.spool_engine.specs.Script.{closing_of}
 use Rattle.spool_engine.proofs.CloseLaws.{dead_close, refused_close, is_there, not_over, closed_by_front, unread_document, unreadable_document, told_as}

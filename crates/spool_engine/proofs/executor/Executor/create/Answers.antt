@@ -2,9 +2,9 @@
 use Rattle.std.proofs.Common.{sym, ap, subst, ◌∙◌, codes}
 use Rattle.std.specs.Result.{IsOk}
 use Rattle.job_table.specs.Step.{creation}
-use Rattle.filter_args.specs.Reading.{reading}
+use Rattle.filter_args.specs.OptionTexts.{reading}
 use Rattle.command_lines.specs.declared.command.Command.TheVariants.{Create}
-use Rattle.spool_engine.specs.EventTurns.{setting}
+use Rattle.spool_engine.specs.EventSteps.{setting}
 use Rattle.spool_engine.specs.Script.{asks, job_options, reply_line}
 use Rattle.spool_engine.proofs.EventLaws.{event_told, said_told, unread_told, create_event, no_create_event, kept_as}
 use Rattle.spool_engine.proofs.executor.Executor.create.Goals as goal

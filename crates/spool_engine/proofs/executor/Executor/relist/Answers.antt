@@ -1,7 +1,7 @@
 -- the spool's answer, and what a crash leaves then
 use Rattle.std.proofs.Common.{subst}
-use Rattle.spool_core.specs.Standing.{Standing}
-use Rattle.spool_engine.specs.Answers.{IsRelisted}
+use Rattle.spool_core.specs.OpenSpools.{OpenSpool}
+use Rattle.spool_engine.specs.EventAnswers.{IsRelisted}
 use Rattle.spool_engine.proofs.EventLaws.{spool_relisted}
 use Rattle.spool_engine.proofs.executor.Executor.relist.Goals as goal
 
@@ -10,5 +10,5 @@ invariant_of-self g c =
     (spool_relisted g.D.Disk.device c.self.inside.spool c.checkpoint.new.self c.checkpoint.result g.met.D.Disk.lawful c.checkpoint.ensures.answer c.checkpoint.ensures.blames.later c.checkpoint.ensures.told c.checkpoint.ensures.any_moment c.checkpoint.ensures.documents c.checkpoint.ensures.kept c.self.invariant).kept
 
 pub returns : goal.returns
-returns g c = subst (λ (s : Standing g.row.D.Denot). IsRelisted g.D.Disk.device s c.checkpoint.result c.checkpoint.new.self) c.self.view_is
+returns g c = subst (λ (s : OpenSpool g.row.D.Denot). IsRelisted g.D.Disk.device s c.checkpoint.result c.checkpoint.new.self) c.self.view_is
     (spool_relisted g.D.Disk.device c.self.inside.spool c.checkpoint.new.self c.checkpoint.result g.met.D.Disk.lawful c.checkpoint.ensures.answer c.checkpoint.ensures.blames.later c.checkpoint.ensures.told c.checkpoint.ensures.any_moment c.checkpoint.ensures.documents c.checkpoint.ensures.kept c.self.invariant)

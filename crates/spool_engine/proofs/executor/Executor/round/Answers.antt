@@ -1,10 +1,10 @@
 -- those that run are waited for, and then a round over the spool, and what a crash leaves meanwhile
 use Rattle.std.proofs.Common.{refl, subst, ℕ, List}
 use Rattle.spool_types.specs.declared.event.Event.{Event}
-use Rattle.spool_core.specs.Standing.{Standing}
-use Rattle.print_rounds.specs.Courses.{Course, course}
-use Rattle.spool_engine.specs.EventTurns.{setting}
-use Rattle.spool_engine.specs.Rounds.{IsRan}
+use Rattle.spool_core.specs.OpenSpools.{OpenSpool}
+use Rattle.print_rounds.specs.RunStates.{RunState, run_state}
+use Rattle.spool_engine.specs.EventSteps.{setting}
+use Rattle.spool_engine.specs.EngineRounds.{IsRan}
 use Rattle.spool_engine.proofs.RoundLaws.{ran_of}
 use Rattle.spool_engine.proofs.SettleLaws.{settled_of}
 use Rattle.spool_engine.proofs.executor.Executor.round.Goals as goal
@@ -14,10 +14,10 @@ returns g c = λ m.
     let tells = g.C.Children.tells in
     let v = setting g.D.Disk.device m c.args.place.now in
     let s = c.self.inside.spool in
-    let old = course s c.args.runner.now (tells c.args.children.now) in
-    let new = course c.round-ran.new.spool c.round-ran.new.runner (tells c.round-ran.new.children) in
+    let old = run_state s c.args.runner.now (tells c.args.children.now) in
+    let new = run_state c.round-ran.new.spool c.round-ran.new.runner (tells c.round-ran.new.children) in
     let (fs, steps, jobs) = c.finish_children.ensures.steps in
     let settles = settled_of old s c.finish_children.new.runner (tells c.finish_children.new.children) fs refl steps jobs c.finish_children.ensures.rest c.finish_children.ensures.finished in
-    subst (λ (s : Standing g.row.D.Denot). (settled : Course g.row.D.Denot) × (tried : List Event) × (documents : ℕ → List ℕ) × IsRan v (course s c.args.runner.now (tells c.args.children.now)) (record { settled = settled; next = new; result = c.round-ran.result; tried = tried; documents = documents })) c.self.view_is
+    subst (λ (s : OpenSpool g.row.D.Denot). (settled : RunState g.row.D.Denot) × (tried : List Event) × (documents : ℕ → List ℕ) × IsRan v (run_state s c.args.runner.now (tells c.args.children.now)) (record { settled = settled; next = new; result = c.round-ran.result; tried = tried; documents = documents })) c.self.view_is
     (ran_of v s c.args.runner.now c.finish_children.new.runner (tells c.args.children.now) (tells c.finish_children.new.children) new c.round-ran.result s.dead refl settles g.met.D.Disk.lawful.only_now c.self.invariant c.table-table.ensures.kept
     c.round-ran.ensures.later c.round-ran.ensures.told c.round-ran.ensures.finished c.round-ran.ensures.rest c.round-ran.ensures.round)

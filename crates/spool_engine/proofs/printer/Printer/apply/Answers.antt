@@ -1,8 +1,8 @@
 -- an event that is told as it went, or a purge that is withheld
 use Rattle.std.proofs.Common.{sym, ap, refl, ◌∙◌}
 use Rattle.command_lines.specs.declared.command.Command.TheVariants.{Apply}
-use Rattle.print_rounds.specs.Courses.{Course}
-use Rattle.spool_engine.specs.EventTurns.{setting}
+use Rattle.print_rounds.specs.RunStates.{RunState}
+use Rattle.spool_engine.specs.EventSteps.{setting}
 use Rattle.spool_engine.specs.Script.{reply_line, withholds}
 use Rattle.spool_engine.proofs.EventLaws.{event_told}
 use Rattle.spool_engine.proofs.RoundLaws.{event_lifted, withheld_turn}
@@ -15,6 +15,6 @@ returns-then-withholds g c = λ m p.
 pub returns-else-withholds : goal.returns-else-withholds
 returns-else-withholds g c = λ m p.
     let e = c.self.inside.executor in
-    let free = ap (λ (x : Course g.row.D.Denot). withholds x.slots (Apply c.args.event)) c.self.view_is ∙ sym c.withholds.ensures ∙ c.if-withholds.false in
+    let free = ap (λ (x : RunState g.row.D.Denot). withholds x.slots (Apply c.args.event)) c.self.view_is ∙ sym c.withholds.ensures ∙ c.if-withholds.false in
     event_lifted (λ v. v.items) c.execute_event.result _ e _ _ _ _ (Apply c.args.event) c.self.view_is free
     (event_told (λ v. v.items) c.execute_event.result (setting g.D.Disk.device m p) e _ (Apply c.args.event) c.args.event reply_line g.met.D.Disk.lawful.only_now (λ o. tt) refl c.execute_event.ensures)

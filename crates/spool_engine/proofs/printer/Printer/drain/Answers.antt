@@ -1,6 +1,6 @@
 -- one round more, or the last of them
 use Rattle.std.proofs.Common.{◌≡◌, ◌+◌, [], ◌∷◌, ◌++◌, length, Ok, suc, refl, sym, ap, ◌∙◌, arith}
-use Rattle.spool_engine.specs.Rounds.{Ran, is_last, rounds_run}
+use Rattle.spool_engine.specs.EngineRounds.{Ran, is_last, rounds_run}
 use Rattle.spool_engine.proofs.DrainLaws.{ran_more, busy_more, length_more, all_at, all_last, run_busy, run_more, counts_fault}
 use Rattle.spool_engine.proofs.printer.Printer.drain.Goals as goal
 

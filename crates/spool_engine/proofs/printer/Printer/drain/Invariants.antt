@@ -1,8 +1,8 @@
 -- the rounds so far, of which none was idle or had a fault
 use Rattle.std.proofs.Common.{◌≡◌, List, length}
-use Rattle.spool_engine.specs.EventTurns.{setting}
+use Rattle.spool_engine.specs.EventSteps.{setting}
 use Rattle.spool_engine.specs.Mime.{Mime}
-use Rattle.spool_engine.specs.Rounds.{Ran, AreRan}
+use Rattle.spool_engine.specs.EngineRounds.{Ran, AreRan}
 use Rattle.spool_engine.proofs.DrainLaws.{AreBusy}
 use Rattle.spool_engine.proofs.printer.Printer.drain.Given as goal
 

@@ -1,6 +1,6 @@
 -- the rounds of a drain are told by how many they were, or by the fault that ended them
 use Rattle.std.proofs.Common.{ap, refl, sym, ◌∙◌}
-use Rattle.spool_engine.specs.Rounds.{counts_in, drain_line, line_told, results_of}
+use Rattle.spool_engine.specs.EngineRounds.{counts_in, drain_line, line_told, results_of}
 use Rattle.spool_engine.specs.Script.{drain_text}
 use Rattle.spool_engine.proofs.DrainLaws.{drain_told, as_told}
 use Rattle.spool_engine.proofs.printer.Printer.drain_text.Goals as goal

@@ -5,9 +5,9 @@ use Rattle.std.specs.FinMap as finite
 use Rattle.spool_types.specs.declared.refusal.Refusal.TheVariants.{TooLong}
 use Rattle.command_lines.specs.Replies.{jobs_text, queues_text, refusal_line}
 use Rattle.command_lines.specs.declared.command.Command.TheVariants.{Close, OversizedSend, Jobs, Queues, Checkpoint, Malformed}
-use Rattle.spool_engine.specs.Answers.{Takes}
-use Rattle.spool_engine.specs.EventTurns.{EventTurn, setting}
-use Rattle.spool_engine.specs.Runs.{Turn, TakesTurn}
+use Rattle.spool_engine.specs.EventAnswers.{Takes}
+use Rattle.spool_engine.specs.EventSteps.{EventStep, setting}
+use Rattle.spool_engine.specs.EngineRuns.{CommandStep, TakesStep}
 use Rattle.spool_engine.specs.Script.{meaning, round_text, drain_text, withholds}
 use Rattle.spool_engine.proofs.EventLaws.{said_told, listing_told, same_command}
 use Rattle.spool_engine.proofs.RoundLaws.{event_lifted, said_lifted, listed, rounds_turn}
@@ -15,7 +15,7 @@ use Rattle.spool_engine.proofs.printer.Printer.execute.Goals as goal
 
 pub returns-in-Apply : goal.returns-in-Apply
 returns-in-Apply g c =
-    subst (λ d. (t : Turn g.row.D.Denot) × TakesTurn (setting g.D.Disk.device c.args.mime.now c.args.place.now) c.args.self.now d t c.apply.new.self × IfOk c.apply.result (λ x. x.items ≡ t.text)) (sym c.in-Apply.is)
+    subst (λ d. (t : CommandStep g.row.D.Denot) × TakesStep (setting g.D.Disk.device c.args.mime.now c.args.place.now) c.args.self.now d t c.apply.new.self × IfOk c.apply.result (λ x. x.items ≡ t.text)) (sym c.in-Apply.is)
     (c.apply.ensures c.args.mime.now c.args.place.now)
 
 pub returns-in-Queue : goal.returns-in-Queue
@@ -34,7 +34,7 @@ returns-in-Close g c =
     let v = setting g.D.Disk.device c.args.mime.now c.args.place.now in
     event_lifted (λ v. v.items) c.close.result _ e _ _ _ _ c.args.command c.self.view_is (ap (withholds _) c.in-Close.is)
     (same_command (λ v. v.items) c.close.result _ e _ c.args.command _ c.in-Close.is
-    (subst (λ name. (t : EventTurn g.row.D.Denot) × Takes v e (Close c.in-Close.job name) t c.close.new.self × IfOk c.close.result (λ x. x.items ≡ t.text)) c.as_str.ensures.value (c.close.ensures c.args.place.now)))
+    (subst (λ name. (t : EventStep g.row.D.Denot) × Takes v e (Close c.in-Close.job name) t c.close.new.self × IfOk c.close.result (λ x. x.items ≡ t.text)) c.as_str.ensures.value (c.close.ensures c.args.place.now)))
 
 pub returns-in-OversizedSend : goal.returns-in-OversizedSend
 returns-in-OversizedSend g c =

@@ -1,13 +1,13 @@
 -- a round of the executor, where what was found goes by another name
 use Rattle.std.proofs.Common.{List, ℕ, subst}
 use Rattle.spool_types.specs.declared.event.Event.{Event}
-use Rattle.print_rounds.specs.Courses.{Course, course}
-use Rattle.spool_engine.specs.EventTurns.{setting}
-use Rattle.spool_engine.specs.Rounds.{IsRan}
+use Rattle.print_rounds.specs.RunStates.{RunState, run_state}
+use Rattle.spool_engine.specs.EventSteps.{setting}
+use Rattle.spool_engine.specs.EngineRounds.{IsRan}
 use Rattle.spool_engine.proofs.printer.Printer.round.Goals as goal
 
 pub returns : goal.returns
 returns g c = λ m.
     let v = setting g.D.Disk.device m c.args.place.now in
-    let new = course c.round.new.self c.round.new.runner (g.C.Children.tells c.round.new.children) in
-    subst (λ (s : Course g.row.D.Denot). (settled : Course g.row.D.Denot) × (tried : List Event) × (documents : ℕ → List ℕ) × IsRan v s (record { settled = settled; next = new; result = c.round.result; tried = tried; documents = documents })) c.self.view_is (c.round.ensures m)
+    let new = run_state c.round.new.self c.round.new.runner (g.C.Children.tells c.round.new.children) in
+    subst (λ (s : RunState g.row.D.Denot). (settled : RunState g.row.D.Denot) × (tried : List Event) × (documents : ℕ → List ℕ) × IsRan v s (record { settled = settled; next = new; result = c.round.result; tried = tried; documents = documents })) c.self.view_is (c.round.ensures m)

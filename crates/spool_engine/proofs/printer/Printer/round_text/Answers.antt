@@ -1,6 +1,6 @@
 -- a round is told by its counts or its fault
 use Rattle.std.proofs.Common.{[], ◌∷◌, refl}
-use Rattle.spool_engine.specs.Rounds.{Ran, counts_in, line_told}
+use Rattle.spool_engine.specs.EngineRounds.{Ran, counts_in, line_told}
 use Rattle.spool_engine.specs.Script.{round_text}
 use Rattle.spool_engine.proofs.DrainLaws.{one_run, round_told, as_told}
 use Rattle.spool_engine.proofs.printer.Printer.round_text.Goals as goal

@@ -1,6 +1,6 @@
 -- one turn more, or a fault behind the turns so far
 use Rattle.std.proofs.Common.{[], ◌∷◌, ◌++◌, Ok, Err}
-use Rattle.command_lines.specs.Pending.{to_come}
+use Rattle.command_lines.specs.PendingCommands.{to_come}
 use Rattle.spool_engine.proofs.TurnLaws.{ends_more, ends_stop}
 use Rattle.spool_engine.proofs.printer.Printer.serve_end.Goals as goal
 

@@ -1,7 +1,7 @@
 -- none of the types so far leads there
 use Rattle.std.proofs.Common.{◌≡◌, false, take}
 use Rattle.std.specs.List.{list_any}
-use Rattle.spool_front.specs.Chains.{leads}
+use Rattle.spool_front.specs.ReachableTypes.{leads}
 use Rattle.spool_front.proofs.chains.Chains.lead_to.Given as goal
 
 abbrev pub invariant-loop-kind : goal.invariant-loop-kind

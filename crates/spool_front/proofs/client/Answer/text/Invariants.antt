@@ -1,6 +1,6 @@
 -- the rows so far
 use Rattle.std.proofs.Common.{◌≡◌, take}
-use Rattle.spool_front.specs.Answers.{rows_text}
+use Rattle.spool_front.specs.ReplyOutcomes.{rows_text}
 use Rattle.spool_front.proofs.client.Answer.text.Given as goal
 
 abbrev pub invariant-loop-row : goal.invariant-loop-row

@@ -1,5 +1,5 @@
 use Rattle.std.proofs.Common.{◌≡◌, ap, sym, ◌∙◌, subst}
-use Rattle.stderr_lines.specs.Pending.{Takes}
+use Rattle.stderr_lines.specs.PendingEffects.{Takes}
 use Rattle.stderr_lines.specs.Tallies.{begun, joined}
 use Rattle.stderr_lines.proofs.LineLaws.{is, takes_joined}
 use Rattle.stderr_lines.proofs.lines.Lines.feed.Goals as goal

@@ -1,5 +1,5 @@
 use Rattle.std.proofs.Common.{subst}
-use Rattle.stderr_lines.specs.Pending.{Takes}
+use Rattle.stderr_lines.specs.PendingEffects.{Takes}
 use Rattle.stderr_lines.proofs.LineLaws.{is, held_part, takes_part}
 use Rattle.stderr_lines.proofs.lines.Lines.hold.Goals as goal
 

@@ -1,0 +1,10 @@
+pub mod ToolNumbers
+pub mod ToolArguments
+pub mod RequestFields
+pub mod BackendOptions
+pub mod Results
+pub mod Filters
+pub mod Side
+pub mod ToolDevices
+pub mod Backends
+pub mod ToolEnding

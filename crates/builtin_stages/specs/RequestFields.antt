@@ -1,0 +1,15 @@
+-- What the words ask for, as a clause sees it.
+use Rattle.std.specs.Option.{option_map}
+use Rattle.builtin_stages.specs.ToolArguments.{Printed, Request, filter, backend, device_line, side_end}
+use Rattle.builtin_stages.specs.declared.words.Asked.{Asked}
+use Rattle.builtin_stages.specs.declared.words.Asked.TheVariants.{Filter, Backend, DeviceLine, SideEnd}
+use Rattle.builtin_stages.specs.declared.words.Document.{Document}
+
+abbrev pub printed : Document → Printed
+printed d = record { file = option_map (λ name. name.now) d.file; copies = d.copies }
+
+abbrev pub request : Asked → Request
+request (Filter tool d) = filter tool (printed d)
+request (Backend tool d) = backend tool (printed d)
+request (DeviceLine tool) = device_line tool
+request (SideEnd socket) = side_end socket.now

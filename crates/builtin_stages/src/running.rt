@@ -1,0 +1,151 @@
+//! The tool that the words ask for is run.
+ghost use Rattle.std.specs.Prelude.{◌≡◌, IfErr, IfOk, OnOk, Some, map, string_bytes};
+ghost use Rattle.std.specs.Process.{exit_status};
+ghost use Rattle.std.specs.Io.KnownBytes.{Appends};
+ghost use Rattle.whole_writes.specs.Writes.{WroteSome};
+ghost use Rattle.builtin_stages.specs.Backends.{device_line};
+ghost use Rattle.builtin_stages.specs.ToolEnding.{BackendEnds, Ends, known_of};
+ghost use Rattle.builtin_stages.specs.Filters.{Filtered, IsOfFilter};
+ghost use Rattle.builtin_stages.specs.RequestFields.{request};
+ghost use Rattle.builtin_stages.specs.ToolArguments.{asked_of};
+
+use crate::backends::{device_line, meet, side_ask, side_end, spool_file};
+use crate::ends::{end_silently, report_end};
+use crate::fault::ToolFault;
+use crate::filters::run_filter;
+use crate::network::app_socket;
+use crate::results::Source;
+use crate::sources::DocumentFile;
+use crate::words::{Asked, Backend, Document, Filter, read_words};
+use std::fs::{File, Files};
+use std::io::Write;
+use std::net::Net;
+use std::process::ExitCode;
+use std::rt::{Clock, Env};
+use whole_writes::write_whole;
+
+/// Runs the tool that the words ask for, over this input, and gives the status to end with.
+pub fn run_words<
+    H: Files<File = File> + Env + Clock + Net + AllocGlobal,
+    I: Source,
+    O: Write,
+    E: Write,
+>(rt: &H, words: &[String], input: &I, output: &mut O, errors: &mut E) -> ExitCode
+    ensures { Ends (asked_of (map string_bytes words.now)) (I.known input.now)
+        (O.contents output.old) (O.contents output.new) (E.contents errors.old) (E.contents errors.new) (exit_status result) }
+{
+    match read_words(words) {
+        Some(asked) => run(rt, asked, input, output, errors),
+        None => ExitCode::FAILURE,
+    }
+}
+
+// Runs the tool.
+fn run<H: Files<File = File> + Env + Clock + Net + AllocGlobal, I: Source, O: Write, E: Write>(
+    rt: &H,
+    asked: Asked<'_>,
+    input: &I,
+    output: &mut O,
+    errors: &mut E,
+) -> ExitCode
+    ensures { Ends (Some (request asked.entry)) (I.known input.now)
+        (O.contents output.old) (O.contents output.new) (E.contents errors.old) (E.contents errors.new) (exit_status result) }
+{
+    match asked {
+        Asked::Filter(tool, document) => {
+            let ended = filter(rt, tool, document, input, output, errors);
+            report_end(errors, ended)
+        }
+        Asked::Backend(tool, document) => run_backend(rt, tool, document, input, errors),
+        Asked::DeviceLine(tool) => end_silently(write_device_line(tool, output)),
+        Asked::SideEnd(socket) => end_silently(side_end(rt, socket)),
+    }
+}
+
+// Runs the filter over the document, and gives the status to end with.
+fn filter<H: Files<File = File> + AllocGlobal, I: Source, O: Write, E: Write>(
+    rt: &H,
+    tool: Filter,
+    document: Document<'_>,
+    input: &I,
+    output: &mut O,
+    errors: &mut E,
+) -> Result<u8, ToolFault>
+    ensures status { IfOk result (λ status. status ≡ 0) }
+    ensures ran { OnOk result (Filtered tool document.entry.copies (known_of document.entry.file (I.known input.now))
+        (O.contents output.old) (O.contents output.new) (E.contents errors.old) (E.contents errors.new)) }
+    ensures fault { IfErr result IsOfFilter }
+{
+    let copies = document.copies;
+    match document.file {
+        Some(name) => {
+            let file = DocumentFile { rt, name };
+            run_filter(rt.alloc(), tool, &file, copies, output, errors)?;
+        }
+        None => run_filter(rt.alloc(), tool, input, copies, output, errors)?,
+    }
+    Ok(0)
+}
+
+// Runs the backend for its document.
+fn run_backend<H: Files<File = File> + Env + Clock + Net + AllocGlobal, I: Source, E: Write>(
+    rt: &H,
+    tool: Backend,
+    document: Document<'_>,
+    input: &I,
+    errors: &mut E,
+) -> ExitCode
+    ensures { BackendEnds tool (E.contents errors.old) (E.contents errors.new) (exit_status result) }
+{
+    match tool {
+        Backend::SpoolFile => {
+            let ended = spool(rt, document, input);
+            report_end(errors, ended)
+        }
+        Backend::Meet => end_silently(meet(rt)),
+        Backend::SideAsk => end_silently(side_ask(rt)),
+        Backend::AppSocket => {
+            let ended = send(rt, document, input);
+            report_end(errors, ended)
+        }
+    }
+}
+
+// Writes the document into the device's file.
+fn spool<H: Files<File = File> + Env + AllocGlobal, I: Source>(
+    rt: &H,
+    document: Document<'_>,
+    input: &I,
+) -> Result<u8, ToolFault>
+    ensures { IfErr result (λ fault. fault ≡ ToolFault.Write) }
+{
+    match document.file {
+        Some(name) => spool_file(rt, &DocumentFile { rt, name }, document.copies),
+        None => spool_file(rt, input, document.copies),
+    }
+}
+
+// Sends the document to the printer.
+fn send<H: Files<File = File> + Env + Clock + Net + AllocGlobal, I: Source>(
+    rt: &H,
+    document: Document<'_>,
+    input: &I,
+) -> Result<u8, ToolFault>
+    ensures { IfOk result (λ status. status ≡ 0) }
+{
+    match document.file {
+        Some(name) => app_socket(rt, &DocumentFile { rt, name }, document.copies)?,
+        None => app_socket(rt, input, document.copies)?,
+    }
+    Ok(0)
+}
+
+// Tells of the backend's device.
+fn write_device_line<O: Write>(tool: Backend, output: &mut O) -> Result<(), ToolFault>
+    ensures wrote { OnOk result (Appends (O.contents output.old) (O.contents output.new) (device_line tool)) }
+    ensures fault { IfErr result (λ fault. (fault ≡ ToolFault.Write)
+        × WroteSome (O.contents output.old) (O.contents output.new) (device_line tool)) }
+{
+    write_whole(output, device_line(tool).as_bytes())?;
+    Ok(())
+}

@@ -1,0 +1,10 @@
+-- Numbers of 1 to 13 digits.
+use Rattle.std.specs.Prelude.{ℕ, ◌&&◌, cond, nat_le, List, length, Option, None, Some}
+use Rattle.line_words.specs.DecimalNumbers.{decimal}
+
+abbrev pub number_of : List ℕ → Option ℕ
+number_of word = cond (nat_le (length word) 13) (decimal 9999999999999 word) None
+
+-- a number from the least to the most
+abbrev pub ranged : ℕ → ℕ → List ℕ → Option ℕ
+ranged least most word = elim (number_of word) [ None ↦ None | Some n ↦ cond (nat_le least n && nat_le n most) (Some n) None ]

@@ -1,0 +1,15 @@
+pub mod HexBytes
+pub mod Samples
+pub mod ValueExamples
+pub mod StateExamples
+pub mod VerdictExamples
+pub mod EffectExamples
+pub mod NextJobExamples
+pub mod Events
+pub mod EventFaults
+pub mod ListedRows
+pub mod ListedFaults
+pub mod OptionExamples
+pub mod Children
+pub mod DiskExamples
+pub mod Services

@@ -1,7 +1,0 @@
-use Rattle.std.proofs.Common.{refl}
-use Rattle.decision_facts.proofs.Computing.{printing_numbers}
-use Rattle.decision_facts.proofs.children.Goals as goal
-
-pub returns-clause-environment : goal.returns-clause-environment
-unfolding printing_numbers
-returns-clause-environment c = λ place root lang path side. rw (root, lang, path, side) refl

@@ -1,0 +1,133 @@
+//! Which queues and jobs have a place, where the children have room for a few starts.
+ghost use Rattle.std.specs.Prelude.{◌≡◌, ◌⊎◌, ◌≤◌, ◌<◌, ◌+◌, ◌++◌, ℕ, true, false, [], length, slice_index_or, vec_capacity};
+ghost use Rattle.std.specs.FinMap as finite;
+ghost use Rattle.print_rounds.specs.StageChecks.{free_queues};
+ghost use Rattle.print_rounds.specs.Passes.{unblocked};
+ghost use Rattle.print_rounds.specs.StartLimits.{AreChosen, can_start, rotated, opened_in, waiting_jobs};
+
+use crate::slots::has_child;
+use crate::starts::next_at;
+use child_pipeline::{Children, Runner, StartRoom};
+use job_table::Table;
+use spool_types::JobId;
+use std::mem;
+
+// How many processing jobs wait for a child.
+fn count_waiting<C: Children>(table: &Table, runner: &Runner<C>) -> usize
+    ensures { result ≡ length (waiting_jobs table.now.state runner.now) }
+{
+    let mut waiting = 0;
+    for queue in table.queues() {
+        if let Some(job) = table.processing(&queue.name) {
+            if !has_child(runner, job) {
+                waiting += 1;
+            }
+        }
+    }
+    waiting
+}
+
+// Whether a queue isn't blocked and has a next job.
+fn can_start(table: &Table, blocked: &[bool], at: usize) -> bool
+    requires range { at < length (finite.keys table.now.state.queues) }
+    requires count { length blocked.now ≡ length (finite.keys table.now.state.queues) }
+    ensures { result ≡ can_start table.now.state blocked.now at }
+{
+    !blocked[at] && next_at(table, at).is_some()
+}
+
+// Opens those of these queues that can start, as long as places are left. It answers how many are left then.
+fn open_some(
+    table: &Table,
+    blocked: &[bool],
+    from: usize,
+    to: usize,
+    start_room: usize,
+    closed: &mut Vec<bool>,
+) -> usize
+    requires range { to ≤ length (finite.keys table.now.state.queues) }
+    requires blocked { length blocked.now ≡ length (finite.keys table.now.state.queues) }
+    requires closed { length closed.old.items ≡ length (finite.keys table.now.state.queues) }
+    requires ahead { (i : ℕ) → from ≤ i → i < to → slice_index_or closed.old.items i true ≡ true }
+    ensures count { length closed.new.items ≡ length closed.old.items }
+    ensures before { (i : ℕ) → i < from → slice_index_or closed.new.items i true ≡ slice_index_or closed.old.items i true }
+    ensures opened { (i : ℕ) → slice_index_or closed.old.items i true ≡ false → slice_index_or closed.new.items i true ≡ false }
+    ensures start { (i : ℕ) → slice_index_or closed.new.items i true ≡ false → (slice_index_or closed.old.items i true ≡ false) ⊎ (can_start table.now.state blocked.now i ≡ true) }
+    ensures taken { opened_in closed.new.items + result ≡ opened_in closed.old.items + start_room }
+    ensures less { result ≤ start_room }
+    ensures all { 0 < result → (i : ℕ) → from ≤ i → i < to → can_start table.now.state blocked.now i ≡ true → slice_index_or closed.new.items i true ≡ false }
+{
+    let mut left = start_room;
+    for at in from..to {
+        if can_start(table, blocked, at) && left > 0 {
+            closed[at] = false;
+            left -= 1;
+        }
+    }
+    left
+}
+
+// Blocks the queues that have no place. Where there are fewer places than queues, the jobs that wait for a child have theirs
+// first, then queues with a next job, from the first on.
+pub(crate) fn hold_back<C: Children>(
+    start_room: Option<StartRoom>,
+    table: &Table,
+    runner: &Runner<C>,
+    blocked: &mut Vec<bool>,
+    spare: &mut Vec<bool>,
+)
+    requires count { length blocked.old.items ≡ length (finite.keys table.now.state.queues) }
+    requires free { unblocked blocked.old.items (finite.keys table.now.state.queues) ≡ free_queues table.now.state runner.now }
+    requires empty { spare.old.items ≡ [] }
+    requires room { length (finite.keys table.now.state.queues) ≤ vec_capacity spare.old }
+    ensures count { length blocked.new.items ≡ length (finite.keys table.now.state.queues) }
+    ensures chosen { AreChosen start_room table.now.state runner.now (unblocked blocked.new.items (finite.keys table.now.state.queues)) }
+{
+    let Some(start_room) = start_room else {
+        return;
+    };
+    let queues = table.queues().len();
+    if queues <= start_room.count {
+        return;
+    }
+    for _ in 0..queues {
+        spare.push_reserved(true);
+    }
+    let first = start_room.first % queues;
+    let left = start_room
+        .count
+        .saturating_sub(count_waiting(table, runner));
+    let left = open_some(table, blocked, first, queues, left, spare);
+    open_some(table, blocked, 0, first, left, spare);
+    mem::swap(blocked, spare);
+}
+
+// Lists the jobs that have a place: all or, where there are fewer places, those from the first on and, behind the end, those
+// from the beginning, in the order of the list.
+pub(crate) fn choose_jobs(start_room: Option<StartRoom>, jobs: &[JobId], chosen: &mut Vec<JobId>)
+    requires empty { chosen.old.items ≡ [] }
+    requires room { length jobs.now ≤ vec_capacity chosen.old }
+    ensures value { chosen.new.items ≡ rotated start_room jobs.now }
+    ensures capacity { vec_capacity chosen.new ≡ vec_capacity chosen.old }
+{
+    match start_room {
+        Some(start_room) if start_room.count < jobs.len() => {
+            let first = start_room.first % jobs.len();
+            let again = start_room.count.saturating_sub(jobs.len() - first);
+            list_more(&jobs[..again], chosen);
+            list_more(&jobs[first..first + (start_room.count - again)], chosen);
+        }
+        _ => list_more(jobs, chosen),
+    }
+}
+
+// Lists these jobs, too.
+fn list_more(jobs: &[JobId], chosen: &mut Vec<JobId>)
+    requires { length chosen.old.items + length jobs.now ≤ vec_capacity chosen.old }
+    ensures items { chosen.new.items ≡ chosen.old.items ++ jobs.now }
+    ensures capacity { vec_capacity chosen.new ≡ vec_capacity chosen.old }
+{
+    for job in jobs {
+        chosen.push_reserved(*job);
+    }
+}

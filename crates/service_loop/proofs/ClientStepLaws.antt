@@ -1,0 +1,351 @@
+-- One visit of a client and then another are one.
+use Rattle.std.proofs.Common.{◌≡◌, ◌⊎◌, inl, inr, Result, ℕ, ◌+◌, ◌-◌, ◌≤◌, take, List, [], ◌∷◌, ◌++◌, length, drop, Option, None, Some, Ok, true, false, refl, ap, sym, ◌∙◌, subst, append_assoc, arith}
+use Rattle.std.specs.Io.KnownBytes.{Appends, Consumes, Keeps, append_known}
+use Rattle.std.proofs.lemmas.List.Concat.{flat_map-cons}
+use Rattle.std.proofs.lemmas.List.{append-nil, drop-append-le, drop-drop, length-append, length-drop, take-append-drop, take_all}
+use Rattle.spool_disk.specs.Disk.{DiskView}
+use Rattle.service_texts.specs.declared.own_words.OwnWord.{OwnWord}
+use Rattle.print_rounds.specs.RunStates.{RunState}
+use Rattle.print_rounds.specs.declared.outcome.Round.{Round}
+use Rattle.print_rounds.specs.declared.outcome.RoundFault.{RoundFault}
+use Rattle.client_reader.specs.Asks.{asks_of}
+use Rattle.client_reader.specs.ReaderCalls.{AreFirstOf}
+use Rattle.client_reader.specs.AwaitedRequests.{Awaits, Gives}
+use Rattle.client_reader.specs.declared.ask.Ask.{Ask}
+use Rattle.client_reader.specs.declared.ask.Ask.TheVariants as asking
+use Rattle.client_reader.specs.declared.ask.Next.{Next}
+use Rattle.client_reader.specs.declared.ask.Next.TheVariants as nexts
+use Rattle.command_lines.specs.declared.command.Command.{Command}
+use Rattle.command_lines.specs.declared.command.Command.TheVariants as commands
+use Rattle.spool_engine.specs.EventSteps.{Setting, setting}
+use Rattle.spool_engine.specs.EngineRounds.{round_line}
+use Rattle.spool_engine.specs.EngineTicks.{Ticked, IsTicked}
+use Rattle.spool_engine.specs.EngineRuns.{Engine, Serves, CommandStep, is_round, texts_of}
+use Rattle.service_loop.specs.ClientActions.{Action, answers, ticks, says, ends, IsSaid, IsEndReported, IsTimely, AreActions, after_action, wait_after, asks_by, asks_in, text_by, texts_in}
+use Rattle.service_loop.specs.ConnectionViews.{ConnectionView}
+use Rattle.service_loop.specs.Progress.{IsRead}
+use Rattle.service_loop.specs.ClientSteps.{AreClientSteps, Asks, AsksFirst, GivesNext, Goes, HasAll, IsAdded, IsAnswered, IsEntry, IsClientStep, IsClientStepBy, ClientStep, turns, changes, signs, client_after, actions_by, actions_of, told_to}
+use Rattle.service_loop.specs.declared.client.Client.{Client}
+
+first_then : (a b c : Option (List ℕ)) (f g h : List ℕ → List Ask) (xs ys : List Ask) → AsksFirst a f xs b g → AsksFirst b g ys c h → AsksFirst a f (xs ++ ys) c h
+first_then None b c f g h xs ys p q = tt
+first_then (Some r) None c f g h xs ys p q = absurd p
+first_then (Some r) (Some s) None f g h xs ys p q = q
+first_then (Some r) (Some s) (Some t) f g h xs ys p q = p ∙ ap (λ l. xs ++ l) q ∙ sym (append_assoc xs ys (h t))
+
+appends_then : (a b c : Option (List ℕ)) (xs ys : List ℕ) → Appends a b xs → Appends b c ys → Appends a c (xs ++ ys)
+appends_then None b c xs ys p q = tt
+appends_then (Some r) None c xs ys p q = absurd p
+appends_then (Some r) (Some s) None xs ys p q = q
+appends_then (Some r) (Some s) (Some t) xs ys p q = q ∙ ap (λ l. l ++ ys) p ∙ append_assoc r xs ys
+
+module _ {L : Type 0} (view : ConnectionView L) where
+  pub goes_then : (a b c : Client L) (xs ys : List Ask) (s t : List ℕ) → Goes view a xs s b → Goes view b ys t c → Goes view a (xs ++ ys) (s ++ t) c
+  goes_then a b c xs ys s t one two = record {
+    asked = λ awaited awaits.
+        let first = one.asked awaited awaits in
+        let then = two.asked first.0 first.1 in
+        (then.0, then.1, first_then (view.remaining a.connection) (view.remaining b.connection) (view.remaining c.connection) awaited first.0 then.0 xs ys first.2 then.2);
+    told = λ within.
+        let first = one.told within in
+        let then = two.told first.within in
+        record { within = then.within; told = appends_then (told_to view a) (told_to view b) (told_to view c) s t first.told then.told };
+  }
+
+-- ## A text is added
+
+asks_none : (known : Option (List ℕ)) (f : List ℕ → List Ask) → AsksFirst known f [] known f
+asks_none None f = tt
+asks_none (Some rest) f = refl
+
+asks_one : (known : Option (List ℕ)) (f g : List ℕ → List Ask) (ask : Ask) → ((more : List ℕ) → f more ≡ ask ∷ g more) → AsksFirst known f (ask ∷ []) known g
+asks_one None f g ask gives = tt
+asks_one (Some rest) f g ask gives = gives rest
+
+keeps_same : (known : Option (List ℕ)) → Keeps known known
+keeps_same None = tt
+keeps_same (Some said) = refl
+
+appends_behind : (known : Option (List ℕ)) (untaken text : List ℕ) → Appends (append_known known untaken) (append_known known (untaken ++ text)) text
+appends_behind None untaken text = tt
+appends_behind (Some said) untaken text = sym (append_assoc said untaken text)
+
+module _ {L : Type 0} (view : ConnectionView L) where
+  pub goes_added : (a : Client L) (text : List ℕ) (b : Client L) → IsAdded a text b → Goes view a [] text b
+  goes_added a text b added = record {
+    asked = λ awaited awaits. (awaited, rw added.reader awaits, rw added.connection (asks_none (view.remaining a.connection) awaited));
+    told = λ within. record {
+      within = rw (added.taken, added.replies, length-append a.replies.items text) (omega arith);
+      told =
+          rw (added.connection, added.taken, added.replies, drop-append-le a.taken a.replies.items text within)
+          (appends_behind (view.contents a.connection) (drop a.taken a.replies.items) text);
+    };
+  }
+
+-- ## Some of its replies are written
+
+asks_kept : (old new : Option (List ℕ)) (f : List ℕ → List Ask) → Keeps old new → AsksFirst old f [] new f
+asks_kept None new f kept = tt
+asks_kept (Some rest) None f kept = absurd kept
+asks_kept (Some rest) (Some left) f kept = ap f (sym kept)
+
+appends_moved : (old new : Option (List ℕ)) (untaken : List ℕ) (count : ℕ) → Appends old new (take count untaken) →
+    Appends (append_known old untaken) (append_known new (drop count untaken)) []
+appends_moved None new untaken count wrote = tt
+appends_moved (Some said) None untaken count wrote = absurd wrote
+appends_moved (Some said) (Some now) untaken count wrote =
+    ap (λ l. l ++ drop count untaken) wrote ∙ append_assoc said (take count untaken) (drop count untaken)
+    ∙ ap (λ l. said ++ l) (take-append-drop count untaken) ∙ sym (append-nil (said ++ untaken))
+
+-- what is given to the line to write are all bytes that weren't taken
+pub unwritten : (given items : List ℕ) (taken : ℕ) → given ≡ items → take (length given - taken) (drop taken given) ≡ drop taken items
+unwritten given items taken same = take_all (length given - taken) (drop taken given) (omega (arith, length-drop taken given)) ∙ ap (drop taken) same
+
+-- so many of the bytes were written that weren't taken yet
+pub record IsWritten {L : Type 0} (view : ConnectionView L) (old : Client L) (count : ℕ) (new : Client L) : Type 0 where
+  pub kept : Keeps (view.remaining old.connection) (view.remaining new.connection)
+  pub wrote : Appends (view.contents old.connection) (view.contents new.connection) (take count (drop old.taken old.replies.items))
+  pub reader : new.reader ≡ old.reader
+  pub taken : new.taken ≡ old.taken + count
+  pub replies : new.replies.items ≡ old.replies.items
+  pub within : count ≤ length old.replies.items - old.taken
+
+pub goes_written : {L : Type 0} (view : ConnectionView L) (old : Client L) (count : ℕ) (new : Client L) → IsWritten view old count new → Goes view old [] [] new
+goes_written view old count new written = record {
+  asked = λ awaited awaits. (awaited, rw written.reader awaits, asks_kept (view.remaining old.connection) (view.remaining new.connection) awaited written.kept);
+  told = λ within.
+      let fits = written.within in
+      record {
+        within = rw (written.taken, written.replies) (omega arith);
+        told =
+            rw (written.taken, written.replies, ← drop-drop count old.taken old.replies.items)
+            (appends_moved (view.contents old.connection) (view.contents new.connection) (drop old.taken old.replies.items) count written.wrote);
+      };
+}
+
+-- ## A piece is read
+
+asks_read : (old new : Option (List ℕ)) (f : List ℕ → List Ask) (piece : List ℕ) → Consumes old new piece → AsksFirst old f [] new (λ more. f (piece ++ more))
+asks_read None new f piece consumes = tt
+asks_read (Some rest) None f piece consumes = absurd consumes
+asks_read (Some rest) (Some left) f piece consumes = ap f consumes
+
+appends_kept : (old new : Option (List ℕ)) (untaken : List ℕ) → Keeps old new → Appends (append_known old untaken) (append_known new untaken) []
+appends_kept None new untaken kept = tt
+appends_kept (Some said) None untaken kept = absurd kept
+appends_kept (Some said) (Some now) untaken kept = ap (λ l. l ++ untaken) kept ∙ sym (append-nil (said ++ untaken))
+
+pub goes_read : {L : Type 0} (view : ConnectionView L) (old : Client L) (piece : List ℕ) (new : Client L) → IsRead view old piece new → Goes view old [] [] new
+goes_read view old piece new read = record {
+  asked = λ awaited awaits. ((λ more. awaited (piece ++ more)), read.took awaited awaits, asks_read (view.remaining old.connection) (view.remaining new.connection) awaited piece read.consumed);
+  told = λ within. record {
+    within = rw (read.taken, read.replies) within;
+    told = rw (read.taken, read.replies) (appends_kept (view.contents old.connection) (view.contents new.connection) (drop old.taken old.replies.items) read.kept);
+  };
+}
+
+-- ## What is asked for next is given
+
+goes_asked : {L : Type 0} (view : ConnectionView L) (old : Client L) (asks : List Ask) (new : Client L) → Asks view old asks new → new.connection ≡ old.connection → new.taken ≡ old.taken → new.replies.items ≡ old.replies.items →
+    Goes view old asks [] new
+goes_asked view old asks new asked connection taken replies = record {
+  asked = asked;
+  told = λ within. record {
+    within = rw (taken, replies) within;
+    told = rw (connection, taken, replies) (appends_kept (view.contents old.connection) (view.contents old.connection) (drop old.taken old.replies.items) (keeps_same (view.contents old.connection)));
+  };
+}
+
+pub gives_next : {L : Type 0} (view : ConnectionView L) (old : Client L) (next : Next) (new : Client L) → ((asks : List ℕ → List Ask) → Awaits old.reader asks → Gives asks next new.reader) →
+    new.connection ≡ old.connection → new.taken ≡ old.taken → new.replies.items ≡ old.replies.items → GivesNext view old next new
+gives_next view old (nexts.Asked ask) new gives connection taken replies =
+    goes_asked view old (ask ∷ []) new
+    (λ awaited awaits. let g = gives awaited awaits in (g.0, g.2, rw connection (asks_one (view.remaining old.connection) awaited g.0 ask g.1)))
+    connection taken replies
+gives_next view old nexts.Again new gives connection taken replies =
+    goes_asked view old [] new (λ awaited awaits. (awaited, gives awaited awaits, rw connection (asks_none (view.remaining old.connection) awaited))) connection taken replies
+gives_next view old nexts.Text new gives connection taken replies =
+    goes_asked view old [] new (λ awaited awaits. (awaited, gives awaited awaits, rw connection (asks_none (view.remaining old.connection) awaited))) connection taken replies
+
+-- nothing was added
+pub added_none : {L : Type 0} (a b : Client L) → b.connection ≡ a.connection → b.reader ≡ a.reader → b.taken ≡ a.taken → b.replies.items ≡ a.replies.items → IsAdded a [] b
+added_none a b connection reader taken replies = record { connection = connection; reader = reader; taken = taken; replies = replies ∙ sym (append-nil a.replies.items) }
+
+pub goes_none : {L : Type 0} (view : ConnectionView L) (c : Client L) → Goes view c [] [] c
+goes_none view c = goes_added view c [] c (added_none c c refl refl refl refl)
+
+-- ## Deeds
+
+module _ {D : Type 0} where
+  text_of_one : (t : CommandStep D) → texts_of (t ∷ []) ≡ t.text
+  text_of_one t = flat_map-cons (λ (x : CommandStep D). x.text) t [] ∙ append-nil t.text
+
+  actions_then : (v : Setting D) (s : RunState D) (w : Option ℕ) (xs : List (Action D)) (m : RunState D) (w1 : Option ℕ) (ys : List (Action D)) (t : RunState D) (w2 : Option ℕ) →
+      AreActions v s w xs m w1 → AreActions v m w1 ys t w2 → AreActions v s w (xs ++ ys) t w2
+  actions_then v s w [] m w1 ys t w2 one two = subst (λ x. AreActions v x w ys t w2) one.0 (subst (λ x. AreActions v m x ys t w2) one.1 two)
+  actions_then v s w (x ∷ xs) m w1 ys t w2 one two = (one.0, one.1, actions_then v (after_action s x) (wait_after w x) xs m w1 ys t w2 one.2 two)
+
+  pub asks_in-append : (xs ys : List (Action D)) → asks_in (xs ++ ys) ≡ asks_in xs ++ asks_in ys
+  asks_in-append [] ys = refl
+  asks_in-append (x ∷ xs) ys = ap (λ l. asks_by x ++ l) (asks_in-append xs ys) ∙ sym (append_assoc (asks_by x) (asks_in xs) (asks_in ys))
+
+  pub texts_in-append : (xs ys : List (Action D)) → texts_in (xs ++ ys) ≡ texts_in xs ++ texts_in ys
+  texts_in-append [] ys = refl
+  texts_in-append (x ∷ xs) ys = ap (λ l. text_by x ++ l) (texts_in-append xs ys) ∙ sym (append_assoc (text_by x) (texts_in xs) (texts_in ys))
+
+-- ## What was asked for was done
+
+module _ {D L : Type 0} (device : DiskView D) where
+  -- the engine answered a command
+  pub answered_by_turn : (e e1 : Engine D) (c c1 : Client L) (command : Command) (t : CommandStep D) → e1.mime ≡ e.mime → e1.place ≡ e.place → is_round command ≡ false →
+      Serves (setting device e.mime e.place) e.run_state command t e1.run_state (Ok tt) (Some c.replies.items) (Some c1.replies.items) →
+      c1.connection ≡ c.connection → c1.reader ≡ c.reader → c1.taken ≡ c.taken → c.waits ≡ None → c1.waits ≡ c.waits → IsAnswered device e c (asking.Command command) e1 c1
+  answered_by_turn e e1 c c1 command t mime place other served connection reader taken none waits = record {
+    mime = mime;
+    place = place;
+    action = answers t;
+    asked = ap (λ x. asking.Command x ∷ []) served.command;
+    is = record { command = ap is_round served.command ∙ other; turn = served.legal };
+    next = served.next;
+    timely = none;
+    waits = sym waits;
+    added = record { connection = connection; reader = reader; taken = taken; replies = served.wrote ∙ ap (λ l. c.replies.items ++ l) (text_of_one t) };
+  }
+
+  -- a round was answered by a tick
+  pub answered_by_tick : (e e1 : Engine D) (c c1 : Client L) (command : Command) (counts : Result Round RoundFault) (text : List ℕ) (t : Ticked D) →
+      t.next ≡ e1.run_state → t.result ≡ counts → e1.mime ≡ e.mime → e1.place ≡ e.place → is_round command ≡ true →
+      IsTicked (setting device e.mime e.place) e.run_state t → text ≡ round_line counts → IsAdded c text c1 → c.waits ≡ None → c1.waits ≡ c.waits → IsAnswered device e c (asking.Command command) e1 c1
+  answered_by_tick e e1 c c1 command counts text t next result mime place round ticked told added none waits = record {
+    mime = mime;
+    place = place;
+    action = ticks command t text;
+    asked = refl;
+    is = record { round = round; tick = ticked; told = told ∙ sym (ap round_line result) };
+    next = next;
+    timely = none;
+    waits = sym waits;
+    added = added;
+  }
+
+  -- a word of the service was answered
+  pub answered_by_word : (e : Engine D) (c c1 : Client L) (word : OwnWord) (text : List ℕ) → IsSaid e.run_state.spool.state word text → IsAdded c text c1 →
+      c.waits ≡ None → wait_after {D = D} c.waits (says word text) ≡ c1.waits → IsAnswered device e c (asking.Own word) e c1
+  answered_by_word e c c1 word text said added none waits = record {
+    mime = refl;
+    place = refl;
+    action = says word text;
+    asked = refl;
+    is = said;
+    next = refl;
+    timely = none;
+    waits = waits;
+    added = added;
+  }
+
+-- ## Visits
+
+module _ {D L : Type 0} (device : DiskView D) (view : ConnectionView L) where
+  -- some deeds were done
+  abbrev pub Stepped : Engine D → Client L → Engine D → Client L → Type 0
+  Stepped old c new c' = (actions : List (Action D)) × IsClientStep device view old c actions new c'
+
+  pub client_step_then : (e : Engine D) (c : Client L) (xs : List (Action D)) (e1 : Engine D) (c1 : Client L) (ys : List (Action D)) (e2 : Engine D) (c2 : Client L) →
+      IsClientStep device view e c xs e1 c1 → IsClientStep device view e1 c1 ys e2 c2 → IsClientStep device view e c (xs ++ ys) e2 c2
+  client_step_then e c xs e1 c1 ys e2 c2 one two = record {
+    mime = two.mime ∙ one.mime;
+    place = two.place ∙ one.place;
+    actions =
+        actions_then (setting device e.mime e.place) e.run_state c.waits xs e1.run_state c1.waits ys e2.run_state c2.waits one.actions
+        (subst (λ m. AreActions (setting device m e.place) e1.run_state c1.waits ys e2.run_state c2.waits) one.mime
+        (subst (λ p. AreActions (setting device e1.mime p) e1.run_state c1.waits ys e2.run_state c2.waits) one.place two.actions));
+    client = rw (asks_in-append xs ys, texts_in-append xs ys) (goes_then view c c1 c2 (asks_in xs) (asks_in ys) (texts_in xs) (texts_in ys) one.client two.client);
+  }
+
+  -- a client that asked for nothing and was told nothing, of an engine that is as it was
+  pub step_none : (e : Engine D) (c c1 : Client L) → Goes view c [] [] c1 → c1.waits ≡ c.waits → Stepped e c e c1
+  step_none e c c1 goes waits = ([], record { mime = refl; place = refl; actions = (refl, waits); client = goes })
+
+  pub stepped_then : (e : Engine D) (c : Client L) (e1 : Engine D) (c1 : Client L) (e2 : Engine D) (c2 : Client L) →
+      Stepped e c e1 c1 → Stepped e1 c1 e2 c2 → Stepped e c e2 c2
+  stepped_then e c e1 c1 e2 c2 one two = (one.0 ++ two.0, client_step_then e c one.0 e1 c1 two.0 e2 c2 one.1 two.1)
+
+  -- what was asked for was done
+  pub step_answered : (e : Engine D) (c c1 : Client L) (ask : Ask) (e1 : Engine D) (c2 : Client L) → Goes view c (ask ∷ []) [] c1 → c1.waits ≡ c.waits →
+      IsAnswered device e c1 ask e1 c2 → Stepped e c e1 c2
+  step_answered e c c1 ask e1 c2 asked waits done = (
+    done.action ∷ [],
+    record {
+      mime = done.mime;
+      place = done.place;
+      actions = (
+        done.is,
+        subst (λ (w : Option ℕ). IsTimely w done.action) waits done.timely,
+        (sym done.next, sym done.waits ∙ ap (λ w. wait_after w done.action) waits),
+      );
+      client = rw (done.asked, append-nil (text_by done.action)) (goes_then view c c1 c2 (ask ∷ []) [] [] (text_by done.action) asked (goes_added view c1 (text_by done.action) c2 done.added));
+    },
+  )
+
+  -- the end of a job was told
+  pub step_ended : (e : Engine D) (c c1 : Client L) (job : ℕ) (text : List ℕ) → IsEndReported e.run_state.spool.state job text → IsAdded c text c1 → c.waits ≡ Some job → c1.waits ≡ None → Stepped e c e c1
+  step_ended e c c1 job text told added waits over = (
+    ends job text ∷ [],
+    record {
+      mime = refl;
+      place = refl;
+      actions = (told, waits, (refl, over));
+      client = rw (append-nil text) (goes_added view c text c1 added);
+    },
+  )
+
+pub is_round_one : (command : Command) → (command ≡ commands.Round) ⊎ ((n : ℕ) × (command ≡ commands.Drain n)) → is_round command ≡ true
+is_round_one command (inl e) = ap is_round e
+is_round_one command (inr e) = ap is_round e.1
+
+pub is_no_round : (command : Command) → (command ≡ commands.Round → ⊥) → ((n : ℕ) → command ≡ commands.Drain n → ⊥) → is_round command ≡ false
+is_no_round commands.Round not_round not_drain = absurd (not_round refl)
+is_no_round (commands.Drain n) not_round not_drain = absurd (not_drain n refl)
+is_no_round command not_round not_drain = refl
+
+-- ## All that becomes of a client
+
+first_of : (known left : Option (List ℕ)) (text : List ℕ) (f g : List ℕ → List Ask) (asks : List Ask) → known ≡ Some text → AsksFirst known f asks left g → AreFirstOf asks (f text)
+first_of None left text f g asks e first = absurd (cc)
+first_of (Some rest) None text f g asks e first = absurd first
+first_of (Some rest) (Some more) text f g asks e first = (g more, ap f (let same : text ≡ rest = cc in same) ∙ first)
+
+module _ {D L : Type 0} (device : DiskView D) (view : ConnectionView L) where
+  goes_by : (c : Client L) (x : ClientStep D L) → IsClientStepBy device view c x → Goes view c (asks_in (actions_by x)) (texts_in (actions_by x)) (client_after x)
+  goes_by c (turns old done new c1) is = is.client
+  goes_by c (changes text told c1) is = rw (append-nil told) (goes_added view c told c1 is.1)
+  goes_by c (signs c1) is = is.0
+
+  goes_all : (c : Client L) (xs : List (ClientStep D L)) (c1 : Client L) → AreClientSteps device view c xs c1 → Goes view c (asks_in (actions_of xs)) (texts_in (actions_of xs)) c1
+  goes_all c [] c1 same = rw same (goes_none view c)
+  goes_all c (x ∷ xs) c1 are =
+      rw (asks_in-append (actions_by x) (actions_of xs), texts_in-append (actions_by x) (actions_of xs))
+      (goes_then view c (client_after x) c1 (asks_in (actions_by x)) (asks_in (actions_of xs)) (texts_in (actions_by x)) (texts_in (actions_of xs))
+      (goes_by c x are.0) (goes_all (client_after x) xs c1 are.1))
+
+  pub answers_come_in_order : (own : L) (c : Client L) (xs : List (ClientStep D L)) (c1 : Client L) → IsEntry own c → AreClientSteps device view c xs c1 →
+      (text : List ℕ) → view.remaining own ≡ Some text → AreFirstOf (asks_in (actions_of xs)) (asks_of text)
+  answers_come_in_order own c xs c1 entry are text brings =
+      let asked = (goes_all c xs c1 are).asked asks_of entry.reader in
+      first_of (view.remaining c.connection) (view.remaining c1.connection) text asks_of asked.0 (asks_in (actions_of xs)) (ap view.remaining entry.connection ∙ brings) asked.2
+
+  has_all : (known now : Option (List ℕ)) (said text untaken : List ℕ) → known ≡ Some said → Appends (append_known known []) (append_known now untaken) text →
+      (written : List ℕ) × (now ≡ Some written) × (written ++ untaken ≡ said ++ text)
+  has_all None now said text untaken e appends = absurd (cc)
+  has_all (Some before) None said text untaken e appends = absurd appends
+  has_all (Some before) (Some written) said text untaken e appends =
+      (written, refl, appends ∙ ap (λ l. l ++ text) (append-nil before ∙ (let same : before ≡ said = cc in same)))
+
+  pub told_once : (own : L) (c : Client L) (xs : List (ClientStep D L)) (c1 : Client L) → IsEntry own c → AreClientSteps device view c xs c1 →
+      (said : List ℕ) → view.contents own ≡ Some said → HasAll view said (texts_in (actions_of xs)) c1
+  told_once own c xs c1 entry are said holds =
+      let told = (goes_all c xs c1 are).told (rw entry.taken (omega arith)) in
+      let none : drop c.taken c.replies.items ≡ [] = (rw (entry.taken, entry.replies) refl) in
+      let appends = subst (λ (l : List ℕ). Appends (append_known (view.contents c.connection) l) (told_to view c1) (texts_in (actions_of xs))) none told.told in
+      let all = has_all (view.contents c.connection) (view.contents c1.connection) said (texts_in (actions_of xs)) (drop c1.taken c1.replies.items) (ap view.contents entry.connection ∙ holds) appends in
+      record { written = all.0; contents = all.1; all = all.2 }

@@ -1,0 +1,6 @@
+-- the engine answered the command, if there was memory
+use Rattle.service_loop.proofs.CallLaws.{answered_as}
+use Rattle.service_loop.proofs.maintenance.say.Goals as goal
+
+pub returns-clause-answered : goal.returns-clause-answered
+returns-clause-answered g c = answered_as g.D.Disk.device _ _ c.args.command c.answer.result _ _ c.answer.ensures.calls c.answer.ensures.served

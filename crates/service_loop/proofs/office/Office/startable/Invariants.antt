@@ -1,6 +1,0 @@
--- no more jobs are processing than there are queues
-use Rattle.std.proofs.Common.{◌≤◌}
-use Rattle.service_loop.proofs.office.Office.startable.Given as goal
-
-abbrev pub invariant-loop-queue : goal.invariant-loop-queue
-invariant-loop-queue g l = l.count ≤ l.queue-index

@@ -1,0 +1,83 @@
+-- What the service does with its engine: calls, each on what the one before it left.
+use Rattle.std.specs.Prelude.{◌≡◌, ℕ, List, [], ◌∷◌, ◌++◌, map, Some}
+use Rattle.std.specs.FinMap as finite
+use Rattle.spool_types.specs.declared.event.Event.{Event}
+use Rattle.spool_types.specs.declared.event.Event.TheVariants.{Purge}
+use Rattle.spool_types.specs.State.{State}
+use Rattle.spool_disk.specs.Disk.{DiskView}
+use Rattle.job_table.specs.Attempts.{HasNoProcessing}
+use Rattle.job_table.specs.EventFold.{after_all}
+use Rattle.job_table.specs.Legal.{IsLegal}
+use Rattle.job_table.specs.Stages.{Key}
+use Rattle.job_table.specs.TableVersions.{raised}
+use Rattle.command_lines.specs.declared.command.Command.{Command}
+use Rattle.command_lines.specs.declared.command.Command.TheVariants.{Apply}
+use Rattle.child_pipeline.specs.ChildTraces.{ChildTrace}
+use Rattle.child_pipeline.specs.declared.order.Placed.{Placed}
+use Rattle.print_rounds.specs.StageHistory.{keys_in}
+use Rattle.spool_engine.specs.EngineCalls.{Call, AreCalls, last_by}
+use Rattle.spool_engine.specs.EventSteps.{setting}
+use Rattle.spool_engine.specs.EngineRuns.{Engine, TakesStep, CommandStep}
+
+-- an engine went on by calls alone, and kept its rules and its place
+pub record GoesByCalls {D : Type 0} (device : DiskView D) (old new : Engine D) : Type 0 where
+  pub mime : new.mime ≡ old.mime
+  pub place : new.place ≡ old.place
+  pub calls : List (Call D)
+  pub are : AreCalls (setting device old.mime old.place) old.run_state calls
+  pub last : last_by old.run_state calls ≡ new.run_state
+
+-- ## What the house says to it
+
+-- an engine answered a command, in a turn of it
+pub record HasAnswered {D : Type 0} (device : DiskView D) (old : Engine D) (command : Command) (new : Engine D) : Type 0 where
+  pub mime : new.mime ≡ old.mime
+  pub place : new.place ≡ old.place
+  pub turn : CommandStep D
+  pub takes : TakesStep (setting device old.mime old.place) old.run_state command turn new.run_state
+
+-- it answered these, one after the other, and nothing else was done
+abbrev pub HasAnsweredAll : {D : Type 0} → DiskView D → Engine D → List Command → Engine D → Type 0
+HasAnsweredAll device old [] new = new ≡ old
+HasAnsweredAll {D} device old (c ∷ cs) new = (mid : Engine D) × HasAnswered device old c mid × HasAnsweredAll device mid cs new
+
+-- these jobs are to be purged
+abbrev pub purges : List ℕ → List Command
+purges jobs = map (λ job. Apply (Purge job)) jobs
+
+-- ## Services, one after the other
+
+-- a service: its engine as it was made and as it was left, what its children had told by then, and the orders that came in it
+pub record ServiceLife (D : Type 0) : Type 0 where
+  pub start : Engine D
+  pub last : Engine D
+  pub told : ChildTrace
+  pub orders : List Placed
+
+-- Its engine was made on a legal table without a processing job, as an opening leaves it, and went on by calls. It held no slot, its
+-- children tell, and none was running.
+pub record IsServiceLife {D : Type 0} (device : DiskView D) (l : ServiceLife D) : Type 0 where
+  pub legal : IsLegal (l.start).run_state.spool.state
+  pub idle : HasNoProcessing (l.start).run_state.spool.state
+  pub empty : (l.start).run_state.slots ≡ finite.empty
+  pub tells : (l.start).run_state.told ≡ Some l.told
+  pub quiet : (l.told).running ≡ []
+  pub goes : GoesByCalls device l.start l.last
+  pub now : ChildTrace
+  pub tells_then : (l.last).run_state.told ≡ Some now
+  pub added : now.orders ≡ (l.told).orders ++ l.orders
+
+-- Each is made on the table that the one before left, and some further events: the one in hand, and the opening's Reopen.
+abbrev pub AreServiceLives : {D : Type 0} → DiskView D → State → List (ServiceLife D) → Type 0
+AreServiceLives device s [] = Unit {0}
+AreServiceLives device s (l ∷ ls) =
+    IsServiceLife device l × ((further : List Event) × (raised (l.start).run_state.spool.state ≡ after_all (raised s) further)) × AreServiceLives device (l.last).run_state.spool.state ls
+
+abbrev pub IsServiceHistory : {D : Type 0} → DiskView D → List (ServiceLife D) → Type 0
+IsServiceHistory device [] = Unit {0}
+IsServiceHistory device (l ∷ ls) = IsServiceLife device l × AreServiceLives device (l.last).run_state.spool.state ls
+
+-- the stages of all orders
+abbrev pub keys_ordered : {D : Type 0} → List (ServiceLife D) → List Key
+keys_ordered [] = []
+keys_ordered (l ∷ ls) = keys_in l.orders ++ keys_ordered ls

@@ -1,0 +1,21 @@
+-- What a fault of a checkpoint, or of a half, is to the program.
+use Rattle.spool_core.specs.declared.spool.checkpoint_fault.CheckpointFault.{CheckpointFault}
+use Rattle.spool_core.specs.declared.spool.checkpoint_fault.CheckpointFault.TheVariants as checkpoint
+use Rattle.split_rows.specs.declared.fault.HalfFault.{HalfFault}
+use Rattle.split_rows.specs.declared.fault.HalfFault.TheVariants as half
+use Rattle.spool_runtime.specs.declared.fault.DiskCause.TheVariants.{Failed}
+use Rattle.spool_runtime.specs.declared.fault.ShellFault.TheVariants.{Disk, Memory}
+use Rattle.spool_admin.specs.declared.fault.AdminFault.{AdminFault}
+use Rattle.spool_admin.specs.declared.fault.AdminFault.TheVariants.{EpochEnd, Full, Shell}
+
+abbrev pub of_checkpoint : CheckpointFault → AdminFault
+of_checkpoint checkpoint.Dead = Shell (Disk Failed)
+of_checkpoint checkpoint.EpochEnd = EpochEnd
+of_checkpoint checkpoint.Memory = Shell Memory
+of_checkpoint checkpoint.Full = Full
+of_checkpoint checkpoint.Disk = Shell (Disk Failed)
+
+abbrev pub of_half : HalfFault → AdminFault
+of_half half.Memory = Shell Memory
+of_half half.Full = Full
+of_half half.Disk = Shell (Disk Failed)

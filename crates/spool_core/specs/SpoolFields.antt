@@ -1,0 +1,68 @@
+-- What the fields of a spool mean.
+use Rattle.spool_disk.specs.Disk.{DiskView}
+use Rattle.std.specs.Prelude.{◌≡◌, ◌≤◌, ℕ, ◌+◌, ◌-◌, List, false, IsSome}
+use Rattle.spool_types.specs.State.{State}
+use Rattle.spool_types.specs.declared.event.Event.{Event}
+use Rattle.spool_types.specs.declared.listing.Row.{Row}
+use Rattle.spool_types.specs.declared.version.Version.{Version}
+use Rattle.spool_areas.specs.Header.{header_len}
+use Rattle.spool_areas.specs.AreaFields.{IsArea}
+use Rattle.job_table.specs.Contents.{Contents, no_moves, places_at}
+use Rattle.job_table.specs.Over.{is_over}
+use Rattle.documents.specs.Documents.{LieIn}
+use Rattle.documents.specs.Placed.{places_in}
+use Rattle.spool_areas.specs.Current.{Current, KeepsPayloads}
+use Rattle.spool_core.specs.History.{IsHistory}
+use Rattle.spool_core.specs.VersionNumbers.{number_of}
+use Rattle.job_table.specs.Attempts.{HasNoProcessing}
+use Rattle.gate_journal.specs.Appends.{kept_room}
+use Rattle.spool_core.specs.OpenSpools.{OpenSpool}
+use Rattle.spool_core.specs.declared.spool.Spool.TheInside.{Inside}
+
+-- the areas and the table beside them
+abbrev pub open_spool_at : {D : Type 0} → Current D → State → OpenSpool D
+open_spool_at areas s = record { disk = areas.disk; state = s; room = areas.end - areas.gate; epoch = areas.epoch; dead = areas.dead }
+
+abbrev pub open_spool_of : {D : Type 0} → Inside D → OpenSpool D
+open_spool_of a = open_spool_at a.areas a.table.state
+
+-- The documents lie where these rows and events of the area at base have them, in this version, but for those of numbers that are over.
+abbrev pub ArePlacesOf : Version → ℕ → List Row → List Event → Contents → Type 0
+ArePlacesOf version base rows events c = (j : ℕ) → is_over c.state j ≡ false → places_at c j ≡ places_in version base rows events j
+
+-- These payloads of the area at base, of the version with this number, lead to the table, and the documents lie where they have
+-- them.
+pub record HasHistory (base number : ℕ) (payloads : List (List ℕ)) (c : Contents) : Type 0 where
+  pub version : Version
+  pub number_is : number ≡ number_of version
+  pub history : IsHistory version payloads c.state
+  pub places : ArePlacesOf version base history.rows history.events c
+
+-- Each image of the disk has the history of the table in its current area, and the documents lie where that has them.
+pub record KeepsTable {D : Type 0} (v : DiskView D) (areas : Current D) (c : Contents) : Type 0 where
+  pub version : Version
+  pub payloads : List (List ℕ)
+  pub kept : KeepsPayloads v areas payloads
+  pub number_is : areas.version ≡ number_of version
+  pub history : IsHistory version payloads c.state
+  pub places : ArePlacesOf version areas.base history.rows history.events c
+
+-- the documents lie between these places, but for those of numbers that are over
+abbrev pub DocumentsLieIn : ℕ → ℕ → Contents → Type 0
+DocumentsLieIn low high c = (j : ℕ) → is_over c.state j ≡ false → LieIn low high (places_at c j)
+
+-- The area is one of the disk's two, and the gate lies in it, behind the header; where a job is processing, the room for the
+-- record of a reopening lies behind the gate. The documents lie between its header and the gate. As long as the device hasn't
+-- failed, its images have the table, where it tells them.
+pub record IsOpenSpoolAt {D : Type 0} (v : DiskView D) (areas : Current D) (c : Contents) : Type 0 where
+  pub area : IsArea areas.base areas.end (v.size areas.disk)
+  pub behind : areas.base + header_len ≤ areas.gate
+  pub inside : areas.gate ≤ areas.end
+  pub roomy : ¬ (HasNoProcessing c.state) → areas.gate + kept_room ≤ areas.end
+  pub lie : DocumentsLieIn (areas.base + header_len) areas.gate c
+  pub table : areas.dead ≡ false → IsSome (v.bytes areas.disk) → KeepsTable v areas c
+
+-- So a spool stands, and its table has noted no new places of documents.
+pub record IsOpenSpool {D : Type 0} (v : DiskView D) (a : Inside D) : Type 0 where
+  pub stands : IsOpenSpoolAt v a.areas a.table
+  pub unmoved : a.table.moves ≡ no_moves

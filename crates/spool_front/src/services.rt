@@ -1,0 +1,206 @@
+//! Which services are asked, and which queue is meant.
+ghost use Rattle.std.specs.Prelude.{◌≡◌, ◌≢◌, ◌*◌, IfErr, IfOk, IfSome, IsOk, OnOk, [], ◌∷◌, ◌++◌, length, map, string_bytes};
+ghost use Rattle.std.specs.List.{Contains};
+ghost use Rattle.spool_front.specs.QueueChoice.{has_queue, noted, place_at};
+ghost use Rattle.spool_front.specs.EnvironmentValues.{IsNumberOr};
+
+use crate::client::Client;
+use crate::commands::has_control;
+use crate::fault::Fault;
+use crate::host::{number_or, variable, variable_or};
+use front_texts::{JobLine, QueueLine};
+use std::alloc::{AllocError, Global};
+
+// The socket where none is named, and the seconds for which a service is waited for.
+const USUAL_SOCKET: &str = "/run/cegmandi/spool.sock";
+
+const USUAL_PATIENCE: u64 = 30;
+
+const MOST_PATIENCE: u64 = 4_294_967_295;
+
+/// The sockets of the services, of which there is one at least, and how long each is waited for.
+#[derive(Clone, Copy)]
+pub struct Services<'p, 'a> {
+    pub sockets: &'p [&'a str],
+    pub patience: u32,
+}
+
+/// The socket of the environment, or else the usual one.
+pub fn usual_socket(rt: &HostRuntime) -> Result<String, AllocError> {
+    variable_or(rt, "SPOOL_SOCKET", USUAL_SOCKET)
+}
+
+/// For how many seconds a service is waited for.
+pub fn patience(rt: &HostRuntime) -> Result<u32, AllocError> {
+    let told = variable(rt, "SPOOL_PATIENCE")?;
+    Ok(patience_in(&told))
+}
+
+fn patience_in(told: &Option<String>) -> u32
+    ensures { IsNumberOr 4294967295 30 told.now result }
+{
+    number_or(told, MOST_PATIENCE, USUAL_PATIENCE) as u32
+}
+
+/// The client of the service at a socket.
+pub fn client_at<'a>(rt: &'a HostRuntime, services: Services<'_, '_>, socket: &'a str) -> Client<'a>
+    ensures patience { result.pauses ≡ services.entry.patience * 10 }
+    ensures socket { result.socket.now ≡ socket.now }
+{
+    Client::new(rt, socket, services.patience)
+}
+
+/// The socket of the one service that is named. A job's number says nothing where there are several.
+pub fn only_socket<'a>(services: Services<'_, 'a>) -> Result<&'a str, Fault>
+    ensures one { IfOk result (λ socket. map (λ service. service.now) services.entry.sockets.now ≡ socket.now ∷ []) }
+    ensures others { IfErr result (λ _. length services.entry.sockets.now ≢ 1) }
+{
+    match services.sockets {
+        [socket] => Ok(*socket),
+        _ => Err(Fault::Words("several services are named, and this is asked of one")),
+    }
+}
+
+/// The queues of the service at a socket.
+pub fn queues_at(
+    rt: &HostRuntime,
+    services: Services<'_, '_>,
+    socket: &str,
+) -> Result<Vec<QueueLine>, Fault> {
+    let mut client = client_at(rt, services, socket);
+    let queues = client.queues();
+    drop(client);
+    queues
+}
+
+/// The queues of all services.
+pub fn all_queues(rt: &HostRuntime, services: Services<'_, '_>) -> Result<Vec<QueueLine>, Fault> {
+    let mut queues = Vec::new(rt.alloc());
+    for socket in services.sockets {
+        for queue in queues_at(rt, services, socket)? {
+            queues.push(queue)?;
+        }
+    }
+    Ok(queues)
+}
+
+/// The jobs of all services.
+pub fn all_jobs(rt: &HostRuntime, services: Services<'_, '_>) -> Result<Vec<JobLine>, Fault> {
+    let mut jobs = Vec::new(rt.alloc());
+    for socket in services.sockets {
+        for job in jobs_at(rt, services, socket)? {
+            jobs.push(job)?;
+        }
+    }
+    Ok(jobs)
+}
+
+fn jobs_at(
+    rt: &HostRuntime,
+    services: Services<'_, '_>,
+    socket: &str,
+) -> Result<Vec<JobLine>, Fault> {
+    let mut client = client_at(rt, services, socket);
+    let jobs = client.jobs();
+    drop(client);
+    jobs
+}
+
+/// The socket and the name of the queue that is meant: the one that is named, that of the environment, or the only one.
+pub fn queue_of<'a>(
+    rt: &HostRuntime,
+    services: Services<'_, 'a>,
+    queue: Option<&str>,
+) -> Result<(&'a str, String), Fault>
+    ensures socket { IfOk result (λ service. Contains (map (λ socket. socket.now) services.entry.sockets.now) service.0.now) }
+    ensures named { IfOk result (λ service. IfSome queue.entry (λ name. string_bytes service.1 ≡ name.now)) }
+{
+    let alloc = rt.alloc();
+    if let Some(queue) = queue {
+        return place_of(rt, services, String::from_str(alloc, queue)?);
+    }
+    for name in ["LPDEST", "PRINTER"] {
+        if let Some(queue) = variable(rt, name)? {
+            if has_control(queue.as_str()) {
+                return Err(Fault::Words("the environment's queue has a control character"));
+            }
+            return place_of(rt, services, queue);
+        }
+    }
+    only_queue(rt, services)
+}
+
+fn place_of<'a>(
+    rt: &HostRuntime,
+    services: Services<'_, 'a>,
+    queue: String,
+) -> Result<(&'a str, String), Fault>
+    ensures socket { IfOk result (λ service. Contains (map (λ socket. socket.now) services.entry.sockets.now) service.0.now) }
+    ensures queue { IfOk result (λ service. service.1 ≡ queue) }
+{
+    let socket = socket_of(rt, services, queue.as_str())?;
+    Ok((socket, queue))
+}
+
+/// The socket of the service that has this queue. With one service nobody is asked.
+pub fn socket_of<'a>(
+    rt: &HostRuntime,
+    services: Services<'_, 'a>,
+    queue: &str,
+) -> Result<&'a str, Fault>
+    ensures socket { IfOk result (λ socket. Contains (map (λ service. service.now) services.entry.sockets.now) socket.now) }
+    ensures alone { length services.entry.sockets.now ≡ 1 → IsOk result }
+{
+    if let [socket] = services.sockets {
+        return Ok(*socket);
+    }
+    for socket in services.sockets {
+        if has_queue(&queues_at(rt, services, socket)?, queue) {
+            return Ok(*socket);
+        }
+    }
+    Err(Fault::Words("no service has this queue"))
+}
+
+/// Whether there is a queue of this name.
+pub fn has_queue(queues: &[QueueLine], name: &str) -> bool
+    ensures { result ≡ has_queue queues.now name.now }
+{
+    queues.iter().any(|row| row.name.as_str() == name)
+}
+
+fn only_queue<'a>(rt: &HostRuntime, services: Services<'_, 'a>) -> Result<(&'a str, String), Fault>
+    ensures { IfOk result (λ service. Contains (map (λ socket. socket.now) services.entry.sockets.now) service.0.now) }
+{
+    let mut only = None;
+    for socket in services.sockets {
+        note_only(
+            rt.alloc(),
+            socket,
+            &queues_at(rt, services, socket)?,
+            &mut only,
+        )?;
+    }
+    match only {
+        Some(service) => Ok(service),
+        None => Err(Fault::Words("there is no queue")),
+    }
+}
+
+// Notes the queue of a service, where it is the only one.
+fn note_only<'a>(
+    alloc: Global,
+    socket: &'a str,
+    queues: &[QueueLine],
+    only: &mut Option<(&'a str, String)>,
+) -> Result<(), Fault>
+    ensures { OnOk result (noted only.new (λ service. service.now) ≡ noted only.old (λ service. service.now) ++ map (place_at socket.now) queues.now) }
+{
+    for row in queues {
+        if only.is_some() {
+            return Err(Fault::Words("no queue is named, and there are several"));
+        }
+        *only = Some((socket, String::from_str(alloc, row.name.as_str())?));
+    }
+    Ok(())
+}

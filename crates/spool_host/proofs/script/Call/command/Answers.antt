@@ -1,8 +1,0 @@
--- No call after `the shell was made` sets a variable.
-use Rattle.std.proofs.Common.{◌∙◌}
-use Rattle.spool_host.proofs.script.Call.command.Goals as goal
-
-pub returns-clause-variables : goal.returns-clause-variables
-returns-clause-variables c name =
-    c.in_ok-push_texts-2.ensures.env.1 name ∙ c.in_ok-push_program.ensures.env.1 name ∙ c.in_ok-push_texts.ensures.env.1 name
-    ∙ c.in_ok-push_number.ensures.env.1 name ∙ c.in_ok-push_side.ensures.env.1 name ∙ c.in_ok-push_files.ensures.env.1 name ∙ c.in_ok-command.ensures.variables name

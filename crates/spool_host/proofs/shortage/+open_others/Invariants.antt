@@ -1,5 +1,0 @@
--- one descriptor fewer is to be opened each time
-use Rattle.spool_host.proofs.shortage.+open_others.Given as goal
-
-abbrev pub decreases-open_others : goal.decreases-open_others
-decreases-open_others g l = l.most

@@ -1,0 +1,5 @@
+-- one descriptor fewer is to be opened each time
+use Rattle.spool_runtime.proofs.shortage.+open_others.Given as goal
+
+abbrev pub decreases-open_others : goal.decreases-open_others
+decreases-open_others g l = l.most

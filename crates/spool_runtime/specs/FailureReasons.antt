@@ -1,0 +1,24 @@
+-- What is told of a stage that failed.
+use Rattle.std.specs.Prelude.{Bool, true, false, cond, ◌==◌, Option, None, Some}
+use Rattle.spool_types.specs.declared.effect.Effect.{Effect}
+use Rattle.spool_types.specs.declared.effect.Effect.TheVariants as effects
+use Rattle.spool_types.specs.declared.effect.Exit.{Exit}
+use Rattle.spool_types.specs.declared.effect.Exit.TheVariants as exits
+use Rattle.spool_runtime.specs.declared.reasons.Reason.{Reason}
+use Rattle.spool_runtime.specs.declared.reasons.Reason.TheVariants as reasons
+
+-- an end that is no success; one that nobody saw has its own cause
+abbrev pub bad_end : Exit → Option Reason
+bad_end (exits.Code code) = cond (code == 0) None (Some (reasons.Status code))
+bad_end exits.Signal = Some reasons.Signal
+bad_end exits.NoStart = None
+bad_end exits.Lost = None
+
+abbrev pub is_message : Effect → Bool
+is_message (effects.Message level text) = true
+is_message _ = false
+
+-- want of something that may be there in a moment
+abbrev pub may_pass : Reason → Bool
+may_pass (reasons.Short shortage) = true
+may_pass _ = false

@@ -1,0 +1,68 @@
+-- What a launcher makes of an order, and of an end.
+use Rattle.std.specs.Prelude.{◌≡◌, ℕ, ℤ, pos, Bool, true, false, not, ◌&&◌, ◌||◌, List, length, ◌==◌, codes, Option, None, Some, IsSome}
+use Rattle.std.specs.Option.{option_map}
+use Rattle.std.specs.Process.{exit_code, exit_signal}
+use Rattle.std.specs.declared.process.status.ExitStatus.{ExitStatus}
+use Rattle.std.specs.declared.io.ErrorKind.{ErrorKind}
+use Rattle.child_pipeline.specs.declared.order.Finish.{Finish}
+use Rattle.child_pipeline.specs.declared.order.Input.{Input}
+use Rattle.child_pipeline.specs.declared.order.Input.TheVariants as inputs
+use Rattle.child_pipeline.specs.declared.order.Order.{Order}
+use Rattle.child_pipeline.specs.declared.order.Program.{Program}
+use Rattle.child_pipeline.specs.declared.order.Program.TheVariants as programs
+use Rattle.program_lists.specs.Programs.{Programs, program_named}
+use Rattle.program_lists.specs.declared.line.ListedProgram.{ListedProgram}
+use Rattle.side_channel.specs.declared.devices.Device.{Device}
+use Rattle.spool_types.specs.declared.effect.Exit.{Exit}
+use Rattle.spool_types.specs.declared.effect.Exit.TheVariants.{Code, Lost, NoStart, Signal}
+use Rattle.spool_runtime.specs.Shortage.{shortage_of}
+use Rattle.spool_runtime.specs.SideDevice.{device_in, uri_among}
+use Rattle.spool_runtime.specs.declared.launcher.Room.{Room}
+use Rattle.spool_runtime.specs.declared.reasons.Reason.{Reason}
+use Rattle.spool_runtime.specs.declared.reasons.Reason.TheVariants.{Refused, Short}
+use Rattle.spool_runtime.specs.declared.shortage.Shortage.{Shortage}
+
+-- the program that an order names, where the list has it
+abbrev pub program_for : Programs → Program → Option ListedProgram
+program_for list (programs.Filter name) = program_named name list.filters
+program_for list (programs.Backend scheme) = program_named scheme list.backends
+
+-- the file that is standard input: the document comes by its name alone
+abbrev pub input_name : List ℕ → Input → List ℕ
+input_name path (inputs.Document content) = codes "/dev/null"
+input_name path (inputs.Bytes content) = path
+
+-- the device of the side channel, where there is one: that of the URI among the variables
+abbrev pub device_for : Programs → Order → Option Device
+device_for list order = option_map (λ (program : ListedProgram). device_in (uri_among order.environment)) list.side
+
+-- The end that a status tells: an exit with a code, or a signal. Of a process that was stopped it tells neither.
+abbrev pub TellsEnd : ExitStatus → Exit → Type 0
+TellsEnd status (Code code) = exit_code status ≡ Some (pos code)
+TellsEnd status Signal = IsSome (exit_signal status)
+TellsEnd status NoStart = ⊥
+TellsEnd status Lost = ⊥
+
+abbrev pub TellsNoEnd : ExitStatus → Type 0
+TellsNoEnd status = (exit_code status ≡ None) × (exit_signal status ≡ None)
+
+-- ---- what may be missing
+
+abbrev pub is_success : Exit → Bool
+is_success (Code code) = code == 0
+is_success exit = false
+
+-- A child that ended well may have written more than was kept: there is no room behind what it wrote on a stream. Of an
+-- empty one nobody knows; a filter is to give something, and a backend isn't.
+abbrev pub may_be_cut : Finish → Bool → Room → Bool
+may_be_cut finish filter room =
+    is_success finish.exit && ((not room.output && (filter || not (length finish.output == 0))) || (not room.errors && not (length finish.errors == 0)))
+
+-- ---- why a start was refused
+
+abbrev pub refused : Option Shortage → Reason
+refused (Some shortage) = Short shortage
+refused None = Refused
+
+abbrev pub refusal_of : ErrorKind → Option ℤ → Reason
+refusal_of kind number = refused (shortage_of kind number)

@@ -1,0 +1,15 @@
+pub mod Begun
+pub mod ChildFiles
+pub mod DeviceLines
+pub mod ProgramEnding
+pub mod ProgramFaults
+pub mod Launching
+pub mod Leftovers
+pub mod NamedDisk
+pub mod FailureReasons
+pub mod ChildScript
+pub mod Serving
+pub mod ClientSessions
+pub mod Shortage
+pub mod SideDevice
+pub mod ProgramArguments

@@ -1,0 +1,23 @@
+-- The spool's file as a disk.
+use Rattle.std.specs.Prelude.{ℕ, None}
+use Rattle.spool_disk.specs.Disk.{DiskView}
+use Rattle.spool_runtime.specs.declared.named_disk.NamedDisk.{NamedDisk}
+
+-- how many bytes it had when it was taken over
+abbrev pub named_len : {R : Type 0} → NamedDisk R → ℕ
+named_len d = d.len
+
+-- how many failures it has counted
+abbrev pub named_faults : {R : Type 0} → NamedDisk R → ℕ
+named_faults d = d.faults
+
+-- What is seen of it: its length and its failures, and nothing of its bytes.
+abbrev pub seen_of_named : {R : Type 0} → DiskView (NamedDisk R)
+seen_of_named = record {
+  bytes = λ d. None;
+  size = λ d. named_len d;
+  image = λ d c. ⊥;
+  moment = λ d. 0;
+  image_since = λ d t c. ⊥;
+  failures = λ d. named_faults d;
+}

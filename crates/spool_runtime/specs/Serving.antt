@@ -1,0 +1,82 @@
+-- How a spool is opened and served.
+use Rattle.std.specs.Prelude.{◌≡◌, ◌⊎◌, ℕ, List, Bool, false, Option, Some, Result, Err, codes}
+use Rattle.std.specs.FinMap as finite
+use Rattle.std.specs.String.{string_bytes}
+use Rattle.child_pipeline.specs.ChildTraces.{ChildTrace}
+use Rattle.filter_args.specs.declared.place.Place.{Place}
+use Rattle.mime_costs.specs.declared.conversion.Conversion.{Conversion}
+use Rattle.mime_rules.specs.TypesValue.{TypesValue}
+use Rattle.print_rounds.specs.RunStates.{RunState, run_state}
+use Rattle.spool_disk.specs.Disk.{DiskView}
+use Rattle.spool_core.specs.Image.{IsFaultOf, IsReopenedFrom}
+use Rattle.spool_core.specs.OpenSpools.{OpenSpool}
+use Rattle.spool_core.specs.declared.OpenFault.{OpenFault}
+use Rattle.spool_engine.specs.EventSteps.{setting}
+use Rattle.spool_engine.specs.Mime.{Mime}
+use Rattle.spool_engine.specs.EngineRuns.{Engine, IsRun, CommandStep}
+use Rattle.spool_engine.specs.declared.fault.RunFault.{RunFault}
+use Rattle.spool_runtime.specs.ProgramEnding.{ending_of}
+use Rattle.spool_runtime.specs.ProgramFaults.{IsOfFolder, of_opening}
+use Rattle.spool_runtime.specs.declared.fault.ShellFault.{ShellFault}
+
+-- the place of the children of a spool in the folder `root`
+pub record IsPlace (root : List ℕ) (side : Bool) (place : Place) : Type 0 where
+  pub folder : string_bytes place.root ≡ root
+  pub locale : string_bytes place.lang ≡ codes "C"
+  pub programs : string_bytes place.path ≡ codes "/usr/bin:/bin"
+  pub channel : place.side ≡ side
+
+-- by what documents are typed there: these rules and conversions, in the locale of the place
+abbrev pub database : TypesValue → List Conversion → Place → Mime
+database types convs place = record { types = types; convs = convs; locale = string_bytes place.lang }
+
+-- ---- opening a disk
+
+-- The engine has a spool with the table of the disk's bytes after the policy, and holds no slot. It goes on with these
+-- rules, and in this place with children that tell this.
+pub record IsOpened {D : Type 0} (device : DiskView D) (mime : Mime) (place : Place) (told : Option ChildTrace) (disk : D) (engine : Engine D) : Type 0 where
+  pub spool : OpenSpool D
+  pub table : (r : List ℕ) → device.bytes disk ≡ Some r → IsReopenedFrom spool.state r
+  pub alive : spool.dead ≡ false
+  pub run_state_is : engine.run_state ≡ run_state spool finite.empty told
+  pub rules_are : engine.mime ≡ mime
+  pub place_is : engine.place ≡ place
+
+-- The same of a disk of which it isn't said what bytes it has.
+pub record IsSetUp {D : Type 0} (mime : Mime) (place : Place) (told : Option ChildTrace) (engine : Engine D) : Type 0 where
+  pub spool : OpenSpool D
+  pub alive : spool.dead ≡ false
+  pub run_state_is : engine.run_state ≡ run_state spool finite.empty told
+  pub rules_are : engine.mime ≡ mime
+  pub place_is : engine.place ≡ place
+
+-- what may stand in the way: the folder, its file, or what is in it
+abbrev pub IsOfOpening : ShellFault → Type 0
+IsOfOpening told = IsOfFolder told ⊎ ((fault : OpenFault) × (told ≡ of_opening fault))
+
+-- the disk wasn't opened, for a fault that its bytes have, if it is one of bytes
+pub record IsUnread {D : Type 0} (device : DiskView D) (disk : D) (told : ShellFault) : Type 0 where
+  pub fault : OpenFault
+  pub cause : (r : List ℕ) → device.bytes disk ≡ Some r → IsFaultOf r fault
+  pub tells : told ≡ of_opening fault
+
+-- ---- serving it
+
+-- a run over the opened disk ended so
+pub record HasRun {D : Type 0} (device : DiskView D) (mime : Mime) (place : Place) (told : Option ChildTrace) (disk : D) (known : Option (List ℕ)) (result : Result (Unit {0}) ShellFault) (old new : Option (List ℕ)) : Type 0 where
+  pub engine : Engine D
+  pub after : RunState D
+  pub text : List ℕ
+  pub turns : List (CommandStep D)
+  pub ran : Result (Unit {0}) RunFault
+  pub opened : IsOpened device mime place told disk engine
+  pub run : IsRun (setting device mime place) known engine.run_state text turns after ran old new
+  pub ends : result ≡ ending_of ran after.spool.dead
+
+-- it wasn't opened, and nothing was read or written
+pub record IsUnopened {D : Type 0} (device : DiskView D) (disk : D) (known left : Option (List ℕ)) (result : Result (Unit {0}) ShellFault) (old new : Option (List ℕ)) : Type 0 where
+  pub fault : ShellFault
+  pub cause : IsUnread device disk fault
+  pub ends : result ≡ Err fault
+  pub unread : left ≡ known
+  pub unwritten : new ≡ old

@@ -1,0 +1,159 @@
+//! The files of a child, in the spool's folder.
+ghost use Rattle.std.specs.Prelude.{◌≡◌, IfOk};
+ghost use Rattle.std.specs.String.{string_bytes};
+ghost use Rattle.spool_runtime.specs.ChildFiles.{ReadsUpTo, file_of, wants_room};
+ghost use Rattle.filter_args.specs.declared.files.ChildFile.TheVariants as files;
+
+use crate::device::new_file;
+use child_pipeline::Order;
+use filter_args::{ChildFile, Place};
+use spool_types::LONGEST_DOCUMENT;
+use std::alloc::{AllocError, Global};
+use std::fs::{File, Files, OpenOptions};
+use std::io::{ErrorKind, Read, Write};
+use std::os::unix::fs::FileExt;
+use std::path::Path;
+use std::{fs, io};
+
+// How many bytes are read at once.
+const PIECE: usize = 65_536;
+
+/// The paths of a child's files.
+#[derive(Drop)]
+pub(crate) struct ChildPaths {
+    pub input: String,
+    pub output: String,
+    pub errors: String,
+    /// The socket of its side channel.
+    pub side: String,
+}
+
+impl ChildPaths {
+    /// Those of an order's child.
+    pub fn of(alloc: Global, place: &Place, order: &Order) -> Result<ChildPaths, AllocError>
+        ensures input { IfOk result (λ paths. string_bytes paths.input ≡ file_of files.Input (string_bytes place.now.root) order.now) }
+        ensures output { IfOk result (λ paths. string_bytes paths.output ≡ file_of files.Output (string_bytes place.now.root) order.now) }
+        ensures errors { IfOk result (λ paths. string_bytes paths.errors ≡ file_of files.Errors (string_bytes place.now.root) order.now) }
+        ensures side { IfOk result (λ paths. string_bytes paths.side ≡ file_of files.Side (string_bytes place.now.root) order.now) }
+    {
+        Ok(ChildPaths {
+            input: path_of(alloc, ChildFile::Input, place, order)?,
+            output: path_of(alloc, ChildFile::Output, place, order)?,
+            errors: path_of(alloc, ChildFile::Errors, place, order)?,
+            side: path_of(alloc, ChildFile::Side, place, order)?,
+        })
+    }
+
+    /// Removes those that are there, and the socket where there may be one.
+    pub fn remove<R: Files>(&self, rt: &R, side: bool) {
+        for path in [&self.input, &self.output, &self.errors] {
+            let _ = fs::remove_file(rt, path.as_str());
+        }
+        if side {
+            let _ = fs::remove_file(rt, self.side.as_str());
+        }
+    }
+}
+
+fn path_of(
+    alloc: Global,
+    file: ChildFile,
+    place: &Place,
+    order: &Order,
+) -> Result<String, AllocError>
+    ensures { IfOk result (λ path. string_bytes path ≡ file_of file (string_bytes place.now.root) order.now) }
+{
+    let stage = order.stage.get() as u8;
+    file.path(alloc, place, order.job, order.attempt.get(), stage)
+}
+
+/// Makes a file, which its owner alone may read. What a crash left under this name goes first, and so does a link, which
+/// is never followed. Mostly nothing is there, so that is tried first.
+pub(crate) fn make_file<R: Files<File = File>>(rt: &R, path: &str) -> io::Result<File> {
+    let path = Path::new(path);
+    match new_file(rt, path) {
+        Err(error) if error.kind() == ErrorKind::AlreadyExists => {
+            fs::remove_file(rt, path)?;
+            new_file(rt, path)
+        }
+        made => made,
+    }
+}
+
+/// The path of a file by which the room of the folder is tried. It is named as those of a child, so that the next start removes
+/// what a crash left, and no job has the number 0.
+pub(crate) fn probe_path(alloc: Global, place: &Place) -> Result<String, AllocError> {
+    let root = place.root.as_str();
+    format!(in alloc; "{root}/out-0-0-0")
+}
+
+/// A child's standard output, to be handed to it: the file that was made. It is locked as long as a process of the child has
+/// it, so that an opening sees which children go on ([`crate::leftovers`]).
+pub(crate) fn output_to_hand<R: Files<File = File>>(rt: &R, path: &str) -> io::Result<File> {
+    let output = OpenOptions::new().write(true).open(rt, path)?;
+    if output.try_lock().is_err() {
+        return Err(io::Error::from(ErrorKind::ResourceBusy));
+    }
+    Ok(output)
+}
+
+/// Makes a file of these bytes.
+pub(crate) fn make_file_of<R: Files<File = File>>(
+    rt: &R,
+    path: &str,
+    bytes: &[u8],
+) -> io::Result<()> {
+    make_file(rt, path)?.write_all(bytes)
+}
+
+/// Whether a byte more can be written behind what a child wrote. It is written, so the file is to be removed then. Where
+/// it can't be, a write of the child before it may have been cut off here.
+///
+/// What is longer than a document isn't looked at, since its end isn't read. Where the spooler's own files have a limit, as
+/// those of the child do, a byte behind such a file may be above it, and the signal for that would end the spooler.
+pub(crate) fn has_room(file: &File) -> bool {
+    let Ok(found) = file.metadata() else {
+        return true;
+    };
+    if found.len() > LONGEST_DOCUMENT as u64 {
+        return true;
+    }
+    match file.write_all_at(b"\n", found.len()) {
+        Ok(()) => true,
+        Err(error) => !wants_room(error.kind()),
+    }
+}
+
+fn wants_room(kind: ErrorKind) -> bool
+    ensures { result ≡ wants_room kind }
+{
+    matches!(kind, ErrorKind::StorageFull | ErrorKind::QuotaExceeded)
+}
+
+/// Reads up to so many bytes, and leaves the others unread. Where the reader fails before them this is its error.
+pub(crate) fn read_at_most<R: Read>(
+    alloc: Global,
+    reader: &mut R,
+    most: usize,
+) -> io::Result<Vec<u8>>
+    ensures { IfOk result (λ bytes. ReadsUpTo most (R.remaining reader.old) (R.remaining reader.new) bytes.items) }
+{
+    let mut piece = [0u8; PIECE];
+    let mut bytes = Vec::new(alloc);
+    'pieces: for _ in 0..u64::MAX {
+        let room = PIECE.min(most - bytes.len());
+        if room == 0 {
+            return Ok(bytes);
+        }
+        match reader.read(&mut piece[..room]) {
+            Ok(0) => return Ok(bytes),
+            Ok(n) => bytes.extend_from_slice(&piece[..n])?,
+            Err(error) => {
+                if error.kind() != ErrorKind::Interrupted {
+                    return Err(error);
+                }
+            }
+        }
+    }
+    Err(io::Error::from(ErrorKind::Other))
+}

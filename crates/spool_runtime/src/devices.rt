@@ -1,0 +1,173 @@
+//! The devices that the backends know of.
+//!
+//! A backend that is run without the words of a job prints a line for each device that it finds, or one for what it could
+//! serve (backend(7)). The lines that read so are printed as they were written. Nothing limits how long a backend takes:
+//! one that hangs is the user's to stop. What it leaves running isn't waited for. Its standard error goes nowhere, and so does
+//! what it prints behind its first 1,048,576 bytes.
+
+ghost use Rattle.std.specs.Prelude.{◌≡◌, ◌≢◌, ℕ, ◌∷◌, List, None, Option, Some, Err, IfErr, IfOk, IsOk, OnErr, OnOk, codes, true};
+ghost use Rattle.std.specs.IoError.{error_kind};
+ghost use Rattle.std.specs.Process.{clears_env, command_args, command_program};
+ghost use Rattle.spool_runtime.specs.DeviceLines.{IsOfPrinting, Knows, PrintsDevices, PrintsTold, lines_of};
+ghost use Rattle.program_lists.specs.declared.line.ListedProgram.{ListedProgram};
+ghost use Rattle.spool_runtime.specs.ChildScript.{program_words};
+
+use crate::child_files::read_at_most;
+use crate::device_lines::print_lines;
+use crate::fault::ShellFault;
+use crate::script::push_program;
+use program_lists::{ListedProgram, ProgramList};
+use std::alloc::{AllocError, Global};
+use std::fs::Files;
+use std::io::{ErrorKind, PipeReader, Read, Write};
+use std::os::fd::OwnedFd;
+use std::os::unix::net::UnixStream;
+use std::process::{Child, ChildStdout, Command, OpenProcess, Processes, Stdio};
+use std::time::{Clock, Duration};
+use std::{io, thread};
+
+// What runs a backend without a variable.
+const ENV: &str = "/usr/bin/env";
+
+// How many bytes of a backend's lines are read.
+const MOST_LINES: usize = 1_048_576;
+
+// How long a backend that tells nothing is left alone before it is looked at, in milliseconds.
+const TURN: u64 = 10;
+
+/// What asks a backend for its devices.
+pub trait Discovery {
+    // What a program tells, where that is known: a text, or none where it can't be run or read.
+    ghost tells: { Self → ListedProgram → Option (Option (List ℕ)) } = { λ _ _. None };
+
+    /// What the program tells. Only where there was no memory this is a fault of the one who asks.
+    fn ask(&self, program: &ListedProgram) -> io::Result<Vec<u8>>
+        ensures text { IfOk result (λ text. Knows (tells self.now program.now) (Some text.items)) }
+        ensures none { IfErr result (λ error. error_kind error ≢ ErrorKind.OutOfMemory → Knows (tells self.now program.now) None) };
+}
+
+/// Prints the devices of each backend, in the file's order. A backend that can't be run, or read, tells none.
+pub fn print_devices<D: Discovery, W: Write>(
+    alloc: Global,
+    discovery: &D,
+    list: &ProgramList,
+    writer: &mut W,
+) -> Result<(), ShellFault>
+    ensures told { OnOk result (PrintsTold (D.tells discovery.now) list.now.backends (W.contents writer.old) (W.contents writer.new)) }
+    ensures fault { IfErr result IsOfPrinting }
+{
+    for backend in list.backends() {
+        let told = discovery.ask(&backend.program);
+        print_told(alloc, told, writer)?;
+    }
+    Ok(())
+}
+
+// Prints the devices of what a backend told. Only where it found no memory this is a fault.
+fn print_told<W: Write>(
+    alloc: Global,
+    told: io::Result<Vec<u8>>,
+    writer: &mut W,
+) -> Result<(), ShellFault>
+    ensures lines { OnOk result (IfOk told (λ text. PrintsDevices (lines_of text.items) (W.contents writer.old) (W.contents writer.new))) }
+    ensures nothing { OnOk result (OnErr told (W.contents writer.new ≡ W.contents writer.old)) }
+    ensures memory { IfErr told (λ error. error_kind error ≡ ErrorKind.OutOfMemory → result ≡ Err ShellFault.Memory) }
+    ensures passed { IfErr told (λ error. error_kind error ≢ ErrorKind.OutOfMemory → IsOk result) }
+    ensures fault { IfErr result IsOfPrinting }
+{
+    match told {
+        Ok(text) => print_lines(alloc, &text, writer),
+        Err(error) if error.kind() == ErrorKind::OutOfMemory => Err(ShellFault::Memory),
+        Err(_) => Ok(()),
+    }
+}
+
+/// Runs each backend as a child process. What it tells is known by its run alone.
+#[derive(Clone, Copy)]
+pub struct ChildDiscovery<'a, R> {
+    pub rt: &'a R,
+}
+
+impl<'a, R: Files + Processes + Clock + AllocGlobal> Discovery for ChildDiscovery<'a, R> {
+    fn ask(&self, program: &ListedProgram) -> io::Result<Vec<u8>> {
+        let alloc = self.rt.alloc();
+        let (reader, writer) = io::pipe(self.rt)?;
+        let mut command = command_of(alloc, program)?;
+        command.stdin(Stdio::null());
+        command.stdout(Stdio::from(writer));
+        command.stderr(Stdio::null());
+        let child = command.spawn(self.rt)?;
+        // With it the end of the pipe that the child has is this program's no longer.
+        drop(command);
+        let telling = Telling {
+            rt: self.rt,
+            pipe: impatient(reader)?,
+            child,
+            ended: false,
+        };
+        let (told, child) = telling.all(alloc);
+        let mut child = child;
+        let _ = child.wait();
+        told
+    }
+}
+
+// A pipe that is read without waiting.
+fn impatient(reader: PipeReader) -> io::Result<ChildStdout> {
+    let stream = UnixStream::from(OwnedFd::from(reader));
+    stream.set_nonblocking(true)?;
+    Ok(ChildStdout::from(OwnedFd::from(stream)))
+}
+
+// What a backend tells while it runs. What it left behind may keep the pipe: once it has ended, what lies in the pipe is
+// all.
+#[derive(Drop)]
+struct Telling<'a, R, P: OpenProcess + Drop> {
+    rt: &'a R,
+    pipe: ChildStdout,
+    child: Child<P>,
+    ended: bool,
+}
+
+impl<'a, R: Clock, P: OpenProcess + Drop> Telling<'a, R, P> {
+    // All that it tells, up to the limit, and the backend, to be waited for. One that goes on telling is ended by the closed
+    // pipe.
+    fn all(self, alloc: Global) -> (io::Result<Vec<u8>>, Child<P>) {
+        let mut telling = self;
+        let told = read_at_most(alloc, &mut telling, MOST_LINES);
+        let Telling { child, .. } = telling;
+        (told, child)
+    }
+}
+
+impl<'a, R: Clock, P: OpenProcess + Drop> Read for Telling<'a, R, P> {
+    fn read(&mut self, buf: &mut [u8]) -> io::Result<usize> {
+        match self.pipe.read(buf) {
+            Err(error) if error.kind() == ErrorKind::WouldBlock => {
+                if self.ended {
+                    return Ok(0);
+                }
+                if matches!(self.child.try_wait(), Ok(None)) {
+                    thread::sleep(self.rt, Duration::from_millis(TURN));
+                } else {
+                    self.ended = true;
+                }
+                Err(io::Error::from(ErrorKind::Interrupted))
+            }
+            read => read,
+        }
+    }
+}
+
+// How a backend is run to tell its devices.
+fn command_of(alloc: Global, program: &ListedProgram) -> Result<Command, AllocError>
+    ensures program { IfOk result (λ command. command_program command ≡ codes "/usr/bin/env") }
+    ensures arguments { IfOk result (λ command. command_args command ≡ codes "-i" ∷ program_words program.now) }
+    ensures cleared { IfOk result (λ command. clears_env command ≡ true) }
+{
+    let mut command = Command::new(alloc, ENV)?;
+    command.env_clear();
+    command.arg("-i")?;
+    push_program(&mut command, program)?;
+    Ok(command)
+}

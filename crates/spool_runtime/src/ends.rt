@@ -1,0 +1,71 @@
+//! How a program of a spool begins and ends: its words, its faults on standard error, and its status.
+ghost use Rattle.std.specs.Prelude.{◌≡◌, ◌≢◌, OnErr, OnOk};
+ghost use Rattle.std.specs.Process.{exit_status};
+ghost use Rattle.std.specs.IoError.{error_kind};
+ghost use Rattle.clap.specs.Words.{kind_of};
+ghost use Rattle.spool_runtime.specs.ProgramEnding.{IsRefusal, IsWordsStatus};
+
+use crate::fault::ShellFault;
+use crate::options::WordsFault;
+use std::io::ErrorKind;
+use std::process::ExitCode;
+use std::rt::Env;
+use std::{env, io};
+
+/// The words of the command line, the program's name first.
+pub fn given_words<R: Env + AllocGlobal>(rt: &R) -> io::Result<Vec<String>> {
+    let words = env::args(rt)?.collect(rt.alloc())?;
+    Ok(words)
+}
+
+// Tells a fault, and the cause of one of the disk. Where that can't be written the status alone tells it.
+fn fail<R: Eprint>(rt: &R, fault: &ShellFault) -> ExitCode
+    ensures { exit_status result ≡ 1 }
+{
+    let _ = eprintln!(rt; "spool: {fault}");
+    if let ShellFault::Disk(cause) = fault {
+        let _ = eprintln!(rt; "spool: cause: {cause}");
+    }
+    ExitCode::FAILURE
+}
+
+/// Tells how a run ended, on standard error and by the status.
+pub fn report_end<R: Eprint>(rt: &R, ended: Result<(), ShellFault>) -> ExitCode
+    ensures ok { OnOk ended (exit_status result ≡ 0) }
+    ensures fault { OnErr ended (exit_status result ≡ 1) }
+{
+    match ended {
+        Ok(()) => ExitCode::SUCCESS,
+        Err(fault) => fail(rt, &fault),
+    }
+}
+
+// Prints why words are refused, or the help that they ask for.
+fn refuse<R: Print + Eprint>(rt: &R, error: &clap::Error) -> ExitCode
+    ensures { IsRefusal (kind_of error.now) (exit_status result) }
+{
+    let _ = error.print(rt);
+    ExitCode::from(error.exit_code() as u8)
+}
+
+/// Tells why the words say nothing, or prints the help that they ask for.
+pub fn report_words_fault<R: Print + Eprint>(rt: &R, fault: &WordsFault) -> ExitCode
+    ensures { IsWordsStatus fault.now (exit_status result) }
+{
+    match fault {
+        WordsFault::Refused(error) => refuse(rt, error),
+        WordsFault::Memory => fail(rt, &ShellFault::Memory),
+    }
+}
+
+/// Tells that the words couldn't be had: they are no text, or there was no memory.
+pub fn no_words<R: Eprint>(rt: &R, error: &io::Error) -> ExitCode
+    ensures no_text { error_kind error.now ≡ ErrorKind.InvalidData → exit_status result ≡ 2 }
+    ensures memory { error_kind error.now ≢ ErrorKind.InvalidData → exit_status result ≡ 1 }
+{
+    if error.kind() != ErrorKind::InvalidData {
+        return fail(rt, &ShellFault::Memory);
+    }
+    let _ = eprintln!(rt; "error: invalid UTF-8 was detected in one or more arguments");
+    ExitCode::from(2)
+}

@@ -1,0 +1,31 @@
+//! Which programs of the file can't be run as they are.
+
+use log::{Log, error};
+use program_fitness::obstacle_of_program;
+use program_lists::{ListedProgram, ProgramList};
+use std::fs::{File, Files};
+
+/// Tells each program of the file that can't be run as it is, a line for each.
+pub fn log_programs<L: Log, R: Files<File = File>>(log: &L, rt: &R, list: &ProgramList) {
+    for filter in list.filters() {
+        log_program(log, rt, "filter", filter.name.as_str(), &filter.program);
+    }
+    for backend in list.backends() {
+        log_program(log, rt, "backend", backend.name.as_str(), &backend.program);
+    }
+    if let Some(side) = list.side() {
+        log_program(log, rt, "side", "program", side);
+    }
+}
+
+fn log_program<L: Log, R: Files<File = File>>(
+    log: &L,
+    rt: &R,
+    kind: &str,
+    name: &str,
+    program: &ListedProgram,
+) {
+    if let Some(obstacle) = obstacle_of_program(rt, program) {
+        error!(log; "{kind} {name}: {obstacle}");
+    }
+}

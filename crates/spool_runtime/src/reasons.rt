@@ -1,0 +1,125 @@
+//! Why a stage failed, as far as the launcher knows: a line on standard error for each that no text of the child's tells.
+ghost use Rattle.std.specs.Prelude.{◌≡◌, IfOk};
+ghost use Rattle.std.specs.List.{list_any};
+ghost use Rattle.stderr_lines.specs.Reports.{report_of};
+ghost use Rattle.spool_runtime.specs.FailureReasons.{bad_end, is_message, may_pass};
+
+use crate::shortage::Shortage;
+use child_pipeline::{Finish, Program};
+use log::{Log, error};
+use program_fitness::Obstacle;
+use spool_types::{AttemptNumber, Effect, Exit, JobId, LONGEST_DOCUMENT, StageNumber};
+use std::alloc::{AllocError, Global};
+use stderr_lines::Lines;
+use thiserror::Error;
+
+/// Why a stage failed. Its text is the end of the line that tells it.
+#[derive(Clone, Copy, Debug, Drop, Error, PartialEq, Eq)]
+pub(crate) enum Reason {
+    #[error("not in the file of programs")]
+    Unlisted,
+    #[error("{0}")]
+    Unfit(Obstacle),
+    #[error("not started, for want of {0}")]
+    Short(Shortage),
+    #[error("not started, since the system refuses it")]
+    Refused,
+    #[error("not started, since the end of a child before it isn't known")]
+    Blind,
+    #[error("how it ended isn't known")]
+    NoEnd,
+    #[error("what it wrote can't be read")]
+    Unread,
+    #[error("the folder has no room, so what it wrote may be cut off")]
+    Cut,
+    #[error("the folder has no room left at its end")]
+    NoRoom,
+    #[error("output above {0} bytes")]
+    LongOutput(usize),
+    #[error("ended with status {0}, and told no cause")]
+    Status(u8),
+    #[error("ended by a signal, and told no cause")]
+    Signal,
+}
+
+impl Reason {
+    /// Whether it may be gone in a moment.
+    pub fn may_pass(self) -> bool
+        ensures { result ≡ may_pass self }
+    {
+        matches!(self, Reason::Short(_))
+    }
+}
+
+/// A stage that is run, as a line tells it.
+#[derive(Drop)]
+pub(crate) struct StageRun {
+    pub job: JobId,
+    pub attempt: AttemptNumber,
+    pub stage: StageNumber,
+    pub program: Program,
+}
+
+impl StageRun {
+    /// Tells why it failed, in a line.
+    pub fn log_reason<L: Log>(&self, log: &L, reason: Reason) {
+        let job = self.job.get();
+        let attempt = self.attempt.get();
+        let stage = self.stage.get();
+        let name = self.name();
+        error!(log; "job {job} attempt {attempt} stage {stage} {name}: {reason}");
+    }
+
+    /// Whether its program is a filter.
+    pub fn is_filter(&self) -> bool {
+        matches!(self.program, Program::Filter(_))
+    }
+
+    // The name of its program in the file.
+    fn name(&self) -> &str {
+        match &self.program {
+            Program::Filter(name) => name.as_str(),
+            Program::Backend(scheme) => scheme.as_str(),
+        }
+    }
+}
+
+/// Why the stage with this finish failed, where the launcher alone can tell it.
+pub(crate) fn reason_of(alloc: Global, finish: &Finish) -> Option<Reason> {
+    if LONGEST_DOCUMENT < finish.output.as_slice().len() {
+        return Some(Reason::LongOutput(LONGEST_DOCUMENT));
+    }
+    let reason = bad_end(finish.exit)?;
+    match says_why(alloc, finish.errors.as_slice()) {
+        Ok(true) => None,
+        _ => Some(reason),
+    }
+}
+
+// What is told of an end that is no success.
+fn bad_end(exit: Exit) -> Option<Reason>
+    ensures { result ≡ bad_end exit }
+{
+    match exit {
+        Exit::Code(0) => None,
+        Exit::Code(code) => Some(Reason::Status(code)),
+        Exit::Signal => Some(Reason::Signal),
+        Exit::NoStart | Exit::Lost => None,
+    }
+}
+
+// Whether standard error has a message for the queue.
+fn says_why(alloc: Global, errors: &[u8]) -> Result<bool, AllocError>
+    ensures { IfOk result (λ says. says ≡ list_any is_message (report_of errors.now).effects) }
+{
+    let mut lines = Lines::new(alloc);
+    lines.feed(errors)?;
+    let report = lines.finish()?;
+    Ok(report.effects.iter().any(is_message))
+}
+
+fn is_message(effect: &Effect) -> bool
+    ensures { result ≡ is_message effect.now }
+{
+    matches!(effect, Effect::Message { .. })
+}

@@ -1,0 +1,137 @@
+//! What the words ask for is done.
+ghost use Rattle.std.specs.Prelude.{◌≡◌, IfErr, IfOk, true};
+ghost use Rattle.spool_runtime.specs.Serving.{IsOfOpening, IsSetUp, database};
+
+use crate::begun::check_child_ends;
+use crate::device::SpoolFolder;
+use crate::devices::{ChildDiscovery, print_devices};
+use crate::fault::ShellFault;
+use crate::files::read_rules;
+use crate::fitness::log_programs;
+use crate::launcher::launcher_in;
+use crate::leftovers::clear_leftovers;
+use crate::named_disk::NamedDisk;
+use crate::serving::{ending, memory_device, open_engine, place_in, serve};
+use crate::words::ShellWords;
+use child_pipeline::{Children, NoChildren};
+use filter_args::Place;
+use log::Log;
+use mime_costs::Convs;
+use mime_rules::Types;
+use program_lists::ProgramList;
+use spool_engine::Engine;
+use std::alloc::Global;
+use std::fs::{File, Files};
+use std::io::{Read, Write};
+use std::net::Net;
+use std::process::Processes;
+use std::time::Clock;
+
+/// Does what the words ask for: it prints the devices, or serves the commands over a spool.
+pub fn run<L, H, R: Read, W: Write>(
+    logged: &L,
+    rt: &H,
+    words: ShellWords<'_>,
+    reader: &mut R,
+    writer: &mut W,
+) -> Result<(), ShellFault>
+where
+    L: Files<File = File> + AllocGlobal + Log,
+    H: Files<File = File> + Net + Processes + Clock + Clone + Drop + AllocGlobal,
+    // Where devices are asked for no command is read.
+    ensures devices { words.entry.devices ≡ true → R.remaining reader.new ≡ R.remaining reader.old }
+{
+    if words.programs.is_some() && !words.devices {
+        check_child_ends(rt)?;
+    }
+    let (types, convs, programs) = read_rules(logged, words.types, words.convs, words.programs)?;
+    if words.devices {
+        return print_devices(rt.alloc(), &ChildDiscovery { rt }, &programs, writer);
+    }
+    let rules = (types, convs);
+    match words.root {
+        Some(dir) => serve_folder(logged, rt, dir, words.size, programs, rules, reader, writer),
+        None => serve_memory(rt.alloc(), words.size, rules, reader, writer),
+    }
+}
+
+// Serves the commands over a new spool in memory, which starts no children.
+fn serve_memory<R: Read, W: Write>(
+    alloc: Global,
+    size: u64,
+    rules: (Types, Convs),
+    reader: &mut R,
+    writer: &mut W,
+) -> Result<(), ShellFault> {
+    let disk = memory_device(alloc, size)?;
+    let place = place_in(alloc, "", false)?;
+    serve(alloc, disk, (NoChildren, place), rules, reader, writer)
+}
+
+// Serves the commands over the spool of a folder, with the programs of the list as children.
+fn serve_folder<L, H, R: Read, W: Write>(
+    log: &L,
+    rt: &H,
+    dir: &str,
+    size: u64,
+    programs: ProgramList,
+    rules: (Types, Convs),
+    reader: &mut R,
+    writer: &mut W,
+) -> Result<(), ShellFault>
+where
+    L: Log,
+    H: Files<File = File> + Net + Processes + Clock + Clone + Drop + AllocGlobal,
+{
+    log_programs(log, rt, &programs);
+    let children = launcher_in(log, rt, dir, programs)?;
+    serve_children(log, rt, dir, size, children, rules, reader, writer)
+}
+
+// Serves them with these children.
+fn serve_children<L, H, C, R: Read, W: Write>(
+    log: &L,
+    rt: &H,
+    dir: &str,
+    size: u64,
+    children: (C, Place),
+    rules: (Types, Convs),
+    reader: &mut R,
+    writer: &mut W,
+) -> Result<(), ShellFault>
+where
+    L: Log,
+    H: Files<File = File> + Clock + Clone + Drop + AllocGlobal,
+    C: Children + Drop,
+{
+    let (folder, mut engine) = open_folder_engine(log, rt, dir, size, children, rules)?;
+    let ran = engine.run(reader, writer);
+    let served = ending(ran, engine.met_fault());
+    // The folder is this program's until all commands have been served.
+    drop(folder);
+    served
+}
+
+/// A folder, which is this program's as long as it isn't dropped, and an engine over the spool in it. A spool that isn't there is
+/// made, of so many bytes. What children of an earlier program left is removed once the spool is open.
+pub fn open_folder_engine<'a, L, H, C>(
+    log: &L,
+    rt: &'a H,
+    dir: &'a str,
+    size: u64,
+    children: (C, Place),
+    rules: (Types, Convs),
+) -> Result<(SpoolFolder<'a>, Engine<NamedDisk<'a, H>, C>), ShellFault>
+where
+    L: Log,
+    H: Files<File = File> + Clock + Clone + Drop + AllocGlobal,
+    C: Children + Drop,
+    ensures opened { IfOk result (λ opened. IsSetUp (database rules.0 rules.1 children.1) children.1 (C.tells children.0) opened.1) }
+    ensures fault { IfErr result IsOfOpening }
+{
+    let folder = SpoolFolder::own(rt, dir)?;
+    let disk = folder.device(rt, size)?;
+    let engine = open_engine(rt.alloc(), disk, children, rules)?;
+    clear_leftovers(log, rt, dir);
+    Ok((folder, engine))
+}

@@ -1,0 +1,101 @@
+//! How a spool is opened and served.
+ghost use Rattle.std.specs.Prelude.{◌≡◌, ◌⊎◌, ◌≤◌, IfErr, IfOk, IsOkUnless, length};
+ghost use Rattle.spool_disk.specs.MemoryDisks.{mem_bytes};
+ghost use Rattle.spool_types.specs.State.{nothing};
+ghost use Rattle.spool_core.specs.Image.{HasTable};
+ghost use Rattle.spool_runtime.specs.ProgramEnding.{ending_of};
+ghost use Rattle.spool_runtime.specs.Serving.{HasRun, IsOpened, IsPlace, IsUnopened, IsUnread, database};
+
+use crate::fault::{DiskCause, ShellFault};
+use child_pipeline::Children;
+use filter_args::Place;
+use mime_costs::Convs;
+use mime_rules::Types;
+use spool_core::{OpenError, Spool, make};
+use spool_disk::{Disk, MemDisk};
+use spool_engine::{Engine, RunFault};
+use std::alloc::{AllocError, Global};
+use std::io::{Read, Write};
+
+// The locale of the children and of the types of documents.
+const LANG: &str = "C";
+
+// Where the children look for programs.
+const PATH: &str = "/usr/bin:/bin";
+
+/// The place of the children of a folder's spool. Where programs are looked for and the locale are the same everywhere,
+/// so that a child doesn't depend on who started the spooler.
+pub fn place_in(alloc: Global, root: &str, side: bool) -> Result<Place, AllocError>
+    ensures { IfOk result (IsPlace root.entry.now side) }
+{
+    Ok(Place {
+        root: String::from_str(alloc, root)?,
+        lang: String::from_str(alloc, LANG)?,
+        path: String::from_str(alloc, PATH)?,
+        side,
+    })
+}
+
+/// A new spool in memory, of so many bytes.
+pub fn memory_device(alloc: Global, size: u64) -> Result<MemDisk, ShellFault>
+    ensures size { IfOk result (λ disk. length (mem_bytes disk) ≡ size) }
+    ensures empty { IfOk result (λ disk. HasTable nothing (mem_bytes disk)) }
+    ensures fault { 46 ≤ size → IsOkUnless result ShellFault.Memory }
+{
+    let mut disk = MemDisk::new(alloc, size as usize)?;
+    match make(&mut disk) {
+        Ok(()) => Ok(disk),
+        Err(_) => Err(ShellFault::Disk(DiskCause::Failed)),
+    }
+}
+
+/// An engine over the spool on this disk, with these children in this place. It holds no slot.
+pub fn open_engine<D: Disk + Drop, C: Children + Drop>(
+    alloc: Global,
+    disk: D,
+    children: (C, Place),
+    rules: (Types, Convs),
+) -> Result<Engine<D, C>, ShellFault>
+    ensures opened { IfOk result (IsOpened D.device (database rules.0 rules.1 children.1) children.1 (C.tells children.0) disk) }
+    ensures fault { IfErr result (IsUnread D.device disk) }
+{
+    let (types, convs) = rules;
+    let (children, place) = children;
+    match Spool::open(alloc, disk) {
+        Ok(spool) => Ok(Engine::new(alloc, spool, children, types, convs, place)),
+        Err(OpenError { fault, .. }) => Err(ShellFault::from(fault)),
+    }
+}
+
+/// Serves the commands over the spool on this disk, with these children in this place.
+pub fn serve<D: Disk + Drop, C: Children + Drop, R: Read, W: Write>(
+    alloc: Global,
+    disk: D,
+    children: (C, Place),
+    rules: (Types, Convs),
+    reader: &mut R,
+    writer: &mut W,
+) -> Result<(), ShellFault>
+    ensures { HasRun D.device (database rules.0 rules.1 children.1) children.1 (C.tells children.0)
+        disk (R.remaining reader.old) result (W.contents writer.old) (W.contents writer.new)
+        ⊎ IsUnopened D.device
+        disk (R.remaining reader.old) (R.remaining reader.new) result (W.contents writer.old) (W.contents writer.new) }
+{
+    let mut engine = match open_engine(alloc, disk, children, rules) {
+        Ok(engine) => engine,
+        Err(fault) => return Err(fault),
+    };
+    let ran = engine.run(reader, writer);
+    ending(ran, engine.met_fault())
+}
+
+/// What a run's end is to the program. A run over a disk that failed answers all commands, and is a fault nevertheless.
+pub(crate) fn ending(ran: Result<(), RunFault>, failed: bool) -> Result<(), ShellFault>
+    ensures { result ≡ ending_of ran failed }
+{
+    match ran {
+        Ok(()) if failed => Err(ShellFault::Disk(DiskCause::Failed)),
+        Ok(()) => Ok(()),
+        Err(fault) => Err(ShellFault::from(fault)),
+    }
+}

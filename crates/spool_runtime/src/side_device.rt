@@ -1,0 +1,109 @@
+//! The device that the side channel tells of, from the options of its URI.
+//!
+//! | Option | Value | Default |
+//! |---|---|---|
+//! | `bidi`, `connected` | `0` or `1` | `1` |
+//! | `state` | a decimal number up to 255 | `1`, which is ONLINE |
+//! | `id` | up to 1,000 bytes | empty |
+//!
+//! Of two options with one name the last counts. One that isn't a value takes its default, and all do where the URI or
+//! its options can't be read.
+ghost use Rattle.std.specs.Prelude.{◌≡◌, IfOk, map, string_bytes};
+ghost use Rattle.std.specs.Option.{option_map};
+ghost use Rattle.line_words.specs.DecimalNumbers.{decimal};
+ghost use Rattle.spool_runtime.specs.SideDevice.{device_in, flag_in, id_in, options_in, state_in, uri_among, uri_behind};
+
+use device_options::{last_value, options_or_none};
+use device_uri::{DeviceOption, DeviceUri, UriFault};
+use line_words::decimal;
+use side_channel::{Device, DeviceId};
+use std::alloc::{AllocError, Global};
+
+// The variable that has the URI.
+const URI: &str = "DEVICE_URI=";
+
+// The state of a device that tells none: it is ready.
+const ONLINE: u8 = 1;
+
+/// The URI among the variables of a child. There is one in each child's.
+pub(crate) fn uri_in(environment: &[String]) -> &str
+    ensures { result.now ≡ uri_among (map string_bytes environment.now) }
+{
+    for variable in environment {
+        if let Some(uri) = uri_of(variable.as_str()) {
+            return uri;
+        }
+    }
+    ""
+}
+
+// The URI that a variable has, if it is that of the URI.
+fn uri_of(variable: &str) -> Option<&str>
+    ensures { option_map (λ uri. uri.now) result ≡ uri_behind variable.now }
+{
+    variable.strip_prefix(URI)
+}
+
+/// The device of a URI.
+pub(crate) fn device_of(alloc: Global, uri: &str) -> Result<Device, AllocError>
+    ensures { IfOk result (λ device. device ≡ device_in uri.now) }
+{
+    let options = options_of(alloc, uri)?;
+    let id = id_of(alloc, last_value(&options, "id"))?;
+    Ok(Device {
+        bidi: flag_of(last_value(&options, "bidi")),
+        connected: flag_of(last_value(&options, "connected")),
+        state: state_of(last_value(&options, "state")),
+        id,
+    })
+}
+
+// The options of a URI, and none where it is no URI or they can't be read.
+fn options_of(alloc: Global, uri: &str) -> Result<Vec<DeviceOption>, AllocError>
+    ensures { IfOk result (λ options. options.items ≡ options_in uri.now) }
+{
+    match DeviceUri::parse(alloc, uri) {
+        Ok(uri) => options_or_none(alloc, &uri),
+        Err(UriFault::BadUri) => Ok(Vec::new(alloc)),
+        Err(UriFault::Memory) => Err(AllocError),
+    }
+}
+
+fn flag_of(value: Option<&str>) -> bool
+    ensures { result ≡ flag_in (option_map (λ value. value.now) value.entry) }
+{
+    match value {
+        Some(text) => text != "0",
+        None => true,
+    }
+}
+
+fn state_of(value: Option<&str>) -> u8
+    ensures { result ≡ state_in (option_map (λ value. value.now) value.entry) }
+{
+    match value {
+        Some(text) => state_number(text.as_bytes()).unwrap_or(ONLINE),
+        None => ONLINE,
+    }
+}
+
+// The number that digits are, of any count, where it fits.
+fn state_number(digits: &[u8]) -> Option<u8>
+    ensures { result ≡ decimal 255 digits.now }
+{
+    u8::try_from(decimal(digits, 255)?).ok()
+}
+
+fn id_of(alloc: Global, value: Option<&str>) -> Result<DeviceId, AllocError>
+    ensures { IfOk result (λ id. id ≡ id_in (option_map (λ value. value.now) value.entry)) }
+{
+    let Some(text) = value else {
+        return Ok(DeviceId::empty(alloc));
+    };
+    if text.len() > DeviceId::MOST {
+        return Ok(DeviceId::empty(alloc));
+    }
+    let mut bytes = Vec::new(alloc);
+    bytes.extend_from_slice(text.as_bytes())?;
+    Ok(DeviceId::new(bytes).unwrap())
+}

@@ -1,0 +1,93 @@
+-- What the words of the command line mean, as clap reads them.
+use Rattle.std.specs.Prelude.{◌≡◌, ◌≤◌, ℕ, List, Option, None, Some, IfSome, IsSomeAnd, codes, if◌then◌else◌, length}
+use Rattle.std.specs.Option.{SomeIff, option_map}
+use Rattle.std.specs.Str.Parse.{IsNumeral, digits_value, without_leading_plus}
+use Rattle.log.specs.declared.level.Level.{Level}
+use Rattle.log.specs.declared.level.Level.TheVariants.{Debug, Error, Info}
+use Rattle.clap.specs.Words.{App, Row, Text, first_of, matches_of, one_of, with_rule}
+use Rattle.clap.specs.declared.parser.matches.ArgMatches.{ArgMatches}
+use Rattle.spool_runtime.specs.ProgramArguments.{AreFaultlessFor, HasFlag, HasNumberIn, flag_of, is_told, number_or, option_in, size_of, spool_app, text_option}
+use Rattle.spool_service.specs.declared.words.ServiceWords.{ServiceWords}
+
+-- ---- the command
+
+-- `[--listen SOCKET] [--mode MODE]`
+abbrev pub with_socket : App → App
+with_socket app = with_rule (with_rule app (text_option (codes "listen"))) (text_option (codes "mode"))
+
+-- `[--keep N] [--room PERCENT] [--children N]`
+abbrev pub with_bounds : App → App
+with_bounds app =
+    with_rule (with_rule (with_rule app (option_in 0 1000000 (codes "keep"))) (option_in 1 90 (codes "room"))) (option_in 1 1000 (codes "children"))
+
+-- the options of a spool, these, and `[--quiet] [--verbose]`
+abbrev pub service_app : App
+service_app = with_rule (with_rule (with_bounds (with_socket (spool_app (codes "spool_service")))) (flag_of (codes "quiet"))) (flag_of (codes "verbose"))
+
+-- ---- what the values that were found mean
+
+-- the number of octal digits
+abbrev pub octal_of : Text → ℕ
+octal_of text = digits_value 8 (without_leading_plus text)
+
+-- octal digits of a number up to 777
+abbrev pub IsMode : Text → Type 0
+IsMode text = IsNumeral 8 (without_leading_plus text) × (octal_of text ≤ 511)
+
+-- the mode of MODE, where that is one, and 660 without it
+abbrev pub SaysMode : Option Text → Option ℕ → Type 0
+SaysMode None mode = mode ≡ Some 432
+SaysMode (Some text) mode = SomeIff mode (IsMode text) (octal_of text)
+
+-- all lines with `--verbose`, errors alone with `--quiet`, and otherwise those that tell what happens, too
+abbrev pub level_of : List Row → Level
+level_of found = if is_told (one_of (codes "verbose") found) then Debug else (if is_told (one_of (codes "quiet") found) then Error else Info)
+
+-- The words ask for what was found, or for the usual where it wasn't: 500 ended jobs, a quarter of the room, 32 children.
+pub record IsAsked (found : List Row) (words : ServiceWords) : Type 0 where
+  pub root : first_of (codes "root") found ≡ Some words.root.now
+  pub listen : option_map (λ socket. socket.now) words.listen ≡ first_of (codes "listen") found
+  pub mode : SaysMode (first_of (codes "mode") found) (Some words.mode)
+  pub types : option_map (λ file. file.now) words.types ≡ first_of (codes "types") found
+  pub convs : option_map (λ file. file.now) words.convs ≡ first_of (codes "convs") found
+  pub programs : option_map (λ file. file.now) words.programs ≡ first_of (codes "programs") found
+  pub size : words.size ≡ size_of found
+  pub keep : words.keep ≡ number_or 500 (one_of (codes "keep") found)
+  pub room : words.room ≡ number_or 25 (one_of (codes "room") found)
+  pub children : words.children ≡ number_or 32 (one_of (codes "children") found)
+  pub level : words.level ≡ level_of found
+
+-- what the words ask for is in its limits
+pub record AreInRange (words : ServiceWords) : Type 0 where
+  pub root : length words.root.now ≤ 64
+  pub mode : words.mode ≤ 511
+  pub size : (4096 ≤ words.size) × (words.size ≤ 1073741824)
+  pub keep : words.keep ≤ 1000000
+  pub room : (1 ≤ words.room) × (words.room ≤ 90)
+  pub children : (1 ≤ words.children) × (words.children ≤ 1000)
+
+-- DIR is there and has at most 64 bytes, and MODE is one, if it is there
+abbrev pub Fit : List Row → Type 0
+Fit found = IsSomeAnd (first_of (codes "root") found) (λ dir. length dir ≤ 64) × IfSome (first_of (codes "mode") found) IsMode
+
+-- clap finds no fault in the words
+abbrev pub AreFaultless : List Text → Type 0
+AreFaultless words = AreFaultlessFor service_app words
+
+-- clap finds no fault in the words, and what they say fits
+abbrev pub AreTaken : List Text → Type 0
+AreTaken words = AreFaultless words × Fit (matches_of service_app words)
+
+-- ---- between the steps of reading them
+
+-- the numbers that were found are in their ranges
+pub record HasNumbers (m : ArgMatches) : Type 0 where
+  pub size : HasNumberIn 4096 1073741824 (codes "size") m
+  pub keep : HasNumberIn 0 1000000 (codes "keep") m
+  pub room : HasNumberIn 1 90 (codes "room") m
+  pub children : HasNumberIn 1 1000 (codes "children") m
+
+-- the flags that were found are flags
+pub record HasFlags (m : ArgMatches) : Type 0 where
+  pub quiet : HasFlag (codes "quiet") m
+  pub verbose : HasFlag (codes "verbose") m

@@ -1,7 +1,0 @@
-use Rattle.std.proofs.Common.{◌≡◌, take}
-use Rattle.std.specs.List.{flat_map}
-use Rattle.stage_tools.specs.Results.{printed_byte}
-use Rattle.stage_tools.proofs.results.print_lines.Given as goal
-
-abbrev pub invariant-loop-b : goal.invariant-loop-b
-invariant-loop-b l = l.lines.items ≡ flat_map printed_byte (take l.b-index l.piece)

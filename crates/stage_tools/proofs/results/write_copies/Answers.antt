@@ -1,5 +1,0 @@
-use Rattle.stage_tools.proofs.ResultLaws.{one_copy}
-use Rattle.stage_tools.proofs.results.write_copies.Goals as goal
-
-pub copies-preserved : goal.copies-preserved
-copies-preserved g c = one_copy _ _ _ _ _ _ _ _ _ _ c.copies.invariant (rw c.in_ok-reader.ensures.whole at c.in_ok-count.ensures.wrote) c.in_ok-feeds.ensures.sum

@@ -1,5 +1,0 @@
-use Rattle.stage_tools.proofs.ResultLaws.{Pieces}
-use Rattle.stage_tools.proofs.results.write_result.Given as goal
-
-abbrev pub invariant-pieces : goal.invariant-pieces
-invariant-pieces g l = Pieces l.form (g.R.Read.remaining l.initial.reader) (g.R.Read.remaining l.reader) (g.W.Write.contents l.initial.writer) (g.W.Write.contents l.writer) l.feeds

@@ -1,0 +1,10 @@
+pub mod Written
+pub mod WordExamples
+pub mod LineExamples
+pub mod Types
+pub mod ChainExamples
+pub mod ProgramExamples
+pub mod CommandExamples
+pub mod ReplyExamples
+pub mod ReportExamples
+pub mod SessionExamples
