@@ -1,23 +1,25 @@
 #!/bin/sh
-# Puts the built programs where Debian expects them, or takes them away again.
+# Installs the built programs where Debian expects them, or removes them.
 #
 #   install.sh [--lp] PREFIX     after the proved build, as install.sh /usr/local
 #   install.sh --remove PREFIX
 #
-# PREFIX is absolute, as /usr/local. With DESTDIR in the environment all goes below that folder, and is made for PREFIX.
+# PREFIX is absolute, as /usr/local. If DESTDIR is set in the environment, the files are written below that folder, and the paths in them
+# are those of PREFIX.
 #
 #   PREFIX/bin                   spool; with --lp also lp, lpr, lpstat, cancel, lpq and lprm
-#   PREFIX/lib/cegmandi/bin      these six, without --lp, so that those of CUPS stay: put it first in PATH
+#   PREFIX/lib/cegmandi/bin      these six, without --lp, so that they do not replace those of CUPS: put this folder first in PATH
 #   PREFIX/sbin                  spool_shell, spool_service, spool_admin
-#   PREFIX/lib/cegmandi          spool_tools, say.py, the wrappers of stock filters, and the list of all that was put
+#   PREFIX/lib/cegmandi          spool_tools, say.py, the wrappers of stock filters and their PPD, and the manifest: the list of all
+#                                installed files
 #   PREFIX/lib/systemd/system    cegmandi.service
 #   PREFIX/share                 man pages, the completion for bash, the README and the examples
-#   /etc/cegmandi                the files that the unit names, with the stock filters of CUPS where /usr/lib/cups/filter is there;
-#                                PREFIX/etc/cegmandi where PREFIX is neither /usr nor /usr/local
+#   /etc/cegmandi                the files that the unit names, with the stock filters of CUPS if /usr/lib/cups/filter exists;
+#                                PREFIX/etc/cegmandi if PREFIX is neither /usr nor /usr/local
 #
-# A file that is there already, and that this script didn't put there, is never written over: it ends before it does anything. Only
-# a file below etc that is there is kept as it is. A second install takes the first away before. What was changed since it was put
-# stays at a removal, and is told. Where it is killed, --remove takes away what is there so far.
+# The script never overwrites a file that it did not install or that was changed since: it fails before it changes anything. A file below
+# etc that exists is kept unchanged. A second install removes the first one before it writes its own files. --remove keeps and names the
+# files that were changed since they were installed. If an install is killed, --remove removes the files that it has written.
 set -eu
 
 usage() {
@@ -44,11 +46,11 @@ done
 [ $# -eq 1 ] || usage
 prefix=${1%/}
 case $prefix in
-*[!A-Za-z0-9._/-]* | */../* | */..) fail "PREFIX has letters, digits and . _ - / alone" ;;
+*[!A-Za-z0-9._/-]* | */../* | */..) fail "PREFIX may contain only letters, digits and . _ - /, and no part may be .." ;;
 esac
 root=${DESTDIR:-}
 root=${root%/}
-[ -d "$root/" ] || fail "there is no folder $root"
+[ -d "$root/" ] || fail "the folder $root does not exist"
 here=$(cd "$(dirname "$0")" && pwd)
 library=$prefix/lib/cegmandi
 manifest=$library/manifest
@@ -64,7 +66,7 @@ sum_of() {
     sha256sum < "$1" | cut -d ' ' -f 1
 }
 
-# Whether what a line of the list tells is still as it was put.
+# Whether the file or link of a line of the manifest has not changed since it was installed.
 is_ours() {
     case $1 in
     link) [ -L "$root$3" ] && [ "$(readlink "$root$3")" = "$2" ] ;;
@@ -72,8 +74,8 @@ is_ours() {
     esac
 }
 
-# Takes away what the list tells, the last first, and then the folders that were made for it and are empty.
-take_away() {
+# Removes the files and links of the manifest, in reverse order, and then the folders that install.sh created and that are empty.
+uninstall() {
     sed '1!G;h;$!d' "$root$manifest" > "$work/list"
     while read -r kind value path; do
         if [ "$kind" = made ]; then
@@ -83,7 +85,7 @@ take_away() {
         if is_ours "$kind" "$value" "$path"; then
             rm -f "$root$path"
         elif [ -e "$root$path" ] || [ -L "$root$path" ]; then
-            echo "kept, since it was changed: $root$path"
+            echo "kept, because it was changed: $root$path"
         fi
     done < "$work/list"
     rm -f "$root$manifest"
@@ -94,17 +96,17 @@ take_away() {
     done < "$work/list"
 }
 
-# Makes a folder with those above it, and lists each that wasn't there.
+# Creates a folder and its parents, and adds each folder that did not exist to the manifest.
 make_folder() {
     if [ ! -d "$root$1" ]; then
         make_folder "$(dirname "$1")"
-        # Below PREFIX the list is there already; above it, it isn't.
         echo "made - $1" >> "$work/made"
         mkdir "$root$1"
         list_made
     fi
 }
 
+# Adds the created folders to the manifest once its own folder exists.
 list_made() {
     if [ -d "$root$library" ]; then
         cat "$work/made" >> "$root$manifest"
@@ -112,9 +114,10 @@ list_made() {
     fi
 }
 
-# What each item is done with: look, which sees that nothing is in its way, or put.
-look() {
-    [ "$1" = link ] || [ -r "$3" ] || fail "there is no $3"
+# The two actions on an item, given its kind, mode, source and path: check fails if its source cannot be read or if another file has its
+# path, and put installs it.
+check() {
+    [ "$1" = link ] || [ -r "$3" ] || fail "cannot read $3"
     if [ "$1" = config ]; then
         return
     fi
@@ -122,7 +125,7 @@ look() {
         line=$(awk -v path="$4" '$3 == path { print $1, $2, $3 }' "$work/ours")
         # shellcheck disable=SC2086 # three words without blanks
         if [ -z "$line" ] || ! is_ours $line; then
-            fail "$root$4 is there already, and isn't of this script or was changed"
+            fail "$root$4 already exists, and was changed or was not installed by this script"
         fi
     fi
 }
@@ -130,7 +133,7 @@ look() {
 put() {
     kind=$1 mode=$2 source=$3 path=$4
     if [ "$kind" = config ] && [ -e "$root$path" ]; then
-        echo "kept, since it is there: $root$path"
+        echo "kept, because it exists: $root$path"
         return
     fi
     make_folder "$(dirname "$path")"
@@ -145,7 +148,7 @@ put() {
     fi
 }
 
-# A file of the repository with the places of this install in it.
+# Writes a copy of a file of the repository with the paths of this install, and prints the path of the copy.
 adapted() {
     mkdir -p "$work/texts"
     sed -e "s|TOOLS|$library/spool_tools|g" -e "s|HERE/|$library/|g" -e "s|/usr/local/sbin/|$prefix/sbin/|g" \
@@ -154,7 +157,7 @@ adapted() {
     echo "$work/texts/$(basename "$1")"
 }
 
-# A script of the examples, by which the programs are found where they are put.
+# Writes a copy of an example script with the paths of the installed programs, and prints the path of the copy.
 script() {
     mkdir -p "$work/scripts"
     sed -e '/^crates=/d' -e "s|\$crates/spool_tools/out/spool_tools|$library/spool_tools|g" \
@@ -195,13 +198,13 @@ front() {
     done
 }
 
-# The unit, and each file that it names.
+# The systemd unit, and the files that it names.
 unit() {
     "$1" file 644 "$(adapted examples/office/cegmandi.service)" "$prefix/lib/systemd/system/cegmandi.service"
     named=$(grep -o '/etc/cegmandi/[A-Za-z0-9._-]*' "$here/examples/office/cegmandi.service" | sed 's|.*/||' | sort -u)
     for name in $named; do
         example=$name
-        # The stock filters, where there are some.
+        # The stock filters of CUPS are used if they are installed.
         if [ "$name" = programs ] && [ -d "$root/usr/lib/cups/filter" ] && [ -f "$here/examples/office/stock-programs" ]; then
             example=stock-programs
         fi
@@ -238,8 +241,8 @@ each() {
 }
 
 if [ -n "$remove" ]; then
-    [ -f "$root$manifest" ] || fail "nothing is installed in $root$prefix: there is no $root$manifest"
-    take_away
+    [ -f "$root$manifest" ] || fail "nothing is installed in $root$prefix: $root$manifest does not exist"
+    uninstall
     exit 0
 fi
 
@@ -249,9 +252,9 @@ done
 : > "$work/made"
 : > "$work/ours"
 [ ! -f "$root$manifest" ] || cp "$root$manifest" "$work/ours"
-each look
-[ ! -f "$root$manifest" ] || take_away
+each check
+[ ! -f "$root$manifest" ] || uninstall
 umask 022
 make_folder "$library"
 each put
-echo "installed in $root$prefix; install.sh --remove $prefix takes it away"
+echo "installed in $root$prefix; to remove: install.sh --remove $prefix"

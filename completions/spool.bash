@@ -1,7 +1,7 @@
-# Completion of spool(1) for bash: its tasks, their options, and the queues and jobs that the service has.
+# Bash completion for spool(1): its tasks and their options, and the queues and jobs of the service.
 # shellcheck shell=bash
 
-# What the service has now, a word each; nothing where it isn't there. The socket is the one on the line, if there is one.
+# Prints the output of a task as JSON, or nothing if the service does not reply within a second. Uses the --socket of the command line.
 _spool_asked() {
     local socket=() i
     for ((i = 1; i < COMP_CWORD; i++)); do
@@ -20,7 +20,7 @@ _spool_jobs() {
     _spool_asked status | grep -o '"number": *[0-9]*' | grep -o '[0-9]*$'
 }
 
-# How many words there are behind the task that are neither options nor their values.
+# Prints the number of words after the task that are neither options nor values of options.
 _spool_plain_words() {
     local i count=0
     for ((i = $1; i < COMP_CWORD; i++)); do
@@ -50,7 +50,7 @@ _spool() {
     --title | --user | --copies | --priority | --pages | -o | --at | --by | --until | --interval | --limit | --info | --location) return ;;
     esac
     if [[ -z $words && $COMP_CWORD -eq 1 ]]; then
-        words='submit status queues watch cancel hold release purge end queue devices check page --help'
+        words='submit status queues watch cancel hold release purge end queue devices check page --help --version'
     elif [[ -z $words && $task == queue && $COMP_CWORD -eq 2 ]]; then
         words='add set accept reject enable disable'
     elif [[ -z $words ]]; then

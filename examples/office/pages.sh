@@ -1,11 +1,11 @@
 #!/bin/sh
-# Prints a document on the queues of an office whose printers are files: pages.sh FOLDER FILE [COPIES]
+# Prints a document on six queues whose printers are files: pages.sh FOLDER FILE [COPIES]
 #
-# The folder is new. A file of it is what a printer would be sent: page.pdf, page.ps, page.pwg, page.raster, page.pclxl, and page.raw, which is the document
-# as it is. It wants the stock filters of CUPS (Debian's package cups-filters). A document that no chain of filters leads
-# from is answered `unprintable`.
+# It creates FOLDER. Each file in it has the bytes for one kind of printer: page.pdf, page.ps, page.pwg, page.raster, page.pclxl, and page.raw,
+# which is the document unchanged. It requires the filters of CUPS (Debian's package cups-filters). If there is no chain of filters for the
+# document, the reply is `unprintable`.
 #
-# The folder's name is absolute, of at most 58 bytes, without blanks, `=` and what a URI can't have.
+# FOLDER is an absolute path of at most 58 bytes without blanks, `=` and characters that a URI cannot contain.
 set -eu
 folder=$1 file=$2 copies=${3:-1}
 here=$(cd "$(dirname "$0")" && pwd)
@@ -15,7 +15,7 @@ name=$(basename "$file" | tr -c 'A-Za-z0-9._\n-' _)
 mkdir "$folder" "$folder/spool"
 sed "s|HERE|$here|; s|TOOLS|$crates/spool_tools/out/spool_tools|" "$here/stock-programs" > "$folder/programs"
 
-# A queue and a job for a kind of printer: NUMBER, the end of its file, and the type that it takes.
+# Prints the commands for a queue and a job: the job's number, the suffix of the printer's file, and the type that the printer accepts.
 job() {
     echo "queue $2 spoolfile:$folder/page.$2 $3 abort-job"
     echo "create $2 ann \"$name\" $copies 50 \"media=A4\""

@@ -1,17 +1,17 @@
 #!/bin/sh
-# Prints a letter through a filter, and keeps its spool in a new folder: print.sh FOLDER [HOST:PORT]
+# Prints a letter through a filter, with its spool in a new folder: print.sh FOLDER [HOST:PORT]
 #
-# It goes into the file letter.prn of that folder, or to the printer that listens at HOST:PORT (mostly port 9100). The
-# latter is done by the backend `appsocket`, which notices a printer that resets the connection.
+# The letter is written to the file letter.prn of that folder, or sent to the printer that listens at HOST:PORT (usually port 9100) by the
+# backend `appsocket`, which detects a printer that resets the connection.
 #
-# The folder's name is absolute, of at most 58 bytes, without blanks, `=` and what a URI can't have.
+# FOLDER is an absolute path of at most 58 bytes without blanks, `=` and characters that a URI cannot contain.
 set -eu
 folder=$1
 printer=${2:-}
 here=$(cd "$(dirname "$0")" && pwd)
 crates=$(cd "$here/../../crates" && pwd)
-# A printer that is away for ten seconds leaves the job waiting (`retry-later`). This spool has no clock of its own: a later run tries it
-# again by `clock MOMENT`, 30 seconds further, and `drain 9`. The service (serve.sh) tells the time by itself.
+# If the printer cannot be reached for ten seconds, the job waits (`retry-later`). spool_shell has no clock: a later run tries again after
+# `clock MOMENT`, 30 seconds later, and `drain 9`. The service (serve.sh) keeps the time by itself.
 device=${printer:+appsocket://$printer/?contimeout=10}
 mkdir "$folder" "$folder/spool"
 sed "s|TOOLS|$crates/spool_tools/out/spool_tools|" "$here/programs" > "$folder/programs"

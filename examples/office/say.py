@@ -1,9 +1,9 @@
 #!/usr/bin/env python3
-"""Says commands to the service, and prints its replies: say.py [--until-end] SOCKET [COMMAND]
+"""Sends commands to the service and prints its replies: say.py [--until-end] SOCKET [COMMAND]
 
-Without COMMAND they come from standard input. It waits up to ten seconds for a service that is starting, and ends once all is
-answered. With --until-end it stays until the service has ended, as the unit file wants it. The status is 0, or 1 where a reply
-was an error or nobody serves.
+Without COMMAND it reads commands from standard input. It waits up to ten seconds for a service that is starting, and ends after the last
+reply. With --until-end it ends when the service has ended, which the systemd unit requires. The status is 0, or 1 if a reply is an error
+or no service listens on the socket.
 """
 import socket
 import sys
@@ -13,7 +13,7 @@ SECONDS = 10
 
 
 def called(path):
-    """A line to the service."""
+    """A connection to the service."""
     end = time.monotonic() + SECONDS
     while True:
         line = socket.socket(socket.AF_UNIX)
@@ -23,7 +23,7 @@ def called(path):
         except OSError as fault:
             line.close()
             if end < time.monotonic():
-                sys.exit(f"nobody serves {path}: {fault}")
+                sys.exit(f"cannot connect to {path}: {fault}")
             time.sleep(0.05)
 
 

@@ -1,8 +1,8 @@
 #!/bin/sh
-# Runs the office as a service in a new folder, prints a letter, and ends it: serve.sh FOLDER
+# Runs the service in a new folder, prints a letter, and shuts the service down: serve.sh FOLDER
 #
-# The printers are files of the folder, FOLDER/desk and so on. Its name is absolute, of at most 58 bytes, without blanks, `=` and
-# what a URI can't have.
+# The printers are files in the folder: FOLDER/desk and so on. FOLDER is an absolute path of at most 58 bytes without blanks, `=` and
+# characters that a URI cannot contain.
 set -eu
 folder=$1
 here=$(cd "$(dirname "$0")" && pwd)

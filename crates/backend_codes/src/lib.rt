@@ -1,7 +1,8 @@
 //! The verdict on a job whose child ended.
 //!
-//! A job runs through stages, its filters in order and then the backend, each a child process. When one has ended,
-//! [`verdict`] says by its exit what becomes of the job. [`lost_verdict`] says it of an attempt whose end nobody saw.
+//! A job runs in stages: its filters in order, then the backend. Each stage is a child process. When a child has ended,
+//! [`verdict`] decides by its exit how the job continues. [`lost_verdict`] decides for an attempt without a recorded
+//! end.
 //!
 //! # The table
 //!
@@ -14,16 +15,22 @@
 //! | status 5 | aborted as `filter-failed` | canceled |
 //! | status 6, 7 | aborted as `filter-failed` | tried again later, tried again first |
 //!
-//! The names of the statuses are those of backend(7), those of the policies are ErrorPolicy's of cupsd.conf(5). Two rules
-//! follow:
+//! The statuses are named as in backend(7), the policies as in ErrorPolicy of cupsd.conf(5). Two rules apply
+//! afterwards, in this order:
 //!
-//! 1. A job that would be tried again is aborted as `retry-limit` where its queue's limit, if it isn't 0, has been reached.
-//! 2. A job that would wait in any way is aborted so where it was started 4,294,967,295 times.
+//! 1. A job that would be tried again is aborted as `retry-limit` if the limit of its queue is not 0 and has been
+//!    reached.
+//! 2. A job that would wait for any reason is aborted as `retry-limit` if it was started 4,294,967,295 times.
 //!
 //! # Promises
 //!
-//! *ExactChoice* for verdicts: [`verdict`] is `verdict_of`, and [`lost_verdict`] its row for an attempt whose end nobody saw.
-//! Both take no allocator and can't fail.
+//! - *ExactChoice* for verdicts: [`verdict`] is exactly `verdict_of`, by the exit, the stage, the policy, the attempts
+//!   and the limit. [`lost_verdict`] is exactly the definition of the same name: the policy for an attempt without a
+//!   recorded end, with the same two rules.
+//!
+//! # Errors
+//!
+//! None. Neither function takes an allocator.
 #![tactic(auto)]
 
 mod exits;

@@ -1,20 +1,20 @@
-//! What becomes of a job whose child ended.
+//! The verdict on a job whose child ended.
 use spool_types::{AbortReason, HoldReason};
 
-/// What becomes of a job whose child ended.
+/// The verdict on a job whose child ended.
 #[derive(Clone, Copy, Debug, PartialEq, Eq)]
 pub enum Verdict {
-    /// Its next stage is to run.
+    /// The next stage of the job will run.
     NextStage,
     Completed,
     Aborted(AbortReason),
     Canceled,
-    /// It waits until it is released.
+    /// The job waits until it is released.
     Held(HoldReason),
-    /// Its queue stops, and it waits.
+    /// The queue stops, and the job waits.
     StopQueue,
-    /// It waits for the queue's interval.
+    /// The job waits for the queue's interval.
     RetryAt,
-    /// It waits, and goes before all others.
+    /// The job waits, and comes before all others.
     RetryFirst,
 }

@@ -1,4 +1,4 @@
--- Results that are written piece by piece.
+-- Results are written piece by piece.
 use Rattle.std.proofs.Common.{◌≡◌, ℕ, ◌+◌, List, ◌++◌, Option, None, Some, add-one, arith, refl, sym, ap, ◌∙◌, subst, append-nil}
 use Rattle.std.specs.Io.KnownBytes.{Appends, Consumes, IsAtEnd, Keeps}
 use Rattle.std.proofs.KnownBytes.{Appends-trans, Consumes-kept, Consumes-trans}
@@ -15,7 +15,7 @@ piece_of-append Lines a b = flat_map-append printed_byte a b
 form_feeds-append : (a b : List ℕ) → form_feeds (a ++ b) ≡ form_feeds a + form_feeds b
 form_feeds-append a b = sum_by-append _ a b
 
--- what was read so far was written
+-- The result of the bytes read so far was written.
 pub record Pieces (form : Form) (known left old new : Option (List ℕ)) (feeds : ℕ) : Type 0 where
   pub bytes : List ℕ
   pub read : Consumes known left bytes
@@ -35,7 +35,7 @@ one_piece form known mid left old new next bytes n m sum p read wrote counted is
 pub kept_pieces : (form : Form) (known mid left old new : Option (List ℕ)) (n : ℕ) → Pieces form known mid old new n → Keeps mid left → Pieces form known left old new n
 kept_pieces form known mid left old new n p k = record { bytes = p.bytes; read = Consumes-kept known mid left p.bytes p.read k; wrote = p.wrote; counted = p.counted }
 
--- a reader that came to its end has given all that was known of it
+-- A reader that reached its end has returned all its known bytes.
 whole : (known left : Option (List ℕ)) (bytes document : List ℕ) → known ≡ Some document → Consumes known left bytes → IsAtEnd left → bytes ≡ document
 whole None left bytes document e read end = cc
 whole (Some xs) None bytes document e read end = absurd read

@@ -1,9 +1,9 @@
--- The options of a device's URI that the backends know: of two with one name the last counts.
+-- The options of a device's URI that the backends use. If an option is repeated, the last one counts.
 use Rattle.std.specs.Prelude.{ℕ, codes, List, Option, None, Some, unwrap_or}
 use Rattle.device_options.specs.DeviceOptions.{last_value}
 use Rattle.builtin_stages.specs.ToolNumbers.{ranged}
 
--- the number that is given, or else the default
+-- The given number, or the default.
 abbrev pub number_in : ℕ → ℕ → Option (List ℕ) → ℕ
 number_in most default None = default
 number_in most default (Some value) = unwrap_or (ranged 0 most value) default
@@ -11,18 +11,18 @@ number_in most default (Some value) = unwrap_or (ranged 0 most value) default
 abbrev pub number_of : List ℕ → ℕ → ℕ → List (List ℕ × List ℕ) → ℕ
 number_of name most default pairs = number_in most default (last_value name pairs)
 
--- the status that `spoolfile` ends with
+-- The exit status of `spoolfile`.
 abbrev pub exit_of : List (List ℕ × List ℕ) → ℕ
 exit_of pairs = number_of (codes "exit") 255 0 pairs
 
--- how many seconds `appsocket` tries to connect, and 0 for as many as the system does
+-- The seconds that `appsocket` tries to connect, or 0 for the limit of the system.
 abbrev pub connect_seconds_of : List (List ℕ × List ℕ) → ℕ
 connect_seconds_of pairs = number_of (codes "contimeout") 4294967295 30 pairs
 
--- how many seconds `appsocket` waits for the printer's end
+-- The seconds that `appsocket` waits until the printer closes the connection.
 abbrev pub end_seconds_of : List (List ℕ × List ℕ) → ℕ
 end_seconds_of pairs = number_of (codes "endtimeout") 4294967295 90 pairs
 
--- how many times `meet` looks for its partner
+-- How often `meet` checks for its partner.
 abbrev pub turns_of : List (List ℕ × List ℕ) → ℕ
 turns_of pairs = number_of (codes "turns") 4294967295 20 pairs

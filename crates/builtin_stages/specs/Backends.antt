@@ -1,4 +1,4 @@
--- What the backends write (backend(7)).
+-- The output of the backends (backend(7)).
 use Rattle.std.specs.Prelude.{ℕ, List, [], ◌∷◌, ◌++◌, codes, Option}
 use Rattle.builtin_stages.specs.Results.{Copied}
 use Rattle.builtin_stages.specs.declared.results.Form.TheVariants.{Plain}
@@ -16,7 +16,7 @@ device_class SideAsk = codes "file "
 abbrev pub device_line : Backend → List ℕ
 device_line tool = device_class tool ++ backend_name tool ++ codes " \"Unknown\" \"" ++ backend_name tool ++ 34 ∷ 10 ∷ []
 
--- the copies were written as they are
+-- The copies were written unchanged.
 pub record Spooled (copies : ℕ) (known old new : Option (List ℕ)) : Type 0 where
   pub feeds : ℕ
   pub wrote : Copied Plain copies known old new feeds

@@ -1,4 +1,4 @@
--- What a filter writes.
+-- The output of a filter.
 use Rattle.std.specs.Prelude.{◌≡◌, ◌⊎◌, ℕ, List, [], ◌∷◌, ◌++◌, Option, codes}
 use Rattle.std.specs.Fmt.{decimal}
 use Rattle.std.specs.Io.KnownBytes.{Appends}
@@ -14,16 +14,16 @@ abbrev pub form_of : Filter → Form
 form_of TextToPrn = Lines
 form_of PrnCount = Plain
 
--- The pages: so many copies of page 1, or so many form feeds in all. The last byte is a line feed.
+-- The line of the pages: the copies of page 1, or the number of form feeds. It ends with a line feed.
 abbrev pub page_line : Filter → ℕ → ℕ → List ℕ
 page_line TextToPrn copies feeds = codes "PAGE: 1 " ++ decimal copies ++ 10 ∷ []
 page_line PrnCount copies feeds = codes "PAGE: total " ++ decimal feeds ++ 10 ∷ []
 
--- the document can't be read, its result or its pages can't be written, or there was no memory
+-- The document cannot be read, its result or its pages cannot be written, or memory ran out.
 abbrev pub IsOfFilter : ToolFault → Type 0
 IsOfFilter fault = (fault ≡ Read) ⊎ (fault ≡ Write) ⊎ (fault ≡ Memory)
 
--- the copies were written, and their pages told
+-- The copies were written and their pages reported.
 pub record Filtered (tool : Filter) (copies : ℕ) (known old new told_old told_new : Option (List ℕ)) : Type 0 where
   pub feeds : ℕ
   pub printed : Copied (form_of tool) copies known old new feeds

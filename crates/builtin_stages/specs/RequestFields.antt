@@ -1,8 +1,8 @@
--- What the words ask for, as a clause sees it.
+-- The requests as clauses see them.
 use Rattle.std.specs.Option.{option_map}
-use Rattle.builtin_stages.specs.ToolArguments.{Printed, Request, filter, backend, device_line, side_end}
+use Rattle.builtin_stages.specs.ToolArguments.{Printed, Request, filter, backend, device_line, side_end, version}
 use Rattle.builtin_stages.specs.declared.words.Asked.{Asked}
-use Rattle.builtin_stages.specs.declared.words.Asked.TheVariants.{Filter, Backend, DeviceLine, SideEnd}
+use Rattle.builtin_stages.specs.declared.words.Asked.TheVariants.{Filter, Backend, DeviceLine, SideEnd, Version}
 use Rattle.builtin_stages.specs.declared.words.Document.{Document}
 
 abbrev pub printed : Document → Printed
@@ -13,3 +13,4 @@ request (Filter tool d) = filter tool (printed d)
 request (Backend tool d) = backend tool (printed d)
 request (DeviceLine tool) = device_line tool
 request (SideEnd socket) = side_end socket.now
+request Version = version

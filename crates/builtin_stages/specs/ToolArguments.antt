@@ -1,4 +1,4 @@
--- What the words of the command line ask for.
+-- The meaning of the arguments.
 use Rattle.std.specs.Prelude.{ℕ, cond, codes, List, [], ◌∷◌, Option, None, Some}
 use Rattle.std.specs.Option.{option_map}
 use Rattle.std.specs.Str.{bytes_eq}
@@ -36,7 +36,7 @@ backend_of name =
 
 -- ---- the document of a job
 
--- the file of this name, or else standard input, and how many times it is printed
+-- The file of this name, or standard input, and the number of copies.
 pub record Printed : Type 0 where
   pub file : Option (List ℕ)
   pub copies : ℕ
@@ -47,20 +47,21 @@ once = record { file = None; copies = 1 }
 abbrev pub times : List ℕ → ℕ → Printed
 times name count = record { file = Some name; copies = count }
 
--- A job's number, user, title, copies and options, and perhaps the name of its document's file (filter(7)). Copies are made
--- of a file alone.
+-- A job's number, user, title, copies, options and optionally the name of its document's file (filter(7)). Only a file is printed more than
+-- once.
 abbrev pub document_of : List (List ℕ) → Option Printed
 document_of (number ∷ user ∷ title ∷ copies ∷ options ∷ []) = option_map (λ count. once) (ranged 1 9999 copies)
 document_of (number ∷ user ∷ title ∷ copies ∷ options ∷ name ∷ []) = option_map (times name) (ranged 1 9999 copies)
 document_of words = None
 
--- ---- all words, of which the first is the program's name
+-- ---- all arguments, starting with the program's name
 
 pub data Request : Type 0 where
   filter : Filter → Printed → Request
   backend : Backend → Printed → Request
   device_line : Backend → Request
   side_end : List ℕ → Request
+  version : Request
 
 abbrev pub backend_asked : Backend → List (List ℕ) → Option Request
 backend_asked tool [] = Some (device_line tool)
@@ -70,11 +71,18 @@ abbrev pub side_end_asked : List (List ℕ) → Option Request
 side_end_asked (socket ∷ []) = Some (side_end socket)
 side_end_asked words = None
 
--- a filter with its job, a backend with its job or alone, or the end of a session
+abbrev pub version_asked : List (List ℕ) → Option Request
+version_asked [] = Some version
+version_asked (word ∷ words) = None
+
+-- A filter with its job, a backend with its job or alone, the end of a session, or the version.
 abbrev pub asked_by : Option Filter → Option Backend → List ℕ → List (List ℕ) → Option Request
 asked_by (Some tool) other name words = option_map (filter tool) (document_of words)
 asked_by None (Some tool) name words = backend_asked tool words
-asked_by None None name words = cond (bytes_eq name (codes "side-end")) (side_end_asked words) None
+asked_by None None name words =
+    cond (bytes_eq name (codes "side-end")) (side_end_asked words)
+    (cond (bytes_eq name (codes "--version")) (version_asked words)
+    None)
 
 abbrev pub asked_of : List (List ℕ) → Option Request
 asked_of (program ∷ name ∷ words) = asked_by (filter_of name) (backend_of name) name words

@@ -1,12 +1,13 @@
--- How the tools end.
+-- The end of the tools.
 use Rattle.std.specs.Prelude.{◌≡◌, ℕ, ◌⊎◌, ◌≤◌, List, [], ◌∷◌, ◌++◌, codes, Option, None, Some, Result, Ok, Err}
 use Rattle.std.specs.Io.KnownBytes.{Appends, Keeps}
 use Rattle.whole_writes.specs.Writes.{WroteSome}
 use Rattle.builtin_stages.specs.Backends as backends
 use Rattle.builtin_stages.specs.Filters.{Filtered}
-use Rattle.builtin_stages.specs.ToolArguments.{Printed, Request, filter, backend, device_line, side_end}
+use Rattle.builtin_stages.specs.ToolArguments.{Printed, Request, filter, backend, device_line, side_end, version}
 use Rattle.builtin_stages.specs.declared.fault.ToolFault.{ToolFault}
 use Rattle.builtin_stages.specs.declared.fault.ToolFault.TheVariants.{Connect, Device, Memory, Partner, Read, Reset, Side, Write}
+use Rattle.builtin_stages.specs.declared.running.TheConstants.{VERSION_LINE}
 use Rattle.builtin_stages.specs.declared.words.Backend.{Backend}
 use Rattle.builtin_stages.specs.declared.words.Backend.TheVariants.{AppSocket, SpoolFile}
 use Rattle.builtin_stages.specs.declared.words.Filter.{Filter}
@@ -23,15 +24,15 @@ message Connect = codes "cannot connect"
 message Reset = codes "connection reset"
 message Memory = codes "out of memory"
 
--- the line that tells a fault on standard error (filter(7))
+-- The line that reports a fault on standard error (filter(7)).
 abbrev pub error_line : ToolFault → List ℕ
 error_line fault = codes "ERROR: " ++ message fault ++ 10 ∷ []
 
--- this line was written, or as much of it as the writer took
+-- This line was written, or as much of it as the writer accepted.
 abbrev pub Tells : ToolFault → Option (List ℕ) → Option (List ℕ) → Type 0
 Tells fault old new = Appends old new (error_line fault) ⊎ WroteSome old new (error_line fault)
 
--- the status of a fault: where nobody answers the job is to be tried again later (6, backend(7))
+-- The exit status of a fault. If the printer cannot be reached, the job must be tried again later (6, backend(7)).
 abbrev pub fault_status : ToolFault → ℕ
 fault_status Connect = 6
 fault_status Read = 1
@@ -42,36 +43,36 @@ fault_status Partner = 1
 fault_status Reset = 1
 fault_status Memory = 1
 
--- the status that was asked for, or that of the fault
+-- The requested status, or that of the fault.
 abbrev pub status_of : Result ℕ ToolFault → ℕ
 status_of (Ok status) = status
 status_of (Err fault) = fault_status fault
 
--- ---- the end of the program, by what its words ask for
+-- ---- the end of the program, by the request of its arguments
 
--- what is known of the document: nothing of a file
+-- The known bytes of the document. Nothing is known of a file.
 abbrev pub known_of : {A : Type 0} → Option A → Option (List ℕ) → Option (List ℕ)
 known_of None input = input
 known_of (Some name) input = None
 
--- all copies are written and their pages told, or it is 1
+-- All copies are written and their pages reported, or the status is 1.
 abbrev pub FilterEnds : Filter → Printed → Option (List ℕ) → Option (List ℕ) → Option (List ℕ) → Option (List ℕ) → Option (List ℕ) → ℕ → Type 0
 FilterEnds tool d input out_old out_new err_old err_new status =
     ((status ≡ 0) × Filtered tool d.copies (known_of d.file input) out_old out_new err_old err_new) ⊎ (status ≡ 1)
 
--- a fault is told, and its status is that of the fault
+-- A fault is reported, and the status is that of the fault.
 pub record TellsFault (old new : Option (List ℕ)) (status : ℕ) : Type 0 where
   pub fault : ToolFault
   pub ended : status ≡ fault_status fault
   pub tells : Tells fault old new
 
--- Nothing is written on standard output. `spoolfile` and `appsocket` tell their faults, and the others tell none.
+-- Nothing is written on standard output. `spoolfile` and `appsocket` report their faults, the others do not.
 abbrev pub BackendEnds : Backend → Option (List ℕ) → Option (List ℕ) → ℕ → Type 0
 BackendEnds SpoolFile err_old err_new status = Keeps err_old err_new ⊎ ((status ≡ 1) × Tells Write err_old err_new)
 BackendEnds AppSocket err_old err_new status = ((status ≡ 0) × Keeps err_old err_new) ⊎ TellsFault err_old err_new status
 BackendEnds _ err_old err_new status = (status ≤ 1) × Keeps err_old err_new
 
--- the whole line is written, or it is 1 and the line is cut
+-- The whole line is written, or the status is 1 and the line is truncated.
 abbrev pub LineEnds : List ℕ → Option (List ℕ) → Option (List ℕ) → ℕ → Type 0
 LineEnds line old new status = ((status ≡ 0) × Appends old new line) ⊎ ((status ≡ 1) × WroteSome old new line)
 
@@ -86,3 +87,5 @@ Ends (Some (device_line tool)) input out_old out_new err_old err_new status =
     LineEnds (backends.device_line tool) out_old out_new status × Keeps err_old err_new
 Ends (Some (side_end socket)) input out_old out_new err_old err_new status =
     (status ≤ 1) × Keeps out_old out_new × Keeps err_old err_new
+Ends (Some version) input out_old out_new err_old err_new status =
+    LineEnds VERSION_LINE.now out_old out_new status × Keeps err_old err_new

@@ -1,10 +1,10 @@
--- Decimal numbers, as the words and the options have them.
+-- Decimal numbers in arguments and options.
 use Rattle.std.specs.Prelude.{ℕ, ◌&&◌, cond, nat_le, nat_lt, List, length, Option, None, Some}
 use Rattle.std.specs.Char.{is_ascii_digit}
 use Rattle.std.specs.List.{list_all}
 use Rattle.std.specs.Str.Parse.{digits_value}
 
--- the number that a text of digits stands for, from the least to the most
+-- The number that the digits represent, if it is in the range.
 abbrev pub ranged : ℕ → ℕ → List ℕ → Option ℕ
 ranged least most text =
     let number = digits_value 10 text in

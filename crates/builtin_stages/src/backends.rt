@@ -20,7 +20,7 @@ use std::time::Duration;
 use std::{env, fs, thread};
 use whole_writes::write_whole;
 
-/// The line that tells of the backend's device, with its line feed.
+/// Returns the device line of the backend, with its line feed.
 pub fn device_line(backend: Backend) -> &'static str
     ensures { result.now ≡ device_line backend }
 {
@@ -32,7 +32,7 @@ pub fn device_line(backend: Backend) -> &'static str
     }
 }
 
-/// Writes the copies into the device's file, and gives the status to end with.
+/// Writes the copies to the device's file, and returns the exit status.
 pub fn spool_file<H: Files<File = File> + Env + AllocGlobal, S: Source>(
     rt: &H,
     source: &S,
@@ -46,7 +46,7 @@ pub fn spool_file<H: Files<File = File> + Env + AllocGlobal, S: Source>(
     }
 }
 
-// The same, with the fault as it is met.
+// The same, with the original fault.
 fn write_file<H: Files<File = File> + Env + AllocGlobal, S: Source>(
     rt: &H,
     source: &S,
@@ -57,7 +57,7 @@ fn write_file<H: Files<File = File> + Env + AllocGlobal, S: Source>(
     write_spooled(rt.alloc(), &device, source, copies, &mut file)
 }
 
-// Writes the copies as they are, and gives the status that the device's options ask for.
+// Writes the copies unchanged, and returns the status that the device's options request.
 fn write_spooled<S: Source, W: Write>(
     alloc: Global,
     device: &Device,
@@ -72,7 +72,7 @@ fn write_spooled<S: Source, W: Write>(
     Ok(exit_of(&device.options))
 }
 
-/// Makes the device's file as a mark, and looks for the partner's. Where that isn't found, its own mark goes.
+/// Creates the device's file as a mark, and checks for the partner's. If that is not found, removes the own mark.
 pub fn meet<H: Files<File = File> + Env + Clock + AllocGlobal>(rt: &H) -> Result<(), ToolFault> {
     let device = given_device(rt)?;
     let mark = device.path.as_str();
@@ -84,7 +84,7 @@ pub fn meet<H: Files<File = File> + Env + Clock + AllocGlobal>(rt: &H) -> Result
     Err(ToolFault::Partner)
 }
 
-/// Asks the side channel for the device's id, and writes it into the device's file.
+/// Requests the device id on the side channel, and writes it to the device's file.
 pub fn side_ask<H: Files<File = File> + Env + Net + AllocGlobal>(rt: &H) -> Result<(), ToolFault> {
     let device = given_device(rt)?;
     let stream = connect(rt, variable(rt, "SPOOL_SIDE")?.as_str())?;
@@ -103,12 +103,12 @@ pub fn side_end<H: Net + AllocGlobal>(rt: &H, socket: &str) -> Result<(), ToolFa
     end_session(rt.alloc(), &mut &stream)
 }
 
-// The device that the environment names.
+// Returns the device that the environment names.
 fn given_device<H: Env + AllocGlobal>(rt: &H) -> Result<Device, ToolFault> {
     read_device(rt.alloc(), variable(rt, "DEVICE_URI")?.as_str())
 }
 
-/// A variable that is there, as a text.
+/// Returns a variable, which must exist and be a text.
 pub(crate) fn variable<H: Env + AllocGlobal>(rt: &H, name: &str) -> Result<String, ToolFault> {
     match env::var(rt, name) {
         Ok(value) => Ok(value),
@@ -117,12 +117,12 @@ pub(crate) fn variable<H: Env + AllocGlobal>(rt: &H, name: &str) -> Result<Strin
     }
 }
 
-// A file without bytes to write to.
+// Creates an empty file, or truncates an existing one.
 fn new_file<H: Files<File = File>>(rt: &H, path: &str) -> Result<File, ToolFault> {
     File::create(rt, path).ok().ok_or(ToolFault::Write)
 }
 
-// Makes the mark. One that is there stays as it is.
+// Creates the mark. An existing one is not changed.
 fn make_mark<H: Files<File = File>>(rt: &H, path: &str) -> Result<(), ToolFault> {
     match OpenOptions::new().write(true).create(true).open(rt, path) {
         Ok(_) => Ok(()),
@@ -130,7 +130,7 @@ fn make_mark<H: Files<File = File>>(rt: &H, path: &str) -> Result<(), ToolFault>
     }
 }
 
-// Looks for the partner's mark in turns, with a second between two of them.
+// Checks for the partner's mark several times, with a second between two checks. Returns whether it was found.
 fn finds_partner<H: Files + Clock>(rt: &H, device: &Device) -> bool {
     let Some(partner) = partner_of(&device.options) else {
         return false;
@@ -146,7 +146,7 @@ fn finds_partner<H: Files + Clock>(rt: &H, device: &Device) -> bool {
     false
 }
 
-// Connects to a socket, which has a name.
+// Connects to the socket. An empty name is refused.
 fn connect<H: Net>(rt: &H, socket: &str) -> Result<UnixStream, ToolFault> {
     if socket.is_empty() {
         return Err(ToolFault::Side);

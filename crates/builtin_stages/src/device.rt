@@ -1,4 +1,4 @@
-//! The file that a backend prints to.
+//! Reads the URI of a device that is a file.
 ghost use Rattle.std.specs.Prelude.{◌≡◌, ◌⊎◌, IfErr, IfOk, IsErrOf, IsUtf8};
 ghost use Rattle.std.specs.String.{string_bytes};
 ghost use Rattle.percent_encoding.specs.Percent.{percent_decode};
@@ -16,11 +16,11 @@ use std::alloc::Global;
 pub struct Device {
     /// The URI's path, decoded.
     pub path: String,
-    /// No options where they can't be read, so that each has its default.
+    /// Empty if they cannot be read, so that each has its default.
     pub options: Vec<DeviceOption>,
 }
 
-/// Reads the URI of a device. Its fault is `Device` or `Memory`.
+/// Reads the URI of a device. Fails with `Device` or `Memory`.
 pub fn read_device(alloc: Global, text: &str) -> Result<Device, ToolFault>
     ensures value { IfOk result (λ device. IsDevice device text.now) }
     ensures refused { IsErrOf result ToolFault.Device → IsNoDevice text.now }
@@ -45,7 +45,7 @@ pub(crate) fn read_uri(alloc: Global, text: &str) -> Result<DeviceUri, ToolFault
     }
 }
 
-// The name of the file that a path stands for.
+// Returns the name of the file that a path represents.
 fn read_path(alloc: Global, path: &str) -> Result<String, ToolFault>
     ensures value { IfOk result (λ name. string_bytes name ≡ percent_decode path.now) }
     ensures refused { IsErrOf result ToolFault.Device → ¬ (IsUtf8 (percent_decode path.now)) }

@@ -1,4 +1,4 @@
-//! How a tool begins and ends: its words, its fault on standard error, and its status.
+//! The arguments of a tool, its error message and its exit status.
 ghost use Rattle.std.specs.Prelude.{◌≡◌, IfErr, OnErr, OnOk};
 ghost use Rattle.std.specs.Process.{exit_status};
 ghost use Rattle.std.specs.Io.KnownBytes.{Keeps};
@@ -11,13 +11,13 @@ use std::rt::Env;
 use std::{env, io};
 use whole_writes::write_whole;
 
-/// The words of the command line, the program's name first.
+/// Returns the arguments, starting with the program's name.
 pub fn given_words<H: Env + AllocGlobal>(rt: &H) -> io::Result<Vec<String>> {
     let words = env::args(rt)?.collect(rt.alloc())?;
     Ok(words)
 }
 
-/// Tells a fault on standard error. Where that can't be written the status alone tells it.
+/// Reports a fault on standard error, and returns the exit status. If the line cannot be written, only the status reports the fault.
 pub(crate) fn report_end<E: Write>(errors: &mut E, ended: Result<u8, ToolFault>) -> ExitCode
     ensures status { exit_status result ≡ status_of ended }
     ensures ok { OnOk ended (Keeps (E.contents errors.old) (E.contents errors.new)) }
@@ -32,7 +32,7 @@ pub(crate) fn report_end<E: Write>(errors: &mut E, ended: Result<u8, ToolFault>)
     }
 }
 
-/// The end of a tool that tells by its status alone how it went.
+/// Returns the exit status of a tool that writes no error message.
 pub(crate) fn end_silently(ended: Result<(), ToolFault>) -> ExitCode
     ensures ok { OnOk ended (exit_status result ≡ 0) }
     ensures fault { OnErr ended (exit_status result ≡ 1) }

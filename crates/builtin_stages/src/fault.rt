@@ -1,4 +1,4 @@
-//! Why a tool fails.
+//! The faults of the tools.
 ghost use Rattle.std.specs.Prelude.{◌≡◌};
 ghost use Rattle.builtin_stages.specs.ToolEnding.{error_line, fault_status};
 ghost use Rattle.builtin_stages.specs.declared.fault.ToolFault.TheVariants.{Memory, Write};
@@ -9,26 +9,26 @@ use whole_writes::WriteFault;
 /// Why a tool fails.
 #[derive(Clone, Copy, Debug, PartialEq, Eq)]
 pub enum ToolFault {
-    /// The document can't be read.
+    /// The document cannot be read.
     Read,
-    /// What there is to write can't be written.
+    /// The output cannot be written.
     Write,
-    /// A variable that is wanted isn't there, or DEVICE_URI names no file.
+    /// A required variable is missing, or DEVICE_URI names no file.
     Device,
-    /// The side channel doesn't answer.
+    /// The side channel does not answer.
     Side,
-    /// The partner didn't come.
+    /// The partner was not found.
     Partner,
-    /// The printer can't be reached, or its name isn't known.
+    /// The printer cannot be reached, or its host is unknown.
     Connect,
-    /// The connection to the printer was reset, or is lost.
+    /// The connection to the printer was reset or lost.
     Reset,
-    /// There was no memory.
+    /// Memory ran out.
     Memory,
 }
 
 impl ToolFault {
-    /// The line that tells it on standard error (filter(7)), with its line feed.
+    /// Returns the line that reports the fault on standard error (filter(7)), with its line feed.
     pub fn error_line(self) -> &'static str
         ensures { result.now ≡ error_line self }
     {
@@ -46,7 +46,7 @@ impl ToolFault {
 }
 
 impl ToolFault {
-    /// The status to end with: 6 where a later try may reach the printer (backend(7)), and else 1.
+    /// Returns the exit status: 6 if a later attempt may reach the printer (backend(7)), otherwise 1.
     pub fn status(self) -> u8
         ensures { result ≡ fault_status self }
     {

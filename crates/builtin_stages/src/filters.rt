@@ -2,8 +2,8 @@
 //!
 //! | Filter | Standard output | Standard error |
 //! |---|---|---|
-//! | `texttoprn` | each line feed behind a carriage return, and a form feed at the end | `PAGE: 1 N`, N the results written |
-//! | `prncount` | the document as it is | `PAGE: total N`, N the form feeds written |
+//! | `texttoprn` | CR LF for each LF, and a form feed at the end | `PAGE: 1 N`, N the number of copies |
+//! | `prncount` | the document unchanged | `PAGE: total N`, N the number of form feeds written |
 ghost use Rattle.std.specs.Prelude.{◌≡◌, IfErr, IfOk, OnOk};
 ghost use Rattle.std.specs.String.{string_bytes};
 ghost use Rattle.builtin_stages.specs.Filters.{Filtered, IsOfFilter, form_of, page_line};
@@ -15,7 +15,7 @@ use std::alloc::{AllocError, Global};
 use std::io::Write;
 use whole_writes::write_whole;
 
-/// Writes so many copies of what the filter makes of the document, and then tells the pages.
+/// Writes `copies` copies of the filter's result, and then reports the pages.
 pub fn run_filter<S: Source, W: Write, E: Write>(
     alloc: Global,
     filter: Filter,
@@ -43,7 +43,7 @@ fn form_of(filter: Filter) -> Form
     }
 }
 
-// The line that tells the spooler of the pages.
+// Returns the line that reports the pages to the spooler.
 fn page_line(alloc: Global, filter: Filter, copies: u32, feeds: u64) -> Result<String, AllocError>
     ensures { IfOk result (λ line. string_bytes line ≡ page_line filter copies feeds) }
 {

@@ -1,59 +1,59 @@
-//! Small filters and backends to try a spool with, and the end of a side-channel session: what `spool_tools` runs.
+//! Small filters and backends, and the end of a side-channel session: the tools of `spool_tools`.
 //!
-//! Words: `TOOL ..`, the first word naming the tool ([`words`]). A spool gives a filter or a backend five or six words more,
-//! those of filter(7) and backend(7): the job's number, user, title, copies and options, and perhaps the name of its
-//! document's file. Without that word the document is standard input.
+//! Arguments: TOOL, the name of a tool, and its own arguments ([`words`]), or `--version`. The spooler adds the five or six arguments of
+//! filter(7) and backend(7): the job's number, user, title, copies, options and optionally the name of the document's file. Without a file
+//! the document is standard input.
 //!
-//! | Tool | What it does |
+//! | Tool | Effect |
 //! |---|---|
-//! | `texttoprn` | writes the document with each line feed behind a carriage return and a form feed at the end, and then `PAGE: 1 N` on standard error, N the results written |
-//! | `prncount` | writes the document as it is, and then `PAGE: total N` on standard error, N the form feeds written |
-//! | `spoolfile` | writes the document into the device's file, and ends with the option `exit`, 0 to 255 |
-//! | `meet` | makes the device's file as a mark, and looks up to `turns` times, a second apart, for the file that the option `partner` names; where it isn't found, the mark goes |
-//! | `sideask` | asks the side channel for the device's id, and writes it into the device's file |
-//! | `appsocket` | sends the document to the printer of the network that the URI names, closes its half of the connection and waits for the printer's end; a reset is a fault, and so is a printer that can't be reached |
-//! | `side-end SOCKET` | ends the session on the socket, by the packet FF 00 00 00 |
+//! | `texttoprn` | writes CR LF for each LF of the document and a form feed at the end, and then `PAGE: 1 N` on standard error, N the number of copies |
+//! | `prncount` | writes the document unchanged, and then `PAGE: total N` on standard error, N the number of form feeds written |
+//! | `spoolfile` | writes the document to the device's file, and exits with the option `exit`, 0 to 255 |
+//! | `meet` | creates the device's file as a mark, unless it exists, and checks up to `turns` times, a second apart, for the file of the option `partner`; if it does not find it, it removes the mark; without `partner` it exits with 1 |
+//! | `sideask` | requests the device id on the side channel, and writes it to the device's file |
+//! | `appsocket` | sends the document to the network printer of the URI, closes its half of the connection and waits until the printer closes the other ([`network`]) |
+//! | `side-end SOCKET` | ends the session on the socket with the packet FF 00 00 00 |
 //!
-//! A file is written COPIES times, and standard input once. COPIES is a decimal number from 1 to 9,999. The device's file is
-//! the path of the URI in the variable DEVICE_URI, decoded, and its options are those of the URI ([`device`], [`options`]).
-//! A printer is the host and the port of that URI, 9100 where it has none ([`printer`]).
-//! The side channel is the Unix socket that the variable SPOOL_SIDE names.
+//! A file is printed COPIES times, a decimal number from 1 to 9,999, and standard input once. The device's file is the decoded path of the
+//! URI in the variable DEVICE_URI, and its options are those of the URI ([`device`], [`options`]). A printer is the host and the port of
+//! that URI, by default port 9100 ([`printer`]). The side channel is the Unix socket that the variable SPOOL_SIDE names.
 //!
-//! Without a word more a backend writes the line of its device, `file TOOL "Unknown" "TOOL"`, and for `appsocket` the class is
-//! `network`.
+//! A backend without the arguments of a job prints its device line, `file TOOL "Unknown" "TOOL"`; the class of `appsocket` is `network`.
 //!
 //! # Promises
 //!
-//! - [`run_words`] carries how the program ends, by its words (`Ends`). A filter that ends with 0 has written all copies of
-//!   its result and told their pages (`Filtered`, `Copied`); a device's line is written whole where the status is 0; a
-//!   backend writes nothing on standard output. All other words end with 1, and nothing is written.
-//! - [`words::read_words`] carries what words mean (`asked_of`).
-//! - [`write_copies`] writes the results of a document that tells its bytes, and counts the form feeds written of
-//!   any (`Copied`): no byte is lost where two pieces meet.
-//! - The status is 0 after a tool's work and 1 after a fault ([`ends`]), or 6 where a printer can't be reached
-//!   (`fault_status`). That of `spoolfile` is its option, or 0 without one (`exit_of`), and each option has its default
-//!   (`turns_of`, `connect_seconds_of`, `end_seconds_of`). Of options with one name the last counts (`last_value` of
-//!   `device_options`).
-//! - A device has the path and the options of its URI, and is refused only where that is no URI or its path no text
-//!   ([`read_device`]). A printer has its host, its port and its options, and is refused only where that is no URI or has no
-//!   host ([`read_printer`]).
-//! - [`ask_id`] writes 04 00 00 00 and gives the packet that comes first, and only an answer that is OK and holds its
-//!   data has an id ([`id_in`]). [`end_session`] writes FF 00 00 00.
+//! - [`words::read_words`] returns exactly the request of the arguments (`asked_of`). [`run_words`] states how the program ends (`Ends`);
+//!   for other arguments it exits with 1 and writes nothing.
+//! - A filter that exits with 0 has written all copies of its result and reported their pages (`Filtered`, `Copied`). Its faults are those
+//!   of `IsOfFilter`, `IsOfResult` and `IsUnwritten`. A device line or the version is complete if the status is 0. A backend writes nothing
+//!   on standard output.
+//! - [`write_copies`] writes the results of a document with known bytes, and counts the form feeds written of any document (`Copied`): no
+//!   byte is lost between two pieces.
+//! - [`read_device`] returns the path and the options of the URI, and [`read_printer`] its host, port and options. They refuse a text only
+//!   if it is not a URI, or if its path is not UTF-8 or it has no host.
+//! - [`exit_of`], [`turns_of`], [`connect_seconds_of`] and [`end_seconds_of`] return the options' numbers or their defaults. If an option
+//!   is repeated, the last one counts (`last_value` of `device_options`).
+//! - `report_end` returns the tool's status; after a fault this is 6 if a printer cannot be reached, otherwise 1 (`fault_status`).
+//!   `appsocket` exits with 0 and reports nothing, or reports a fault (`BackendEnds`). `spoolfile` exits with its option, by default 0.
+//! - [`ask_id`] writes 04 00 00 00 and returns the first packet received. Only an answer with the status OK whose data are stored has an id
+//!   ([`id_in`]). [`end_session`] writes FF 00 00 00. `end_silently` returns 0 or 1.
 //!
-//! What real files and sockets hold, and how long a second takes, no clause can say: tests/tools.py does.
+//! # Not proved
 //!
-//! # Faults
+//! - What files and sockets the tools reach, and how long they wait: `tests/tools.py` shows it.
+//! - These bodies meet their clauses: a document, a copy, a packet or a device line that is a fault at once, a `spoolfile` that exits with
+//!   0 or 1 and writes nothing, and an `appsocket` that exits with 0 and sends nothing.
 //!
-//! Each ends with status 1, but for a printer that can't be reached. A filter tells its fault on standard error as
-//! `ERROR: cannot read`, `ERROR: cannot write` or `ERROR: out of memory` ([`fault`]), and `spoolfile` each of its faults as
-//! `ERROR: cannot write`. `appsocket` has these three, and `ERROR: no device`, `ERROR: cannot connect` and
-//! `ERROR: connection reset`. The other tools tell theirs by the status alone: what `side-end` says after a stage would count
-//! as the stage's own words.
+//! # Errors
 //!
-//! # Memory
+//! A filter reports a fault on standard error as `ERROR: cannot read`, `ERROR: cannot write` or `ERROR: out of memory` ([`fault`]), and
+//! `spoolfile` each of its faults as `ERROR: cannot write`. `appsocket` has these three, and `ERROR: no device`, `ERROR: cannot connect`
+//! and `ERROR: connection reset`. The other tools report faults by the status only, because a message of `side-end` after a stage would
+//! count as a message of the stage.
 //!
-//! A document is read and written by pieces of 65,536 bytes, and a file is read anew for each copy, so its length doesn't
-//! count.
+//! # Cost
+//!
+//! A document is read and written in pieces of 65,536 bytes, and a file is read again for each copy, so its length does not matter.
 #![tactic(auto)]
 
 mod backends;

@@ -1,12 +1,12 @@
-//! The backend `appsocket`, for printers that take a document from a connection (AppSocket, mostly on port 9100).
+//! The backend `appsocket`, for printers that receive a document over a connection (AppSocket, usually on port 9100).
 //!
-//! # How it ends
+//! # The end of the connection
 //!
-//! A printer that resets the connection may have lost the document, and a writer doesn't see that: its last bytes are
-//! taken by the system. So the backend closes its half and waits for the printer's end, as long as the option
-//! `endtimeout` says. What the printer says meanwhile, and while it is written to, is read and let go, so that neither
-//! waits for the other. Where the printer neither ends nor resets in that time, nothing is known against the document,
-//! and it counts as printed.
+//! A printer that resets the connection may have lost the document. The writer does not notice this, because the system accepts its last
+//! bytes. So the backend closes its half and waits until the printer closes the other half, at most the seconds of the option
+//! `endtimeout`. It reads and discards the printer's data, also while it writes, so that neither waits for the other; there is no back
+//! channel. If the printer neither closes nor resets the connection in time, nothing indicates a failure, and the document counts as
+//! printed. If nobody listens, the backend exits with 6 at once, so that other children do not wait.
 ghost use Rattle.std.specs.Prelude.{◌≡◌};
 ghost use Rattle.std.specs.IoError.{error_kind};
 
@@ -23,18 +23,18 @@ use std::time::{Duration, Instant};
 use std::{io, thread};
 use url::Host;
 
-// How many bytes of what the printer says are read at once, and how often in a row.
+// The number of bytes from the printer that one read takes, and the most reads in a row.
 const PIECE: usize = 16_384;
 
 const PIECES: usize = 4_096;
 
-// How long a write may wait before what the printer says is read, in milliseconds.
+// The longest wait of a write before the printer's data is read, in milliseconds. The write is repeated as long as needed.
 const TURN: u64 = 100;
 
-// After the printer's end, how long a reset of what it hadn't read may be on its way, in milliseconds.
+// The wait for a reset after the printer closed the connection, in milliseconds.
 const SETTLING: u64 = 100;
 
-/// Sends the copies to the printer that DEVICE_URI names, and waits for its end.
+/// Sends the copies to the printer that DEVICE_URI names, and waits until it closes the connection.
 pub fn app_socket<H: Files<File = File> + Env + Clock + Net + AllocGlobal, S: Source>(
     rt: &H,
     source: &S,
@@ -50,7 +50,7 @@ pub fn app_socket<H: Files<File = File> + Env + Clock + Net + AllocGlobal, S: So
     line.finish(rt, end_seconds_of(&printer.options))
 }
 
-// Connects to the printer, by the first of its addresses that answers.
+// Connects to the first of the printer's addresses that answers.
 fn connect<H: Net>(rt: &H, printer: &Printer) -> Result<H::Stream, ToolFault> {
     let port = printer.port;
     let seconds = connect_seconds_of(&printer.options);
@@ -69,7 +69,7 @@ fn connect<H: Net>(rt: &H, printer: &Printer) -> Result<H::Stream, ToolFault> {
     }
 }
 
-// A printer may answer and reset the connection before the call that connects has returned.
+// Converts an error of a connect. A printer may accept and reset the connection before the call returns.
 fn unconnected(error: &io::Error) -> ToolFault
     ensures reset { error_kind error.now ≡ ErrorKind.ConnectionReset → result ≡ ToolFault.Reset }
     ensures other { ¬ (error_kind error.now ≡ ErrorKind.ConnectionReset) → result ≡ ToolFault.Connect }
@@ -103,12 +103,12 @@ fn connect_to<H: Net>(rt: &H, address: SocketAddr, seconds: u32) -> io::Result<H
 #[derive(Drop)]
 struct Line<S: Read + Write + OpenStream + Drop> {
     stream: S,
-    // The printer says nothing more.
+    // Whether the printer has closed its half.
     ended: bool,
 }
 
 impl<S: Read + Write + OpenStream + Drop> Line<S> {
-    // Reads what the printer has said, and waits for nothing.
+    // Reads the data that the printer has sent, without waiting.
     fn hear(&mut self) -> io::Result<()> {
         if self.ended {
             return Ok(());
@@ -138,7 +138,7 @@ impl<S: Read + Write + OpenStream + Drop> Line<S> {
         Ok(())
     }
 
-    // Closes this half, and waits for the printer's end.
+    // Closes this half, and waits until the printer closes the other.
     fn finish<H: Clock>(self, rt: &H, seconds: u32) -> Result<(), ToolFault> {
         let mut line = self;
         if line.stream.shutdown(Shutdown::Write).is_err() {
@@ -150,7 +150,7 @@ impl<S: Read + Write + OpenStream + Drop> Line<S> {
         }
     }
 
-    // Waits for the printer's end, at most so long. An `Err` is a reset, or a connection that is lost.
+    // Waits at most `most` until the printer closes the connection. An `Err` is a reset or a lost connection.
     fn wait<H: Clock>(&mut self, rt: &H, most: Duration) -> io::Result<()> {
         let start = Instant::now(rt)?;
         let mut piece = [0u8; PIECE];
@@ -176,7 +176,7 @@ impl<S: Read + Write + OpenStream + Drop> Line<S> {
         Ok(())
     }
 
-    // The printer has ended. Where it hadn't read all that it was sent, a reset follows, which a read doesn't tell.
+    // Called after the printer closed the connection. If it had not read all data, a reset follows, which a read does not report.
     fn settle<H: Clock>(&self, rt: &H) -> io::Result<()> {
         thread::sleep(rt, Duration::from_millis(SETTLING));
         match self.stream.take_error()? {
@@ -186,7 +186,7 @@ impl<S: Read + Write + OpenStream + Drop> Line<S> {
     }
 }
 
-// What is written waits for the printer as long as it takes, and hears it meanwhile.
+// A write waits for the printer without limit, and reads the printer's data meanwhile.
 impl<S: Read + Write + OpenStream + Drop> Write for Line<S> {
     fn write(&mut self, buf: &[u8]) -> io::Result<usize> {
         for _ in 0..u64::MAX {

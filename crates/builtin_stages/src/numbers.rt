@@ -1,10 +1,10 @@
-//! Decimal numbers, in words and in options.
+//! Decimal numbers in arguments and options.
 ghost use Rattle.std.specs.Prelude.{◌≡◌, ◌&&◌, cond, nat_le, None, Some};
 ghost use Rattle.std.specs.Char.{is_ascii_digit};
 ghost use Rattle.std.specs.List.{list_all};
 ghost use Rattle.builtin_stages.specs.ToolNumbers.{ranged};
 
-/// The number that a text of decimal digits stands for, if it is in the range. Zeros may stand first, and no sign.
+/// Reads a number of decimal digits in the range. Leading zeros are allowed, a sign is not.
 pub fn ranged(text: &str, least: u32, most: u32) -> Option<u32>
     ensures { result ≡ ranged least most text.now }
 {

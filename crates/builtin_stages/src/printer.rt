@@ -1,4 +1,4 @@
-//! The printer of the network that a backend prints to.
+//! Reads the URI of a network printer.
 ghost use Rattle.std.specs.Prelude.{◌≡◌, ◌⊎◌, None, Some, unwrap_or, IfErr, IfOk, IsErrOf};
 ghost use Rattle.device_uri.specs.DeviceUris.{Reads};
 ghost use Rattle.url.specs.Host.{owned_host};
@@ -12,7 +12,7 @@ use device_uri::{DeviceOption, DeviceUri};
 use std::alloc::Global;
 use url::{Host, ParseError, Url};
 
-// The port that printers listen on where their URI has none.
+// The port of a printer whose URI has none.
 const USUAL_PORT: u16 = 9_100;
 
 /// The host, the port and the options that a printer's URI names.
@@ -20,11 +20,11 @@ const USUAL_PORT: u16 = 9_100;
 pub struct Printer {
     pub host: Host<String>,
     pub port: u16,
-    /// No options where they can't be read, so that each has its default.
+    /// Empty if they cannot be read, so that each has its default.
     pub options: Vec<DeviceOption>,
 }
 
-/// Reads the URI of a printer. Its fault is `Device` or `Memory`.
+/// Reads the URI of a printer. Fails with `Device` or `Memory`.
 pub fn read_printer(alloc: Global, text: &str) -> Result<Printer, ToolFault>
     ensures value { IfOk result (λ printer. IsPrinter printer text.now) }
     ensures refused { IsErrOf result ToolFault.Device → IsNoPrinter text.now }
@@ -40,7 +40,7 @@ pub fn read_printer(alloc: Global, text: &str) -> Result<Printer, ToolFault>
     })
 }
 
-// The host and the port that a URI names.
+// Returns the host and the port of the URI. Parses its text a second time, because `DeviceUri` has neither.
 fn read_address(alloc: Global, uri: &DeviceUri) -> Result<(Host<String>, u16), ToolFault>
     ensures host { IfOk result (λ address. nonempty_host uri.now.url ≡ Some (owned_host address.0)) }
     ensures port { IfOk result (λ address. address.1 ≡ unwrap_or uri.now.url.port 9100) }
@@ -50,7 +50,7 @@ fn read_address(alloc: Global, uri: &DeviceUri) -> Result<(Host<String>, u16), T
     let url = match Url::parse(alloc, uri.text()) {
         Ok(url) => url,
         Err(ParseError::Overflow | ParseError::OutOfMemory) => return Err(ToolFault::Memory),
-        // The text was read as a URL before.
+        // The text was parsed as a URL before.
         Err(_) => unreachable!(),
     };
     let Some(host) = url.host() else {

@@ -1,4 +1,4 @@
-//! What a stage writes of its document.
+//! Writes the result of a document.
 ghost use Rattle.std.specs.Prelude.{◌≡◌, ◌+◌, ◌^◌, ◌≤◌, List, None, Option, ℕ, IfErr, IfOk, OnOk};
 ghost use Rattle.whole_writes.specs.Writes.{WroteSome};
 ghost use Rattle.std.specs.List.{flat_map};
@@ -10,7 +10,7 @@ use std::alloc::{AllocError, Global};
 use std::io::{ErrorKind, Read, Write};
 use whole_writes::write_whole;
 
-// How many bytes are read at once.
+// The number of bytes that one read takes.
 const PIECE: usize = 65_536;
 
 const LINE_FEED: u8 = 10;
@@ -19,12 +19,12 @@ const FORM_FEED: u8 = 12;
 
 const CARRIAGE_RETURN: u8 = 13;
 
-/// How a document is written.
+/// The form in which a document is written.
 #[derive(Clone, Copy)]
 pub enum Form {
-    /// Byte for byte.
+    /// Unchanged.
     Plain,
-    /// For a line printer: each line feed behind a carriage return, and a form feed at the end.
+    /// For a line printer: CR LF for each LF, and a form feed at the end.
     Lines,
 }
 
@@ -32,7 +32,7 @@ pub enum Form {
 pub trait Source {
     type Reader: Read + Drop;
 
-    // Its bytes, where they are known.
+    // Its bytes, if they are known.
     ghost known: { Self → Option (List ℕ) } = { λ _. None };
 
     fn open(&self) -> Result<Self::Reader, ToolFault>
@@ -40,7 +40,7 @@ pub trait Source {
         ensures fault { IfErr result (λ fault. fault ≡ ToolFault.Read) };
 }
 
-/// Writes so many copies of the document's result, and counts the form feeds written.
+/// Writes `copies` copies of the document's result, and returns the number of form feeds written.
 pub fn write_copies<S: Source, W: Write>(
     alloc: Global,
     form: Form,
@@ -60,7 +60,7 @@ pub fn write_copies<S: Source, W: Write>(
     Ok(feeds)
 }
 
-// Writes the result of all that the reader has, and counts the form feeds written.
+// Writes the result of the reader's bytes, and returns the number of form feeds written.
 fn write_result<R: Read, W: Write>(
     alloc: Global,
     form: Form,
@@ -91,7 +91,7 @@ fn write_result<R: Read, W: Write>(
     Err(ToolFault::Read)
 }
 
-// Writes a piece of the document, and counts its form feeds. What `lines` has counts for nothing.
+// Writes the result of a piece, and returns its number of form feeds. The content of `lines` is overwritten.
 fn write_piece<W: Write>(
     form: Form,
     piece: &[u8],
@@ -111,7 +111,7 @@ fn write_piece<W: Write>(
     }
 }
 
-// Writes what comes after all pieces, and counts its form feeds.
+// Writes the end of the result, after all pieces, and returns its number of form feeds.
 fn write_end<W: Write>(form: Form, writer: &mut W) -> Result<u64, ToolFault>
     ensures wrote { OnOk result (Appends (W.contents writer.old) (W.contents writer.new) (end_of form)) }
     ensures feeds { IfOk result (λ feeds. feeds ≡ form_feeds (end_of form)) }
@@ -124,7 +124,7 @@ fn write_end<W: Write>(form: Form, writer: &mut W) -> Result<u64, ToolFault>
     }
 }
 
-// Writes bytes, and counts their form feeds.
+// Writes the bytes, and returns their number of form feeds.
 fn write_bytes<W: Write>(bytes: &[u8], writer: &mut W) -> Result<u64, ToolFault>
     ensures wrote { OnOk result (Appends (W.contents writer.old) (W.contents writer.new) bytes.now) }
     ensures feeds { IfOk result (λ feeds. feeds ≡ form_feeds bytes.now) }
@@ -135,7 +135,7 @@ fn write_bytes<W: Write>(bytes: &[u8], writer: &mut W) -> Result<u64, ToolFault>
     Ok(form_feeds(bytes))
 }
 
-// Makes `lines` the piece with a carriage return before each line feed.
+// Sets `lines` to the piece with a carriage return before each line feed.
 fn print_lines(piece: &[u8], lines: &mut Vec<u8>) -> Result<(), AllocError>
     ensures { OnOk result (lines.new.items ≡ flat_map printed_byte piece.now) }
 {
@@ -149,14 +149,14 @@ fn print_lines(piece: &[u8], lines: &mut Vec<u8>) -> Result<(), AllocError>
     Ok(())
 }
 
-// How many form feeds there are.
+// Counts the form feeds.
 fn form_feeds(bytes: &[u8]) -> u64
     ensures { result ≡ form_feeds bytes.now }
 {
     bytes.iter().filter(|b| **b == FORM_FEED).count() as u64
 }
 
-// The sum of two counts. One that no number holds can't be told, and is a fault.
+// Returns the sum of two counts. A sum above 64 bits is a fault, because it cannot be reported.
 fn total(a: u64, b: u64) -> Result<u64, ToolFault>
     ensures sum { IfOk result (λ sum. sum ≡ a + b) }
     ensures fault { IfErr result (λ fault. (fault ≡ ToolFault.Write) × (2 ^ 64 ≤ a + b)) }

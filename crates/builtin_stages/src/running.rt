@@ -1,4 +1,4 @@
-//! The tool that the words ask for is run.
+//! Runs the tool that the arguments name.
 ghost use Rattle.std.specs.Prelude.{◌≡◌, IfErr, IfOk, OnOk, Some, map, string_bytes};
 ghost use Rattle.std.specs.Process.{exit_status};
 ghost use Rattle.std.specs.Io.KnownBytes.{Appends};
@@ -17,6 +17,7 @@ use crate::network::app_socket;
 use crate::results::Source;
 use crate::sources::DocumentFile;
 use crate::words::{Asked, Backend, Document, Filter, read_words};
+use program_version::with_version;
 use std::fs::{File, Files};
 use std::io::Write;
 use std::net::Net;
@@ -24,7 +25,10 @@ use std::process::ExitCode;
 use std::rt::{Clock, Env};
 use whole_writes::write_whole;
 
-/// Runs the tool that the words ask for, over this input, and gives the status to end with.
+// The output of `--version`.
+const VERSION_LINE: &str = with_version!("spool_tools (Cegmandi) ", "\n");
+
+/// Runs the tool that the arguments name, and returns the exit status.
 pub fn run_words<
     H: Files<File = File> + Env + Clock + Net + AllocGlobal,
     I: Source,
@@ -59,10 +63,11 @@ fn run<H: Files<File = File> + Env + Clock + Net + AllocGlobal, I: Source, O: Wr
         Asked::Backend(tool, document) => run_backend(rt, tool, document, input, errors),
         Asked::DeviceLine(tool) => end_silently(write_device_line(tool, output)),
         Asked::SideEnd(socket) => end_silently(side_end(rt, socket)),
+        Asked::Version => end_silently(write_version(output)),
     }
 }
 
-// Runs the filter over the document, and gives the status to end with.
+// Runs the filter over the document, and returns the exit status.
 fn filter<H: Files<File = File> + AllocGlobal, I: Source, O: Write, E: Write>(
     rt: &H,
     tool: Filter,
@@ -111,7 +116,7 @@ fn run_backend<H: Files<File = File> + Env + Clock + Net + AllocGlobal, I: Sourc
     }
 }
 
-// Writes the document into the device's file.
+// Writes the document to the device's file.
 fn spool<H: Files<File = File> + Env + AllocGlobal, I: Source>(
     rt: &H,
     document: Document<'_>,
@@ -140,12 +145,22 @@ fn send<H: Files<File = File> + Env + Clock + Net + AllocGlobal, I: Source>(
     Ok(0)
 }
 
-// Tells of the backend's device.
+// Prints the backend's device line.
 fn write_device_line<O: Write>(tool: Backend, output: &mut O) -> Result<(), ToolFault>
     ensures wrote { OnOk result (Appends (O.contents output.old) (O.contents output.new) (device_line tool)) }
     ensures fault { IfErr result (λ fault. (fault ≡ ToolFault.Write)
         × WroteSome (O.contents output.old) (O.contents output.new) (device_line tool)) }
 {
     write_whole(output, device_line(tool).as_bytes())?;
+    Ok(())
+}
+
+// Prints the name and the version of the program.
+fn write_version<O: Write>(output: &mut O) -> Result<(), ToolFault>
+    ensures wrote { OnOk result (Appends (O.contents output.old) (O.contents output.new) VERSION_LINE.now) }
+    ensures fault { IfErr result (λ fault. (fault ≡ ToolFault.Write)
+        × WroteSome (O.contents output.old) (O.contents output.new) VERSION_LINE.now) }
+{
+    write_whole(output, VERSION_LINE.as_bytes())?;
     Ok(())
 }

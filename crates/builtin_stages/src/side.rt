@@ -1,4 +1,4 @@
-//! The tools' side of the side channel.
+//! The client of the side channel.
 ghost use Rattle.std.specs.Prelude.{◌≡◌, [], ◌∷◌, IfErr, IfOk, OnOk};
 ghost use Rattle.whole_writes.specs.Writes.{WroteSome};
 ghost use Rattle.std.specs.Option.{option_map};
@@ -11,10 +11,10 @@ use side_channel::{Command, Packet, Status};
 use std::alloc::Global;
 use std::io::{Read, Write};
 
-// The longest data that a packet keeps.
+// The longest data of a packet that are stored.
 const MOST_DATA: u16 = 2_048;
 
-/// Asks for the device's id, and gives the packet that comes first.
+/// Requests the device id, and returns the first packet received.
 pub fn ask_id<R: Read, W: Write>(
     alloc: Global,
     reader: &mut R,
@@ -31,7 +31,7 @@ pub fn ask_id<R: Read, W: Write>(
     }
 }
 
-/// The id that a packet tells, if it is an answer that does.
+/// Returns the id in the packet, if it is an answer with one.
 pub fn id_in(packet: &Packet) -> Option<&[u8]>
     ensures { option_map (λ id. id.now) result ≡ id_in packet.now }
 {

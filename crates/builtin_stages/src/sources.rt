@@ -1,4 +1,4 @@
-//! The documents that a tool is given.
+//! The documents of a tool.
 ghost use Rattle.std.specs.Prelude.{◌≡◌, IfOk, None};
 
 use crate::fault::ToolFault;
@@ -6,7 +6,7 @@ use crate::results::Source;
 use std::fs::{File, Files};
 use std::io::Stdin;
 
-/// The file of this name, which is opened anew for each copy.
+/// The file of this name, which is opened again for each copy.
 #[derive(Drop)]
 pub struct DocumentFile<'a, H> {
     pub rt: &'a H,
@@ -21,7 +21,7 @@ impl<'a, H: Files<File = File>> Source for DocumentFile<'a, H> {
     }
 }
 
-/// Standard input, of which there is one copy.
+/// Standard input, which is printed once.
 impl Source for Stdin {
     type Reader = Stdin;
 

@@ -1,53 +1,55 @@
-//! The words of the command line: a tool, and the job that it is run for.
+//! The arguments of the command line: a tool and its job.
 ghost use Rattle.std.specs.Prelude.{◌≡◌, map};
 ghost use Rattle.std.specs.Option.{option_map};
 ghost use Rattle.std.specs.String.{string_bytes};
 ghost use Rattle.builtin_stages.specs.ToolNumbers.{ranged};
 ghost use Rattle.builtin_stages.specs.RequestFields.{printed, request};
-ghost use Rattle.builtin_stages.specs.ToolArguments.{asked_of, backend_asked, backend_of, document_of, filter_of, side_end_asked};
+ghost use Rattle.builtin_stages.specs.ToolArguments.{asked_of, backend_asked, backend_of, document_of, filter_of, side_end_asked, version_asked};
 
 use crate::numbers::ranged;
 
-/// The tools that make of a document what the next stage reads.
+/// The tools that convert a document for the next stage.
 #[derive(Clone, Copy)]
 pub enum Filter {
-    /// Ends each line with a carriage return and a line feed, and the document with a form feed.
+    /// Converts LF to CR LF, and ends the document with a form feed.
     TextToPrn,
-    /// Passes the document on, and counts its form feeds.
+    /// Copies the document, and counts its form feeds.
     PrnCount,
 }
 
-/// The tools that a job ends in.
+/// The tools that print a job.
 #[derive(Clone, Copy)]
 pub enum Backend {
-    /// Writes the document into a file.
+    /// Writes the document to a file.
     SpoolFile,
-    /// Waits for another backend of its kind.
+    /// Waits for another `meet`.
     Meet,
-    /// Asks the side channel for the device's id.
+    /// Requests the device id on the side channel.
     SideAsk,
-    /// Sends the document to a printer of the network.
+    /// Sends the document to a network printer.
     AppSocket,
 }
 
-/// What a stage prints.
+/// The document of a stage.
 #[derive(Clone, Copy)]
 pub struct Document<'a> {
-    /// The name of its file. Without one it is standard input.
+    /// The name of its file, or none for standard input.
     pub file: Option<&'a str>,
-    /// How many times it is printed.
+    /// The number of copies.
     pub copies: u32,
 }
 
-/// What the words ask for.
+/// The request of the arguments.
 #[derive(Clone, Copy)]
 pub enum Asked<'a> {
     Filter(Filter, Document<'a>),
     Backend(Backend, Document<'a>),
-    /// The line that tells of the backend's device.
+    /// The device line of the backend.
     DeviceLine(Backend),
-    /// The end of the session on the socket of this name.
+    /// To end the session on the socket of this name.
     SideEnd(&'a str),
+    /// The name and the version of the program.
+    Version,
 }
 
 impl Filter {
@@ -82,7 +84,7 @@ impl Backend {
     }
 }
 
-/// Reads the words of the command line, of which the first is the program's name and the second the tool's.
+/// Reads the arguments: the program's name, the tool's, and those of the tool.
 pub fn read_words<'a>(words: &'a [String]) -> Option<Asked<'a>>
     ensures { option_map request result ≡ asked_of (map string_bytes words.now) }
 {
@@ -98,10 +100,13 @@ pub fn read_words<'a>(words: &'a [String]) -> Option<Asked<'a>>
     if name == "side-end" {
         return side_end_words(words);
     }
+    if name == "--version" {
+        return version_words(words);
+    }
     None
 }
 
-// What the words after a backend's name ask for.
+// Reads the arguments after a backend's name.
 fn backend_words<'a>(backend: Backend, words: &'a [String]) -> Option<Asked<'a>>
     ensures { option_map request result ≡ backend_asked backend (map string_bytes words.now) }
 {
@@ -112,7 +117,7 @@ fn backend_words<'a>(backend: Backend, words: &'a [String]) -> Option<Asked<'a>>
     Some(Asked::Backend(backend, document))
 }
 
-// What the words after `side-end` ask for.
+// Reads the arguments after `side-end`.
 fn side_end_words<'a>(words: &'a [String]) -> Option<Asked<'a>>
     ensures { option_map request result ≡ side_end_asked (map string_bytes words.now) }
 {
@@ -122,8 +127,17 @@ fn side_end_words<'a>(words: &'a [String]) -> Option<Asked<'a>>
     Some(Asked::SideEnd(socket.as_str()))
 }
 
-// The document of the five or six words of a job (filter(7)): its number, user, title, copies and options, and perhaps the
-// document's file.
+// Reads the arguments after `--version`. There must be none.
+fn version_words<'a>(words: &'a [String]) -> Option<Asked<'a>>
+    ensures { option_map request result ≡ version_asked (map string_bytes words.now) }
+{
+    if words.is_empty() {
+        return Some(Asked::Version);
+    }
+    None
+}
+
+// Reads the five or six arguments of a job (filter(7)): its number, user, title, copies, options and optionally the document's file.
 fn read_document<'a>(words: &'a [String]) -> Option<Document<'a>>
     ensures { option_map printed result ≡ document_of (map string_bytes words.now) }
 {

@@ -1,4 +1,4 @@
--- A slot that is changed twice.
+-- Changing a slot twice.
 use Rattle.std.proofs.Common.{◌≡◌, ℕ, Bool, true, false, cond, Option, Some, None, refl, sym, ap, ◌∙◌}
 use Rattle.std.specs.Option.{is_some, IsSome}
 use Rattle.std.specs.Prelude.{unwrap_or, Result}
@@ -41,7 +41,7 @@ put_twice m j p q =
     ap (λ s. finite.insert (put_progress m j p) j (with_progress s q)) (slot_put m j p)
     ∙ insert_twice m j (with_progress (slot_in m j) p) (with_progress (slot_in m j) q)
 
--- a stage that reports and has no child has ended
+-- A stage that reports and has no running child has ended.
 pub ended_if : (o : Option (Slot ℕ)) → IsReporting o → IsTicketless o → IsEnded o
 ended_if None reports rests = absurd reports
 ended_if (Some slot) reports rests = by_progress slot.progress reports rests
@@ -51,12 +51,12 @@ ended_if (Some slot) reports rests = by_progress slot.progress reports rests
     by_progress (Running n) reports rests = absurd (rests n refl)
     by_progress (Ended finish) reports rests = refl
 
--- what a child's finish says of the finish that is kept
+-- The stored finish, given the answer to a child's finish.
 pub finish_kept : (told : Option ChildTrace) (n : ℕ) (result : Result Finish ChildFault) (f : Finish) (told' : Option ChildTrace) → f ≡ kept (finish_in result) → Finishes told n result told' → IsFinish told n f told'
 finish_kept None n result f told' is finishes = finishes
 finish_kept (Some t) n result f told' is finishes = λ running. (is ∙ ap kept (finishes running).answer, (finishes running).told)
 
--- A slot that is put where it stands changes nothing.
+-- Inserting a slot in its own position changes nothing.
 pub insert_same : (m : Slots) (j : ℕ) (x : Slot ℕ) → finite.get m j ≡ Some x → finite.insert m j x ≡ m
 insert_same m j x there = finite.same_map nat_cmp_total finite.nat_cmp-IsAntisymmetric _ _ (λ q. finite.get-insert nat_cmp_total m j x q ∙ by_key q (eq_by_cmp nat_cmp q j) refl)
   where
@@ -64,7 +64,7 @@ insert_same m j x there = finite.same_map nat_cmp_total finite.nat_cmp-IsAntisym
     by_key q true is = sym there ∙ ap (finite.get m) (sym (eqb-true q j (sym (unsigned_tied q j) ∙ is)))
     by_key q false is = refl
 
--- so a child that is running is put back
+-- So a running child is put back.
 pub put_back : (m : Slots) (j : ℕ) (p : Progress ℕ) → IsRunning (finite.get m j) → p ≡ (slot_in m j).progress → put_progress m j p ≡ m
 put_back m j p runs is = by_slot (finite.get m j) refl runs
   where

@@ -24,14 +24,14 @@ other_number : (q j : ℕ) → q ≢ j → (b : Bool) → is_eq (nat_cmp q j) �
 other_number q j other true is = absurd (other (finite.nat_cmp-IsAntisymmetric q j ((Equal-is (nat_cmp q j)).0 is)))
 other_number q j other false is = refl
 
--- where the keys change at one job
+-- The keys change at one job.
 pub own_key : (es fs : List (ℕ × ℕ)) (j : ℕ) (o : Option ℕ) → ((q : ℕ) → key_in fs q ≡ cond (is_eq (nat_cmp j q)) o (key_in es q)) → key_in fs j ≡ o
 own_key es fs j o updated = updated j ∙ ap (λ b. cond b o (key_in es j)) (own_number j)
 
 pub other_key : (es fs : List (ℕ × ℕ)) (j : ℕ) (o : Option ℕ) → ((q : ℕ) → key_in fs q ≡ cond (is_eq (nat_cmp j q)) o (key_in es q)) → (q : ℕ) → q ≢ j → key_in fs q ≡ key_in es q
 other_key es fs j o updated q other = updated q ∙ ap (λ b. cond b o (key_in es q)) (tied j q ∙ other_number q j other _ refl)
 
--- a job of which no key is found
+-- A job without a key.
 pub no_key : (es : List (ℕ × ℕ)) (j : ℕ) → is_some (key_in es j) ≡ false → key_in es j ≡ None
 no_key es j = of (key_in es j)
   where
@@ -40,18 +40,18 @@ no_key es j = of (key_in es j)
     of (Some k) is = absurd (cc)
 
 module _ {T : Type 0} where
-  -- no other job has the key of this one
+  -- No other job has the key of this one.
   pub own_alone : (es : List (ℕ × ℕ)) (s : Slab (Slot T)) (j k : ℕ) → AreKept es s → key_in es j ≡ Some k → (q h : ℕ) → q ≢ j → key_in es q ≡ Some h → h ≢ k
   own_alone es s j k kept own q h other there same = other (kept.apart q j h there (own ∙ ap Some (sym same)))
 
-  -- no job has a vacant key
+  -- No job has a vacant key.
   pub vacant_alone : (es : List (ℕ × ℕ)) (s : Slab (Slot T)) (k : ℕ) → AreKept es s → get s k ≡ None → (q h : ℕ) → key_in es q ≡ Some h → h ≢ k
   vacant_alone es s k kept vacant q h there same =
       let gone : get s h ≡ None = ap (get s) same ∙ vacant in
       let both : true ≡ false = sym (kept.there q h there) ∙ ap is_some gone in
       absurd (cc)
 
-  -- the job's key has a slot now, the others have theirs
+  -- The job's key has a slot now, and the others still have theirs.
   pub still_kept : (es fs : List (ℕ × ℕ)) (s s' : Slab (Slot T)) (j k : ℕ) → AreKept es s → key_in es j ≡ None → key_in fs j ≡ Some k → IsSome (get s' k) → ((q : ℕ) → q ≢ j → key_in fs q ≡ key_in es q) → ((q h : ℕ) → q ≢ j → key_in es q ≡ Some h → h ≢ k) → ((h : ℕ) → h ≢ k → get s' h ≡ get s h) → AreKept fs s'
   still_kept es fs s s' j k kept new own there others alone same = record {
     there = λ q h is. elim (eqb_tells q j) [
@@ -76,7 +76,7 @@ module _ {T : Type 0} where
     ];
   }
 
-  -- a job's slot is another one
+  -- A job's slot is replaced.
   pub kept_exchanged : (es : List (ℕ × ℕ)) (s s' : Slab (Slot T)) (k : ℕ) → AreKept es s → IsSome (get s k) → IsSome (get s' k) → ((h : ℕ) → h ≢ k → get s' h ≡ get s h) → AreKept es s'
   kept_exchanged es s s' k kept had there same = record {
     there = λ q h is. elim (eqb_tells h k) [
@@ -90,7 +90,7 @@ module _ {T : Type 0} where
     ];
   }
 
-  -- the job's key and its slot are taken away
+  -- The job's key and its slot are removed.
   pub kept_released : (es fs : List (ℕ × ℕ)) (s s' : Slab (Slot T)) (j k : ℕ) → AreKept es s → key_in es j ≡ Some k → ((q : ℕ) → key_in fs q ≡ cond (is_eq (nat_cmp j q)) None (key_in es q)) → Updates s s' k None → AreKept fs s'
   kept_released es fs s s' j k kept own updated updates = record {
     there = λ q h is. elim (eqb_tells q j) [
@@ -143,7 +143,7 @@ module _ {T : Type 0} (number : T → ℕ) where
   same_under s s' None same = refl
   same_under s s' (Some h) same = ap (λ x. Some (unwrap_or (option_map (numbered number) x) (begun 0 0))) (same h refl)
 
-  -- the job's key has this slot now, the others have theirs
+  -- The job's key has this slot now, and the others still have theirs.
   pub inserted : (es fs : List (ℕ × ℕ)) (s s' : Slab (Slot T)) (j k : ℕ) (x : Slot T) → key_in fs j ≡ Some k → get s' k ≡ Some x → ((q : ℕ) → q ≢ j → key_in fs q ≡ key_in es q) → ((q h : ℕ) → q ≢ j → key_in es q ≡ Some h → get s' h ≡ get s h) → slots_of number fs s' ≡ finite.insert (slots_of number es s) j (numbered number x)
   inserted es fs s s' j k x own there others same =
       finite.same_map nat_cmp_total finite.nat_cmp-IsAntisymmetric (slots_of number fs s') (finite.insert (slots_of number es s) j (numbered number x)) (λ q.
@@ -163,7 +163,7 @@ module _ {T : Type 0} (number : T → ℕ) where
             ∙ sym (ap (λ b. cond b (Some (numbered number x)) (finite.get (slots_of number es s) q)) (other_number q j other _ refl))
       ]
 
-  -- the job has no key any more
+  -- The job has no key any more.
   pub removed : (es fs : List (ℕ × ℕ)) (s s' : Slab (Slot T)) (j : ℕ) → key_in fs j ≡ None → ((q : ℕ) → q ≢ j → key_in fs q ≡ key_in es q) → ((q h : ℕ) → q ≢ j → key_in es q ≡ Some h → get s' h ≡ get s h) → slots_of number fs s' ≡ finite.remove (slots_of number es s) j
   removed es fs s s' j none others same =
       finite.same_map nat_cmp_total finite.nat_cmp-IsAntisymmetric (slots_of number fs s') (finite.remove (slots_of number es s) j) (λ q.
@@ -182,7 +182,7 @@ module _ {T : Type 0} (number : T → ℕ) where
             ∙ sym (ap (λ b. cond b None (finite.get (slots_of number es s) q)) (other_number q j other _ refl))
       ]
 
-  -- the same keys of the same slots
+  -- The same keys of the same slots.
   pub same_slots : (es : List (ℕ × ℕ)) (s s' : Slab (Slot T)) → ((h : ℕ) → get s' h ≡ get s h) → slots_of number es s' ≡ slots_of number es s
   same_slots es s s' same =
       finite.same_map nat_cmp_total finite.nat_cmp-IsAntisymmetric (slots_of number es s') (slots_of number es s) (λ q.
@@ -194,7 +194,7 @@ module _ {T : Type 0} (number : T → ℕ) where
       let both : true ≡ false = sym there ∙ ap is_some gone in
       absurd (cc)
 
-  -- the slot under a key that is there
+  -- The slot under a key that exists.
   pub shown : (s : Slab (Slot T)) (k : ℕ) → IsSome (get s k) → option_map (numbered number) (get s k) ≡ Some (slot_at number s k)
   shown s k there = shown_of (get s k) there
     where
@@ -202,7 +202,7 @@ module _ {T : Type 0} (number : T → ℕ) where
       shown_of None there = absurd (cc)
       shown_of (Some x) there = refl
 
-  -- the slot of a job that has a key
+  -- The slot of a job that has a key.
   pub slot_there : (es : List (ℕ × ℕ)) (s : Slab (Slot T)) (m : Slots) (j k : ℕ) (x : Slot T) → slots_of number es s ≡ m → key_in es j ≡ Some k → get s k ≡ Some x → Some (numbered number x) ≡ finite.get m j
   slot_there es s m j k x is own there =
       sym (ap (λ o. Some (unwrap_or (option_map (numbered number) o) (begun 0 0))) there)

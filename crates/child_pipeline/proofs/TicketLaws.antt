@@ -1,4 +1,4 @@
--- No ticket is lost, and none is spent twice.
+-- No ticket is lost, and none is used twice.
 use Rattle.std.proofs.Common.{◌≡◌, ◌⊎◌, inl, inr, ℕ, suc, Bool, true, false, cond, ◌==◌, ◌||◌, List, [], ◌∷◌, ◌++◌, length, Option, Some, None, unwrap_or, Result, Ok, Err, refl, sym, ap, subst, ◌∙◌, arith}
 use Rattle.std.specs.FinMap as finite
 use Rattle.std.specs.Cmp.{nat_cmp_total, unsigned_tied}
@@ -102,7 +102,7 @@ once_more y (x ∷ xs) (first, once) out = (
     head true b is = absurd (cc)
     head false b is = refl
 
--- the head goes where it is the number
+-- The head is removed if it is the number.
 without_is : (n x : ℕ) (xs : List ℕ) (b : Bool) → (x == n) ≡ b → without n (x ∷ xs) ≡ cond b xs (x ∷ without n xs)
 without_is n x xs b is = ap (λ c. cond c xs (x ∷ without n xs)) is
 
@@ -167,7 +167,7 @@ one_less n (x ∷ xs) is = by_test (one_less n xs) (x == n) refl
 get_other : (m : Slots) (j k : ℕ) (x : Slot ℕ) → (k == j) ≡ false → finite.get (finite.insert m j x) k ≡ finite.get m k
 get_other m j k x other = finite.get-insert nat_cmp_total m j x k ∙ ap (λ b. cond b (Some x) (finite.get m k)) (unsigned_tied k j ∙ other)
 
--- a child of a job without one
+-- A child of a job without one.
 no_child : {P : Type 0} (m : Slots) (j n : ℕ) → IsTicketless (finite.get m j) → IsRunningAs m j n → P
 no_child m j n rests r = absurd (subst IsTicketless r.there rests n r.runs)
 
@@ -184,7 +184,7 @@ module _ (m : Slots) (j : ℕ) (x : Slot ℕ) where
           inl (same, ap (λ (s : Slot ℕ). s.progress) (some_of x r.slot (sym (get_own m j x) ∙ ap (finite.get (finite.insert m j x)) (sym same) ∙ r.there)) ∙ r.runs)
       by_test false is = inr (is, record { slot = r.slot; there = sym (get_other m j k x is) ∙ r.there; runs = r.runs })
 
-  -- a slot without a child, in the place of one without a child
+  -- A slot without a child replaces one without a child.
   pub quiet_put : ((n : ℕ) → ¬ (x.progress ≡ Running n)) → IsTicketless (finite.get m j) → (t : ChildTrace) → HasTickets m t → HasTickets (finite.insert m j x) t
   quiet_put quiet rests t has = record {
     running = λ k n r. has.running k n (back k n r);
@@ -200,7 +200,7 @@ module _ (m : Slots) (j : ℕ) (x : Slot ℕ) where
         | inr old ↦ old.1
       ]
 
--- more orders, of which no child runs
+-- More orders, without running children.
 more_orders : (m : Slots) (t : ChildTrace) (starts : List (Result (Unit {0}) ChildFault)) (p : Placed) → HasTickets m t → HasTickets m (record t { starts = starts; orders = t.orders ++ p ∷ [] })
 more_orders m t starts p has = record {
   running = has.running;
@@ -213,7 +213,7 @@ more_orders m t starts p has = record {
 same_balance : (t : ChildTrace) → IsBalanced t 0 t
 same_balance t = omega arith
 
--- a start
+-- A start.
 module _ (m : Slots) (j : ℕ) (t : ChildTrace) (order : Order) (has : HasTickets m t) (rests : IsTicketless (finite.get m j)) where
   unstarted : (n : ℕ) → HasTickets (put_progress m j (progress_after false n)) t
   unstarted n = quiet_put m j (with_progress (slot_in m j) (progress_after false n)) (λ k is. absurd (cc)) rests t has
@@ -289,7 +289,7 @@ module _ (m : Slots) (j : ℕ) (t : ChildTrace) (order : Order) (has : HasTicket
           shown false n (started_by t order (Err fault ∷ rest)) (start.answer ∙ ap starts_first e) (start.told ∙ ap (λ s. Some (started_by t order s)) e) (omega arith)
           (more_orders (put_progress m j (Ended no_start)) t rest p (unstarted n)) (λ is. absurd (cc))
 
--- a finish of a child that a slot has
+-- A finish of a child that a slot has.
 pub finish_keeps : (m : Slots) (j n : ℕ) (t : ChildTrace) → HasTickets m t → IsRunningAs m j n → (new : Slots) (told : Option ChildTrace) → Waits (Some t) n m j new told → AreKeptBy t 0 new told
 finish_keeps m j n t has runs new told waits = record {
   now = after_finish t n;
@@ -326,7 +326,7 @@ finish_keeps m j n t has runs new told waits = record {
       | inr old ↦ old.1
     ]
 
-    -- the child that was finished is no other's
+    -- No other slot has the finished child.
     elsewhere : (i k : ℕ) → IsRunningAs m k i → k ≡ j → is_in i (without n t.running) ≡ true → ⊥
     elsewhere i k r same is =
         let here : IsRunningAs m j i = subst (λ o. IsRunningAs m o i) same r in
@@ -334,7 +334,7 @@ finish_keeps m j n t has runs new told waits = record {
         let equal : i ≡ n = ap of_running (sym here.runs ∙ ap (λ (s : Slot ℕ). s.progress) one ∙ runs.runs) in
         never (is_in n (without n t.running)) (subst (λ o. is_in o (without n t.running) ≡ true) equal is) (gone_from n t.running has.once)
 
--- a look, which says nothing of tickets
+-- A check, which does not affect tickets.
 pub look_keeps : (m : Slots) (t : ChildTrace) (ended : Bool) (told : Option ChildTrace) → HasTickets m t → HasLooked t ended told → AreKeptBy t 0 m told
 look_keeps m t ended told has looked = record {
   now = after_look t;
@@ -343,7 +343,7 @@ look_keeps m t ended told has looked = record {
   balanced = omega arith;
 }
 
--- slots without a child may go
+-- Slots without a child may be freed.
 pub release_keeps : (m : Slots) (j : ℕ) (t : ChildTrace) → HasTickets m t → IsTicketless (finite.get m j) → HasTickets (finite.remove m j) t
 release_keeps m j t has rests = record {
   running = λ k n r. has.running k n (back k n r);

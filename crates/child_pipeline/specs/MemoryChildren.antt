@@ -1,4 +1,4 @@
--- What the fields of children in memory mean.
+-- The meaning of the fields of children in memory.
 use Rattle.std.specs.Prelude.{◌+◌, ◌≤◌, vec_len, vec_capacity}
 use Rattle.std.specs.Vec.Iter.{into_iter_items, into_iter_len}
 use Rattle.child_pipeline.specs.ChildTraces.{ChildTrace}
@@ -14,7 +14,7 @@ told_of a = record {
   finished = a.finished;
 }
 
--- there is room for the orders to come, and each finish is of an order
+-- Memory is reserved for the orders to come, and each finish has an order.
 pub record HasRoom (a : Inside) : Type 0 where
   pub orders : vec_len a.orders + into_iter_len a.starts ≤ vec_capacity a.orders
   pub running : vec_len a.running + into_iter_len a.starts ≤ vec_capacity a.running

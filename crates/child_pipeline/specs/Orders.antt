@@ -1,4 +1,4 @@
--- What the child of a stage is started by.
+-- The order that starts the child of a stage.
 use Rattle.std.specs.Prelude.{ℕ, ◌-◌, cond, ◌==◌, List, [], Option, None, Some, Result, Ok, Err, slice_get}
 use Rattle.std.specs.String.{string_bytes}
 use Rattle.filter_args.specs.FilterArguments.{arguments}
@@ -21,7 +21,7 @@ abbrev pub scheme_in : {E : Type 0} → Result Parts E → List ℕ
 scheme_in (Ok url) = url.scheme
 scheme_in (Err e) = []
 
--- the scheme of a device's URI, by the URL Standard's parser without a base; a URI that it refuses has the empty one
+-- The scheme of a device's URI, by the URL Standard's parser without a base. For an invalid URI it is empty.
 abbrev pub scheme_of : List ℕ → List ℕ
 scheme_of uri = scheme_in (parse_url None uri)
 
@@ -29,13 +29,13 @@ abbrev pub program_in : QueueRow → Option (List ℕ) → Program
 program_in q None = Backend (scheme_of q.uri)
 program_in q (Some filter) = Filter filter
 
--- the filters in their order, then the backend that the scheme of the queue's URI names
+-- The filters in their order, then the backend that the scheme of the queue's URI names.
 abbrev pub program_of : Job → QueueRow → ℕ → Program
 program_of r q stage = program_in q (slice_get r.filters (stage - 1))
 
 -- ## The words
 
--- the first stage reads the document as a file
+-- The first stage reads the document as a file.
 abbrev pub document_file : Place → ℕ → ℕ → ℕ → Option (List ℕ)
 document_file place job attempt stage = cond (stage == 1) (Some (file_name files.Input (string_bytes place.root) job attempt stage)) None
 
@@ -44,7 +44,7 @@ words_of place r attempt stage = arguments r (document_file place r.id attempt s
 
 -- ## The whole order
 
--- the order for a stage of a job's attempt, whose child is handed this input
+-- The order for a stage of a job's attempt with this input.
 abbrev pub order_of : Place → Job → QueueRow → ℕ → ℕ → Input → Order
 order_of place r q attempt stage input = record {
   job = r.id;

@@ -21,7 +21,7 @@ use Rattle.child_pipeline.specs.declared.runner.Progress.{Progress}
 use Rattle.child_pipeline.specs.declared.runner.Progress.TheVariants.{Ready, Running, Ended}
 use Rattle.child_pipeline.specs.declared.runner.Slot.{Slot}
 
--- a child is named by the number of its order
+-- A child is identified by the number of its order.
 abbrev pub Slots : Type 0
 Slots = finite.FinMap nat_cmp (Slot ℕ)
 
@@ -36,7 +36,7 @@ numbered number slot = record { attempt = slot.attempt; stage = slot.stage; prog
 abbrev pub with_progress : Slot ℕ → Progress ℕ → Slot ℕ
 with_progress slot p = record slot { progress = p }
 
--- no child of it is running
+-- It has no running child.
 abbrev pub IsTicketless : Option (Slot ℕ) → Type 0
 IsTicketless None = Unit {0}
 IsTicketless (Some slot) = (n : ℕ) → ¬ (slot.progress ≡ Running n)
@@ -44,29 +44,29 @@ IsTicketless (Some slot) = (n : ℕ) → ¬ (slot.progress ≡ Running n)
 abbrev pub begun : ℕ → ℕ → Slot ℕ
 begun attempt stage = record { attempt = attempt; stage = stage; progress = Ready None }
 
--- the slot of a job that has one
+-- The slot of a job that has one.
 abbrev pub slot_in : Slots → ℕ → Slot ℕ
 slot_in slots j = unwrap_or (finite.get slots j) (begun 0 0)
 
 abbrev pub put_progress : Slots → ℕ → Progress ℕ → Slots
 put_progress slots j p = finite.insert slots j (with_progress (slot_in slots j) p)
 
--- the number is greater than this one, if there is one
+-- The number is greater than this one, if given.
 abbrev pub IsBehind : Option ℕ → ℕ → Type 0
 IsBehind None j = Unit {0}
 IsBehind (Some k) j = k < j
 
--- where the numbers behind it begin
+-- The lower bound of the numbers after it.
 abbrev pub bound_behind : Option ℕ → Bound ℕ
 bound_behind None = Unbounded
 bound_behind (Some k) = Excluded k
 
--- the least job behind this one that has a slot, if there is one
+-- The least job after this one that has a slot, if any.
 abbrev pub IsNextJob : Slots → Option ℕ → Option ℕ → Type 0
 IsNextJob slots behind None = (j : ℕ) → IsBehind behind j → finite.get slots j ≡ None
 IsNextJob slots behind (Some k) = IsBehind behind k × IsSome (finite.get slots k) × ((j : ℕ) → IsBehind behind j → IsSome (finite.get slots j) → k ≤ j)
 
--- the first stage of an attempt
+-- The first stage of an attempt.
 abbrev pub IsFirstStage : Phase → Type 0
 IsFirstStage (Processing attempt stage stages) = (1 ≤ attempt) × (stage ≡ 1)
 IsFirstStage (Incoming hold) = ⊥
@@ -75,7 +75,7 @@ IsFirstStage Completed = ⊥
 IsFirstStage Canceled = ⊥
 IsFirstStage (Aborted reason) = ⊥
 
--- a slot for the stage that the job is in
+-- A slot for the job's current stage.
 abbrev pub begun_in : Slots → ℕ → Phase → Slots
 begun_in slots j (Processing attempt stage stages) = finite.insert slots j (begun attempt stage)
 begun_in slots j (Incoming hold) = slots
@@ -84,7 +84,7 @@ begun_in slots j Completed = slots
 begun_in slots j Canceled = slots
 begun_in slots j (Aborted reason) = slots
 
--- the slot is that of the stage that a job of this phase is in
+-- The slot is for the current stage of a job in this phase.
 abbrev pub IsCurrent : Slot ℕ → Phase → Type 0
 IsCurrent slot (Processing attempt stage stages) = (slot.attempt ≡ attempt) × (slot.stage ≡ stage)
 IsCurrent slot (Incoming hold) = ⊥
@@ -108,17 +108,17 @@ is_ended (Ready input) = false
 is_ended (Running n) = false
 is_ended (Ended finish) = true
 
--- a stage that wasn't started
+-- A stage that was not started.
 abbrev pub IsReady : Option (Slot ℕ) → Type 0
 IsReady None = ⊥
 IsReady (Some slot) = is_ready slot.progress ≡ true
 
--- the stage that the job is in, which wasn't started
+-- The job's current stage, which was not started.
 abbrev pub IsDue : Option (Slot ℕ) → Phase → Type 0
 IsDue None phase = ⊥
 IsDue (Some slot) phase = (is_ready slot.progress ≡ true) × IsCurrent slot phase
 
--- a stage that was started, or couldn't be
+-- A stage that was started or could not be started.
 abbrev pub IsReporting : Option (Slot ℕ) → Type 0
 IsReporting None = ⊥
 IsReporting (Some slot) = is_ready slot.progress ≡ false
@@ -131,19 +131,19 @@ abbrev pub IsEnded : Option (Slot ℕ) → Type 0
 IsEnded None = ⊥
 IsEnded (Some slot) = is_ended slot.progress ≡ true
 
--- a stage that has ended and isn't the last that there can be
+-- A stage that has ended and is not the last possible one.
 abbrev pub HasNext : Option (Slot ℕ) → Type 0
 HasNext None = ⊥
 HasNext (Some slot) = (is_ended slot.progress ≡ true) × (slot.stage < 16)
 
--- what a stage is handed: the document, or the output of the stage before
+-- The input of a stage: the document, or the output of the previous stage.
 abbrev pub input_in : Progress ℕ → List ℕ → Input
 input_in (Ready None) document = Document document
 input_in (Ready (Some output)) document = Bytes output
 input_in (Running n) document = Document document
 input_in (Ended finish) document = Document document
 
--- the order for the stage of a job that has a slot
+-- The order for the stage of a job that has a slot.
 abbrev pub order_in : Place → Slots → Job → QueueRow → List ℕ → Order
 order_in place slots r q document =
     order_of place r q (slot_in slots r.id).attempt (slot_in slots r.id).stage (input_in (slot_in slots r.id).progress document)
@@ -152,7 +152,7 @@ abbrev pub progress_after : Bool → ℕ → Progress ℕ
 progress_after true n = Running n
 progress_after false n = Ended no_start
 
--- one start of this order, and its answer
+-- One start of this order, and its answer.
 pub record IsStartOf (t : ChildTrace) (order : Order) (started : Bool) (n : ℕ) (new : Option ChildTrace) : Type 0 where
   pub answer : started ≡ starts_next t
   pub number : IsTrue started → n ≡ length t.orders
@@ -167,7 +167,7 @@ pub record StartsStage (told : Option ChildTrace) (order : Order) (started : Boo
   pub slots : new ≡ put_progress old j (progress_after started number)
   pub start : IsStart told order started number told'
 
--- one finish of the child of this number, if it was running
+-- One finish of the child with this number, if it was running.
 abbrev pub IsFinish : Option ChildTrace → ℕ → Finish → Option ChildTrace → Type 0
 IsFinish None n f new = new ≡ None
 IsFinish (Some t) n f new = is_in n t.running ≡ true → (f ≡ kept (first_finish t.finishes)) × (new ≡ Some (after_finish t n))
@@ -177,7 +177,7 @@ pub record Waits (told : Option ChildTrace) (n : ℕ) (old : Slots) (j : ℕ) (n
   pub slots : new ≡ put_progress old j (Ended finish)
   pub answer : IsFinish told n finish told'
 
--- a child that is running is finished, and a finish that was kept stays
+-- A running child is finished, and a stored finish stays.
 abbrev pub FinishesFrom : Progress ℕ → Option ChildTrace → Slots → ℕ → Slots → Option ChildTrace → Type 0
 FinishesFrom (Running n) told slots j slots' told' = Waits told n slots j slots' told'
 FinishesFrom (Ended finish) told slots j slots' told' = (slots' ≡ slots) × (told' ≡ told)
@@ -186,17 +186,17 @@ FinishesFrom (Ready input) told slots j slots' told' = ⊥
 abbrev pub FinishesStage : Option ChildTrace → Slots → ℕ → Slots → Option ChildTrace → Type 0
 FinishesStage told slots j slots' told' = FinishesFrom (slot_in slots j).progress told slots j slots' told'
 
--- the finish that a slot keeps
+-- The finish that a slot stores.
 abbrev pub finish_in : Progress ℕ → Finish
 finish_in (Ended finish) = finish
 finish_in (Ready input) = no_start
 finish_in (Running n) = no_start
 
--- the event's fields for the stage whose finish the job's slot keeps
+-- The event of the end of a stage, from the finish that the job's slot stores.
 abbrev pub end_in : Slots → ℕ → StageEnd
 end_in slots j = end_of j (slot_in slots j).attempt (slot_in slots j).stage (finish_in (slot_in slots j).progress)
 
--- the next stage, which has the output
+-- The next stage, with the output as its input.
 abbrev pub advanced : Slot ℕ → Slot ℕ
 advanced slot = record { attempt = slot.attempt; stage = slot.stage + 1; progress = Ready (Some (finish_in slot.progress).output) }
 

@@ -1,7 +1,7 @@
-//! The processes of a child.
+//! The process group of a child.
 
-/// A child whose processes have a group of their own, so that a signal to all of them reaches nobody else.
+/// A child whose processes have a group of their own, so that a signal to all of them reaches no other process.
 pub trait Grouped {
-    /// The number by which the group is found.
+    /// The number of the group.
     fn group(&self) -> u32;
 }

@@ -1,4 +1,4 @@
-//! What is so of the inputs of stages, and of the tickets. The functions do nothing: their clauses are the laws.
+//! Laws on the inputs of stages and on tickets. The functions do nothing: their clauses are the laws.
 ghost use Rattle.std.specs.Prelude.{◌≡◌, ℕ, ◌+◌, Bool, cond, List, [], Option, Some};
 ghost use Rattle.std.specs.FinMap as finite;
 ghost use Rattle.child_pipeline.specs.StageSlots.{Slots, IsTicketless, IsStart, Waits, put_progress, progress_after, begun, advanced, finish_in, input_in};
@@ -8,7 +8,8 @@ ghost use Rattle.child_pipeline.specs.declared.order.Order.{Order as OrderOf};
 ghost use Rattle.child_pipeline.specs.declared.order.Input.TheVariants as inputs;
 ghost use Rattle.child_pipeline.specs.declared.runner.Slot.{Slot as SlotOf};
 
-/// An attempt begins with the document. Each later stage is handed the output of the stage before, in the same attempt.
+/// The input of an attempt's first stage is the document. The input of each later stage is the output of the previous one in the same
+/// attempt.
 pub fn right_input()
     ensures first { (attempt : ℕ) (document : List ℕ) → input_in (begun attempt 1).progress document ≡ inputs.Document document }
     ensures later { (slot : SlotOf ℕ) (document : List ℕ) → input_in (advanced slot).progress document ≡ inputs.Bytes (finish_in slot.progress).output }
@@ -16,8 +17,8 @@ pub fn right_input()
     ensures attempt { (slot : SlotOf ℕ) → (advanced slot).attempt ≡ slot.attempt }
 {}
 
-/// No ticket is lost, and none is spent twice: a start puts the new child's ticket into the job's slot, a finish takes it
-/// out, a look leaves it where it is, and a slot without a ticket may go, or have another without one in its place.
+/// No ticket is lost, and none is used twice: a start puts the new child's ticket into the job's slot, a finish takes it out, a check
+/// leaves it there, and a slot without a ticket may be freed or replaced by another one without a ticket.
 pub fn tickets_stay()
     ensures starts { (slots : Slots) (j : ℕ) (t : ChildTrace) (order : OrderOf) (b : Bool) (n : ℕ) (told : Option ChildTrace) →
         HasTickets slots t → IsTicketless (finite.get slots j) → IsStart (Some t) order b n told → AreKeptBy t (cond b 1 0) (put_progress slots j (progress_after b n)) told }

@@ -1,4 +1,4 @@
-//! Children of which none can be started.
+//! Children that never start.
 ghost use Rattle.std.specs.Prelude.{◌≡◌, true, None, IsErr};
 ghost use Rattle.child_pipeline.specs.ChildTraces.{Starts, Looks};
 ghost use Rattle.child_pipeline.specs.declared.none.NoTicket.{NoTicket as NoTicketValue};
@@ -6,11 +6,11 @@ ghost use Rattle.child_pipeline.specs.declared.none.NoTicket.{NoTicket as NoTick
 use crate::children::{Children, StartRoom};
 use crate::order::{ChildFault, Finish, Order};
 
-/// Children of which none can be started, and that tell nothing.
+/// Children that never start and report nothing.
 #[derive(Clone, Copy, Debug)]
 pub struct NoChildren;
 
-/// The ticket of a child of [`NoChildren`]: none is given.
+/// The ticket of a child of [`NoChildren`]: none is ever made.
 #[derive(Debug, Drop)]
 pub struct NoTicket;
 
@@ -42,7 +42,7 @@ impl Children for NoChildren {
         true
     }
 
-    // A start would find nothing that it could want.
+    // A start fails without using any resource.
     fn start_room(&mut self) -> Option<StartRoom>
         ensures none { result ≡ None }
     {

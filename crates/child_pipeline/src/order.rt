@@ -1,4 +1,4 @@
-//! What a child is started by, and what is known of it once it has ended.
+//! The order that starts a child, and the result of its end.
 ghost use Rattle.std.specs.Prelude.{◌≡◌};
 ghost use Rattle.child_pipeline.specs.Finishes.{no_start, lost, bounded};
 
@@ -14,16 +14,16 @@ pub enum Program {
     Backend(Scheme),
 }
 
-/// What a child is handed.
+/// The input of a child.
 #[derive(Drop)]
 pub enum Input {
     /// The job's document, as the file that the last word names. Standard input is empty.
     Document(Content),
-    /// What the stage before gave, on standard input.
+    /// The output of the previous stage, on standard input.
     Bytes(Content),
 }
 
-/// All that the child of a stage is started by.
+/// All that determines the child of a stage.
 #[derive(Drop)]
 pub struct Order {
     pub job: JobId,
@@ -37,7 +37,7 @@ pub struct Order {
     pub input: Input,
 }
 
-/// How a child ended, and all that it wrote on standard output and standard error.
+/// How a child ended, and all that it wrote to standard output and standard error.
 #[derive(Drop)]
 pub struct Finish {
     pub exit: Exit,
@@ -46,7 +46,7 @@ pub struct Finish {
 }
 
 impl Finish {
-    // The finish of a child that couldn't be started.
+    // The finish of a child that could not be started.
     pub(crate) fn unstarted(alloc: Global) -> Finish
         ensures { result ≡ no_start }
     {
@@ -57,7 +57,7 @@ impl Finish {
         }
     }
 
-    // The finish of a child of which nothing is known.
+    // The finish of a child whose end is unknown.
     pub(crate) fn lost(alloc: Global) -> Finish
         ensures { result ≡ lost }
     {
@@ -68,7 +68,7 @@ impl Finish {
         }
     }
 
-    // The same, but lost where its output, which the next stage reads, is longer than a document may be.
+    // The same, but Lost if its output, which the next stage reads, is longer than a document may be.
     pub(crate) fn within_bounds(self, alloc: Global) -> Finish
         ensures { result ≡ bounded self }
     {
@@ -84,11 +84,11 @@ impl Finish {
     }
 }
 
-/// A child couldn't be started, or nothing is known of its end.
+/// A child could not be started, or its end is unknown.
 #[derive(Clone, Copy, Debug, PartialEq, Eq)]
 pub struct ChildFault;
 
-/// An order, and how many children had been finished before it.
+/// An order, and how many children were finished before it.
 #[derive(Drop)]
 pub struct Placed {
     pub order: Order,

@@ -1,4 +1,4 @@
-//! The order for a stage, but for what its child is handed.
+//! The order for a stage, except for its input.
 ghost use Rattle.std.specs.Prelude.{◌≡◌, true, IfOk};
 ghost use Rattle.filter_args.specs.Environment.{environment_of};
 ghost use Rattle.spool_types.specs.Phases.{is_processing};
@@ -38,7 +38,7 @@ fn scheme(alloc: Global, uri: &Uri) -> Result<Scheme, AllocError>
     }
 }
 
-// The words of a stage: in the first one the last of them is the document's path.
+// The words of a stage. In the first stage the last word is the document's path.
 pub(crate) fn words(
     alloc: Global,
     place: &Place,
@@ -59,7 +59,7 @@ pub(crate) fn words(
     }
 }
 
-// The variables of the stage that a processing job is in.
+// The environment of a processing job's current stage.
 pub(crate) fn environment(
     alloc: Global,
     place: &Place,

@@ -1,4 +1,4 @@
-//! The event that tells the end of a stage.
+//! The event of the end of a stage.
 ghost use Rattle.std.specs.Prelude.{◌≡◌, IfOk};
 ghost use Rattle.stderr_lines.specs.Reports.{report_of, told_by};
 ghost use Rattle.child_pipeline.specs.Finishes.{heard, end_of};
@@ -11,7 +11,7 @@ use stderr_lines::{Lines, Report, effects_fit};
 // How many bytes of a child's standard error are read.
 const MOST_ERRORS: usize = 1_048_576;
 
-// The end of a stage, with the effects of what its child said.
+// The end of a stage, with the effects of its child's standard error.
 pub(crate) fn stage_end(
     alloc: Global,
     job: JobId,
@@ -36,7 +36,7 @@ pub(crate) fn stage_end(
     }
 }
 
-// What is reported of a child's standard error, as far as it is read.
+// The report in a child's standard error, as far as it is read.
 fn report(alloc: Global, errors: &[u8]) -> Result<Report, AllocError>
     ensures { IfOk result (λ report. told_by report ≡ report_of (heard errors.now)) }
 {

@@ -1,4 +1,4 @@
-//! The slots in which the stages of jobs stand.
+//! The slots of the jobs' stages.
 ghost use Rattle.std.specs.Prelude.{◌≡◌, ◌&&◌, ◌==◌, false, nat_lt, None, Some, IsSome, IsTrue, IfOk, OnOk, OnErr};
 ghost use Rattle.std.specs.Option.{option_copied, option_map};
 ghost use Rattle.std.specs.FinMap as finite;
@@ -21,14 +21,14 @@ use std::marker::Model;
 use std::mem;
 use std::ops::Bound;
 
-/// How far a stage has come.
+/// The progress of a stage.
 #[derive(Drop)]
 pub enum Progress<T> {
-    /// It wasn't started. A later stage has the output of the stage before.
+    /// Not started. A later stage has the output of the previous one.
     Ready(Option<Content>),
     /// Its child was started.
     Running(T),
-    /// Its child has ended, or couldn't be started.
+    /// Its child has ended, or could not be started.
     Ended(Finish),
 }
 
@@ -41,7 +41,7 @@ pub struct Slot<T> {
 }
 
 impl<T> Slot<T> {
-    // Whether it is that of this stage, which wasn't started.
+    // Whether the slot is for this stage, which was not started.
     fn is_due(&self, attempt: u32, stage: u8) -> bool
         ensures { result ≡ (self.now.attempt == attempt && self.now.stage == stage && is_ready self.now.progress) }
     {
@@ -60,7 +60,7 @@ impl<T> Slot<T> {
         matches!(self.progress, Progress::Running(_))
     }
 
-    // Whether the stage has ended and isn't the last that there can be.
+    // Whether the stage has ended and is not the last possible one.
     fn has_next(&self) -> bool
         ensures { result ≡ (is_ended self.now.progress && nat_lt self.now.stage 16) }
     {
@@ -68,7 +68,7 @@ impl<T> Slot<T> {
     }
 }
 
-/// The slots of jobs, each with the stage that the job is in. Callers see a ticket as the number of its order.
+/// The slots of jobs, each with the job's current stage. Callers see a ticket as the number of its order.
 #[derive(Drop)]
 pub struct Runner<C: Children> {
     alloc: Global,
@@ -93,7 +93,7 @@ impl<C: Children> Model for Runner<C> {
 }
 
 impl<C: Children> Runner<C> {
-    /// No slots. It takes no memory.
+    /// No slots. Does not allocate.
     pub fn new(alloc: Global) -> Runner<C>
         ensures { result ≡ finite.empty }
     {
@@ -104,7 +104,6 @@ impl<C: Children> Runner<C> {
         }
     }
 
-    /// The slot of a job, if it has one.
     pub fn slot(&self, job: JobId) -> Option<&Slot<C::Ticket>>
         ensures { option_map (numbered C.number) (option_copied result) ≡ finite.get self.now job }
     {
@@ -112,7 +111,7 @@ impl<C: Children> Runner<C> {
         self.slots.get(*key)
     }
 
-    /// The first job behind this one that has a slot, or with `None` the first of all, so that every slot can be visited.
+    /// The first job after this one that has a slot, or with `None` the first of all. Iterates over the slots.
     pub fn next_job(&self, behind: Option<JobId>) -> Option<JobId>
         ensures { IsNextJob self.now behind result }
     {
@@ -123,7 +122,7 @@ impl<C: Children> Runner<C> {
         }
     }
 
-    /// Whether a job's slot is that of the stage that it is in, which wasn't started.
+    /// Whether a job's slot is for its current stage, which was not started.
     pub fn is_due(&self, row: &Job) -> bool
         ensures yes { IsTrue result → IsDue (finite.get self.now row.now.id) row.now.phase }
         ensures no { result ≡ false → ¬ (IsDue (finite.get self.now row.now.id) row.now.phase) }
@@ -137,7 +136,7 @@ impl<C: Children> Runner<C> {
         }
     }
 
-    /// Whether the child of a job's stage was started, or couldn't be.
+    /// Whether the child of a job's stage was started or could not be started.
     pub fn is_reporting(&self, job: JobId) -> bool
         ensures yes { IsTrue result → IsReporting (finite.get self.now job) }
         ensures no { result ≡ false → ¬ (IsReporting (finite.get self.now job)) }
@@ -159,7 +158,7 @@ impl<C: Children> Runner<C> {
         }
     }
 
-    /// Whether a job's stage has ended and isn't the last that there can be.
+    /// Whether a job's stage has ended and is not the last possible one.
     pub fn has_next(&self, job: JobId) -> bool
         ensures yes { IsTrue result → HasNext (finite.get self.now job) }
         ensures no { result ≡ false → ¬ (HasNext (finite.get self.now job)) }
@@ -170,7 +169,7 @@ impl<C: Children> Runner<C> {
         }
     }
 
-    // Puts another slot in the place of a job's.
+    // Replaces the slot of a job, and returns the old one.
     fn exchange(&mut self, job: JobId, slot: Slot<C::Ticket>) -> Slot<C::Ticket>
         requires { IsSome (finite.get self.old job) }
         ensures old { Some (numbered C.number result) ≡ finite.get self.old job }
@@ -185,7 +184,7 @@ impl<C: Children> Runner<C> {
         }
     }
 
-    // Adds a slot, or puts it in the place of the job's.
+    // Adds a slot, or replaces the job's slot.
     fn insert(&mut self, job: JobId, slot: Slot<C::Ticket>) -> Result<(), AllocError>
         ensures ok { OnOk result (self.new ≡ finite.insert self.old job (numbered C.number slot)) }
         ensures err { OnErr result (self.new ≡ self.old) }
@@ -205,7 +204,7 @@ impl<C: Children> Runner<C> {
         }
     }
 
-    /// Frees the slot of a job, if it has one. A slot with a ticket isn't to be freed.
+    /// Frees the slot of a job, if it has one. A slot with a ticket must not be freed.
     pub fn release(&mut self, job: JobId)
         requires ticketless { IsTicketless (finite.get self.old job) }
         ensures { self.new ≡ finite.remove self.old job }
@@ -227,7 +226,7 @@ impl<C: Children> Runner<C> {
         }
     }
 
-    // Changes how far the stage of a job has come, and gives how far it had come.
+    // Replaces the progress of a job's stage, and returns the old one.
     fn exchange_progress(
         &mut self,
         job: JobId,
@@ -246,7 +245,7 @@ impl<C: Children> Runner<C> {
         self.exchange(job, slot).progress
     }
 
-    // Takes what the stage of a job is handed.
+    // Takes the input of a job's stage out of its slot.
     fn take_input(&mut self, job: JobId, document: Content) -> Input
         requires { IsReady (finite.get self.old job) }
         ensures input { result ≡ input_in (slot_in self.old job).progress document }
@@ -260,7 +259,7 @@ impl<C: Children> Runner<C> {
     }
 
     #[tactic(auto, using(crate::proofs::PutLaws::put_twice, crate::proofs::PutLaws::slot_put, crate::proofs::PutLaws::still_there, crate::proofs::PutLaws::insert_twice))]
-    /// Waits for the child of a job's stage, and keeps its finish in the slot.
+    /// Waits for the child of a job's stage, and stores its finish in the slot.
     pub fn finish(&mut self, children: &mut C, job: JobId)
         requires { IsRunning (finite.get self.old job) }
         ensures ended { IsEnded (finite.get self.new job) }
@@ -274,7 +273,7 @@ impl<C: Children> Runner<C> {
         self.exchange_progress(job, Progress::Ended(finish));
     }
 
-    // A copy of the event that tells the end of a job's stage.
+    // A copy of the event of the end of a job's stage.
     fn end(&self, job: JobId) -> Result<StageEnd, AllocError>
         requires { IsEnded (finite.get self.now job) }
         ensures { IfOk result (λ end. end ≡ end_in self.now job) }
@@ -290,8 +289,8 @@ impl<C: Children> Runner<C> {
         }
     }
 
-    /// Reserves a slot for the first stage of an attempt, in which the job is. A later stage has the slot of the one
-    /// before it. It takes the place of a slot that is left from an earlier attempt, which isn't to run a child.
+    /// Reserves a slot for the first stage of an attempt, the job's current stage. A later stage has the slot of the previous one. The new
+    /// slot replaces one that remains from an earlier attempt, which must not run a child.
     pub fn begin(&mut self, row: &Job) -> Result<(), AllocError>
         requires first { IsFirstStage row.now.phase }
         requires ticketless { IsTicketless (finite.get self.old row.now.id) }
@@ -315,8 +314,8 @@ impl<C: Children> Runner<C> {
     }
 
     #[tactic(auto, using(crate::proofs::PutLaws::put_twice, crate::proofs::PutLaws::slot_put, crate::proofs::PutLaws::still_there, crate::proofs::PutLaws::insert_twice))]
-    /// Starts the child of the stage that a job is in, and tells whether it was started. The first stage is handed the
-    /// document, and each later one the output of the stage before. Without memory nothing was started.
+    /// Starts the child of a job's current stage, and returns whether it was started. The input of the first stage is the document, and
+    /// that of each later one the output of the previous stage. If memory runs out nothing was started.
     pub fn start_stage(
         &mut self,
         children: &mut C,
@@ -367,8 +366,8 @@ impl<C: Children> Runner<C> {
     }
 
     #[tactic(auto, using(crate::proofs::PutLaws::put_twice, crate::proofs::PutLaws::slot_put, crate::proofs::PutLaws::still_there, crate::proofs::PutLaws::insert_twice))]
-    /// Waits for the child of a job's stage, unless it was finished before, and gives the event that tells its end. The
-    /// finish stays in the slot, also without memory.
+    /// Waits for the child of a job's stage, unless it was finished before, and returns the event of its end. The finish stays in the slot,
+    /// even if memory runs out.
     pub fn finish_stage(&mut self, children: &mut C, job: JobId) -> Result<StageEnd, AllocError>
         requires { IsReporting (finite.get self.old job) }
         ensures finishes { FinishesStage (C.tells children.old) self.old job self.new (C.tells children.new) }
@@ -382,7 +381,7 @@ impl<C: Children> Runner<C> {
     }
 
     #[tactic(auto, using(crate::proofs::PutLaws::put_twice, crate::proofs::PutLaws::still_there, crate::proofs::PutLaws::put_back))]
-    /// Looks whether the child of a job's stage has ended, and waits for nobody. The slots stay as they are.
+    /// Checks whether the child of a job's stage has ended, without waiting. The slots do not change.
     pub fn has_ended(&mut self, children: &mut C, job: JobId) -> bool
         requires { IsRunning (finite.get self.old job) }
         ensures slots { self.new ≡ self.old }
@@ -398,7 +397,7 @@ impl<C: Children> Runner<C> {
     }
 
     #[tactic(auto, using(crate::proofs::PutLaws::put_twice, crate::proofs::PutLaws::slot_put, crate::proofs::PutLaws::still_there, crate::proofs::PutLaws::insert_twice))]
-    /// Keeps the output of a job's stage, which has ended, and moves its slot to the next stage.
+    /// Moves the slot of a stage that has ended to the next stage, with the output as its input.
     pub fn advance(&mut self, job: JobId)
         requires { HasNext (finite.get self.old job) }
         ensures { self.new ≡ advanced_in self.old job }
@@ -420,14 +419,14 @@ impl<C: Children> Runner<C> {
     }
 }
 
-// Lets the slot under a key go, if there is one.
+// Frees the slot under a key, if it exists.
 fn free<T: Drop>(slots: &mut Slab<Slot<T>>, key: usize)
     ensures { Updates slots.old slots.new key None }
 {
     slots.try_remove(key);
 }
 
-// Where the jobs behind this one begin, or all jobs.
+// The lower bound of the jobs after this one, or of all jobs.
 fn start_behind(job: Option<JobId>) -> Bound<JobId>
     ensures { result ≡ bound_behind job }
 {
@@ -437,7 +436,7 @@ fn start_behind(job: Option<JobId>) -> Bound<JobId>
     }
 }
 
-// A finish as it is kept: lost where nothing is known of the child, or where its output is too long.
+// A finish as it is stored: Lost if the child's end is unknown or its output is too long.
 fn kept(alloc: Global, answer: Result<Finish, ChildFault>) -> Finish
     ensures { result ≡ kept (finish_told answer) }
 {

@@ -1,4 +1,4 @@
-//! Bytes and texts that children take and give. Each is seen as a list, and made of what it holds without memory.
+//! Inputs, outputs and texts of children. Clauses see each as a list, and each wraps its value without allocating.
 ghost use Rattle.std.specs.Prelude.{◌≡◌, [], map};
 ghost use Rattle.std.specs.String.{string_bytes};
 ghost use Rattle.filter_args.specs.OptionFields.{texts as texts_of};
@@ -21,14 +21,14 @@ impl Model for Content {
 }
 
 impl Content {
-    /// These bytes. It takes no memory.
+    /// These bytes. Does not allocate.
     pub fn new(bytes: Vec<u8>) -> Content
         ensures { result ≡ bytes.items }
     {
         Content { bytes }
     }
 
-    /// No bytes, which takes no memory.
+    /// No bytes. Does not allocate.
     pub fn empty(alloc: Global) -> Content
         ensures { result ≡ [] }
     {
@@ -44,7 +44,7 @@ impl Content {
         &self.bytes
     }
 
-    /// The bytes as they were given.
+    /// The bytes, without a copy.
     pub fn into_vec(self) -> Vec<u8>
         ensures { result.items ≡ self }
     {
@@ -68,7 +68,7 @@ impl Model for Texts {
 }
 
 impl Texts {
-    /// These texts. It takes no memory.
+    /// These texts. Does not allocate.
     pub fn new(texts: Vec<String>) -> Texts
         ensures { result ≡ texts_of texts }
     {
@@ -82,7 +82,7 @@ impl Texts {
         &self.texts
     }
 
-    /// The texts as they were given.
+    /// The texts, without a copy.
     pub fn into_vec(self) -> Vec<String>
         ensures { texts_of result ≡ self }
     {
@@ -90,7 +90,7 @@ impl Texts {
     }
 }
 
-/// The scheme of a device's URI, seen as its bytes. It is empty where the URI doesn't parse.
+/// The scheme of a device's URI, seen as its bytes. It is empty if the URI is invalid.
 #[derive(Drop)]
 pub struct Scheme {
     scheme: String,
@@ -106,14 +106,13 @@ impl Model for Scheme {
 }
 
 impl Scheme {
-    /// This scheme. It takes no memory.
+    /// This scheme. Does not allocate.
     pub fn new(scheme: String) -> Scheme
         ensures { result ≡ string_bytes scheme }
     {
         Scheme { scheme }
     }
 
-    /// The scheme as it is kept.
     pub fn as_str(&self) -> &str
         ensures { result.now ≡ self.now }
     {

@@ -1,4 +1,4 @@
--- What a text asks for beside its commands, and over a row of calls.
+-- The requests of a text compared with its commands, and over a list of calls.
 use Rattle.std.proofs.Common.{◌≡◌, ℕ, suc, zero, ◌+◌, true, false, cond, List, [], ◌∷◌, ◌++◌, length, take, drop, map, refl, ap, sym, ◌∙◌, append_assoc, Bool, Option, None, Some}
 use Rattle.std.specs.Prelude.{nat_le}
 use Rattle.std.proofs.lemmas.List.{append-nil}
@@ -17,7 +17,7 @@ use Rattle.client_reader.specs.declared.ask.Ask.TheVariants as asking
 use Rattle.client_reader.specs.Asks.{own_of, after_send, after_kind, after_own, asks_within, asks_of}
 use Rattle.client_reader.specs.ReaderCalls.{Call, takes, gives, AreCalls, AreFirstOf, as_command, given_in, taken_in}
 
--- no word of the service is a command, as its crate says it
+-- No word of the service is a command, as `service_texts` states it.
 abbrev pub AreNoCommands : Type 0
 AreNoCommands = (line : List ℕ) (word : OwnWord) → own_word line ≡ Some word → kind_of line ≡ Says Malformed
 
@@ -54,7 +54,7 @@ module _ (law : AreNoCommands) where
   unfolding asks_of commands_of
   all_same text = within_same (length text) text
 
--- what was given comes first, whatever follows
+-- The returned requests come first, whatever follows.
 in_order : (old : List ℕ → List Ask) (calls : List Call) (new : List ℕ → List Ask) → AreCalls old calls new → (more : List ℕ) → old (taken_in calls ++ more) ≡ given_in calls ++ new more
 in_order old [] new are more = are more
 in_order old (takes piece ∷ calls) new are more = ap old (append_assoc piece (taken_in calls) more) ∙ in_order (λ more. old (piece ++ more)) calls new are more

@@ -1,4 +1,4 @@
--- What each step of a reader comes to.
+-- The result of each step of a reader.
 use Rattle.std.proofs.Common.{◌≡◌, ◌⊎◌, inl, inr, ℕ, ◌+◌, ◌<◌, ◌≤◌, true, false, List, [], ◌∷◌, ◌++◌, length, get_or, take, drop, map, refl, ap, sym, ◌∙◌, arith, append_assoc, min, None, Some}
 use Rattle.std.proofs.lemmas.List.{drop_more, take_more, take_all, take-append-drop, length-take-le}
 use Rattle.command_lines.specs.TextLines.{has_lf}
@@ -17,7 +17,7 @@ use Rattle.client_reader.specs.AwaitedRequests.{Where, at_line, in_line, in_send
 use Rattle.client_reader.proofs.Lines.{LineByLine, asks_line, ends_within_front, ends_within_line}
 use Rattle.client_reader.proofs.Steps.{waits_line, waits_sending, IsLineMode, IsSending, no_send_place, given_first, send_place, none_given, Goes, goes_on, goes_line, goes_front, goes_rest, goes_part, goes_send}
 
--- the first line feed stands behind so many bytes
+-- The byte offset of the first line feed.
 pub record IsLine (text : List ℕ) (at : ℕ) : Type 0 where
   pub within : at < length text
   pub before : has_lf (take at text) ≡ false
@@ -29,7 +29,7 @@ line_split text at is = sym (take-append-drop at text) ∙ ap (λ l. take at tex
 pub line_taken : (text : List ℕ) (at : ℕ) → IsLine text at → take (at + 1) text ≡ take at text ++ 10 ∷ []
 line_taken text at is = take_more text at 0 is.within ∙ ap (λ b. take at text ++ b ∷ []) is.there
 
--- nothing but the reader of commands changed, which gives the same
+-- Only the reader of commands changed, and it returns the same.
 pub stays : (old new : Reader) → Leads old.commands [] new.commands → new.text.items ≡ old.text.items → new.within ≡ old.within →
     (asks : List ℕ → List Ask) → Awaits old asks → Awaits new asks
 stays old new leads text within asks a = record {
@@ -39,7 +39,7 @@ stays old new leads text within asks a = record {
   asked = λ more. a.asked more ∙ ap (λ l. map asking.Command a.given ++ asked_from a.position (l ++ more)) (sym text);
 }
 
--- bytes were given to it
+-- It got bytes.
 pub were_given : (old new : Reader) (xs rest : List ℕ) → new.commands ≡ record old.commands { held = old.commands.held ++ xs } →
     old.text.items ≡ xs ++ rest → new.text.items ≡ rest → new.within ≡ ends_within xs →
     (asks : List ℕ → List Ask) (a : Awaits old asks) → Goes xs (ends_within xs) a.given a.position → Awaits new asks
@@ -65,7 +65,7 @@ module _ (law : LineByLine) where
         record { given = r.0; position = a.position; at = rw within r.2; asked = λ more. refl },
       )
 
-  -- where a line is waited for, and the front of one wasn't given last, the text stands at a line's beginning
+  -- If it waits for a line and did not get the front of one last, the text is at the beginning of a line.
   at_beginning : (r : Reader) → IsLineMode r.commands.mode → IsPartial r.commands.mode r.commands.held → r.within ≡ false →
       (asks : List ℕ → List Ask) (a : Awaits r asks) → (a.given ≡ []) × (a.position ≡ at_line)
   at_beginning r mode partial out asks a = by_place a.given a.position a.at (no_send_place law r.commands r.within a.given a.position a.at mode partial)
@@ -86,7 +86,7 @@ module _ (law : LineByLine) where
       by_place given (in_send job n held) at (inl e) = absurd (cc)
       by_place given (in_send job n held) at (inr e) = absurd (cc)
 
-  -- a word of the service was taken
+  -- A word of the service was taken.
   pub gives_own : (old new : Reader) (l rest : List ℕ) (word : OwnWord) → IsLineMode old.commands.mode → IsPartial old.commands.mode old.commands.held → old.within ≡ false →
       old.text.items ≡ l ++ 10 ∷ rest → has_lf l ≡ false → own_of l ≡ Some word →
       new.commands ≡ old.commands → new.text.items ≡ rest → new.within ≡ old.within →
@@ -106,7 +106,7 @@ module _ (law : LineByLine) where
         record { given = []; position = at_line; at = rw (commands, within) at; asked = λ more. refl },
       )
 
-  -- bytes that are no word of the service, at a line's beginning
+  -- Bytes at the beginning of a line that are no word of the service.
   pub line_given : (r : Reader) (xs : List ℕ) → IsLineMode r.commands.mode → IsPartial r.commands.mode r.commands.held → r.within ≡ false →
       Goes xs (ends_within xs) [] at_line → (asks : List ℕ → List Ask) (a : Awaits r asks) → Goes xs (ends_within xs) a.given a.position
   line_given r xs mode partial out goes asks a = let p = at_beginning r mode partial out asks a in rw (p.0, p.1) goes
@@ -133,7 +133,7 @@ goes_to_end l none given = rw ends_within_line (goes_rest l given none)
 pub goes_further : (l : List ℕ) → has_lf l ≡ false → (given : List Command) → Goes l (ends_within l) given in_line
 goes_further l none given = rw (ends_within_front l none) (goes_part l given none)
 
--- the first bytes of the text were given on
+-- The first bytes of the text were passed on.
 pub record WasGiven (old new : Reader) (count : ℕ) : Type 0 where
   pub commands : new.commands ≡ record old.commands { held = old.commands.held ++ take count old.text.items }
   pub text : new.text.items ≡ drop count old.text.items

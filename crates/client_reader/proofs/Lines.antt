@@ -47,7 +47,7 @@ no_lf b h = let e : eqb b 10 ≡ false = grind (arith, h) in ap (λ v. cond v tr
 
 -- ## Bytes of a send
 
--- the bytes of a send and LF, else a fault, over what is read
+-- The bytes of a send and LF, otherwise malformed, for any way to read the rest.
 abbrev pub split_at : {X : Type 0} → (List ℕ → List X) → (List ℕ → X) → X → ℕ → List ℕ → List X
 split_at reading good bad n text = cond (is_lf_at n text) (good (take n text) ∷ reading (drop (n + 1) text)) (bad ∷ reading (after_line (drop n text)))
 
@@ -58,12 +58,12 @@ module _ {X : Type 0} (reading : List ℕ → List X) (good : List ℕ → X) (b
   pub split_right : (text : List ℕ) → is_lf_at n text ≡ true → split_at reading good bad n text ≡ good (take n text) ∷ reading (drop (n + 1) text)
   split_right text e = ap (λ v. cond v (good (take n text) ∷ reading (drop (n + 1) text)) (bad ∷ reading (after_line (drop n text)))) e
 
-  -- some bytes are missing at the end
+  -- Some bytes are missing at the end.
   pub split_cut : (text : List ℕ) → length text ≤ n → split_at reading good bad n text ≡ bad ∷ reading []
   split_cut text h =
       split_wrong text (ap (λ b. eqb b 10) (get_or_past text n 0 h)) ∙ ap (λ l. bad ∷ reading (after_line l)) (drop_all n text h)
 
-  -- all are there, with LF behind them
+  -- All bytes have arrived, followed by LF.
   pub split_whole : (text more : List ℕ) → length text ≡ n → split_at reading good bad n (text ++ 10 ∷ more) ≡ good text ∷ reading more
   split_whole text more h =
       let e : is_lf_at n (text ++ 10 ∷ more) ≡ true = ap (λ b. eqb b 10) (get_or_at text 10 more 0 n h) in
@@ -72,7 +72,7 @@ module _ {X : Type 0} (reading : List ℕ → List X) (good : List ℕ → X) (b
       ∙ ap (λ l. good l ∷ reading (drop (n + 1) (text ++ 10 ∷ more))) (take_at text (10 ∷ more) n h)
       ∙ ap (λ l. good text ∷ reading l) d
 
-  -- one more byte than these is there, and more follow
+  -- One more byte has arrived, and more follow.
   module _ (text : List ℕ) (full : length text ≡ n + 1) where
     lf_same : (more : List ℕ) → is_lf_at n (text ++ more) ≡ is_lf_at n text
     lf_same more = ap (λ b. eqb b 10) (get_or_append_left text more 0 n (omega arith))
@@ -91,7 +91,7 @@ module _ {X : Type 0} (reading : List ℕ → List X) (good : List ℕ → X) (b
         ∙ ap (λ l. bad ∷ reading (after_line (l ++ more))) rest
         ∙ ap (λ v. bad ∷ reading (cond v more (after_line more))) is
 
--- ## What a text asks for, line by line
+-- ## The requests of a text, line by line
 
 module _ (f g : List ℕ → List Ask) where
   same_bytes : (job n : ℕ) (rest : List ℕ) → ((t : List ℕ) → length t ≤ length rest → f t ≡ g t) → after_send f job n rest ≡ after_send g job n rest
@@ -122,7 +122,7 @@ same_within (suc m) (suc n) (b ∷ bs) h k =
     let short = after_line_shorter b bs in
     same_line (asks_within m) (asks_within n) (own_of (first_line (b ∷ bs))) (kind_of (first_line (b ∷ bs))) (after_line (b ∷ bs)) (λ t l. same_within m n t (omega arith) (omega arith))
 
--- no text
+-- The empty text.
 pub commands_of-nil : commands_of [] ≡ []
 unfolding commands_of commands_within
 commands_of-nil = refl
@@ -133,21 +133,21 @@ asks_of-cons b bs =
     let short = after_line_shorter b bs in
     same_line (asks_within (length bs)) asks_of (own_of (first_line (b ∷ bs))) (kind_of (first_line (b ∷ bs))) (after_line (b ∷ bs)) (λ t l. same_within (length bs) (length t) t (omega arith) (omega arith))
 
--- the same of commands, as their crate says it
+-- The same for commands, as `command_lines` states it.
 abbrev pub LineByLine : Type 0
 LineByLine = (text : List ℕ) → commands_of text ≡ texts.after_kind commands_of (kind_of (first_line text)) (after_line text)
 
 first_whole : (l r : List ℕ) → has_lf l ≡ false → first_line (l ++ 10 ∷ r) ≡ l
 first_whole l r h = first_line_part l (10 ∷ r) h ∙ append-nil l
 
--- a line that is whole
+-- A complete line.
 pub commands_line : LineByLine → (l r : List ℕ) → has_lf l ≡ false → commands_of (l ++ 10 ∷ r) ≡ texts.after_kind commands_of (kind_of l) r
 commands_line law l r h =
     law (l ++ 10 ∷ r)
     ∙ ap (λ x. texts.after_kind commands_of (kind_of x) (after_line (l ++ 10 ∷ r))) (first_whole l r h)
     ∙ ap (texts.after_kind commands_of (kind_of l)) (after_line_part l (10 ∷ r) h)
 
--- a line that is no command
+-- A line that is no command.
 fault_kind : kind_of (120 ∷ []) ≡ Says Malformed
 unfolding kind_of words_of words_within
 fault_kind = refl
@@ -167,7 +167,7 @@ asks_line l r h =
 
 -- ## Lines that are too long
 
--- a long line says nothing, or nothing readable, by its first byte alone
+-- A long line is blank, a remark or malformed, depending on its first byte only.
 abbrev pub long_kind : List ℕ → Kind
 long_kind l = cond (is_remark l) Remark (Says Malformed)
 

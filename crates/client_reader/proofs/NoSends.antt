@@ -1,4 +1,4 @@
--- No line says what only the bytes of a send say.
+-- No line is a command that only the bytes of a send can be.
 use Rattle.std.proofs.Common.{◌≡◌, ℕ, Bool, true, false, cond, List, [], ◌∷◌, length, refl, ltb, Option, None, Some}
 use Rattle.std.specs.Option.{option_map, option_and_then}
 use Rattle.std.specs.Prelude.{codes}
@@ -17,13 +17,13 @@ abbrev pub is_send_event : Event → Bool
 is_send_event (Send job bytes) = true
 is_send_event e = false
 
--- what the bytes of a send say
+-- The command of the bytes of a send.
 abbrev pub is_send : Command → Bool
 is_send (Apply e) = is_send_event e
 is_send OversizedSend = true
 is_send c = false
 
--- what a line of this kind says is no send
+-- The command of a line of this kind is no send.
 abbrev pub SaysNone : Kind → Type 0
 SaysNone Remark = Unit {0}
 SaysNone (Says c) = is_send c ≡ false

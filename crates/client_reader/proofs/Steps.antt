@@ -1,4 +1,4 @@
--- Where the text stands when the reader of commands waits, and what giving it more of the text comes to.
+-- The position in the text when the reader of commands waits, and the effect of passing it more of the text.
 use Rattle.std.proofs.Common.{◌≡◌, ◌⊎◌, inl, inr, ℕ, suc, zero, ◌+◌, ◌-◌, ◌<◌, ◌≤◌, Bool, true, false, not, cond, List, [], ◌∷◌, ◌++◌, length, get_or, take, drop, map, refl, ap, sym, ◌∙◌, eqb, leb, arith, append_assoc, length-append, replicate, None}
 use Rattle.std.proofs.lemmas.List.{append-nil, get_or-append_right, get_or_append_left, get_or-replicate, length-replicate}
 use Rattle.std.proofs.lemmas.Bool.{false≢true}
@@ -27,7 +27,7 @@ use Rattle.client_reader.proofs.Lines.{LineByLine, split_wrong, split_cut, split
 zeros : ℕ → List ℕ
 zeros n = replicate n 0
 
--- bytes up to a line feed
+-- Bytes up to a line feed.
 abbrev filling : ℕ → List ℕ
 filling n = replicate n 0 ++ 10 ∷ []
 
@@ -42,9 +42,9 @@ either P false x y p q = q
 sent_is : (job n : ℕ) (bytes : List ℕ) → is_send (sent job n bytes) ≡ true
 sent_is job n bytes = either (λ c. is_send c ≡ true) (leb n longest_send) (Apply (Send job bytes)) OversizedSend refl refl
 
--- ## What a reader that waits has before it
+-- ## The position of a reader that waits
 
--- what comes where the text ends here, and where a send's bytes are filled up: this is no line
+-- The reader is in a send: the commands that come if the text ends here, and if the bytes of the send are filled up.
 pub record IsSending (p : Pending) (missing : ℕ) : Type 0 where
   pub cut : to_come p [] ≡ Malformed ∷ []
   pub command : Command
@@ -56,7 +56,7 @@ IsLineMode Line = Unit {0}
 IsLineMode Skip = Unit {0}
 IsLineMode m = ⊥
 
--- the one command at the end is no send
+-- The only command at the end is no send.
 no_last : (kind : Kind) (given : List Command) (c : Command) → SaysNone kind → is_send c ≡ true → texts.after_kind commands_of kind [] ≡ given ++ c ∷ [] → ⊥
 no_last Remark [] c says send e = let k = sym commands_of-nil ∙ e in cc
 no_last Remark (g ∷ given) c says send e = let k = sym commands_of-nil ∙ e in cc
@@ -71,7 +71,7 @@ no_last (Takes job n) given c says send e = only given (sym (split_cut commands_
     only (g ∷ h ∷ given) e = cc
 
 module _ (law : LineByLine) where
-  -- a line that says a send, or its end, is none that a reader waits for
+  -- A reader that waits for a line is not in a send.
   line_filled : (p : Pending) (missing : ℕ) (given : List Command) (c : Command) → IsLineMode p.mode → IsPartial p.mode p.held → is_send c ≡ true → to_come p (filling missing) ≡ given ++ c ∷ [] → ⊥
   line_filled p missing given c = by_mode p.mode p.held
     where
@@ -91,7 +91,7 @@ module _ (law : LineByLine) where
       by_mode (Payload job n) held is partial send e = is
       by_mode (Counting n) held is partial send e = is
 
-  -- a send's bytes that are filled up
+  -- The bytes of a send, filled up.
   filled : (job n : ℕ) (held : List ℕ) → length held ≤ n → heard_from (in_send job n held) (filling (n - length held)) ≡ sent job n (held ++ replicate (n - length held) 0) ∷ []
   filled job n held le =
       let full : length (held ++ replicate (n - length held) 0) ≡ n = (let a = length-append held (replicate (n - length held) 0) in let b = length-replicate {A = ℕ} (n - length held) 0 in omega arith) in
@@ -99,7 +99,7 @@ module _ (law : LineByLine) where
       ∙ split_whole commands_of (sent job n) Malformed n (held ++ replicate (n - length held) 0) [] full
       ∙ ap (λ l. sent job n (held ++ replicate (n - length held) 0) ∷ l) commands_of-nil
 
-  -- where a line is waited for the text doesn't stand in a send
+  -- When a line is awaited, the text is not in a send.
   pub no_send_place : (p : Pending) (within : Bool) (given : List Command) (position : Where) → IsAt p within given position → IsLineMode p.mode → IsPartial p.mode p.held →
       (position ≡ at_line) ⊎ (position ≡ in_line)
   no_send_place p within given at_line at mode partial = inl refl
@@ -108,7 +108,7 @@ module _ (law : LineByLine) where
       absurd (line_filled p (n - length held) given (sent job n (held ++ replicate (n - length held) 0)) mode partial (sent_is job n _)
       (at.commands (filling (n - length held)) ∙ ap (λ l. given ++ l) (filled job n held at.fits)))
 
-  -- the first command of those to come is the first that was still to be given
+  -- The first command to come is the first that was still to be returned.
   pub given_first : (p new : Pending) (within : Bool) (given : List Command) (position : Where) (c : Command) → IsAt p within given position → Leads p (c ∷ []) new →
       (rest : List Command) × (given ≡ c ∷ rest) × IsAt new within rest position
   given_first p new within [] at_line c at leads = absurd (let e = sym commands_of-nil ∙ sym (at.commands []) ∙ leads [] in cc)
@@ -132,7 +132,7 @@ module _ (law : LineByLine) where
       others : (x y : Command) (xs ys : List Command) → x ∷ xs ≡ y ∷ ys → xs ≡ ys
       others x y xs ys e = cc
 
-  -- where a send's bytes are waited for the text stands in a send that wants no fewer, and no command is still to be given
+  -- When bytes of a send are awaited, the text is in a send that needs these bytes or more, and no command is still to be returned.
   pub send_place : (p : Pending) (within : Bool) (given : List Command) (position : Where) (missing : ℕ) → IsAt p within given position → IsSending p missing →
       (given ≡ []) × (job : ℕ) × (n : ℕ) × (held : List ℕ) × (position ≡ in_send job n held) × (length held + missing ≤ n)
   send_place p within (g ∷ given) position missing at sends =
@@ -163,7 +163,7 @@ module _ (law : LineByLine) where
           let a : Malformed ≡ sends.command = cc in
           absurd (false≢true (ap is_send a ∙ sends.send))
 
-  -- at a line's beginning that is waited for no command is still to be given
+  -- At the beginning of an awaited line no command is still to be returned.
   pub none_given : (p : Pending) (within : Bool) (given : List Command) → IsAt p within given at_line → IsLineMode p.mode → IsPartial p.mode p.held → given ≡ []
   none_given p within [] at mode partial = refl
   none_given p within (g ∷ given) at mode partial = absurd (by_mode p.mode p.held mode partial (at.commands []) (at.commands (120 ∷ 10 ∷ [])))
@@ -188,7 +188,7 @@ module _ (law : LineByLine) where
       by_mode (Payload job n) held is partial e f = is
       by_mode (Counting n) held is partial e f = is
 
--- a reader that waits for bytes is in a send
+-- A reader that waits for bytes is in a send.
 pub waits_sending : (p : Pending) (count : ℕ) → IsPartial p.mode p.held → wanted_of p ≡ wants.Bytes count → (missing : ℕ) × (count ≡ missing + 1) × IsSending p missing
 waits_sending p count = by_mode p.mode p.held
   where
@@ -231,9 +231,9 @@ waits_line p = by_mode p.mode p.held
     by_mode (Counting n) held (inl e) = cc
     by_mode (Counting n) held (inr e) = cc
 
--- ## What giving bytes comes to
+-- ## The effect of passing bytes
 
--- these bytes lead from one place to another, over what is still to be given, and what is asked for is the same
+-- These bytes move from one position to another, after the commands still to be returned, and the requests stay the same.
 pub record Goes (xs : List ℕ) (within : Bool) (given : List Command) (position : Where) : Type 0 where
   pub given' : List Command
   pub position' : Where
@@ -241,7 +241,7 @@ pub record Goes (xs : List ℕ) (within : Bool) (given : List Command) (position
   pub asks : (more : List ℕ) → map asking.Command given ++ asked_from position (xs ++ more) ≡ map asking.Command given' ++ asked_from position' more
   pub fits : IsWithin position' within
 
--- so it does for the reader that was given them
+-- So they do for the reader that got them.
 pub goes_on : (p : Pending) (xs : List ℕ) (old within : Bool) (given : List Command) (position : Where) → IsAt p old given position → (goes : Goes xs within given position) →
     IsAt (record p { held = p.held ++ xs }) within goes.given' goes.position'
 goes_on p xs old within given position at goes = record {
@@ -253,7 +253,7 @@ goes_on p xs old within given position at goes = record {
     fed mode held more = ap (pendings.commands_from mode) (append_assoc held xs more)
 
 module _ (law : LineByLine) where
-  -- a line that is no word of the service
+  -- A line that is no word of the service.
   pub goes_line : (l : List ℕ) → has_lf l ≡ false → own_of l ≡ None → Goes (l ++ 10 ∷ []) false [] at_line
   goes_line l none other = by_kind (kind_of l) (λ more. ap commands_of (append_assoc l (10 ∷ []) more) ∙ commands_line law l more none)
       (λ more. ap asks_of (append_assoc l (10 ∷ []) more) ∙ asks_line l more none ∙ ap (λ w. after_own asks_of w (kind_of l) more) other)
@@ -264,7 +264,7 @@ module _ (law : LineByLine) where
       by_kind (Says d) c a = record { given' = d ∷ []; position' = at_line; commands = c; asks = a; fits = refl }
       by_kind (Takes job n) c a = record { given' = []; position' = in_send job n []; commands = c; asks = a; fits = omega arith }
 
-  -- the front of a line that is too long
+  -- The front of a line that is too long.
   pub goes_front : (l : List ℕ) → has_lf l ≡ false → 4096 < length l → Goes l true [] at_line
   goes_front l none long = by_kind (is_remark l) (λ more. commands_long law l more none long) (λ more. asks_long l more none long)
     where
@@ -273,7 +273,7 @@ module _ (law : LineByLine) where
       by_kind true c a = record { given' = []; position' = in_line; commands = c; asks = a; fits = refl }
       by_kind false c a = record { given' = Malformed ∷ []; position' = in_line; commands = c; asks = a; fits = refl }
 
--- the rest of a line, or a part of it
+-- The rest of a line, or part of it.
 pub goes_rest : (l : List ℕ) (given : List Command) → has_lf l ≡ false → Goes (l ++ 10 ∷ []) false given in_line
 goes_rest l given none =
     let e : (more : List ℕ) → after_line ((l ++ 10 ∷ []) ++ more) ≡ more = λ more. ap after_line (append_assoc l (10 ∷ []) more) ∙ after_line_part l (10 ∷ more) none in
@@ -294,7 +294,7 @@ goes_part l given none = record {
   fits = refl;
 }
 
--- bytes of a send
+-- Bytes of a send.
 pub goes_send : (job n : ℕ) (held xs : List ℕ) → length held + length xs ≤ n + 1 → 0 < length xs → Goes xs (ends_within xs) [] (in_send job n held)
 goes_send job n held xs le some = by_length (grind arith)
   where

@@ -1,23 +1,23 @@
-//! What a client asks for.
+//! The requests of a client.
 
 use command_lines::Command;
 use service_texts::OwnWord;
 
-/// What a client asks for.
+/// A request of a client.
 #[derive(Drop)]
 pub enum Ask {
     /// A command of the engine.
     Command(Command),
-    /// A word of the service alone.
+    /// A word of the service itself.
     Own(OwnWord),
 }
 
-/// What a step of a reader came to.
+/// The result of a step of a reader.
 #[derive(Drop)]
 pub enum Next {
     Asked(Ask),
-    /// Nothing yet, and there may be more.
+    /// Nothing yet, but there may be more.
     Again,
-    /// More of the text is wanted.
+    /// More of the text is needed.
     Text,
 }

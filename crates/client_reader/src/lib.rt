@@ -1,28 +1,34 @@
-//! What a client of the service asks for: commands of the engine, and words of the service alone.
+//! Reads the requests of a client of the service: commands of the engine, and words of the service itself.
 //!
-//! [`Reader`] takes a client's text in any pieces, and gives what it asks for, one thing after the other. A word of the service is
-//! found where a line begins, and never inside a document, since the reader of commands (`command_lines`) gets a line only once it
-//! is none, and of a send no more than its bytes.
+//! [`Reader`] takes a client's text in pieces of any size and returns its requests in order. It recognizes a word of the service at the
+//! beginning of a line, never inside a document: the reader of commands (`command_lines`) gets a line only after it was found to be no such
+//! word, and of a send it gets at most its bytes.
 //!
 //! # Promises
 //!
-//! - `Asks` says what a text asks for (`asks_of`): line by line its commands, or a word of the service (`own_of`), which is on a line
-//!   of at most 4,096 bytes, as a command is. [`asks_are_commands`]: these are the commands of the text, one for one, where a
-//!   word of the service stands in the place of a malformed one.
-//! - `Reading` says what a reader awaits (`Awaits`): what is still to be asked for, as a function of the text that follows. A new
-//!   reader awaits `asks_of` all of it; [`Reader::take`] moves a piece from what follows; [`Reader::next`] gives the first thing
-//!   that is awaited, or nothing yet (`Gives`). So over any row of calls what was given is the first of what the text asks for
-//!   ([`asks_come_in_order`]).
+//! - `Asks` defines the requests of a text (`asks_of`): line by line its commands, or a word of the service (`own_of`) on a line of at most
+//!   4,096 bytes, the limit for commands too. [`asks_are_commands`]: these are the text's commands, one for one, with a word of the service
+//!   in the position of a malformed command. So no word of the service is found inside a document.
+//! - `AwaitedRequests` defines the requests that a reader awaits (`Awaits`): the remaining ones, as a function of the text that follows. A
+//!   new [`Reader`] awaits exactly the requests of the text (`asks_of`). [`Reader::take`] moves a piece from the text that follows.
+//!   [`Reader::next`] returns the first awaited request, or none yet (`Gives`); if memory runs out it loses nothing.
+//! - [`Reader::next`] makes progress: less of the text is left than before, or only part of a line or nothing is left (`further`).
+//! - [`asks_come_in_order`]: over any list of calls, whatever the pieces, the returned requests are the first of the requests in the text
+//!   so far.
 //!
-//! # What a reader keeps
+//! # Invariants
 //!
-//! 1. The reader of commands gets a whole line, the front of one that is too long, the rest of such a line, or bytes of a send, and
-//!    never bytes of two of these. So where it waits for a line the text stands at a line's beginning, or in the rest of a line.
-//! 2. `within` tells these two apart: whether the last byte that it got was no line feed.
+//! 1. The reader of commands gets a whole line, the front of a line that is too long, the rest of such a line, or bytes of a send, never
+//!    bytes of two of these. So when it waits for a line, the text is at the beginning of a line or in the rest of one.
+//! 2. `within` distinguishes these two: whether the last byte that the reader of commands got was no line feed.
 //!
-//! # Faults
+//! # Not proved
 //!
-//! Out of memory is the one fault. [`Reader::next`] loses nothing then; of [`Reader::take`] it isn't known what came of the piece.
+//! - That memory has run out when a call reports it.
+//!
+//! # Errors
+//!
+//! The only error is out of memory. [`Reader::next`] loses nothing then. After an error of [`Reader::take`] nothing is known of the piece.
 #![tactic(auto)]
 
 mod ask;

@@ -1,4 +1,4 @@
-//! A reader of what a client asks for.
+//! A reader of a client's requests.
 ghost use Rattle.std.specs.Prelude.{◌≡◌, ◌⊎◌, ℕ, ◌<◌, ◌≤◌, true, false, List, ◌++◌, length, take, drop, slice_index, vec_len, IfSome, IfNone, OnErr, OnOk, IfOk};
 ghost use Rattle.command_lines.specs.TextLines.{has_lf};
 ghost use Rattle.command_lines.specs.PendingCommands.{IsPartial};
@@ -14,21 +14,21 @@ use std::alloc::{AllocError, Global};
 
 const LINE_FEED: u8 = b'\n';
 
-// How many bytes of a line are waited for before the reader of commands gets them, and how many a word of the service may have.
+// The limit in bytes for a line with a word of the service. A longer line is passed to the reader of commands before its end has arrived.
 const LONGEST_LINE: usize = 4_096;
 
-/// A reader of what a client asks for, from a text that comes in pieces.
+/// Reads a client's requests from a text that arrives in pieces.
 #[derive(Drop)]
 pub struct Reader {
     commands: Commands,
-    // What came and the reader of commands hasn't got.
+    // The bytes that have arrived and that the reader of commands has not got.
     text: Vec<u8>,
-    // Whether the reader of commands was given the front of a line last.
+    // Whether the reader of commands got the front of a line last.
     within: bool,
 }
 
 impl Reader {
-    /// A reader before any text. It takes no memory yet.
+    /// A reader before any text. Does not allocate.
     pub fn new(alloc: Global) -> Reader
         ensures { Awaits result asks_of }
     {
@@ -47,8 +47,8 @@ impl Reader {
         Ok(())
     }
 
-    /// What is asked for next. An `Err` has lost nothing, and the call may be made again. Calls that give nothing get on: no more of
-    /// them answer [`Next::Again`] in a row than the text has bytes.
+    /// The next request. An error has lost nothing, and the call may be repeated. Calls without a request make progress: at most as often
+    /// as the text has bytes they return [`Next::Again`] in a row.
     pub fn next(&mut self) -> Result<Next, AllocError>
         ensures ok { (asks : List ℕ → List AskOf) → Awaits self.old asks → IfOk result (λ next. Gives asks next self.new) }
         ensures err { (asks : List ℕ → List AskOf) → Awaits self.old asks → OnErr result (Awaits self.new asks) }
@@ -61,7 +61,7 @@ impl Reader {
         }
     }
 
-    // The same, where the reader of commands has none.
+    // The same, if the reader of commands has none.
     fn next_of_text(&mut self) -> Result<Next, AllocError>
         requires { IsPartial self.old.commands.mode self.old.commands.held }
         ensures ok { (asks : List ℕ → List AskOf) → Awaits self.old asks → IfOk result (λ next. Gives asks next self.new) }
@@ -78,7 +78,7 @@ impl Reader {
         }
     }
 
-    // The same, where a line is waited for, or the rest of one.
+    // The same, if the reader of commands waits for a line or the rest of one.
     fn next_of_part(&mut self) -> Result<Next, AllocError>
         requires partial { IsPartial self.old.commands.mode self.old.commands.held }
         requires wanted { (wanted_of self.old.commands ≡ Wanted.Line) ⊎ (wanted_of self.old.commands ≡ Wanted.Rest) }
@@ -94,7 +94,7 @@ impl Reader {
         }
     }
 
-    // The same, where the text stands at a line's beginning.
+    // The same, if the text is at the beginning of a line.
     fn next_of_line(&mut self) -> Result<Next, AllocError>
         requires partial { IsPartial self.old.commands.mode self.old.commands.held }
         requires wanted { (wanted_of self.old.commands ≡ Wanted.Line) ⊎ (wanted_of self.old.commands ≡ Wanted.Rest) }
@@ -110,7 +110,7 @@ impl Reader {
         }
     }
 
-    // Takes a line that is a word of the service, or gives it on.
+    // Takes a line that is a word of the service, or passes it to the reader of commands.
     fn take_line(&mut self, at: usize) -> Result<Next, AllocError>
         requires partial { IsPartial self.old.commands.mode self.old.commands.held }
         requires wanted { (wanted_of self.old.commands ≡ Wanted.Line) ⊎ (wanted_of self.old.commands ≡ Wanted.Rest) }
@@ -135,7 +135,7 @@ impl Reader {
         }
     }
 
-    // Gives on the front of a line that is too long.
+    // Passes on the front of a line that is too long.
     fn give_front(&mut self) -> Result<Next, AllocError>
         requires partial { IsPartial self.old.commands.mode self.old.commands.held }
         requires wanted { (wanted_of self.old.commands ≡ Wanted.Line) ⊎ (wanted_of self.old.commands ≡ Wanted.Rest) }
@@ -152,7 +152,7 @@ impl Reader {
         Ok(Next::Again)
     }
 
-    // Gives on the rest of a line, or a part of it.
+    // Passes on the rest of a line, or part of it.
     fn give_rest(&mut self) -> Result<Next, AllocError>
         requires partial { IsPartial self.old.commands.mode self.old.commands.held }
         requires wanted { (wanted_of self.old.commands ≡ Wanted.Line) ⊎ (wanted_of self.old.commands ≡ Wanted.Rest) }
@@ -176,7 +176,7 @@ impl Reader {
         }
     }
 
-    // Gives on bytes of a send, no more than it wants.
+    // Passes on bytes of a send, at most the missing ones.
     fn give_send(&mut self, count: usize) -> Result<Next, AllocError>
         requires partial { IsPartial self.old.commands.mode self.old.commands.held }
         requires wanted { wanted_of self.old.commands ≡ Wanted.Bytes count }
@@ -201,7 +201,7 @@ impl Reader {
         self.text.drain(..count);
     }
 
-    // Gives the reader of commands the first bytes of the text, which are gone from it then.
+    // Moves the first bytes of the text to the reader of commands.
     fn give(&mut self, count: usize) -> Result<(), AllocError>
         requires { count ≤ vec_len self.old.text }
         ensures commands { OnOk result (self.new.commands ≡ record self.old.commands { held = self.old.commands.held ++ take count self.old.text.items }) }
@@ -220,7 +220,7 @@ impl Reader {
     }
 }
 
-// What a line says to the service alone.
+// The request to the service itself on a line.
 fn own_of(line: &[u8]) -> Option<OwnWord>
     ensures { result ≡ own_of line.now }
 {
@@ -241,7 +241,7 @@ fn ends_within(bytes: &[u8]) -> bool
     }
 }
 
-// Where the first line feed is.
+// The byte offset of the first line feed.
 fn line_end(text: &[u8]) -> Option<usize>
     ensures at { IfSome result (λ at. at < length text.now) }
     ensures before { IfSome result (λ at. has_lf (take at text.now) ≡ false) }

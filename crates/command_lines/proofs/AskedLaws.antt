@@ -1,4 +1,4 @@
--- No line asks for an event that is none of a line.
+-- No line asks for another event than those of a line.
 use Rattle.std.proofs.Common.{◌≡◌, ℕ, suc, zero, ◌+◌, Bool, true, false, cond, List, [], ◌∷◌, take, drop, length, refl, ltb, leb, Option, None, Some}
 use Rattle.std.specs.List.{All}
 use Rattle.std.specs.Option.{option_map, option_and_then}
@@ -19,7 +19,7 @@ use Rattle.command_lines.specs.declared.command.Command.TheVariants.{Apply, Drai
 use Rattle.command_lines.specs.declared.command.Kind.{Kind}
 use Rattle.command_lines.specs.declared.command.Kind.TheVariants.{Remark, Says, Takes}
 
--- what a line of this kind asks for
+-- The events that a line of this kind asks for.
 abbrev Asks : Kind → Type 0
 Asks Remark = Unit {0}
 Asks (Says c) = AsksForLineEvent c

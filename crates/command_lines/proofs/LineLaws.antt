@@ -1,4 +1,4 @@
--- Lines of a text that is joined of parts.
+-- Lines of a text that is joined from parts.
 use Rattle.std.proofs.Common.{◌≡◌, ℕ, suc, zero, ◌+◌, ◌-◌, ◌<◌, ◌≤◌, Bool, true, false, cond, List, [], ◌∷◌, ◌++◌, length, get_or, take, drop, refl, ap, sym, ◌∙◌, eqb, arith, add-one}
 use Rattle.std.proofs.lemmas.List.{take-append-drop, take-take, drop-take, drop-drop, get_or-drop, length-drop}
 use Rattle.std.proofs.lemmas.Bool.{false≢true}
@@ -46,7 +46,7 @@ place (x ∷ xs) (suc n) h k e =
     [ true ↦ λ l. absurd (false≢true (sym l)) | false ↦ λ l. let at = place xs n less l e in (at.there, ap (λ l. x ∷ l) at.line, at.rest ∙ ap (λ m. drop m xs) (add-one n)) ]) k in
     record { there = r.0; line = r.1; rest = rw add-one r.2 }
 
--- no rest of a text is longer, and a text of some bytes has a shorter one
+-- No rest of a text is longer than the text, and a nonempty text has a shorter rest.
 pub after_line_short : (xs : List ℕ) → length (after_line xs) ≤ length xs
 after_line_short [] = omega arith
 after_line_short (x ∷ xs) = elim (eqb x 10) as (λ v. length (cond v xs (after_line xs)) ≤ suc (length xs)) [ true ↦ omega arith | false ↦ let h = after_line_short xs in omega arith ]
@@ -67,7 +67,7 @@ first_line_none (x ∷ xs) h =
 take_more_than : (m i : ℕ) (ys : List ℕ) → take (m + i) ys ≡ take m ys ++ take i (drop m ys)
 take_more_than m i ys = sym (take-append-drop m (take (m + i) ys)) ∙ ap (λ l. l ++ drop m (take (m + i) ys)) (take-take m (m + i) ys (omega arith)) ∙ ap (λ l. take m ys ++ l) (drop-take m i ys)
 
--- a search that went on from k
+-- A search that continued from k.
 pub scan_more : (xs : List ℕ) (s k i : ℕ) → s ≤ k → has_lf (take (k - s) (drop s xs)) ≡ false → has_lf (take i (drop k xs)) ≡ false → has_lf (take (k + i - s) (drop s xs)) ≡ false
 scan_more xs s k i le h g =
     let m : k + i - s ≡ (k - s) + i = omega arith in
@@ -76,14 +76,14 @@ scan_more xs s k i le h g =
     ∙ ap has_lf (take_more_than (k - s) i (drop s xs) ∙ ap (λ l. take (k - s) (drop s xs) ++ take i l) d)
     ∙ has_lf_none (take (k - s) (drop s xs)) (take i (drop k xs)) h g
 
--- a search that went on from k to the end
+-- A search that continued from k to the end.
 pub scan_all : (xs : List ℕ) (s k : ℕ) → s ≤ k → has_lf (take (k - s) (drop s xs)) ≡ false → has_lf (drop k xs) ≡ false → has_lf (drop s xs) ≡ false
 scan_all xs s k le h g =
     let d : drop (k - s) (drop s xs) ≡ drop k xs = drop-drop (k - s) s xs ∙ (let e : s + (k - s) ≡ k = omega arith in ap (λ n. drop n xs) e) in
     ap has_lf (sym (take-append-drop (k - s) (drop s xs)) ∙ ap (λ l. take (k - s) (drop s xs) ++ l) d)
     ∙ has_lf_none (take (k - s) (drop s xs)) (drop k xs) h g
 
--- a search of the front stays one behind a dropped front
+-- A search remains valid after bytes were dropped from the front.
 pub scan_behind : (xs : List ℕ) (s k n : ℕ) → s + n ≤ k → has_lf (take (k - s) (drop s xs)) ≡ false → has_lf (take (k - (s + n)) (drop (s + n) xs)) ≡ false
 scan_behind xs s k n le h =
     let m : k - s ≡ n + (k - (s + n)) = omega arith in
@@ -112,7 +112,7 @@ place_scanned xs ys s k i e le h less g there =
 pub no_lf : (b : ℕ) → (b ≡ 10 → ⊥) → has_lf (b ∷ []) ≡ false
 no_lf b h = let e : eqb b 10 ≡ false = grind (arith, h) in ap (λ v. cond v true false) e
 
--- a front of a text with no line feed has none
+-- A front of a text without a line feed has none.
 pub no_lf_front : (n : ℕ) (xs : List ℕ) → has_lf xs ≡ false → has_lf (take n xs) ≡ false
 no_lf_front n xs h = front (has_lf (take n xs)) (has_lf (drop n xs)) (sym (has_lf-append (take n xs) (drop n xs)) ∙ ap has_lf (take-append-drop n xs) ∙ h)
   where

@@ -1,4 +1,4 @@
--- The commands of a text, line by line, and those to come.
+-- The commands of a text, line by line, and the commands to come.
 use Rattle.std.proofs.Common.{◌≡◌, ℕ, suc, zero, ◌+◌, ◌-◌, ◌<◌, ◌≤◌, true, false, cond, List, [], ◌∷◌, ◌++◌, length, get_or, take, drop, refl, ap, sym, ◌∙◌, eqb, ltb, arith, length-append, length-drop, lt-ltb}
 use Rattle.std.proofs.lemmas.List.{append-nil}
 use Rattle.std.proofs.lemmas.Bool.{false≢true}
@@ -15,7 +15,7 @@ use Rattle.command_lines.specs.declared.command.Kind.{Kind}
 use Rattle.command_lines.specs.declared.command.Kind.TheVariants.{Remark, Takes, Says}
 use Rattle.command_lines.proofs.LineLaws.{after_line_short, after_line_shorter, first_line_whole, after_line_whole, first_line_part, after_line_part}
 
--- two readings that agree on each text that is no longer than the rest
+-- Two readings that agree on each text that is at most as long as the rest.
 module _ (f g : List ℕ → List Command) where
   same_bytes : (command : List ℕ → Command) (n : ℕ) (rest : List ℕ) → ((t : List ℕ) → length t ≤ length rest → f t ≡ g t) → after_bytes f command n rest ≡ after_bytes g command n rest
   same_bytes command n rest h =
@@ -29,7 +29,7 @@ module _ (f g : List ℕ → List Command) where
   same_kind (Says c) rest h = ap (λ l. c ∷ l) (h rest (omega arith))
   same_kind (Takes job n) rest h = same_bytes (sent job n) n rest h
 
--- more room for lines changes nothing
+-- A greater count of lines changes nothing.
 same_within : (m n : ℕ) (t : List ℕ) → length t ≤ m → length t ≤ n → commands_within m t ≡ commands_within n t
 unfolding commands_within
 same_within zero zero t h k = refl
@@ -42,7 +42,7 @@ same_within (suc m) (suc n) (b ∷ bs) h k =
     let short = after_line_shorter b bs in
     same_kind (commands_within m) (commands_within n) (kind_of (first_line (b ∷ bs))) (after_line (b ∷ bs)) (λ t l. same_within m n t (omega arith) (omega arith))
 
--- the first line of a text, and the commands of the rest
+-- The first line of a text, and the commands of the rest.
 pub commands_of-line : (t : List ℕ) → commands_of t ≡ after_kind commands_of (kind_of (first_line t)) (after_line t)
 unfolding commands_of commands_within kind_of
 commands_of-line [] = refl
@@ -67,7 +67,7 @@ kind_of_long (b ∷ bs) more h k =
     ap (λ v. cond v Remark (cond (ltb 4096 (length (b ∷ (bs ++ more)))) (Says Malformed) (kind_of_words (words_of (b ∷ (bs ++ more)))))) h
     ∙ ap (λ v. cond v (Says Malformed) (kind_of_words (words_of (b ∷ (bs ++ more))))) l
 
--- a line that is whole
+-- A whole line.
 pub whole_line : (held : List ℕ) (at : ℕ) → IsAt held at → (kind : Kind) → kind ≡ kind_of (take at held) → (more : List ℕ) → commands_of (held ++ more) ≡ after_kind commands_of kind (drop (at + 1) held ++ more)
 whole_line held at is kind e more =
     commands_of-line (held ++ more)
@@ -75,7 +75,7 @@ whole_line held at is kind e more =
     ∙ ap (λ k. after_kind commands_of k (after_line (held ++ more))) (sym e)
     ∙ ap (after_kind commands_of kind) (after_line_whole held more is.there ∙ ap (λ l. l ++ more) is.rest)
 
--- a line that isn't whole, but says something already
+-- The beginning of a line that already determines the meaning of the line.
 pub part_line : (held : List ℕ) → has_lf held ≡ false → (kind : Kind) → ((more : List ℕ) → kind_of (held ++ more) ≡ kind) → (more : List ℕ) → commands_of (held ++ more) ≡ after_kind commands_of kind (after_line more)
 part_line held none kind says more =
     commands_of-line (held ++ more)
@@ -89,7 +89,7 @@ remark_part held none first = part_line held none Remark (λ more. kind_of_remar
 pub long_part : (held : List ℕ) → has_lf held ≡ false → starts_remark held ≡ false → 4096 < length held → (more : List ℕ) → commands_of (held ++ more) ≡ Malformed ∷ commands_of (after_line more)
 long_part held none first long = part_line held none (Says Malformed) (λ more. kind_of_long held more first long)
 
--- bytes that are all there
+-- All bytes are buffered.
 module _ (command : List ℕ → Command) (n : ℕ) (held : List ℕ) (there : n < length held) where
   lf_same : (more : List ℕ) → is_lf_at n (held ++ more) ≡ is_lf_at n held
   lf_same more = ap (λ b. eqb b 10) (get_or_append_left held more 0 n there)
@@ -116,7 +116,7 @@ module _ (command : List ℕ → Command) (n : ℕ) (held : List ℕ) (there : n
       drop_one : (n : ℕ) (xs : List ℕ) → n < length xs → drop n xs ≡ get_or xs n 0 ∷ drop (n + 1) xs
       drop_one n xs h = drop_more xs n 0 h
 
--- bytes that are counted
+-- Bytes that are counted.
 pub counted_bytes : (command : Command) (n : ℕ) (held more : List ℕ) → length held ≤ n → after_bytes commands_of (λ _. command) n (held ++ more) ≡ after_bytes commands_of (λ _. command) (n - length held) more
 counted_bytes command n held more h =
     let b : get_or (held ++ more) n 0 ≡ get_or more (n - length held) 0 = get_or-append_right held more (length held) n 0 refl h in
@@ -133,7 +133,7 @@ counted_bytes command n held more h =
         ∙ sym (drop-drop (m - length held) (length held) (held ++ more))
         ∙ ap (drop (m - length held)) (drop_at held more (length held) refl)
 
--- an end of the text before the LF
+-- The text ends before the LF.
 pub cut_bytes : (command : List ℕ → Command) (n : ℕ) (held : List ℕ) → length held ≤ n → after_bytes commands_of command n (held ++ []) ≡ Malformed ∷ []
 cut_bytes command n held h =
     ap (λ l. after_bytes commands_of command n l) (append-nil held)

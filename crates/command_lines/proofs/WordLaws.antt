@@ -1,4 +1,4 @@
--- Words of a line that is read from its front.
+-- Words of a line that is read from its beginning.
 use Rattle.std.proofs.Common.{◌≡◌, ℕ, suc, zero, ◌<◌, ◌≤◌, true, false, cond, List, [], ◌∷◌, ◌++◌, length, min, refl, ap, sym, ◌∙◌, arith, subst, Option, None, Some}
 use Rattle.std.specs.List.{list_any}
 use Rattle.line_words.specs.Blanks.{is_blank, after_blanks, word_here, behind_word}
@@ -7,7 +7,7 @@ use Rattle.line_words.proofs.BlankLaws.{behind_short}
 use Rattle.line_words.proofs.QuoteLaws.{IsRestWithin, quoted_within}
 use Rattle.command_lines.specs.CommandWords.{Front, ended, broken, word, with_word, bare_word, is_end, quoted_word, front_here, next_word, after_front, words_within, words_of}
 
--- fronts that leave at most so much
+-- The rest after this front has at most this length.
 abbrev pub Leaves : Front → ℕ → Type 0
 Leaves ended n = Unit {0}
 Leaves broken n = Unit {0}
@@ -25,7 +25,7 @@ quoted_leaves (Some (bytes, rest)) n h = elim (is_end rest) as (λ v. Leaves (co
 bare_leaves : (line : List ℕ) (n : ℕ) → length (behind_word line) ≤ n → Leaves (bare_word line) n
 bare_leaves line n h = elim (list_any is_quote (word_here line)) as (λ v. Leaves (cond v broken (word (word_here line) (behind_word line))) n) [ true ↦ tt | false ↦ h ]
 
--- words more in front
+-- The words with more of them in front.
 abbrev pub with_words : List (List ℕ) → Option (List (List ℕ)) → Option (List (List ℕ))
 with_words [] words = words
 with_words (w ∷ ws) words = with_word w (with_words ws words)
@@ -42,7 +42,7 @@ pub with_words-some : (ws : List (List ℕ)) → with_words ws (Some []) ≡ Som
 with_words-some [] = refl
 with_words-some (w ∷ ws) = ap (with_word w) (with_words-some ws)
 
--- a word takes a byte at least
+-- A word takes at least one byte.
 next_leaves : (line : List ℕ) (n : ℕ) → length line ≤ suc n → Leaves (next_word line) n
 next_leaves [] n le = tt
 next_leaves (b ∷ bs) n le =
@@ -61,13 +61,13 @@ next_leaves (b ∷ bs) n le =
           | false ↦ bare_leaves (b ∷ bs) n behind
         ]
 
--- two readings that agree on each line that is no longer
+-- Two readings that agree on each line that is at most as long.
 same_front : (f g : List ℕ → Option (List (List ℕ))) (front : Front) (n : ℕ) → Leaves front n → ((t : List ℕ) → length t ≤ n → f t ≡ g t) → after_front f front ≡ after_front g front
 same_front f g ended n h same = refl
 same_front f g broken n h same = refl
 same_front f g (word bytes rest) n h same = ap (with_word bytes) (same rest h)
 
--- more room for words changes nothing
+-- A greater count of words changes nothing.
 same_within : (m n : ℕ) (t : List ℕ) → length t ≤ m → length t ≤ n → words_within m t ≡ words_within n t
 unfolding words_within
 same_within zero zero t h k = refl
@@ -89,14 +89,14 @@ same_within (suc m) (suc n) t h k = same_front (words_within m) (words_within n)
     high : {s : ℕ} (m n : ℕ) → s ≤ min m n → s ≤ n
     high m n l = omega arith
 
--- the next word of a line, and the words of the rest
+-- The next word of a line, and the words of the rest.
 pub words_of-line : (t : List ℕ) → words_of t ≡ after_front words_of (next_word t)
 unfolding words_of words_within
 words_of-line [] = refl
 words_of-line (b ∷ bs) =
     same_front (words_within (length bs)) words_of (next_word (b ∷ bs)) (length bs) (next_leaves (b ∷ bs) (length bs) (omega arith)) (λ t l. same_within (length bs) (length t) t l (omega arith))
 
--- a word was taken: less is left
+-- After a word was taken, less is left.
 pub rest_shorter : (line bytes rest : List ℕ) → word bytes rest ≡ next_word line → length rest < length line
 rest_shorter [] bytes rest e = cc
 rest_shorter (b ∷ bs) bytes rest e = let h : Leaves (word bytes rest) (length bs) = subst (λ f. Leaves f (length bs)) (sym e) (next_leaves (b ∷ bs) (length bs) (omega arith)) in omega arith

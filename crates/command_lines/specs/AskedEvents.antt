@@ -5,8 +5,7 @@ use Rattle.spool_types.specs.declared.event.Event.TheVariants.{Info, SetAccept, 
 use Rattle.command_lines.specs.declared.command.Command.{Command}
 use Rattle.command_lines.specs.declared.command.Command.TheVariants.{Apply}
 
--- A new queue, a new job and a close are commands of their own. What starts or ends an attempt, or opens the spool
--- again, no line can say.
+-- A new queue, a new job and a close are commands of their own. No line can state the start or the end of an attempt, or a reopening.
 abbrev pub is_line_event : Event → Bool
 is_line_event (Info notes) = true
 is_line_event (SetAccept queue accepting) = true
@@ -20,7 +19,7 @@ is_line_event (Purge job) = true
 is_line_event (Clock moment) = true
 is_line_event e = false
 
--- a command that asks for no other event
+-- The command asks for no other event.
 abbrev pub AsksForLineEvent : Command → Type 0
 AsksForLineEvent (Apply e) = IsTrue (is_line_event e)
 AsksForLineEvent command = Unit {0}

@@ -1,4 +1,4 @@
--- What a line says: the table of commands, by their first words.
+-- The meaning of a line: the table of commands, by their first words.
 use Rattle.std.specs.Prelude.{ℕ, Bool, true, false, cond, nat_lt, ◌==◌, List, [], ◌∷◌, length, codes, nat_eq, Option, None, Some}
 use Rattle.std.specs.Cmp.Lexicographic.{pointwise}
 use Rattle.std.specs.Option.{option_map, option_and_then}
@@ -17,7 +17,7 @@ use Rattle.command_lines.specs.declared.command.Kind.TheVariants.{Remark, Says, 
 
 -- ## The values of words
 
--- a word that is this one
+-- The word is this one.
 abbrev pub is_word : List ℕ → List ℕ → Bool
 is_word word name = pointwise nat_eq word name
 
@@ -32,7 +32,7 @@ policy_in word =
 abbrev pub job_in : List ℕ → Option ℕ
 job_in word = ranged 1 greatest_number word
 
--- seconds
+-- In seconds.
 abbrev pub moment_in : List ℕ → Option ℕ
 moment_in word = ranged 0 greatest_moment word
 
@@ -42,18 +42,18 @@ copies_in word = ranged 1 9999 word
 abbrev pub priority_in : List ℕ → Option ℕ
 priority_in word = ranged 1 100 word
 
--- seconds
+-- In seconds.
 abbrev pub interval_in : List ℕ → Option ℕ
 interval_in word = ranged 0 86400 word
 
 abbrev pub limit_in : List ℕ → Option ℕ
 limit_in word = ranged 0 65535 word
 
--- how many rounds are run at the most
+-- The greatest number of rounds.
 abbrev pub rounds_in : List ℕ → Option ℕ
 rounds_in word = ranged 1 1000 word
 
--- how many bytes a send announces
+-- The number of bytes that a send announces.
 abbrev pub count_in : List ℕ → Option ℕ
 count_in word = ranged 0 4294967295 word
 
@@ -79,7 +79,7 @@ abbrev pub one_word_line : List ℕ → List (List ℕ) → Option Kind
 one_word_line name (word ∷ []) = option_map (λ event. Says (Apply event)) (one_word name word)
 one_word_line name words = None
 
--- ## The other commands, each of the words that follow its name
+-- ## The other commands, each by the words that follow its name
 
 abbrev pub new_queue_of : Option (List ℕ) → Option (List ℕ) → Option (List ℕ) → Option Policy → Option ℕ → Option ℕ → Option Kind
 new_queue_of (Some name) (Some uri) (Some target) (Some policy) (Some interval) (Some limit) =
@@ -105,7 +105,7 @@ abbrev pub info_line : List (List ℕ) → Option Kind
 info_line (queue ∷ info ∷ location ∷ []) = info_of (text_in is_queue_name queue) (text_in is_note info) (text_in is_note location)
 info_line words = None
 
--- a job, and the moment by which it is to start, if there is one
+-- A job, and the moment by which it must start, if any.
 abbrev pub creation_of : Option (List ℕ) → Option (List ℕ) → Option (List ℕ) → Option ℕ → Option ℕ → Option (List ℕ) → Option ℕ → Option Kind
 creation_of (Some queue) (Some user) (Some title) (Some copies) (Some priority) (Some options) by =
     Some (Says (Create (record { queue = queue; user = user; title = title; copies = copies; priority = priority; options = options; by = by })))
@@ -120,7 +120,7 @@ abbrev pub create_line : List (List ℕ) → Option Kind
 create_line (queue ∷ user ∷ title ∷ copies ∷ priority ∷ options ∷ []) = creation_in queue user title copies priority options None
 create_line words = None
 
--- the same words, and then MOMENT
+-- The same words, followed by MOMENT.
 abbrev pub createby_line : List (List ℕ) → Option Kind
 createby_line (queue ∷ user ∷ title ∷ copies ∷ priority ∷ options ∷ by ∷ []) =
     option_and_then (λ moment. creation_in queue user title copies priority options (Some moment)) (moment_in by)
@@ -130,7 +130,7 @@ abbrev pub send_of : Option ℕ → Option ℕ → Option Kind
 send_of (Some job) (Some count) = Some (Takes job count)
 send_of job count = None
 
--- JOB N, and N raw bytes on the lines that follow
+-- JOB N, and N raw bytes after the line.
 abbrev pub send_line : List (List ℕ) → Option Kind
 send_line (job ∷ count ∷ []) = send_of (job_in job) (count_in count)
 send_line words = None
@@ -144,7 +144,7 @@ abbrev pub close_line : List (List ℕ) → Option Kind
 close_line (job ∷ name ∷ []) = close_of (job_in job) (text_in is_file_name name)
 close_line words = None
 
--- a moment, or the word for none
+-- A moment, or the word `indefinite` for none.
 abbrev pub until_in : List ℕ → Option (Option ℕ)
 until_in word = cond (is_word word (codes "indefinite")) (Some None) (option_map (λ moment. Some moment) (moment_in word))
 
@@ -157,17 +157,17 @@ abbrev pub hold_line : List (List ℕ) → Option Kind
 hold_line (job ∷ until ∷ []) = hold_of (job_in job) (until_in until)
 hold_line words = None
 
--- no more words
+-- No words.
 abbrev pub jobs_line : List (List ℕ) → Option Kind
 jobs_line [] = Some (Says Jobs)
 jobs_line words = None
 
--- no more words
+-- No words.
 abbrev pub queues_line : List (List ℕ) → Option Kind
 queues_line [] = Some (Says Queues)
 queues_line words = None
 
--- no more words
+-- No words.
 abbrev pub round_line : List (List ℕ) → Option Kind
 round_line [] = Some (Says Round)
 round_line words = None
@@ -177,7 +177,7 @@ abbrev pub drain_line : List (List ℕ) → Option Kind
 drain_line (count ∷ []) = option_map (λ most. Says (Drain most)) (rounds_in count)
 drain_line words = None
 
--- no more words
+-- No words.
 abbrev pub checkpoint_line : List (List ℕ) → Option Kind
 checkpoint_line [] = Some (Says Checkpoint)
 checkpoint_line words = None
@@ -200,26 +200,26 @@ line_of name words =
     (cond (is_word name (codes "hold")) (hold_line words)
     (one_word_line name words))))))))))))
 
--- a line of blanks is no command
+-- A line of blanks is no command.
 abbrev pub kind_in : List (List ℕ) → Option Kind
 kind_in [] = None
 kind_in (name ∷ words) = line_of name words
 
--- what is no command is malformed
+-- Anything that is no command is malformed.
 abbrev pub or_malformed : Option Kind → Kind
 or_malformed None = Says Malformed
 or_malformed (Some kind) = kind
 
--- words that are there, and what they say
+-- The meaning of the words, unless one is broken.
 abbrev pub kind_of_words : Option (List (List ℕ)) → Kind
 kind_of_words None = Says Malformed
 kind_of_words (Some words) = or_malformed (kind_in words)
 
--- an empty line and one that begins with '#' say nothing
+-- An empty line, and one that begins with '#', is ignored.
 abbrev pub is_remark : List ℕ → Bool
 is_remark [] = true
 is_remark (b ∷ bs) = b == 35
 
--- what a line says, of at most 4,096 bytes if it is no remark
+-- The meaning of a line. It has at most 4,096 bytes, unless it is a remark.
 unfoldable pub kind_of : List ℕ → Kind
 kind_of line = cond (is_remark line) Remark (cond (nat_lt 4096 (length line)) (Says Malformed) (kind_of_words (words_of line)))

@@ -1,4 +1,4 @@
--- What a reader of words has found, as lists of bytes. No caller needs this.
+-- The result of the reader of words, as lists of bytes. No caller needs this.
 use Rattle.line_words.specs.WordFields.{bytes_of}
 use Rattle.command_lines.specs.CommandWords.{Front, ended, broken, word}
 use Rattle.command_lines.specs.declared.words.Front.{Front as Found}

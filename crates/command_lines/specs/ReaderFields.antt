@@ -1,4 +1,4 @@
--- What the fields of a reader of commands mean. No caller needs this.
+-- The meaning of the fields of a reader of commands. No caller needs this.
 use Rattle.std.specs.Prelude.{◌≡◌, ◌≤◌, ◌-◌, false, length, take, drop}
 use Rattle.spool_types.specs.Limits.{longest_send}
 use Rattle.command_lines.specs.TextLines.{has_lf}
@@ -6,11 +6,10 @@ use Rattle.command_lines.specs.PendingCommands.{Pending}
 use Rattle.command_lines.specs.ReaderSteps.{payload_size}
 use Rattle.command_lines.specs.declared.commands.Commands.TheInside.{Inside}
 
--- what the fields mean
 abbrev pub pending_of : Inside → Pending
 pending_of a = record { mode = a.mode; held = drop a.start a.bytes.items }
 
--- the bytes from `start` to `clean` were searched: no line feed is among them
+-- The bytes from `start` to `clean` were searched, and contain no line feed.
 pub record IsScanned (a : Inside) : Type 0 where
   pub in_order : a.start ≤ a.clean
   pub in_range : a.clean ≤ length a.bytes.items

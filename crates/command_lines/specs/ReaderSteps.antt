@@ -11,25 +11,25 @@ use Rattle.command_lines.specs.declared.command.Kind.TheVariants.{Remark, Says, 
 use Rattle.command_lines.specs.declared.commands.Step.{Step}
 use Rattle.command_lines.specs.declared.commands.Step.TheVariants.{Given, Again, Wait}
 
--- how many bytes of a send are kept
+-- The number of bytes of a send that are stored.
 abbrev pub payload_size : Mode → ℕ
 payload_size Line = 0
 payload_size Skip = 0
 payload_size (Payload job n) = n
 payload_size (Counting n) = 0
 
--- the first line feed stands behind n bytes
+-- The first line feed comes after n bytes.
 pub record IsAt (xs : List ℕ) (n : ℕ) : Type 0 where
   pub there : has_lf xs ≡ true
   pub line : first_line xs ≡ take n xs
   pub rest : after_line xs ≡ drop (n + 1) xs
 
--- a line with this front is a remark, and not the empty line
+-- A line that begins so is a remark, and not the empty line.
 abbrev pub starts_remark : List ℕ → Bool
 starts_remark [] = false
 starts_remark (b ∷ bs) = b == 35
 
--- no command was given, but less is left
+-- No command was returned, but less is left.
 pub record GoesOn (old new : Pending) : Type 0 where
   pub leads : Leads old [] new
   pub less : weight new < weight old
@@ -39,7 +39,7 @@ Moves old (Given c) new = GivesOne old c new
 Moves old Again new = GoesOn old new
 Moves old Wait new = Waits old new
 
--- a line of this kind was taken
+-- A line of this kind was taken.
 abbrev pub TakesKind : Kind → Pending → Step → Pending → Type 0
 TakesKind Remark old step new = (step ≡ Again) × (new ≡ old)
 TakesKind (Says c) old step new = (step ≡ Given c) × (new ≡ old)

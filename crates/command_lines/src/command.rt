@@ -1,13 +1,13 @@
-//! What a text of commands says.
+//! The commands of a script.
 use spool_types::{
     Copies, Event, FileName, JobId, Moment, NewQueue, OptionText, Priority, QueueName, Ranged,
     Title, UserName,
 };
 
-/// How many rounds are run at the most.
+/// The greatest number of rounds of a `drain`.
 pub type Rounds = Ranged<1, 1000>;
 
-/// A job to be made, but for its number.
+/// A job to be created, without its number.
 #[derive(Drop)]
 pub struct Creation {
     pub queue: QueueName,
@@ -17,57 +17,53 @@ pub struct Creation {
     pub priority: Priority,
     /// The options as they were given.
     pub options: OptionText,
-    /// The moment by which the job is to start, if there is one.
+    /// The moment by which the job must start, if any.
     pub by: Option<Moment>,
 }
 
-/// A command: an event as it is, or what becomes one by the table or by the text of a document, or none.
+/// A command: a complete event, a request that the table or a document turns into an event, or a request without an event.
 #[derive(Drop)]
 pub enum Command {
-    /// Asks for an event that the line says whole.
+    /// Asks for an event that the line states completely.
     Apply(Event),
-    /// Makes a queue, if its URI is that of a device.
+    /// Adds a queue, if its URI is that of a device.
     Queue(NewQueue),
-    /// Makes a job, if its options are read. It gets the next number.
+    /// Creates a job, if its options are valid. It gets the next number.
     Create(Creation),
-    /// Ends a job's document, which has this name and is typed by it and by its bytes.
+    /// Ends a job's document. Its type is determined by this file name and by its bytes.
     Close { job: JobId, name: FileName },
-    /// A send of more bytes than one may have. They were passed over, and nothing of them is kept.
+    /// A send of too many bytes. They were skipped and not stored.
     OversizedSend,
-    /// Lists the jobs.
     Jobs,
-    /// Lists the queues.
     Queues,
-    /// Runs one stage of each job that is processing, after the next job of each free queue was started.
+    /// Starts the next job of each free queue, then runs one stage of each processing job.
     Round,
-    /// Runs rounds until one has nothing to do, or these were run.
+    /// Runs rounds until one has nothing to do, at most this many.
     Drain(Rounds),
-    /// Makes room for further events: the table takes the place of those that made it.
+    /// Makes room for further events: lists the table in place of the events that produced it.
     Checkpoint,
-    /// A line that is no command, or bytes of a send that no line feed follows.
+    /// A line that is no command, or bytes of a send without a line feed after them.
     Malformed,
 }
 
-// What a line says.
+// The meaning of a line.
 #[derive(Drop)]
 pub enum Kind {
-    // Nothing: it is empty or a remark.
+    // None: the line is empty or a remark.
     Remark,
-    // A command.
     Says(Command),
-    // That the bytes of a send follow.
+    // The bytes of a send follow.
     Takes { job: JobId, count: u32 },
 }
 
-// What the next bytes are.
+// The kind of the next bytes.
 #[derive(Clone, Copy, Debug, PartialEq, Eq)]
 pub enum Mode {
-    // A line.
     Line,
-    // The rest of a line that says nothing more.
+    // The rest of a line that has no further meaning.
     Skip,
     // The bytes of a send.
     Payload { job: JobId, count: u32 },
-    // Bytes of a send that are passed over.
+    // The bytes of an oversized send, which are skipped.
     Counting { left: u32 },
 }

@@ -1,4 +1,4 @@
-//! What the definitions that count lines and words down say without a count, and which events a text asks for.
+//! Laws of the definitions of commands and words.
 ghost use Rattle.std.specs.Prelude.{◌≡◌, ℕ, List};
 ghost use Rattle.std.specs.List.{All};
 ghost use Rattle.command_lines.specs.TextLines.{first_line, after_line};
@@ -7,18 +7,18 @@ ghost use Rattle.command_lines.specs.CommandGrammar.{kind_of};
 ghost use Rattle.command_lines.specs.Text.{commands_of, after_kind};
 ghost use Rattle.command_lines.specs.AskedEvents.{AsksForLineEvent};
 
-/// The commands of a text are what its first line says, and then the commands of the rest.
+/// The commands of a text are those of its first line, followed by those of the rest.
 pub fn line_by_line()
     ensures { (text : List ℕ) → commands_of text ≡ after_kind commands_of (kind_of (first_line text)) (after_line text) }
 {}
 
-/// The words of a line are its next word, and then the words of the rest.
+/// The words of a line are its next word, followed by the words of the rest.
 pub fn word_by_word()
     ensures { (line : List ℕ) → words_of line ≡ after_front words_of (next_word line) }
 {}
 
-/// Of the events, a text asks directly only for those that a line says whole: never for the start or the end of
-/// an attempt, nor for a reopening.
+/// A text asks directly only for events that a single line states completely: never for the start or the end of an attempt, nor for a
+/// reopening.
 pub fn only_line_events()
     ensures { (text : List ℕ) → All AsksForLineEvent (commands_of text) }
 {}

@@ -1,51 +1,61 @@
-//! The commands of a script, read from bytes that come in any pieces, and the text of each reply.
+//! The commands of a script, read from bytes in pieces of any length, and the text of each reply.
 //!
-//! [`Commands`] is a reader. Its caller feeds it the pieces of a text as they come, takes the commands that are whole
-//! with [`Commands::next`], and at the text's end the last ones with [`Commands::finish`]. Everything that is
-//! wrong with a script is a [`Command::Malformed`] in its place, and reading goes on after it.
+//! [`Commands`] is a reader of commands. Its caller feeds it the pieces of a text as they arrive, takes the whole commands with
+//! [`Commands::next`], and takes the last ones at the end of the text with [`Commands::finish`]. Every error in a script is a
+//! [`Command::Malformed`] at its position, and reading continues after it.
 //!
-//! # What a script is
+//! `specs/` defines a script over whole texts, as lists of bytes:
 //!
-//! `specs/` says it over whole texts, as lists of bytes:
-//!
-//! - `Lines`: a line goes up to its line feed, and a last line needs none.
-//! - `Words`: words are what lies between blanks. A word is bare, with no quote in it, or in quotes, and then a blank or
-//!   nothing follows its closing quote. `Blanks` and `Quotes` of `line_words` say what a blank is, how far a word and a
-//!   quoted text go, and what a backslash means.
-//! - `Numbers`: a number has 1 to 13 digits and no sign.
-//! - `Grammar`: the table of commands, those of one word in a part of their own. The first word chooses a row, and the
-//!   row says which words follow and what each may be. A further command is a further row. `createby` is `create` with
-//!   one more word, a moment: both are a [`Command::Create`], and one definition reads the words that they share.
-//!   A line of more than 4,096 bytes is malformed; an empty line and a line that begins with `#`, of any length, say
-//!   nothing.
-//! - `Text`: the commands of a text, line after line, where a `send` takes the raw bytes after its line. Too many bytes are
-//!   one [`Command::OversizedSend`]. Bytes that no line feed follows are one `Malformed`, and reading goes on after the
-//!   next line feed. [`line_by_line`] and [`word_by_word`] say the two definitions that count down without a count.
-//! - `Asked`: the events that a line says whole. [`only_line_events`]: no text asks directly for another.
+//! - `TextLines`: a line ends at its line feed. The last line needs none.
+//! - `CommandWords`: words are separated by blanks. A word is bare and contains no quote, or it is quoted, and a blank or the end of the
+//!   line follows its closing quote. `Blanks` and `Quotes` of `line_words` define blanks, the end of a word or of a quoted text, and
+//!   backslashes.
+//! - `CommandNumbers`: a number has 1 to 13 digits and no sign.
+//! - `CommandGrammar`: the table of commands. Commands of one word have their own part. The first word selects a row, and the row states
+//!   which words follow and which values they may have. A further command is a further row. `createby` is `create` with one more word, a
+//!   moment: both are a [`Command::Create`], and one definition reads the words that they share. A line of more than 4,096 bytes is
+//!   malformed. An empty line, and a line of any length that begins with `#`, is ignored.
+//! - `Text`: the commands of a text, line by line (`commands_of`). A `send` takes the raw bytes that follow its line. If these are more
+//!   than 65,536 bytes, they are one [`Command::OversizedSend`]. If no line feed follows them, they are one `Malformed`, and reading
+//!   continues after the next line feed.
+//! - `AskedEvents`: the events that a single line states completely.
+//! - `PendingCommands`: the contents of a reader (`Pending`), and the commands that it will return, as a function of the text that follows
+//!   (`to_come`).
+//! - `Replies`: the bytes of each reply (`answer_text`).
 //!
 //! # Promises
 //!
-//! - *ExactCommands*: the commands that a reader gives are `commands_of` the whole text, whatever the pieces.
-//!   `Pending` is what a reader holds, and `to_come` the commands that it will give, as a function of the text that
-//!   follows. A new reader has `commands_of` all of it to come; `feed` only moves bytes from what follows to what is
-//!   held; `next` gives the first command to come (`Gives`), and `finish` the first where nothing follows (`Ends`).
-//! - `None` of `next` means that no whole command is held, and no more than the beginning of one line or one send's bytes
-//!   (`IsPartial`). `None` of `finish` means that none is left. Each command makes the `weight` less, so that a caller's
-//!   loop over either ends.
-//! - [`print_reply`] gives the bytes of a reply: of each [`Answer`] the line, or for a listing the lines, of `Replies`.
-//!   [`push_job`] and [`push_queue`] add a single line of a listing, and [`push_quoted`] a text as it stands in one.
-//! - [`job_number`] is the number of a job that a word is, as each command reads it.
-//! - Out of memory, the only fault, loses nothing: after `feed` the reader is as it was, and after `next` and
-//!   `finish` the same commands are to come. The call may be made again.
+//! - *ExactCommands*: the commands that a reader returns are `commands_of` the whole text, for any pieces. A new reader has all of them to
+//!   come. [`Commands::feed`] only moves bytes from the following text into the buffer. [`Commands::next`] returns the first command to
+//!   come (`Gives`), and [`Commands::finish`] the first one if no text follows (`Ends`).
+//! - `None` of `next` means that no whole command is buffered, and at most the beginning of one line or the bytes of one send
+//!   (`IsPartial`). [`Commands::wanted`] then returns the input that the reader waits for. `None` of `finish` means that no command is
+//!   left. Each command reduces the `weight`, so a caller's loop over `next` or `finish` ends.
+//! - *OnlyLineEvents* ([`only_line_events`]): a text asks directly only for events that a whole line states (`AskedEvents`). It starts no
+//!   attempt.
+//! - [`line_by_line`] and [`word_by_word`]: `commands_of` and `words_of` are defined with a bound on lines and words. These laws state them
+//!   without the bound: the first line or word, followed by the rest.
+//! - *ExactReplies*: [`print_reply`] returns the bytes of a reply: for each [`Answer`] the line of `Replies`, or for a listing the lines.
+//!   [`push_job`] and [`push_queue`] append a single line of a listing, and [`push_quoted`] appends a text in quotes.
+//! - [`job_number`] returns the job number that a word states, as every command reads it.
 //!
-//! # What the reader keeps
+//! # Invariants
 //!
-//! 1. What is held is the bytes from `start` on. They are moved to the front once they are no more than those before
-//!    them, so that a text is read in a time that is linear in its length, whatever its pieces.
-//! 2. No line feed is between `start` and `clean`, so that no byte is searched twice.
-//! 3. `mode` says what is held: a line, the rest of a line that says nothing more, a send's bytes, or those of an
-//!    oversized send. Of the last, and of a remark or a line that is too long, no byte is kept.
-//! 4. At most 65,536 bytes of a send are waited for, and they are copied once, into the command.
+//! 1. The buffered bytes are those from `start` on. They are moved to the front once their number is at most that of the bytes before them.
+//! 2. No line feed is between `start` and `clean`, so no byte is searched twice.
+//! 3. `mode` states the kind of the buffered bytes: a line, the rest of a line that has no further meaning, the bytes of a send, or those
+//!    of an oversized send. No byte is stored of an oversized send, of a remark, or of a line that is too long.
+//!
+//! # Errors
+//!
+//! The only error is out of memory. It loses nothing: after `feed` the reader has not changed, and after `next` and `finish` the same
+//! commands are to come. The call may be repeated.
+//!
+//! # Cost
+//!
+//! - A text is read in time linear in its length, whatever its pieces.
+//! - At most 65,536 bytes of a send are buffered, and they are copied once, into the command.
+//! - The words of a line are borrowed from it. Only a quoted word with a backslash allocates.
 #![tactic(auto)]
 
 mod command;

@@ -1,4 +1,4 @@
-//! What a line says.
+//! The grammar of a line.
 ghost use Rattle.std.specs.Prelude.{◌≡◌, IfOk, map};
 ghost use Rattle.std.specs.Option.{option_map};
 ghost use Rattle.spool_types.specs.declared.event.Event.{Event};
@@ -18,18 +18,18 @@ use spool_types::{
 };
 use std::alloc::{AllocError, Global};
 
-/// How many bytes a line may have before its line feed, unless it is a remark.
+/// The greatest length of a line in bytes, without its line feed. A remark may be longer.
 pub const LONGEST_LINE: usize = 4096;
 
-/// What a line begins with that has no reply.
+/// The first byte of a remark.
 pub const REMARK: u8 = b'#';
 
-// What a queue has that names no interval and no limit (JobRetryInterval and JobRetryLimit, cupsd.conf(5)).
+// The interval in seconds and the limit of a queue that states none (JobRetryInterval and JobRetryLimit, cupsd.conf(5)).
 const USUAL_INTERVAL: u32 = 30;
 
 const USUAL_LIMIT: u16 = 5;
 
-/// What the line says.
+/// Returns the meaning of the line.
 #[tactic(auto, unfolding(crate::specs::CommandGrammar::kind_of))]
 pub fn kind_of(alloc: Global, line: &[u8]) -> Result<Kind, AllocError>
     ensures { IfOk result (λ kind. kind ≡ kind_of line.now) }
@@ -49,7 +49,7 @@ pub fn kind_of(alloc: Global, line: &[u8]) -> Result<Kind, AllocError>
     }
 }
 
-// Whether a line has no reply: it is empty, or begins with `#`.
+// Returns whether the line has no reply: it is empty, or begins with `#`.
 fn is_remark(line: &[u8]) -> bool
     ensures { result ≡ is_remark line.now }
 {
@@ -59,7 +59,7 @@ fn is_remark(line: &[u8]) -> bool
     }
 }
 
-// What the words of a line say, if they are a command.
+// Returns the meaning of the words of a line, or `None` if they are no command.
 fn kind_of_words(alloc: Global, words: &[Word<'_>]) -> Result<Option<Kind>, AllocError>
     ensures { IfOk result (λ kind. kind ≡ kind_in (map bytes_of words.now)) }
 {
@@ -76,7 +76,7 @@ fn applies(event: Event) -> Kind
     Kind::Says(Command::Apply(event))
 }
 
-// What the words behind the name of a command say.
+// Returns the meaning of the words after the name of a command.
 fn line_of_command(
     alloc: Global,
     name: &[u8],
@@ -136,7 +136,7 @@ fn one_word_line(alloc: Global, name: &[u8], words: &[Word<'_>]) -> Result<Optio
     }
 }
 
-// The event of a command of one word.
+// Returns the event of a command of one word.
 fn event_of_word(alloc: Global, name: &[u8], word: &[u8]) -> Result<Option<Event>, AllocError>
     ensures { IfOk result (λ event. event ≡ one_word name.now word.now) }
 {
@@ -220,7 +220,7 @@ fn queue_line(alloc: Global, words: &[Word<'_>]) -> Result<Option<Kind>, AllocEr
     }
 }
 
-// The queue of these words.
+// Returns the queue of these words.
 fn new_queue(
     alloc: Global,
     name: &[u8],
@@ -260,7 +260,7 @@ fn info_line(alloc: Global, words: &[Word<'_>]) -> Result<Option<Kind>, AllocErr
     }
 }
 
-// What these words tell of a queue.
+// Returns the notes on a queue in these words.
 fn notes(
     alloc: Global,
     queue: &[u8],
@@ -325,7 +325,7 @@ fn createby_line(alloc: Global, words: &[Word<'_>]) -> Result<Option<Kind>, Allo
     )
 }
 
-// The job of these words, and the moment by which it is to start, if there is one.
+// Returns the job of these words, and the moment by which it must start, if any.
 fn creation(
     alloc: Global,
     queue: &[u8],

@@ -6,47 +6,47 @@ ghost use Rattle.command_lines.specs.CommandNumbers.{number_of, ranged};
 use line_words::decimal;
 use spool_types::{JobId, Moment, Ranged};
 
-// How many digits a number has at most, and the greatest number of so many.
+// The greatest number of digits, and the greatest number with that many digits.
 const MOST_DIGITS: usize = 13;
 
 const GREATEST: u64 = 9_999_999_999_999;
 
-/// The number of a job.
+/// Returns the job number that the word states.
 pub fn job_number(word: &[u8]) -> Option<JobId>
     ensures { result ≡ ranged 1 greatest_number word.now }
 {
     JobId::new(small_number(word)?)
 }
 
-/// A moment.
+/// Returns the moment that the word states, in seconds.
 pub fn moment_number(word: &[u8]) -> Option<Moment>
     ensures { result ≡ ranged 0 greatest_moment word.now }
 {
     Moment::new(number_of(word)?)
 }
 
-/// A number in a range.
+/// Returns the number that the word states, if it is in the range.
 pub fn ranged_number<const LEAST: u32, const MOST: u32>(word: &[u8]) -> Option<Ranged<LEAST, MOST>>
     ensures { result ≡ ranged LEAST MOST word.now }
 {
     Ranged::new(small_number(word)?)
 }
 
-/// A number of at most 32 bits.
+/// Returns the number of at most 32 bits that the word states.
 pub fn small_number(word: &[u8]) -> Option<u32>
     ensures { result ≡ ranged 0 4294967295 word.now }
 {
     u32::try_from(number_of(word)?).ok()
 }
 
-/// A number of at most 16 bits.
+/// Returns the number of at most 16 bits that the word states.
 pub fn short_number(word: &[u8]) -> Option<u16>
     ensures { result ≡ ranged 0 65535 word.now }
 {
     u16::try_from(number_of(word)?).ok()
 }
 
-// The number that a word of 1 to 13 digits is.
+// Returns the number that a word of 1 to 13 digits states.
 fn number_of(word: &[u8]) -> Option<u64>
     ensures { result ≡ number_of word.now }
 {

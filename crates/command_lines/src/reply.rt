@@ -1,4 +1,4 @@
-//! The texts of replies.
+//! The text of replies.
 ghost use Rattle.std.specs.Prelude.{◌≡◌, ◌++◌, IfOk, OnOk, codes, map};
 ghost use Rattle.std.specs.Fmt.{decimal};
 ghost use Rattle.spool_types.specs.State.{job_of};
@@ -17,43 +17,43 @@ pub struct ShownQueue<'a> {
     pub busy: bool,
 }
 
-/// What a command is answered.
+/// The reply to a command.
 #[derive(Drop)]
 pub enum Answer<'a> {
     Done,
     Created(JobId),
     /// The size of the document so far, in bytes.
     Sent(u32),
-    /// The media type of a closed job, and how many stages it has; `None` where nothing can print it.
+    /// The media type of a closed job, and the number of its stages, or `None` if it cannot be printed.
     Closed {
         media: MediaType,
         stages: Option<u8>,
     },
-    /// The jobs in ascending order of number, shown as they are at the moment now.
+    /// The jobs in ascending order of number, with their states at the moment `now`.
     Jobs {
         rows: &'a Rows,
         now: Moment,
     },
     /// The queues in ascending order of name.
     Queues(&'a [ShownQueue<'a>]),
-    /// How many children a round started, and how many ends of stages were acknowledged in it.
+    /// The number of children that a round started, and the number of ends of stages that were acknowledged in it.
     Rounded {
         started: usize,
         finished: usize,
     },
-    /// How many rounds were run.
+    /// The number of rounds that were run.
     Drained(u32),
     Refused(Refusal),
-    /// The line isn't a command.
+    /// The line is not a command.
     Malformed,
-    /// The URI of a queue isn't that of a device.
+    /// The URI of a queue is not that of a device.
     BadUri,
-    /// The options of a job aren't read, or are too long as they would be kept.
+    /// The options of a job are invalid, or their printed form is too long.
     BadOptions,
-    /// The spool has failed, and has to be opened again.
+    /// The spool has failed and must be opened again.
     Dead,
     NoMemory,
-    /// There is no room for the event, or for a listing of the table.
+    /// The area has no room for the event, or for a listing of the table.
     Full,
     /// The device has failed.
     Disk,
@@ -61,7 +61,7 @@ pub enum Answer<'a> {
     EpochEnd,
 }
 
-/// The text of a reply.
+/// Returns the text of a reply.
 pub fn print_reply(alloc: Global, answer: &Answer<'_>) -> Result<Vec<u8>, AllocError>
     ensures { IfOk result (λ text. text.items ≡ answer_text answer.now) }
 {
@@ -140,7 +140,7 @@ fn jobs(alloc: Global, rows: &Rows, now: Moment) -> Result<Vec<u8>, AllocError>
     Ok(text)
 }
 
-/// Adds the line of a listing that shows this job, as it is at the moment now. Out of memory, some of the line may be there.
+/// Appends the line of a listing that shows this job at the moment `now`. If memory runs out, a part of the line may have been appended.
 pub fn push_job(text: &mut Vec<u8>, row: &Job, now: &Moment) -> Result<(), AllocError>
     ensures { OnOk result (text.new.items ≡ text.old.items ++ job_line now.now row.now) }
 {
@@ -181,8 +181,8 @@ fn queues(alloc: Global, queues: &[ShownQueue<'_>]) -> Result<Vec<u8>, AllocErro
     Ok(text)
 }
 
-/// Adds the line of a listing that shows this queue, of which a job is processing or none is. Out of memory, some of the line
-/// may be there.
+/// Appends the line of a listing that shows this queue. `busy` states whether a job of it is processing. If memory runs out, a part of the
+/// line may have been appended.
 pub fn push_queue(text: &mut Vec<u8>, row: &QueueRow, busy: bool) -> Result<(), AllocError>
     ensures { OnOk result (text.new.items ≡ text.old.items ++ queue_text busy row.now) }
 {
@@ -218,7 +218,7 @@ fn push_rules(text: &mut Vec<u8>, row: &QueueRow) -> Result<(), AllocError>
     write!(text, "{policy} {interval} {limit} ").map_err(|_| AllocError)
 }
 
-// Adds the reasons, joined by commas.
+// Appends the reasons, joined by commas.
 fn push_reasons(text: &mut Vec<u8>, reasons: &[Reason]) -> Result<(), AllocError>
     ensures { OnOk result (text.new.items ≡ text.old.items ++ reasons_word reasons.now) }
 {
@@ -233,14 +233,14 @@ fn push_reasons(text: &mut Vec<u8>, reasons: &[Reason]) -> Result<(), AllocError
     Ok(())
 }
 
-// Ends a listing.
+// Appends the line that ends a listing.
 fn push_count(text: &mut Vec<u8>, count: usize) -> Result<(), AllocError>
     ensures { OnOk result (text.new.items ≡ text.old.items ++ (codes "ok " ++ decimal count ++ codes "\n")) }
 {
     write!(text, "ok {count}\n").map_err(|_| AllocError)
 }
 
-/// Adds a text in quotes, its quotes and backslashes escaped. Out of memory, some of it may be there.
+/// Appends a text in quotes, with its quotes and backslashes escaped. If memory runs out, a part of it may have been appended.
 pub fn push_quoted(text: &mut Vec<u8>, value: &str) -> Result<(), AllocError>
     ensures { OnOk result (text.new.items ≡ text.old.items ++ quoted value.now) }
 {

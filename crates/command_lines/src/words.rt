@@ -9,21 +9,20 @@ ghost use Rattle.command_lines.specs.Fronts.{front_of};
 use line_words::{Word, after_blanks, has_quote, is_blank, is_quote, read_quoted, split_at_blank};
 use std::alloc::{AllocError, Global};
 
-// No command has more words, so that only a line that is none takes memory for words again.
+// No command has more words, so only a line that is no command allocates again for its words.
 const MOST_WORDS: usize = 7;
 
-// The front of a line.
+// The beginning of a line.
 enum Front<'a> {
     // No word is left.
     Ended,
-    // No word stands where one should.
+    // A word is broken.
     Broken,
-    // A word, and what follows it.
+    // A word, and the bytes after it.
     Word(Word<'a>, &'a [u8]),
 }
 
-/// The words of a line, or `None` where one is broken: an open quote, a quote in a bare word, or no blank behind a
-/// closing quote.
+/// Returns the words of a line, or `None` if one is broken: an open quote, a quote in a bare word, or no blank after a closing quote.
 pub fn words_of<'a>(alloc: Global, line: &'a [u8]) -> Result<Option<Vec<Word<'a>>>, AllocError>
     ensures { IfOk result (λ words. option_map (λ v. map bytes_of v.items) words ≡ words_of line.now) }
 {
@@ -41,7 +40,6 @@ pub fn words_of<'a>(alloc: Global, line: &'a [u8]) -> Result<Option<Vec<Word<'a>
     }
 }
 
-// The next word.
 fn next_word<'a>(alloc: Global, line: &'a [u8]) -> Result<Front<'a>, AllocError>
     ensures { IfOk result (λ front. front_of front ≡ next_word line.now) }
 {
@@ -58,7 +56,7 @@ fn next_word<'a>(alloc: Global, line: &'a [u8]) -> Result<Front<'a>, AllocError>
     }
 }
 
-// A word up to the next blank, with no quote in it.
+// Takes a word up to the next blank. It contains no quote.
 fn bare_word(line: &[u8]) -> Front<'_>
     ensures { front_of result ≡ bare_word line.now }
 {
@@ -69,7 +67,7 @@ fn bare_word(line: &[u8]) -> Front<'_>
     Front::Word(Word::Borrowed(word), rest)
 }
 
-// A word behind its opening quote.
+// Takes a word after its opening quote.
 fn quoted_word<'a>(alloc: Global, line: &'a [u8]) -> Result<Front<'a>, AllocError>
     ensures { IfOk result (λ front. front_of front ≡ quoted_word (quoted false line.now)) }
 {
@@ -82,7 +80,7 @@ fn quoted_word<'a>(alloc: Global, line: &'a [u8]) -> Result<Front<'a>, AllocErro
     Ok(Front::Word(word, rest))
 }
 
-// Whether a quoted word may end before this rest.
+// Returns whether a quoted word may end before these bytes.
 fn is_end(rest: &[u8]) -> bool
     ensures { result ≡ is_end rest.now }
 {

@@ -1,4 +1,4 @@
--- Examples of what a child is run with: the names of its files, its arguments and its environment.
+-- Examples of the files, arguments and environment of a child.
 use Rattle.std.specs.Prelude.{◌≡◌, [], ◌∷◌, map, codes, None, Some, true, false}
 use Rattle.std.specs.String.{string_bytes}
 use Rattle.spool_types.specs.declared.phase.Policy.TheVariants.{AbortJob}
@@ -15,14 +15,14 @@ abbrev pub FileRows : Type 0
 FileRows = file_name Input (codes "/r") 7 1 1 ∷ map (λ file. file_name file (codes "/r") 7 4294967295 16) (Output ∷ Errors ∷ Side ∷ [])
     ≡ codes "/r/in-7-1-1" ∷ codes "/r/out-7-4294967295-16" ∷ codes "/r/err-7-4294967295-16" ∷ codes "/r/side-7-4294967295-16" ∷ []
 
--- the document is a file for the first stage
+-- The document is a file for the first stage.
 abbrev pub ArgumentRows : Type 0
 ArgumentRows = map (arguments (job lab 7 50 processing)) (Some (codes "/r/in-7-1-1") ∷ None ∷ [])
     ≡ (codes "7" ∷ codes "ann" ∷ codes "P 1" ∷ codes "2" ∷ codes "media=A4" ∷ codes "/r/in-7-1-1" ∷ [])
     ∷ (codes "7" ∷ codes "ann" ∷ codes "P 1" ∷ codes "2" ∷ codes "media=A4" ∷ [])
     ∷ []
 
--- a job of a text, and its queue with a note
+-- A job with a text, and its queue with a note.
 abbrev letter : Job
 letter = record {
   id = 7;
@@ -58,7 +58,7 @@ front = record {
   attributes = [];
 }
 
--- in any place of this folder, locale and search path with a side channel
+-- For any spool folder, locale and search path, with a side channel.
 abbrev pub EnvironmentRows : Type 0
 EnvironmentRows = (place : Place) → string_bytes place.root ≡ codes "/r" → string_bytes place.lang ≡ codes "C" → string_bytes place.path ≡ codes "/usr/bin:/bin" → place.side ≡ true
     → environment_of letter front place

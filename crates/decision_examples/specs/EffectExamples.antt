@@ -8,7 +8,7 @@ use Rattle.row_effects.specs.QueueReasons.{add_reasons, drop_reasons, set_reason
 use Rattle.row_effects.specs.QueueAttributes.{set_attribute}
 use Rattle.row_effects.specs.EffectFold.{pages_after, reasons_after, attributes_after, message_after}
 
--- pages are added up to the greatest number, and set
+-- Pages are added, up to the greatest number, and set.
 abbrev pub PageRows : Type 0
 PageRows = pages_after (effects.Pages 1 2 ∷ effects.Pages 2 0 ∷ []) 0
     ∷ pages_after (effects.Pages 1 2 ∷ effects.TotalPages 9 ∷ []) 0
@@ -17,7 +17,7 @@ PageRows = pages_after (effects.Pages 1 2 ∷ effects.Pages 2 0 ∷ []) 0
     ∷ pages_after (effects.Pages 1 4294967295 ∷ effects.TotalPages 0 ∷ []) 4294967295 ∷ []
     ≡ 2 ∷ 9 ∷ 4294967295 ∷ 4294967295 ∷ 0 ∷ []
 
--- reasons are set, added and dropped
+-- Reasons are set, added and dropped.
 abbrev pub ReasonRows : Type 0
 ReasonRows = set_reasons (codes "b" ∷ codes "a" ∷ codes "b" ∷ [])
     ∷ add_reasons (codes "d" ∷ codes "c" ∷ codes "a" ∷ []) (codes "a" ∷ codes "b" ∷ [])
@@ -30,7 +30,7 @@ ReasonRows = set_reasons (codes "b" ∷ codes "a" ∷ codes "b" ∷ [])
     ∷ (codes "z" ∷ [])
     ∷ []
 
--- so many numbers from n on, and the same downwards to n
+-- Consecutive numbers from n on, and the same in descending order.
 abbrev pub numbers : ℕ → ℕ → List ℕ
 numbers n zero = []
 numbers n (suc count) = n ∷ numbers (n + 1) count
@@ -39,11 +39,11 @@ abbrev pub downwards : ℕ → ℕ → List ℕ
 downwards n zero = []
 downwards n (suc count) = (n + count) ∷ downwards n count
 
--- a word of its own for each number
+-- A different word for each number.
 abbrev pub word : ℕ → List ℕ
 word n = 119 ∷ n ∷ []
 
--- of seventy words, each of them twice, the first sixty-four are kept, in ascending order, and no further one
+-- Of seventy words, each given twice, the first sixty-four are kept, in ascending order.
 abbrev pub many_words : List (List ℕ)
 many_words = map word (flat_map (λ n. n ∷ n ∷ []) (downwards 40 70))
 
@@ -54,12 +54,12 @@ SixtyFourReasons = (add_reasons (word 40 ∷ word 50 ∷ []) (set_reasons many_w
 abbrev pub attribute : List ℕ → ℕ → Attribute
 attribute value n = record { name = word n; value = value }
 
--- among sixty-four attributes one is replaced, and a further one is dropped
+-- Among sixty-four attributes one is replaced, and a further one is dropped.
 abbrev pub SixtyFourAttributes : Type 0
 SixtyFourAttributes = fold set_attribute [] (map (attribute (codes "v")) (numbers 40 65) ++ attribute (codes "w") 104 ∷ attribute (codes "w") 103 ∷ [])
     ≡ map (attribute (codes "v")) (numbers 40 63) ++ attribute (codes "w") 103 ∷ []
 
--- attributes ascend by their names, and a name takes its new value
+-- Attributes ascend by name, and a name takes its new value.
 abbrev pub named : List ℕ → List ℕ → Attribute
 named name value = record { name = name; value = value }
 
@@ -71,7 +71,7 @@ AttributeRows = attributes_after (effects.SetReasons [] ∷ effects.Attribute (n
     ∷ (named (codes "colour") (codes "no") ∷ named (codes "size") (codes "a3") ∷ [])
     ∷ []
 
--- the last message stays, also an empty one
+-- The last message stays, even if it is empty.
 abbrev pub MessageRows : Type 0
 MessageRows = message_after (effects.DropReasons (codes "d" ∷ []) ∷ effects.Message Error (codes "jam") ∷ []) []
     ∷ message_after (effects.SetReasons [] ∷ []) (codes "jam")

@@ -1,4 +1,4 @@
--- Examples of bytes that are no event, each beside its first fault.
+-- Examples of bytes that are no event, each with its first error.
 use Rattle.std.specs.Prelude.{◌≡◌, ℕ, ◌-◌, List, [], ◌∷◌, ◌++◌, map, take, codes, length, Option, None, Some, Err}
 use Rattle.std.specs.Int.{w16, to_be_bytes}
 use Rattle.std.specs.List.{flat_map}
@@ -8,12 +8,12 @@ use Rattle.field_codec.specs.declared.fault.CodecFault.TheVariants.{Kind, Length
 use Rattle.event_codec.specs.EventReading.{reading}
 use Rattle.decision_examples.specs.HexBytes.{hex, times}
 
--- each row: what stands behind these bytes, and the fault
+-- Each row: the bytes that follow these bytes, and the error.
 abbrev pub AreFaults : List ℕ → List (List ℕ × CodecFault) → Type 0
 AreFaults before rows =
     map (λ (row : List ℕ × CodecFault). reading (before ++ hex row.0)) rows ≡ map (λ (row : List ℕ × CodecFault). Err row.1) rows
 
--- the kinds 40 to 43 are those of the rows of a listing
+-- The kinds 40 to 43 are rows of a listing.
 abbrev pub FaultRows : Type 0
 FaultRows = AreFaults [] (
     (codes "0A 00 00 00 01 00", Length)
@@ -60,7 +60,7 @@ FaultRows = AreFaults [] (
     ∷ (codes "43 00 00 00 00 00 00 00 00 00 00 00 00", Kind)
     ∷ [])
 
--- behind the dropped lines of a stage that a signal ended
+-- After the dropped lines of a stage that a signal ended.
 abbrev pub EffectFaultRows : Type 0
 EffectFaultRows = AreFaults (hex (codes "0D 00 00 00 01 00 00 00 01 01 01 00 00 00 00")) (
     (codes "00", Length)
@@ -97,11 +97,11 @@ EffectFaultRows = AreFaults (hex (codes "0D 00 00 00 01 00 00 00 01 01 01 00 00 
     ∷ (codes "00 01 07 06 00 01 C3", Utf8)
     ∷ [])
 
--- the fault of what stands behind these bytes, if it has one
+-- The error of the bytes that follow these bytes, if any.
 abbrev pub faults : List ℕ → List (List ℕ) → List (Option CodecFault)
 faults before rows = map (λ row. result_err (reading (before ++ row))) rows
 
--- a stage with 1,820 effects of nine bytes each, 16,380 in all, up to one more behind them
+-- A stage with 1,820 effects of nine bytes each, 16,380 in all, up to a further effect.
 abbrev pub full_stage : List ℕ
 full_stage = hex (codes "0D 00 00 00 01 00 00 00 01 01 01 00 00 00 00 07 1D") ++ flat_map (λ effect. effect) (times 1820 (hex (codes "01 00 00 00 01 00 00 00 01")))
 
@@ -109,26 +109,26 @@ abbrev pub FullStageRows : Type 0
 FullStageRows = faults full_stage (map hex (codes "07 06 00 00" ∷ codes "02 00 00 00 01" ∷ codes "07 06 00 01 61" ∷ codes "07 06 00 02 61" ∷ codes "07 06 00 01 80" ∷ codes "02 00 00 00" ∷ []))
     ≡ None ∷ Some Range ∷ Some Range ∷ Some Length ∷ Some Utf8 ∷ Some Length ∷ []
 
--- a text of so many bytes that begins with a type
+-- A text of this length that begins with a type.
 abbrev pub long_text : ℕ → List ℕ
 long_text count = to_be_bytes w16 count ++ codes "a/" ++ times (count - 2) 98
 
--- a closing whose media type has so many bytes
+-- A Close with a media type of this length.
 abbrev pub closing : ℕ → List ℕ
 closing count = hex (codes "07 00 00 00 01") ++ long_text count ++ 0 ∷ []
 
 abbrev pub LongTypeRows : Type 0
 LongTypeRows = faults [] (map closing (255 ∷ 256 ∷ 300 ∷ [])) ≡ None ∷ Some Range ∷ Some Range ∷ []
 
--- a job whose options have 556 bytes
+-- A job with 556 bytes of options.
 abbrev pub long_job : List ℕ
 long_job = hex (codes "05 00 01 71 00 00 00 01 00 01 75 00 00 00 01 32") ++ long_text 556
 
--- one byte is missing, or so many that 300 are there
+-- One byte is missing, or all after the first 300.
 abbrev pub CutTextRows : Type 0
 CutTextRows = faults [] (map (λ cut. take (length long_job - cut) long_job) (0 ∷ 1 ∷ 256 ∷ [])) ≡ None ∷ Some Length ∷ Some Length ∷ []
 
--- copies, a priority and an interval at their ends and beyond
+-- Copies, a priority and an interval, at their limits and beyond.
 abbrev pub job_of_copies : List ℕ → List ℕ
 job_of_copies numbers = hex (codes "05 00 01 71 00 00 00 01 00 01 75 00 00") ++ numbers ++ 0 ∷ 0 ∷ []
 
@@ -137,13 +137,13 @@ RangeRows = faults [] (map (λ numbers. job_of_copies (hex numbers)) (
     codes "00 01 01" ∷ codes "27 0F 64" ∷ codes "00 00 01" ∷ codes "27 10 01" ∷ codes "00 01 00" ∷ codes "00 01 65" ∷ []))
     ≡ None ∷ None ∷ Some Range ∷ Some Range ∷ Some Range ∷ Some Range ∷ []
 
--- a queue that waits so long
+-- A queue with this retry interval.
 abbrev pub queue_of_interval : List ℕ → List ℕ
 queue_of_interval interval = hex (codes "01 00 01 71 00 03 73 3A 2F 00 03 61 2F 62 00") ++ interval ++ 0 ∷ 5 ∷ []
 
 abbrev pub IntervalRows : Type 0
 IntervalRows = faults [] (map (λ interval. queue_of_interval (hex interval)) (codes "00 00 00 00" ∷ codes "00 01 51 80" ∷ codes "00 01 51 81" ∷ [])) ≡ None ∷ None ∷ Some Range ∷ []
 
--- a send that is too long is a fault before its bytes are looked at
+-- A send that is too long is an error before its bytes are checked.
 abbrev pub SendRows : Type 0
 SendRows = faults [] (map hex (codes "06 00 00 00 01 00 00 00 00" ∷ codes "06 00 00 00 01 00 01 00 00" ∷ codes "06 00 00 00 01 00 01 00 01" ∷ [])) ≡ None ∷ Some Length ∷ Some Range ∷ []

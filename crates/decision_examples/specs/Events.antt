@@ -1,4 +1,4 @@
--- Examples of the spelling of events.
+-- Examples of the encoding of events.
 use Rattle.std.specs.Prelude.{◌≡◌, ℕ, true, false, List, [], ◌∷◌, ◌++◌, map, codes, None, Some, Ok}
 use Rattle.spool_types.specs.declared.phase.Policy.TheVariants.{AbortJob}
 use Rattle.spool_types.specs.declared.effect.Exit.{Exit}
@@ -12,13 +12,13 @@ use Rattle.event_codec.specs.Spelling.{spelling}
 use Rattle.event_codec.specs.EventReading.{reading}
 use Rattle.decision_examples.specs.HexBytes.{hex}
 
--- each row: what stands behind these bytes, and the event that all of them spell
+-- Each row: the bytes that follow these bytes, and the event that all of them encode.
 abbrev pub AreSpelled : List ℕ → List (List ℕ × Event) → Type 0
 AreSpelled before rows =
     (map (λ (row : List ℕ × Event). spelling row.1) rows ≡ map (λ (row : List ℕ × Event). before ++ hex row.0) rows)
     × (map (λ (row : List ℕ × Event). reading (before ++ hex row.0)) rows ≡ map (λ (row : List ℕ × Event). Ok row.1) rows)
 
--- the first stage of the first attempt at job 1
+-- The first stage of the first attempt at job 1.
 abbrev pub stage : Exit → List Effect → Event
 stage exit said = events.Stage (record { job = 1; attempt = 1; stage = 1; exit = exit; dropped = 0; effects = said })
 
@@ -46,11 +46,11 @@ EventRows = AreSpelled [] (
     ∷ (codes "0D 00 00 00 01 00 00 00 01 01 00 00 00 00 00 00 00 01 02 00 00 00 09", stage (exits.Code 0) (effects.TotalPages 9 ∷ []))
     ∷ [])
 
--- what spells a stage with status 0 and one effect, up to that effect
+-- The encoding of a stage with status 0 and one effect, up to that effect.
 abbrev pub before_effect : List ℕ
 before_effect = hex (codes "0D 00 00 00 01 00 00 00 01 01 00 00 00 00 00 00 00 01")
 
--- that stage with an effect
+-- That stage with an effect.
 abbrev pub with_effect : List ℕ × Effect → List ℕ × Event
 with_effect row = (row.0, stage (exits.Code 0) (row.1 ∷ []))
 

@@ -1,25 +1,25 @@
--- Bytes as examples write them.
+-- Bytes in the notation of the examples.
 use Rattle.std.specs.Prelude.{ℕ, ◌+◌, ◌-◌, ◌*◌, zero, suc, cond, nat_le, ◌==◌, List, [], ◌∷◌, map}
 
--- the digit of a hexadecimal number that a character stands for
+-- The value of a hexadecimal digit.
 abbrev pub digit : ℕ → ℕ
 digit c = cond (nat_le 65 c) (c - 55) (c - 48)
 
--- the bytes that are written in two digits each, with a blank between two
+-- Bytes written as two digits each, separated by blanks.
 abbrev pub hex : List ℕ → List ℕ
 hex (a ∷ b ∷ blank ∷ rest) = (digit a * 16 + digit b) ∷ hex rest
 hex (a ∷ b ∷ []) = (digit a * 16 + digit b) ∷ []
 hex (a ∷ []) = []
 hex [] = []
 
--- a text in which `~` stands for a tab
+-- A text with `~` for a tab.
 abbrev pub with_tab : ℕ → ℕ
 with_tab c = cond (c == 126) 9 c
 
 abbrev pub tabbed : List ℕ → List ℕ
 tabbed text = map with_tab text
 
--- so many times the same
+-- A value repeated this number of times.
 abbrev pub times : {Y : Type 0} → ℕ → Y → List Y
 times zero y = []
 times (suc n) y = y ∷ times n y

@@ -1,4 +1,4 @@
--- Examples of bytes that are no row of a listing, each beside its first fault.
+-- Examples of bytes that are no row of a listing, each with its first error.
 use Rattle.std.specs.Prelude.{◌≡◌, ℕ, List, [], ◌∷◌, ◌++◌, map, codes, Err}
 use Rattle.spool_types.specs.declared.version.Version.{Version}
 use Rattle.spool_types.specs.declared.version.Version.TheVariants.{One, Two}
@@ -8,12 +8,12 @@ use Rattle.event_codec.specs.RowReading.{row_reading}
 use Rattle.decision_examples.specs.HexBytes.{hex}
 use Rattle.decision_examples.specs.ListedRows.{before_phase}
 
--- each row: what stands behind these bytes, and the fault in this version
+-- Each row: the bytes that follow these bytes, and the error in this version.
 abbrev pub AreFaultsIn : Version → List ℕ → List (List ℕ × CodecFault) → Type 0
 AreFaultsIn version before rows =
     map (λ (row : List ℕ × CodecFault). row_reading version (before ++ hex row.0)) rows ≡ map (λ (row : List ℕ × CodecFault). Err row.1) rows
 
--- the fault in both versions
+-- The error in both versions.
 abbrev pub AreFaults : List ℕ → List (List ℕ × CodecFault) → Type 0
 AreFaults before rows = AreFaultsIn One before rows × AreFaultsIn Two before rows
 
@@ -44,7 +44,7 @@ ListedFaultRows = AreFaults [] (
     ∷ (codes "43 00 00 00 01 00 00 00 01 61 62", Length)
     ∷ [])
 
--- behind the message of a queue
+-- After the message of a queue.
 abbrev pub QueueFaultRows : Type 0
 QueueFaultRows = AreFaults (hex (codes "41 00 01 71 00 03 73 3A 2F 00 03 61 2F 62 00 00 00 00 1E 00 05 00 00 00 00 01 00 00 00")) (
     ([], Length)
@@ -64,7 +64,7 @@ QueueFaultRows = AreFaults (hex (codes "41 00 01 71 00 03 73 3A 2F 00 03 61 2F 6
     ∷ (codes "00 00 00", Length)
     ∷ [])
 
--- behind the size of a job of two attempts, three pages and one filter
+-- After the size of a job of two attempts, three pages and one filter.
 abbrev pub PhaseFaultRows : Type 0
 PhaseFaultRows = AreFaults before_phase (
     ([], Length)
@@ -84,7 +84,7 @@ PhaseFaultRows = AreFaults before_phase (
     ∷ (codes "05 05", Range)
     ∷ [])
 
--- behind the phase of a completed job: version 1 reads no moment, and version 2 never goes without
+-- After the phase of a completed job: version 1 reads no moment, and version 2 requires one.
 abbrev pub FirstVersionFaultRows : Type 0
 FirstVersionFaultRows = AreFaultsIn One (before_phase ++ 3 ∷ []) ((codes "00", Length) ∷ (codes "01 00 00 00 00 00 00 07 D0", Length) ∷ [])
 

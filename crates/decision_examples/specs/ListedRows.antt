@@ -1,4 +1,4 @@
--- Examples of the spelling of the rows of a listing.
+-- Examples of the encoding of the rows of a listing.
 use Rattle.std.specs.Prelude.{◌≡◌, ℕ, true, false, List, [], ◌∷◌, ◌++◌, map, codes, length, Option, None, Some, Ok}
 use Rattle.spool_types.specs.declared.phase.Policy.TheVariants.{AbortJob, StopPrinter}
 use Rattle.spool_types.specs.declared.phase.Phase.{Phase}
@@ -14,25 +14,25 @@ use Rattle.event_codec.specs.RowSpelling.{row_spelling}
 use Rattle.event_codec.specs.RowReading.{row_reading}
 use Rattle.decision_examples.specs.HexBytes.{hex}
 
--- each row: what stands between these bytes, and the row that all of them spell in this version
+-- Each row: the bytes between these bytes, and the row that all of them encode in this version.
 abbrev pub AreSpelled : Version → List ℕ → List (List ℕ × Row) → List ℕ → Type 0
 AreSpelled version before rows behind =
     (map (λ (row : List ℕ × Row). row_spelling version row.1) rows ≡ map (λ (row : List ℕ × Row). before ++ hex row.0 ++ behind) rows)
     × (map (λ (row : List ℕ × Row). row_reading version (before ++ hex row.0 ++ behind)) rows ≡ map (λ (row : List ℕ × Row). Ok row.1) rows)
 
--- the head of an empty table, and one that is as great as can be
+-- The head of an empty table, and the greatest possible one.
 abbrev pub empty_head : List ℕ
 empty_head = codes "40 00 00 00 00 00 00 00 00 00 00 00 00"
 
--- the least queue
+-- The least queue.
 abbrev pub least_queue : List ℕ
 least_queue = codes "41 00 01 71 00 03 73 3A 2F 00 03 61 2F 62 00 00 00 00 1E 00 05 00 00 00 00 01 00 00 00 00 00"
 
--- the least job in version 1
+-- The least job in version 1.
 abbrev pub least_job : List ℕ
 least_job = codes "42 00 00 00 01 00 01 71 00 01 75 00 00 00 01 32 00 00 01 00 03 61 2F 62 00 00 00 00 00 00 00 00 00 00 00 00 00 01 00 00 00 00 00 00 00 00 00 00"
 
--- in both versions
+-- In both versions.
 abbrev pub unchanged : List (List ℕ × Row)
 unchanged = (empty_head, rows.Head (record { highest = 0; moment = 0 }))
     ∷ (codes "40 7F FF FF FF 00 00 03 A3 52 94 40 00", rows.Head (record { highest = 2147483647; moment = 4000000000000 }))
@@ -78,7 +78,7 @@ unchanged = (empty_head, rows.Head (record { highest = 0; moment = 0 }))
 abbrev pub UnchangedRows : Type 0
 UnchangedRows = AreSpelled One [] unchanged [] × AreSpelled Two [] unchanged []
 
--- the least job, and the moment by which it is to start
+-- The least job, and its latest start.
 abbrev pub waiting_job : Option ℕ → Row
 waiting_job by = rows.Job (record {
   id = 1;
@@ -100,7 +100,7 @@ waiting_job by = rows.Job (record {
 abbrev pub FirstVersionRows : Type 0
 FirstVersionRows = AreSpelled One [] ((least_job, waiting_job None) ∷ []) []
 
--- no moment, one, and the ends of their range
+-- No moment, one, and the ends of their range.
 abbrev pub MomentRows : Type 0
 MomentRows = AreSpelled Two (hex least_job) (
     (codes "00", waiting_job None)
@@ -109,15 +109,15 @@ MomentRows = AreSpelled Two (hex least_job) (
     ∷ (codes "01 00 00 03 A3 52 94 40 00", waiting_job (Some 4000000000000))
     ∷ []) []
 
--- how many bytes a head, a queue and a job have at least in version 2
+-- The least number of bytes of a head, a queue and a job in version 2.
 abbrev pub LeastRows : Type 0
 LeastRows = map (λ row. length (hex row)) (empty_head ∷ least_queue ∷ (least_job ++ codes " 00") ∷ []) ≡ 13 ∷ 31 ∷ 49 ∷ []
 
--- a job of two attempts, three pages and one filter, up to its phase
+-- A job of two attempts, three pages and one filter, up to its phase.
 abbrev pub before_phase : List ℕ
 before_phase = hex (codes "42 00 00 00 01 00 01 71 00 01 75 00 00 00 01 32 00 00 00 01 00 01 66 00 00 00 02 00 00 00 03 01 00 00 00")
 
--- this job in a phase, and the moment by which it is to start
+-- This job in a phase, and its latest start.
 abbrev pub in_phase : Option ℕ → List ℕ × Phase → List ℕ × Row
 in_phase by row = (
   row.0,
@@ -158,7 +158,7 @@ phases = (codes "00 00", Incoming Free)
     ∷ (codes "05 04", Aborted NoFilter)
     ∷ []
 
--- in both versions, and with a moment
+-- In both versions, and with a moment.
 abbrev pub PhaseRows : Type 0
 PhaseRows = AreSpelled One before_phase (map (in_phase None) phases) []
     × AreSpelled Two before_phase (map (in_phase None) phases) (0 ∷ [])

@@ -1,4 +1,4 @@
--- Examples of options: what a text of them says, and how they are printed.
+-- Examples of options: the meaning of their text, and how they are printed.
 use Rattle.std.specs.Prelude.{◌≡◌, ℕ, List, [], ◌∷◌, ◌++◌, map, codes, None, Some, Result, Ok, Err}
 use Rattle.filter_args.specs.declared.fault.OptionFault.{OptionFault}
 use Rattle.filter_args.specs.declared.fault.OptionFault.TheVariants.{BadName, Unclosed, Collection}
@@ -11,15 +11,15 @@ abbrev pub shown : Result (List Pair) OptionFault → Result (List ℕ) OptionFa
 shown (Ok options) = Ok (printed options)
 shown (Err fault) = Err fault
 
--- the printed form of the options of a text, or its first fault
+-- The printed form of the options of a text, or its first error.
 abbrev pub printed_again : List ℕ → Result (List ℕ) OptionFault
 printed_again text = shown (reading (tabbed text))
 
--- each row: a text, and how its options are printed
+-- Each row: a text, and how its options are printed.
 abbrev pub ArePrinted : List (List ℕ × List ℕ) → Type 0
 ArePrinted rows = map (λ (row : List ℕ × List ℕ). printed_again row.0) rows ≡ map (λ (row : List ℕ × List ℕ). Ok row.1) rows
 
--- the letter e with an acute accent, in UTF-8
+-- The letter e with an acute accent, in UTF-8.
 abbrev pub accented : List ℕ
 accented = 195 ∷ 169 ∷ []
 
@@ -38,7 +38,7 @@ OptionRows = ArePrinted (
     ∷ (codes "c='{x=1}' d=\\{ e=x{", codes "c=\\{x=1} d=\\{ e=x{")
     ∷ [])
 
--- each row: a text, and its first fault from the left
+-- Each row: a text, and its first error from the left.
 abbrev pub AreFaults : List (List ℕ × OptionFault) → Type 0
 AreFaults rows = map (λ (row : List ℕ × OptionFault). reading row.0) rows ≡ map (λ (row : List ℕ × OptionFault). Err row.1) rows
 
@@ -62,7 +62,7 @@ OptionFaultRows = AreFaults (
 abbrev pub options : List Pair
 options = (codes "media", codes "A 3") ∷ (codes "sides", codes "one") ∷ []
 
--- an option has its last value
+-- An option has its last value.
 abbrev pub LastValueRows : Type 0
 LastValueRows = (reading (codes "media=A4 sides=one media='A 3'") ≡ Ok options)
     × (map (λ name. value_of name options) (codes "media" ∷ codes "sides" ∷ codes "side" ∷ []) ≡ Some (codes "A 3") ∷ Some (codes "one") ∷ None ∷ [])

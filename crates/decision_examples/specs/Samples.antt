@@ -1,4 +1,4 @@
--- Jobs that examples are about.
+-- The jobs of the examples.
 use Rattle.std.specs.Prelude.{ℕ, true, false, List, [], codes, None}
 use Rattle.spool_types.specs.declared.phase.Phase.{Phase}
 use Rattle.spool_types.specs.declared.phase.Phase.TheVariants.{Waiting, Processing}
@@ -8,7 +8,7 @@ use Rattle.spool_types.specs.State.{Job}
 abbrev pub lab : List ℕ
 lab = codes "lab"
 
--- a job of this queue, with this number and priority
+-- A job of this queue, with this number and priority.
 abbrev pub job : List ℕ → ℕ → ℕ → Phase → Job
 job queue id priority phase = record {
   id = id;
@@ -27,7 +27,7 @@ job queue id priority phase = record {
   by = None;
 }
 
--- it may be started at any moment, and it goes first
+-- Jobs that may be started at any moment; the second is marked to be first.
 abbrev pub ready : Phase
 ready = Waiting Free 0 false
 

@@ -1,4 +1,4 @@
--- Examples of what phases, policies, refusals and warnings tell, and of busy queues.
+-- Examples of the states, reasons and words of phases, policies, refusals and warnings, and of busy queues.
 use Rattle.std.specs.Prelude.{◌≡◌, true, false, List, [], ◌∷◌, map, codes, None, Some}
 use Rattle.spool_types.specs.declared.phase.Phase.{Phase}
 use Rattle.spool_types.specs.declared.phase.Phase.TheVariants.{Incoming, Waiting, Canceled, Aborted}
@@ -14,7 +14,7 @@ use Rattle.spool_types.specs.Warnings.{warning_name}
 use Rattle.spool_types.specs.Busy.{is_busy}
 use Rattle.decision_examples.specs.Samples.{job, lab, processing}
 
--- phases that are looked at at the moment 100
+-- Phases as shown at the moment 100.
 abbrev pub phases : List Phase
 phases = Incoming (Indefinite Unspecified)
     ∷ Waiting Free 100 false
@@ -35,7 +35,7 @@ ReasonWordRows = map (job_reason 100) phases
 abbrev pub HoldRows : Type 0
 HoldRows = hold_until (Some 100) ∷ hold_until None ∷ [] ≡ Until 100 ∷ Indefinite Unspecified ∷ []
 
--- a hold is set where a phase has one
+-- A hold is set if the phase has one.
 abbrev pub HeldRows : Type 0
 HeldRows = map (with_hold (Until 100)) (Incoming Free ∷ Waiting Free 100 true ∷ Canceled ∷ []) ≡ Incoming (Until 100) ∷ Waiting (Until 100) 100 true ∷ Canceled ∷ []
 
@@ -49,7 +49,7 @@ RefusalRows = map refusal_number (NoQueue ∷ JobEnded ∷ NeedsCheckpoint ∷ [
 abbrev pub NameRows : Type 0
 NameRows = refusal_name TooLong ∷ map warning_name (UnknownRule ∷ BadLine ∷ []) ≡ codes "TooLong" ∷ codes "UnknownRule" ∷ codes "BadLine" ∷ []
 
--- a queue is busy while a job of it is processing
+-- A queue is busy while one of its jobs is processing.
 abbrev pub BusyRows : Type 0
 BusyRows = is_busy (job lab 7 50 Canceled ∷ job lab 7 50 processing ∷ []) lab
     ∷ is_busy (job lab 7 50 Canceled ∷ job lab 7 50 processing ∷ []) (codes "hall")

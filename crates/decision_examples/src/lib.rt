@@ -1,23 +1,22 @@
-//! Examples of what is decided, as facts: each clause is a table that the checker computes.
+//! Examples of decisions, stated as facts: each clause is a table that the check computes.
 //!
-//! The tables are in `specs/`, one file for each thing that they are about, and the functions here do nothing. A table says
-//! what a definition gives for values that come from outside. That the code gives the same is the clause of the function
-//! that cites the definition, as `result ≡ verdict_of ..`: so a table stands for a test of that function wherever its clause
-//! gives the whole value. A table that no clause names is held by nobody.
+//! The tables are in `specs/`, one file for each subject, and the functions here do nothing. A table states the results of a definition for
+//! given values. That the code returns the same is the clause of the function that cites the definition, such as `result ≡ verdict_of ..`.
+//! So a table replaces a test of that function if its clause gives the whole value. A table that no clause names promises nothing.
 //!
 //! # Promises
 //!
 //! - [`values`]: limits, texts, media types and the size of effects (`spool_types`).
-//! - [`states`]: what phases, policies, refusals and warnings tell, and which queue is busy (`spool_types`).
-//! - [`verdicts`]: what becomes of a job whose child ended (`backend_codes`).
-//! - [`effects`]: what effects make of a job's pages and of its queue (`row_effects`).
-//! - [`turns`]: which job is next, and which of two jobs or deadlines goes first (`queue_sched`). A fact about `next_in` is
-//!   one about `next_job` by the clauses `tested` and `only` of `order_law`.
-//! - [`events`], [`full_stages`] and [`listings`]: which bytes spell which event and which row, and the first fault of others
-//!   (`event_codec`, over the fields of `field_codec`); of rows, in both versions.
-//! - [`options`] and [`children`]: what options say, and what a child is run with (`filter_args`).
-//! - [`devices`]: what bytes of a device are, as entries of a journal and as areas of a spool (`gate_journal`, `spool_areas`).
-//! - [`services`]: what a service decides (`service_rules`).
+//! - [`states`]: the states, reasons and words of phases, policies, refusals and warnings, and which queue is busy (`spool_types`).
+//! - [`verdicts`]: the result of an attempt, by the end of its child (`backend_codes`).
+//! - [`effects`]: the result of effects on a job's pages and on its queue (`row_effects`).
+//! - [`turns`]: which job is next, and which of two jobs or deadlines precedes the other (`queue_sched`). A fact about `next_in` is a fact
+//!   about `next_job` by the clauses `tested` and `only` of `order_law`.
+//! - [`events`], [`full_stages`] and [`listings`]: the encoding of events and rows, and the first error of other bytes (`event_codec`, over
+//!   the fields of `field_codec`); of rows, in both versions.
+//! - [`options`] and [`children`]: the meaning of options, and the arguments and environment of a child (`filter_args`).
+//! - [`devices`]: the meaning of a device's bytes as entries of a journal and as areas of a spool (`gate_journal`, `spool_areas`).
+//! - [`services`]: the decisions of a service (`service_rules`).
 #![tactic(auto)]
 
 ghost use Rattle.decision_examples.specs.ValueExamples.{LimitsRows, LaterRows, QueueNameRows, MediaRows, LongMediaRows, TitleRows, RefusedTexts, EffectSizeRows, EnoughRows};
@@ -47,7 +46,7 @@ pub fn values()
     ensures enough { EnoughRows }
 {}
 
-/// What phases, policies, refusals and warnings tell, and which queue is busy.
+/// States, reasons and words of phases, policies, refusals and warnings, and which queue is busy.
 pub fn states()
     ensures states { StateRows }
     ensures reasons { ReasonWordRows }
@@ -59,7 +58,7 @@ pub fn states()
     ensures busy { BusyRows }
 {}
 
-/// What becomes of a job whose child ended.
+/// The result of an attempt, by the end of its child.
 pub fn verdicts()
     ensures filter { FilterRows }
     ensures backend { BackendRows }
@@ -68,7 +67,7 @@ pub fn verdicts()
     ensures limit { LimitRows }
 {}
 
-/// What effects make of pages and of a queue.
+/// The result of effects on a job's pages and on its queue.
 pub fn effects()
     ensures pages { PageRows }
     ensures reasons { ReasonRows }
@@ -78,7 +77,7 @@ pub fn effects()
     ensures message { MessageRows }
 {}
 
-/// Which job's turn it is.
+/// The order of jobs.
 pub fn turns()
     ensures next { NextRows }
     ensures stopped { StoppedRows }
@@ -89,7 +88,7 @@ pub fn turns()
     ensures deadlines { DeadlineRows }
 {}
 
-/// How events are spelled, and which bytes are none.
+/// The encoding of events, and bytes that are no event.
 #[tactic(auto, unfolding(crate::proofs::Computing::reading_events))]
 pub fn events()
     ensures spelled { EventRows }
@@ -103,13 +102,13 @@ pub fn events()
     ensures send { SendRows }
 {}
 
-/// What may stand behind effects that leave four bytes of a stage's room.
+/// Bytes that may follow effects that leave four bytes of a stage's room.
 #[tactic(auto, unfolding(crate::proofs::Computing::reading_events))]
 pub fn full_stages()
     ensures full_stage { FullStageRows }
 {}
 
-/// How the rows of a listing are spelled, and which bytes are none.
+/// The encoding of the rows of a listing, and bytes that are no row.
 #[tactic(auto, unfolding(crate::proofs::Computing::reading_rows))]
 pub fn listings()
     ensures unchanged { UnchangedRows }
@@ -124,14 +123,14 @@ pub fn listings()
     ensures moment_faults { MomentFaultRows }
 {}
 
-/// What options say, and how they are printed.
+/// The meaning of options, and how they are printed.
 pub fn options()
     ensures printed { OptionRows }
     ensures faults { OptionFaultRows }
     ensures last_value { LastValueRows }
 {}
 
-/// What a child is run with.
+/// The files, arguments and environment of a child.
 #[tactic(auto, unfolding(crate::proofs::Computing::printing_numbers))]
 pub fn children()
     ensures files { FileRows }
@@ -139,7 +138,7 @@ pub fn children()
     ensures environment { EnvironmentRows }
 {}
 
-/// What bytes of a device are.
+/// The meaning of a device's bytes.
 pub fn devices()
     ensures entries { JournalRows }
     ensures damaged { DamagedRows }
@@ -153,7 +152,7 @@ pub fn devices()
     ensures plans { PlanRows }
 {}
 
-/// What a service decides.
+/// The decisions of a service.
 pub fn services()
     ensures served { ServedRows }
     ensures looks { LookRows }

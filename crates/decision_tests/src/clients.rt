@@ -1,10 +1,10 @@
-//! What becomes of a newcomer beside the clients of a service.
+//! Admission of a new client to the clients of a service.
 use service_rules::bounds::MOST_CLIENTS;
 use service_rules::{Admission, Client, admit, first_to_go};
 use std::alloc::Global;
 use std::test::Fail;
 
-// So many clients, of which each was heard at the moment 50,000, but for these.
+// This number of clients, each heard at the moment 50,000, except these.
 fn clients(alloc: Global, count: usize, others: &[Client]) -> Result<Vec<Client>, Fail> {
     let mut clients = Vec::new(alloc);
     for key in 0..count {
@@ -23,7 +23,7 @@ fn clients(alloc: Global, count: usize, others: &[Client]) -> Result<Vec<Client>
     Ok(clients)
 }
 
-// Of clients that were heard at these moments, those with the keys 7 and 9 first. The one with the key 5 waits for something.
+// Of clients heard at these moments, 7 and then 9 are replaced first. The client with key 5 listens.
 const OTHERS: [Client; 4] = [
     Client {
         key: 9,

@@ -1,10 +1,10 @@
-//! Events and rows of a listing that are read from their bytes, and spelled by them again.
+//! Events and rows of a listing, decoded and encoded again.
 use event_codec::*;
 use spool_types::{Row, Version};
 use std::alloc::{AllocError, Global};
 use std::test::Fail;
 
-// Events in hexadecimal, a line for each.
+// Events in hexadecimal, one on each line.
 const EVENTS: &str = "\
 0A 00 00 00 01\n\
 01 00 01 71 00 03 73 3A 2F 00 03 61 2F 62 00 00 00 00 1E 00 05\n\
@@ -68,7 +68,7 @@ const ROWS: &str = "\
 42 00 00 00 01 00 01 71 00 01 75 00 00 00 01 32 00 00 00 01 00 01 66 00 00 00 02 00 00 00 03 01 00 00 00 05 03 00\n\
 42 00 00 00 01 00 01 71 00 01 75 00 00 00 01 32 00 00 00 01 00 01 66 00 00 00 02 00 00 00 03 01 00 00 00 05 04 00";
 
-// Adds the bytes that a text in hexadecimal stands for.
+// Appends the bytes of a text in hexadecimal.
 fn push_bytes(bytes: &mut Vec<u8>, text: &str) -> Result<(), Fail> {
     for word in text.split_whitespace() {
         match u8::from_str_radix(word, 16) {
@@ -85,16 +85,16 @@ fn bytes_of(alloc: Global, text: &str) -> Result<Vec<u8>, Fail> {
     Ok(bytes)
 }
 
-// How the event that bytes spell is spelled.
+// The encoding of the event in these bytes.
 fn event_spelled(alloc: Global, bytes: &[u8]) -> Result<Vec<u8>, Fail> {
     let event = decode(alloc, bytes)?;
     let spelled = encode(alloc, &event);
-    // By name: let go at the end of its scope, it would split the proof into a case for each kind of event.
+    // Explicitly: dropped at the end of its scope, it would split the proof into a case for each kind of event.
     drop(event);
     Ok(spelled?)
 }
 
-// Adds the spelling of that event.
+// Appends the encoding of that event.
 fn add_event(alloc: Global, bytes: &[u8], added: &mut Vec<u8>) -> Result<(), Fail> {
     let event = decode(alloc, bytes)?;
     let add = encode_onto(&event, added);
@@ -102,21 +102,21 @@ fn add_event(alloc: Global, bytes: &[u8], added: &mut Vec<u8>) -> Result<(), Fai
     Ok(add?)
 }
 
-// The same behind another byte.
+// The same after another byte.
 fn event_added(alloc: Global, bytes: &[u8]) -> Result<Vec<u8>, Fail> {
     let mut added = Vec::from_slice(alloc, &[7])?;
     add_event(alloc, bytes, &mut added)?;
     Ok(added)
 }
 
-// Whether the event that bytes spell is spelled by them, also behind another byte.
+// Whether the event in these bytes is encoded by them, also after another byte.
 fn event_is_spelled_again(alloc: Global, bytes: &[u8]) -> Result<bool, Fail> {
     let spelled = event_spelled(alloc, bytes)?;
     let added = event_added(alloc, bytes)?;
     Ok(spelled.as_slice() == bytes && added.split_first() == Some((&7, bytes)))
 }
 
-// How the row that bytes spell in this version is spelled.
+// The encoding of the row in these bytes, in this version.
 fn row_spelled(alloc: Global, bytes: &[u8], version: Version) -> Result<Vec<u8>, Fail> {
     let row = decode_row(alloc, bytes, version)?;
     let spelled = encode_row(alloc, &row);
@@ -131,7 +131,7 @@ fn encode_any(row: &Row, added: &mut Vec<u8>) -> Result<(), AllocError> {
     }
 }
 
-// Adds the spelling of that row.
+// Appends the encoding of that row.
 fn add_row(alloc: Global, bytes: &[u8], added: &mut Vec<u8>) -> Result<(), Fail> {
     let row = decode_row(alloc, bytes, Version::Two)?;
     let add = encode_any(&row, added);
@@ -145,14 +145,14 @@ fn row_added(alloc: Global, bytes: &[u8]) -> Result<Vec<u8>, Fail> {
     Ok(added)
 }
 
-// The same of a row.
+// The same for a row.
 fn row_is_spelled_again(alloc: Global, bytes: &[u8]) -> Result<bool, Fail> {
     let spelled = row_spelled(alloc, bytes, Version::Two)?;
     let added = row_added(alloc, bytes)?;
     Ok(spelled.as_slice() == bytes && added.split_first() == Some((&7, bytes)))
 }
 
-// Whether a line's event is spelled again.
+// Whether the event of a line is encoded by it.
 fn is_event(alloc: Global, line: &str) -> Result<bool, Fail> {
     let bytes = bytes_of(alloc, line)?;
     event_is_spelled_again(alloc, &bytes)
@@ -183,7 +183,7 @@ fn rows_are_spelled_again(rt: HostRuntime) -> Result<(), Fail> {
 const FIRST: &str =
     "42 00 00 00 01 00 01 71 00 01 75 00 00 00 01 32 00 00 01 00 03 61 2F 62 00 00 00 00 00 00 00 00 00 00 00 00 00 01 00 00 00 00 00 00 00 00 00 00";
 
-// Whether a line's row of version 1 is spelled in version 2 with no moment.
+// Whether a line's row of version 1 is encoded in version 2 without a moment.
 fn has_no_moment(alloc: Global, line: &str) -> Result<bool, Fail> {
     let mut bytes = bytes_of(alloc, line)?;
     let spelled = row_spelled(alloc, &bytes, Version::One)?;
@@ -204,7 +204,7 @@ fn push_times(stage: &mut Vec<u8>, effect: &[u8], count: usize) -> Result<(), Al
     Ok(())
 }
 
-// Adds a stage with 1,820 effects of nine bytes each and one of four, 16,384 bytes in all.
+// Appends a stage with 1,820 effects of nine bytes each and one of four, 16,384 bytes in all.
 fn push_stage(stage: &mut Vec<u8>) -> Result<(), AllocError> {
     stage.extend_from_slice(&[0x0D, 0, 0, 0, 1, 0, 0, 0, 1, 1, 1, 0, 0, 0, 0, 0x07, 0x1D])?;
     push_times(stage, &[1, 0, 0, 0, 1, 0, 0, 0, 1], 1_820)?;

@@ -1,4 +1,4 @@
-//! The jobs of a queue that are to start by a moment.
+//! The jobs of a queue with a latest start.
 ghost use Rattle.std.specs.Prelude.{◌≡◌, IfOk};
 ghost use Rattle.queue_sched.specs.Deadlines.{HasEachDeadlineOnce};
 
@@ -8,7 +8,7 @@ use spool_types::JobId;
 use std::alloc::Global;
 use std::test::Fail;
 
-// A job of this number is to start by this moment.
+// A job with this number and this latest start.
 fn deadline(number: u32, seconds: u64) -> Result<Deadline, Fail>
     ensures { IfOk result (λ d. d.id ≡ number) }
 {
@@ -18,12 +18,12 @@ fn deadline(number: u32, seconds: u64) -> Result<Deadline, Fail>
     })
 }
 
-// Whether the first one that has passed at a moment is that of this job, or none has where it is 0.
+// Whether the first deadline that has passed at a moment is that of this job; 0 means that none has.
 fn passes(deadlines: &Deadlines, seconds: u64, number: u32) -> Result<bool, Fail> {
     Ok(deadlines.first_before(moment(seconds)?) == JobId::new(number))
 }
 
-// The deadline of a job alone, for which room is made.
+// The deadline of a single job, with memory reserved for it.
 fn of_one(alloc: Global) -> Result<Deadlines, Fail> {
     let mut deadlines = Deadlines::new(alloc);
     deadlines.reserve(1)?;
@@ -39,7 +39,7 @@ fn a_deadline_passes_behind_its_moment(rt: HostRuntime) -> Result<(), Fail> {
     Ok(())
 }
 
-// Deadlines in no order, of which two have the same moment.
+// Unsorted deadlines. Two have the same moment.
 fn disordered(alloc: Global) -> Result<Vec<Deadline>, Fail>
     ensures { IfOk result (λ deadlines. HasEachDeadlineOnce deadlines.items) }
 {

@@ -1,4 +1,4 @@
-//! The index of waiting jobs. That its next job is that of the choice among all rows is its law.
+//! The index of waiting jobs. Its law states that its next job is the choice among all rows.
 ghost use Rattle.std.specs.Prelude.{IfOk};
 ghost use Rattle.queue_sched.specs.WaitingIndex.{HasEachOnce};
 
@@ -10,13 +10,13 @@ use spool_types::JobId;
 use std::alloc::{AllocError, Global};
 use std::test::Fail;
 
-// What is done to an index.
+// A change of an index.
 #[derive(Clone, Copy)]
 enum Change {
     Add(Waiting),
-    // The job of this number.
+    // Removes the job with this number.
     Take(u32),
-    // This moment.
+    // Advances the clock to this moment.
     Bring(u64),
 }
 
@@ -33,7 +33,7 @@ const WORKED: [Row; 7] = [
     (Add((1, 50, Free, 0, true)), &[1, 3], 1),
 ];
 
-// Jobs go to the front, the middle and the end, and all are taken.
+// Jobs are inserted at the front, in the middle and at the end, and all are removed.
 const PLACES: [Row; 9] = [
     (Add((4, 50, Free, 0, false)), &[4], 4),
     (Add((5, 50, Free, 0, false)), &[4, 5], 4),
@@ -46,7 +46,7 @@ const PLACES: [Row; 9] = [
     (Bring(100), &[], 0),
 ];
 
-// A job comes back to where it was, and others come where all but one are gone.
+// A job returns to its former position, and others are added after all except one were removed.
 const COMING_BACK: [Row; 10] = [
     (Add((1, 50, Free, 0, false)), &[1], 1),
     (Add((2, 50, Free, 0, false)), &[1, 2], 1),
@@ -60,7 +60,7 @@ const COMING_BACK: [Row; 10] = [
     (Take(3), &[1, 2], 1),
 ];
 
-// A held job keeps its place and is passed over.
+// A held job keeps its position and is skipped.
 const HELD: [Row; 10] = [
     (Add((1, 90, ForGood, 0, false)), &[1], 0),
     (Add((2, 80, Until(20), 10, false)), &[1, 2], 0),
@@ -74,7 +74,7 @@ const HELD: [Row; 10] = [
     (Add((1, 90, Free, 0, false)), &[1, 2, 3], 1),
 ];
 
-// Adds a job that isn't there.
+// Adds a job that the index does not have.
 fn add(index: &mut Index, entry: Entry) -> Result<(), Fail> {
     let count = index.len().checked_add(1).ok_or("too many jobs")?;
     index.reserve(count)?;
@@ -85,13 +85,13 @@ fn add(index: &mut Index, entry: Entry) -> Result<(), Fail> {
     Ok(())
 }
 
-// The entry of a job, if it is there.
+// The entry of a job, if the index has it.
 fn find(index: &Index, number: u32) -> Result<Option<Entry>, Fail> {
     let id = JobId::new(number).ok_or("no number of a job")?;
     Ok(index.entry(id).copied())
 }
 
-// Takes away a job that is there.
+// Removes a job of the index.
 fn take(index: &mut Index, number: u32) -> Result<(), Fail> {
     let id = JobId::new(number).ok_or("no number of a job")?;
     let entry = *index.entry(id).ok_or("the job isn't there")?;
@@ -99,7 +99,7 @@ fn take(index: &mut Index, number: u32) -> Result<(), Fail> {
     Ok(())
 }
 
-// Makes a change, and answers whether it is seen at once.
+// Makes a change. Returns whether it is seen at once.
 fn makes(index: &mut Index, change: Change) -> Result<bool, Fail> {
     match change {
         Add(waiting) => {
@@ -133,12 +133,12 @@ fn lists(index: &Index, numbers: &[u32]) -> bool {
     jobs.next().is_none() && index.len() == numbers.len()
 }
 
-// Whether it has these jobs in this order, and this next one, or none where it is 0.
+// Whether it has these jobs in this order, and this next one; 0 means none.
 fn has(index: &Index, numbers: &[u32], next: u32) -> bool {
     lists(index, numbers) && index.next() == JobId::new(next)
 }
 
-// The first row that isn't so, counted from 1, or 0.
+// The first row that fails, counted from 1, or 0.
 fn first_failure(index: &mut Index, rows: &[Row]) -> Result<usize, Fail> {
     for at in 0..rows.len() {
         let (change, numbers, next) = rows[at];
@@ -149,7 +149,7 @@ fn first_failure(index: &mut Index, rows: &[Row]) -> Result<usize, Fail> {
     Ok(0)
 }
 
-// The first row of an index without jobs that isn't so.
+// The first row that fails, from an index without jobs.
 fn first_failure_of(alloc: Global, rows: &[Row]) -> Result<usize, Fail> {
     let mut index = Index::new(alloc);
     first_failure(&mut index, rows)
@@ -164,7 +164,7 @@ fn an_index_follows_its_rows(rt: HostRuntime) -> Result<(), Fail> {
     Ok(())
 }
 
-// An index without jobs, in which room for none was made.
+// An index without jobs and without reserved memory.
 fn empty(alloc: Global) -> Result<Index, AllocError> {
     let mut index = Index::new(alloc);
     index.reserve(0)?;
@@ -178,7 +178,7 @@ fn an_index_begins_empty(rt: HostRuntime) -> Result<(), Fail> {
     Ok(())
 }
 
-// Jobs in no order. Their moments are before 50, at it and after it.
+// Unsorted jobs, with moments before 50, at 50 and after it.
 fn disordered(alloc: Global) -> Result<Vec<Entry>, Fail>
     ensures { IfOk result (λ entries. HasEachOnce entries.items) }
 {

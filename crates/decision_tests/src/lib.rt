@@ -1,8 +1,8 @@
-//! The tests of the crates that decide, read and spell: what no clause says of them.
+//! Tests of the crates that decide, read and encode, for results that no clause states.
 //!
-//! Rows of functions that only compute are facts (`decision_examples`). What takes memory runs here once with ample memory,
-//! since a clause lets it answer that there is none; the index of waiting jobs, change by change, and their deadlines; and
-//! which client of a service goes for a newcomer.
+//! Rows of functions that only compute are facts in `decision_examples`. Functions that allocate run here once with ample memory, since
+//! their clauses allow them to report that memory ran out. The other tests are of the index of waiting jobs, change by change, of
+//! deadlines, and of the client that is replaced by a new one.
 #![tactic(auto)]
 
 #[cfg(test)]

@@ -1,4 +1,4 @@
-//! Options. What a child is run with is run by the stored scripts, which tell its words and its variables.
+//! Options. The stored scripts cover the arguments and the environment of a child.
 use filter_args::Options;
 use std::test::Fail;
 

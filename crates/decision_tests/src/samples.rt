@@ -1,11 +1,11 @@
-//! Waiting jobs of tests, as plain numbers.
+//! The waiting jobs of the tests, as plain numbers.
 ghost use Rattle.std.specs.Prelude.{◌≡◌, IfOk};
 
 use queue_sched::Entry;
 use spool_types::{Hold, HoldReason, JobId, Moment, Priority};
 use std::test::Fail;
 
-/// What holds a job.
+/// The hold of a job.
 #[derive(Clone, Copy)]
 pub(crate) enum Held {
     Free,
@@ -13,14 +13,13 @@ pub(crate) enum Held {
     Until(u64),
 }
 
-/// A waiting job: its number, its priority, what holds it, the moment that it waits for, and whether it is marked.
+/// A waiting job: its number, its priority, its hold, its earliest moment, and whether it is marked.
 pub(crate) type Waiting = (u32, u32, Held, u64, bool);
 
 pub(crate) fn moment(seconds: u64) -> Result<Moment, Fail> {
     Ok(Moment::new(seconds).ok_or("no moment")?)
 }
 
-/// The entry of a waiting job.
 pub(crate) fn entry(waiting: Waiting) -> Result<Entry, Fail>
     ensures { IfOk result (λ e. e.id ≡ waiting.0) }
 {

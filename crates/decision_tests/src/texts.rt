@@ -1,4 +1,4 @@
-//! Texts that are copied.
+//! Reading and copying texts.
 use spool_types::{MediaType, QueueName, TextFault, Title};
 use std::alloc::{AllocError, Global};
 use std::test::Fail;

@@ -1,17 +1,20 @@
-//! What a backend takes from the options of its device's URI.
+//! The options that a backend reads from its device's URI.
 //!
-//! The options are the pairs of the URI's query (`device_uri`), as the backends of CUPS have them (backend(7)). A backend
-//! looks for the names that it knows, and passes over the others. What the two questions below mean is said here alone, for the
-//! small tools and for the launcher's side channel.
+//! The options are the pairs of the URI's query (`device_uri`), as for the backends of CUPS (backend(7)). A backend looks up the names
+//! that it knows, and ignores the others. Only this crate defines which options a backend reads, which of two values counts, and the
+//! meaning of options that cannot be read. The small backends and the spooler's side channel use it. The engine does not, so it is
+//! separate from `device_uri`.
 //!
 //! # Promises
 //!
-//! - [`options_or_none`] gives all options in their order. Where one has no name, or there are more than 64, it gives none
-//!   (`options_or_none`): then each option has its default.
-//! - [`last_value`] gives the value of the last option of a name, as a query that has a name twice is mostly read
+//! - [`options_or_none`] returns exactly all options in order, or none if one has no name or there are more than 64 (`options_or_none`).
+//!   Without options each option has its default.
+//! - [`last_value`] returns exactly the value of the last option of a name, as programs usually read a query that repeats a name
 //!   (`last_value`).
 //!
-//! Out of memory is `AllocError`. Nothing has changed then.
+//! # Errors
+//!
+//! The only error is out of memory, and only [`options_or_none`] returns it. Nothing has changed then.
 #![tactic(auto)]
 
 ghost use Rattle.std.specs.Prelude.{◌≡◌, IfOk};
@@ -21,7 +24,7 @@ ghost use Rattle.device_options.specs.DeviceOptions.{last_value, options_or_none
 use device_uri::{DeviceOption, DeviceUri, OptionsFault};
 use std::alloc::{AllocError, Global};
 
-/// The options of a device, or none where they can't be read: one has no name, or there are more than 64.
+/// Returns the options of a device, or none if they cannot be read: one has no name, or there are more than 64.
 pub fn options_or_none(alloc: Global, uri: &DeviceUri) -> Result<Vec<DeviceOption>, AllocError>
     ensures { IfOk result (λ options. options.items ≡ options_or_none uri.now.url) }
 {
@@ -32,7 +35,7 @@ pub fn options_or_none(alloc: Global, uri: &DeviceUri) -> Result<Vec<DeviceOptio
     }
 }
 
-/// The value of the last option of this name, byte for byte. It may be empty; None where no option has the name.
+/// Returns the value of the last option of this name, compared byte for byte. It may be empty. Returns `None` if no option has the name.
 pub fn last_value<'a>(options: &'a [DeviceOption], name: &str) -> Option<&'a str>
     ensures { option_map (λ value. value.now) result ≡ last_value name.now options.now }
 {

@@ -1,4 +1,4 @@
--- The next field of a line is what the form of a field says.
+-- The next field of a line has the form of a field.
 use Rattle.std.proofs.Common.{◌≡◌, ℕ, ◌<◌, ◌≤◌, Bool, true, false, cond, leb, List, [], ◌∷◌, ◌++◌, length, refl, ap, sym, ◌∙◌, arith, Option, None, Some}
 use Rattle.std.specs.List.{list_all}
 use Rattle.std.proofs.lemmas.Bool.{eqb-true, leb-true, le-leb, lt-leb, and_parts, and_from}
@@ -24,7 +24,7 @@ in_front-inv : (w : List ℕ) (field : Option (List ℕ)) (f : List ℕ) → in_
 in_front-inv w None f e = cc
 in_front-inv w (Some g) f e = (g, refl, (cc))
 
--- the line up to a closing quote, whose inside stands for the field
+-- The line up to a closing quote. The bytes before it represent the field.
 abbrev IsQuoted : Bool → List ℕ → List ℕ → List ℕ → Type 0
 IsQuoted escaped line f r = (inside : List ℕ) × (line ≡ inside ++ 34 ∷ r) × (unescaped escaped inside ≡ Some f)
 
@@ -103,7 +103,7 @@ quoted_complete false (b ∷ bs) f r h =
 
 -- ## Blanks
 
--- blanks and what follows them
+-- Blanks and the rest after them.
 pub after_sound : (line : List ℕ) → (blanks : List ℕ) × (list_all is_blank blanks ≡ true) × (line ≡ blanks ++ after_blanks line)
 after_sound [] = ([], refl, refl)
 after_sound (b ∷ bs) =
@@ -114,7 +114,7 @@ after_sound (b ∷ bs) =
       | false ↦ λ h. ([], refl, refl)
     ]) refl
 
--- the blanks before what begins with none
+-- The blanks before a rest that begins with none.
 pub after_complete : (blanks rest : List ℕ) → list_all is_blank blanks ≡ true → after_blanks rest ≡ rest → after_blanks (blanks ++ rest) ≡ rest
 after_complete [] rest h stays = stays
 after_complete (b ∷ bs) rest h stays =

@@ -1,4 +1,4 @@
--- What a device line says is what is read of it.
+-- The fields of a device line are the fields that are read.
 use Rattle.std.proofs.Common.{◌≡◌, ℕ, suc, zero, ◌<◌, ◌≤◌, Bool, true, false, ◌&&◌, not, cond, leb, eqb, List, [], ◌∷◌, ◌++◌, length, refl, ap, sym, subst, ◌∙◌, arith, lit<, IsAscii, IsUtf8, ◌⊎◌, inl, inr, Option, None, Some, Result, Err}
 use Rattle.std.specs.List.{list_all, list_any}
 use Rattle.std.specs.Str.{is_utf8}
@@ -18,7 +18,7 @@ use Rattle.device_uri.proofs.FieldForm.{after_sound, after_complete, field_sound
 
 -- ## Texts
 
--- a word that is no text of a kind isn't allowed, or isn't UTF-8
+-- If a word is no text of a kind, it is not allowed, or is not UTF-8.
 pub no_text : (allowed : List ℕ → Bool) (word : List ℕ) → None ≡ text_in allowed word → (allowed word ≡ false) ⊎ ¬ (IsUtf8 word)
 no_text allowed word none = by_tests (is_utf8 word) (allowed word) refl refl none
   where
@@ -27,7 +27,7 @@ no_text allowed word none = by_tests (is_utf8 word) (allowed word) refl refl non
     by_tests true false whole may none = inl may
     by_tests false may broken is none = inr (λ utf8. let whole : is_utf8 word ≡ true = is_utf8-from_IsUtf8 word utf8 in absurd (cc))
 
--- of a text that passes a test byte by byte
+-- A text that passes a test byte by byte.
 text_parts : (p : ℕ → Bool) (least most : ℕ) (text : List ℕ) → is_text_of p least most text ≡ true → (least ≤ length text) × (list_all p text ≡ true)
 text_parts p least most text h =
     let (sizes, all) = and_parts (leb least (length text) && leb (length text) most) (list_all p text) h in
@@ -54,7 +54,7 @@ uri_utf8 text h = IsUtf8-from_ascii text (ascii is_graphic graphic_below text (t
 bare_uri_parts : (text : List ℕ) → is_bare_uri text ≡ true → (1 ≤ length text) × (list_all is_graphic text ≡ true)
 bare_uri_parts text h = text_parts is_graphic 1 1023 text (and_parts (is_uri text) (not (list_any is_quote text)) h).0
 
--- ## Words that hold no blank
+-- ## Words without a blank
 
 module _ (p : ℕ → Bool) (space : p 32 ≡ false) (tab : p 9 ≡ false) where
   not_blank : (b : ℕ) → p b ≡ true → is_blank b ≡ false
@@ -80,7 +80,7 @@ module _ (p : ℕ → Bool) (space : p 32 ≡ false) (tab : p 9 ≡ false) where
   word_stays (b ∷ bs) rest some h =
       ap (λ v. cond v (after_blanks (bs ++ rest)) (b ∷ (bs ++ rest))) (not_blank b (and_parts (p b) (list_all p bs) h).0)
 
--- what begins with blanks ends a word
+-- Blanks end a word.
 blanks_stop : (blanks rest : List ℕ) → IsBlanks blanks → (word_here (blanks ++ rest) ≡ []) × (behind_word (blanks ++ rest) ≡ blanks ++ rest)
 blanks_stop [] rest h = absurd (omega (arith, h.some))
 blanks_stop (b ∷ bs) rest h =
@@ -92,7 +92,7 @@ field_stops f line r h =
     let (bare, behind) = blanks_stop h.blanks (34 ∷ (h.inside ++ 34 ∷ r)) h.between in
     (ap word_here h.whole ∙ bare, ap behind_word h.whole ∙ behind ∙ sym h.whole)
 
--- ## A line that has the form is read so
+-- ## A line of the form is read as its fields
 
 abbrev pub quoted_of : DeviceLine → Fields
 quoted_of fields = record { make = fields.make; info = fields.info; id = fields.id; location = fields.location }
@@ -134,7 +134,7 @@ module _ (fields : DeviceLine) (line : List ℕ) (h : IsDeviceLine fields line) 
     location = if_any_complete fields.location h.behind_id [] h.location;
   }
 
--- ## What is read of a line is its form
+-- ## The fields that are read have the form
 
 split_whole : (line : List ℕ) → line ≡ word_here line ++ behind_word line
 split_whole [] = refl
@@ -142,7 +142,7 @@ split_whole (b ∷ bs) =
     elim (is_blank b) as (λ v. b ∷ bs ≡ cond v [] (b ∷ word_here bs) ++ cond v (b ∷ bs) (behind_word bs))
     [ true ↦ refl | false ↦ ap (λ l. b ∷ l) (split_whole bs) ]
 
--- a second word stands behind blanks
+-- A second word follows blanks.
 abbrev AreBetween : List ℕ → List ℕ → Type 0
 AreBetween behind blanks = IsBlanks blanks × (behind ≡ blanks ++ after_blanks behind)
 
@@ -184,15 +184,15 @@ module _ (fields : DeviceLine) (line : List ℕ) (class : fields.class ≡ word_
         location = if_any_sound fields.location taken.behind_id [] taken.location;
       }
 
--- ## What the code finds
+-- ## The results of the code
 
--- a fault of one result is that of another
+-- An error of one result is the error of another.
 pub same_fault : {T U E : Type 0} (f e : E) → ◌≡◌ {A = Result T E} (Err f) (Err e) → ◌≡◌ {A = Result U E} (Err f) (Err e)
 same_fault {T} {U} {E} f e is =
     let same : f ≡ e = cc in
     ap {B = Result U E} (λ x. Err x) same
 
--- the line, when its first word, its second and the rest are these
+-- The line, with this first word, this second word and this rest.
 module _ (line word uri rest : List ℕ) (word_is : word ≡ word_here line) (uri_word : uri ≡ word_here (after_blanks (behind_word line))) (rest_word : rest ≡ behind_word (after_blanks (behind_word line))) where
   pub no_class : (is_device_class word ≡ false) ⊎ ¬ (IsUtf8 word) → (fields : DeviceLine) → IsDeviceLine fields line → ⊥
   no_class bad fields h =

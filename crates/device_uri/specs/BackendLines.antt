@@ -6,15 +6,15 @@ use Rattle.line_words.specs.Quotes.{is_quote}
 use Rattle.device_uri.specs.QuotedFields.{IsBlanks, IsField, IsFieldIfAny}
 use Rattle.device_uri.specs.declared.line.DeviceLine.{DeviceLine}
 
--- 1 to 127 letters, digits and hyphens, as in the name of an attribute
+-- 1 to 127 letters, digits and hyphens, as in the name of an attribute.
 abbrev pub is_device_class : List ℕ → Bool
 is_device_class text = is_attribute_name text
 
--- a URI that holds no quote
+-- A URI without a quote.
 abbrev pub is_bare_uri : List ℕ → Bool
 is_bare_uri text = is_uri text && not (list_any is_quote text)
 
--- the line is these fields in their order, with blanks between them; of the last two none, the first or both may be there
+-- The line is these fields in order, with blanks between them. The last field, or the last two, may be absent.
 pub record IsDeviceLine (fields : DeviceLine) (line : List ℕ) : Type 0 where
   pub blanks : List ℕ
   pub behind_uri : List ℕ

@@ -4,25 +4,25 @@ use Rattle.std.specs.List.{list_all}
 use Rattle.line_words.specs.Blanks.{is_blank}
 use Rattle.line_words.specs.Quotes.{is_quote, is_backslash, escape_of}
 
--- one blank or more
+-- One or more blanks.
 pub record IsBlanks (bytes : List ℕ) : Type 0 where
   pub some : 1 ≤ length bytes
   pub blank : list_all is_blank bytes ≡ true
 
--- bytes more in front of a field
+-- More bytes in front of a field.
 abbrev pub in_front : List ℕ → Option (List ℕ) → Option (List ℕ)
 in_front bytes None = None
 in_front bytes (Some field) = Some (bytes ++ field)
 
--- the field for which bytes between two quotes stand, unless a quote among them ends it or their last backslash escapes
--- the quote behind them; `escaped` says that a backslash stands right before
+-- The field that is written as these bytes between two quotes. None if a quote among them ends it, or if their last backslash escapes the
+-- closing quote. `escaped` means that a backslash is directly before.
 abbrev pub unescaped : Bool → List ℕ → Option (List ℕ)
 unescaped false [] = Some []
 unescaped true [] = None
 unescaped true (b ∷ bs) = in_front (escape_of b) (unescaped false bs)
 unescaped false (b ∷ bs) = cond (is_quote b) None (cond (is_backslash b) (unescaped true bs) (in_front (b ∷ []) (unescaped false bs)))
 
--- the line is blanks, the field between quotes, and this rest
+-- The line is blanks, the field between quotes, and this rest.
 pub record IsField (field line rest : List ℕ) : Type 0 where
   pub blanks : List ℕ
   pub inside : List ℕ
@@ -31,7 +31,7 @@ pub record IsField (field line rest : List ℕ) : Type 0 where
   pub says : unescaped false inside ≡ Some field
   pub short : length field ≤ 1023
 
--- the same of a field that may be absent: then the line ends before it
+-- The same for an optional field: if it is absent, the line ends before it.
 abbrev pub IsFieldIfAny : Option (List ℕ) → List ℕ → List ℕ → Type 0
 IsFieldIfAny None line rest = (line ≡ []) × (rest ≡ [])
 IsFieldIfAny (Some field) line rest = IsField field line rest

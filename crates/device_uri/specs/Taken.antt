@@ -1,9 +1,9 @@
--- The quoted fields of a line, as they are read one after the other. No caller needs this.
+-- The quoted fields of a line, read in order. Internal: no caller needs this.
 use Rattle.std.specs.Prelude.{◌≡◌, ℕ, List, [], Some}
 use Rattle.device_uri.specs.DeviceLineReading.{next_field, next_if_any}
 use Rattle.device_uri.specs.declared.fields.Fields.{Fields}
 
--- the line is these fields and no more
+-- The line is exactly these fields.
 pub record AreFields (fields : Fields) (line : List ℕ) : Type 0 where
   pub behind_make : List ℕ
   pub behind_info : List ℕ

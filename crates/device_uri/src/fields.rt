@@ -9,7 +9,7 @@ use line_words::{after_blanks, is_blank, is_quote, read_quoted};
 use spool_types::Items;
 use std::alloc::Global;
 
-/// A field without its quotes, of at most 1,023 bytes.
+/// The value of a quoted field, of at most 1,023 bytes.
 pub type Field = Items<u8, 1_023>;
 
 /// The quoted fields of a line.
@@ -21,7 +21,7 @@ pub struct Fields {
     pub location: Option<Field>,
 }
 
-/// The quoted fields that a line ends with.
+/// Reads the quoted fields at the end of a line.
 pub fn read_fields(alloc: Global, line: &[u8]) -> Result<Fields, LineFault>
     ensures value { IfOk result (λ fields. AreFields fields line.now) }
     ensures bad { IsErrOf result LineFault.BadLine → (fields : Fields) → ¬ (AreFields fields line.now) }
@@ -41,7 +41,7 @@ pub fn read_fields(alloc: Global, line: &[u8]) -> Result<Fields, LineFault>
     })
 }
 
-// The next field, unless the line ends here.
+// Reads the next field, unless the line ends here.
 fn read_field_if_any<'a>(
     alloc: Global,
     line: &'a [u8],
@@ -56,7 +56,7 @@ fn read_field_if_any<'a>(
     Ok((Some(field), rest))
 }
 
-// The next field, and what follows it.
+// Reads the next field. Returns it and the rest of the line.
 fn read_field<'a>(alloc: Global, line: &'a [u8]) -> Result<(Field, &'a [u8]), LineFault>
     ensures value { IfOk result (λ found. next_field line.now ≡ Some (found.0, found.1.now)) }
     ensures bad { IsErrOf result LineFault.BadLine → next_field line.now ≡ None }
@@ -73,7 +73,7 @@ fn read_field<'a>(alloc: Global, line: &'a [u8]) -> Result<(Field, &'a [u8]), Li
     }
 }
 
-// What follows blanks and an opening quote.
+// Returns the bytes after blanks and an opening quote.
 fn behind_quote(line: &[u8]) -> Option<&[u8]>
     ensures { option_map (λ inside. inside.now) result ≡ behind_quote line.now }
 {

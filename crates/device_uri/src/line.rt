@@ -7,12 +7,12 @@ use line_words::{after_blanks, has_quote, split_at_blank};
 use spool_types::{AttributeNameKind, Text, TextKind, Uri};
 use std::alloc::{AllocError, Global};
 
-/// Why a device line was not read.
+/// Why a device line was rejected.
 #[derive(Clone, Copy, Debug, PartialEq, Eq)]
 pub enum LineFault {
-    /// The line hasn't the form of a device line.
+    /// The line does not have the form of a device line.
     BadLine,
-    /// No memory was found.
+    /// Out of memory.
     Memory,
 }
 
@@ -38,27 +38,27 @@ impl TextKind for DeviceClassKind {
     }
 }
 
-/// What a device is reached by: `direct`, `network`, `serial`, `file` and the like.
+/// The kind of connection of a device: `direct`, `network`, `serial`, `file` and so on.
 pub type DeviceClass = Text<DeviceClassKind>;
 
-/// What a backend tells of one device.
+/// A backend's report of one device.
 #[derive(Drop)]
 pub struct DeviceLine {
-    /// What it is reached by.
+    /// The kind of its connection.
     pub class: DeviceClass,
-    /// Its URI, or the scheme alone where the backend can't find devices. It isn't read as a URL.
+    /// Its URI, or only the scheme if the backend cannot find devices. It is not read as a URL.
     pub uri: Uri,
     /// Its make and model, or `Unknown`.
     pub make: Field,
-    /// What it is, for people.
+    /// A description for people.
     pub info: Field,
     /// Its IEEE 1284 device ID.
     pub id: Option<Field>,
-    /// Where it stands.
+    /// Its location.
     pub location: Option<Field>,
 }
 
-/// Reads a line without its line feed.
+/// Reads a line without its line feed. The line must not end with a carriage return.
 pub fn read_device_line(alloc: Global, line: &str) -> Result<DeviceLine, LineFault>
     ensures value { IfOk result (λ fields. IsDeviceLine fields line.now) }
     ensures bad { IsErrOf result LineFault.BadLine → (fields : DeviceLine) → ¬ (IsDeviceLine fields line.now) }
@@ -87,7 +87,7 @@ pub fn read_device_line(alloc: Global, line: &str) -> Result<DeviceLine, LineFau
     })
 }
 
-// A URI that holds no quote.
+// Returns a URI without a quote.
 fn read_bare_uri(alloc: Global, word: &[u8]) -> Result<Uri, LineFault>
     ensures value { IfOk result (λ uri. uri ≡ word.now) }
     ensures allowed { OnOk result (IsTrue (is_bare_uri word.now)) }
@@ -99,7 +99,7 @@ fn read_bare_uri(alloc: Global, word: &[u8]) -> Result<Uri, LineFault>
     read_text(alloc, word)
 }
 
-// A text of this kind.
+// Returns a text of this kind.
 fn read_text<K: TextKind>(alloc: Global, word: &[u8]) -> Result<Text<K>, LineFault>
     ensures value { IfOk result (λ text. text ≡ word.now) }
     ensures allowed { OnOk result (IsTrue (K.allowed word.now)) }

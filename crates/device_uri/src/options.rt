@@ -7,12 +7,12 @@ use form_urlencoded::{decode, raw_pairs};
 use std::alloc::{AllocError, Global};
 use std::marker::Model;
 
-/// Why the options of a device's URI were not read.
+/// Why the options of a device's URI were rejected.
 #[derive(Clone, Copy, Debug, PartialEq, Eq)]
 pub enum OptionsFault {
     /// There are more than 64 pairs, or one has no name.
     BadOption,
-    /// No memory was found.
+    /// Out of memory.
     Memory,
 }
 
@@ -26,10 +26,10 @@ impl From<AllocError> for OptionsFault {
     }
 }
 
-// How many pairs a query may have.
+// The maximum number of pairs of a query.
 const MOST_PAIRS: usize = 64;
 
-/// A name and its value, of a URI's query. Seen as the pair of their bytes.
+/// A name and its value in a URI's query. Contracts see it as the pair of their bytes.
 #[derive(Drop)]
 pub struct DeviceOption {
     name: String,
@@ -46,14 +46,14 @@ impl Model for DeviceOption {
 }
 
 impl DeviceOption {
-    /// The name, decoded.
+    /// Returns the decoded name.
     pub fn name(&self) -> &str
         ensures { result.now ≡ self.now.0 }
     {
         self.name.as_str()
     }
 
-    /// The value, decoded.
+    /// Returns the decoded value.
     pub fn value(&self) -> &str
         ensures { result.now ≡ self.now.1 }
     {
@@ -61,7 +61,7 @@ impl DeviceOption {
     }
 }
 
-/// Whether a query has a pair too many, or one without a name.
+/// Returns whether a query has too many pairs, or one without a name.
 pub fn has_bad_pair(query: &[u8]) -> bool
     ensures { result ≡ is_bad (form.raw_pairs query.now) }
 {
@@ -75,7 +75,7 @@ pub fn has_bad_pair(query: &[u8]) -> bool
     false
 }
 
-/// The pairs of a query, decoded.
+/// Returns the decoded pairs of a query.
 pub fn read_options(alloc: Global, query: &[u8]) -> Result<Vec<DeviceOption>, AllocError>
     ensures { IfOk result (λ options. options.items ≡ map option_of (form.raw_pairs query.now)) }
 {

@@ -10,12 +10,12 @@ use std::alloc::{AllocError, Global};
 use std::marker::Model;
 use url::{ParseError, Url};
 
-/// Why a device's URI was not read.
+/// Why a device's URI was rejected.
 #[derive(Clone, Copy, Debug, PartialEq, Eq)]
 pub enum UriFault {
-    /// The text is beyond the limits of a queue's URI, or isn't an absolute URL.
+    /// The text is beyond the limits of a queue's URI, or is not an absolute URL.
     BadUri,
-    /// No memory was found.
+    /// Out of memory.
     Memory,
 }
 
@@ -29,10 +29,10 @@ impl From<AllocError> for UriFault {
     }
 }
 
-/// A device's URI: an absolute URL (URL Standard, 4.4), kept beside the text that it was read from.
+/// A device's URI: an absolute URL (URL Standard), stored with the text that it was read from.
 #[derive(Drop)]
 pub struct DeviceUri {
-    // The options are made with it.
+    // The allocator of the options.
     alloc: Global,
     text: Uri,
     url: Url,
@@ -53,7 +53,7 @@ impl Model for DeviceUri {
 }
 
 impl DeviceUri {
-    /// Reads a text of 1 to 1,023 bytes of ASCII without blanks, which the URL Standard's parser takes without a base.
+    /// Reads a text of 1 to 1,023 bytes of ASCII without blanks that the parser of the URL Standard accepts without a base.
     pub fn parse(alloc: Global, text: &str) -> Result<DeviceUri, UriFault>
         ensures value { IfOk result (λ uri. uri.text ≡ text.now) }
         ensures record { IfOk result (λ uri. Reads text.now uri.url) }
@@ -78,7 +78,7 @@ impl DeviceUri {
         }
     }
 
-    /// The text as it was given.
+    /// Returns the text unchanged.
     pub fn text(&self) -> &str
         ensures value { result.now ≡ self.now.text }
         ensures record { Reads self.now.text self.now.url }
@@ -86,21 +86,21 @@ impl DeviceUri {
         self.text.as_str()
     }
 
-    /// The scheme, in lower case and without its colon.
+    /// Returns the scheme, in lower case and without its colon.
     pub fn scheme(&self) -> &str
         ensures value { result.now ≡ self.now.url.scheme }
     {
         self.url.scheme()
     }
 
-    /// The path, percent-encoded.
+    /// Returns the path, percent-encoded.
     pub fn path(&self) -> &str
         ensures value { result.now ≡ self.now.url.path }
     {
         self.url.path()
     }
 
-    /// The pairs of the query in their order, decoded; none where there is no query. A value may be empty.
+    /// Returns the decoded pairs of the query in order, or an empty list if there is no query. A value may be empty.
     pub fn options(&self) -> Result<Vec<DeviceOption>, OptionsFault>
         ensures value { IfOk result (λ options. options.items ≡ options_of self.now.url) }
         ensures bad { IsErrOf result OptionsFault.BadOption ↔ IsTrue (is_bad (pairs_of self.now.url)) }
@@ -115,7 +115,7 @@ impl DeviceUri {
         }
     }
 
-    // The query, or no bytes where there is none.
+    // Returns the query, or no bytes if there is none.
     fn query(&self) -> &[u8]
         ensures { result.now ≡ unwrap_or self.now.url.query [] }
     {

@@ -1,14 +1,14 @@
--- What follows of the images of a device. The laws of the disk cite it.
+-- Laws of the images of a device, which prove the laws of the disk.
 use Rattle.std.proofs.Common.{◌≡◌, ◌⊎◌, ℕ, zero, suc, ◌≤◌, List, [], ◌∷◌, ◌++◌, length, refl, subst, inl, inr, arith, Some}
 use Rattle.std.specs.Prelude.{slice_get}
 use Rattle.std.proofs.lemmas.Option.{slice_get_within}
 use Rattle.spool_disk.specs.Images.{Device, IsImage, IsImageSince}
 
--- what a read gives is an image
+-- The bytes that a read returns are an image.
 pub what_is_read : (device : Device) → IsImage device device.bytes
 what_is_read device = record { size = refl; each = λ k. inl refl }
 
--- an element of a list with one more is one of the list, or that one
+-- An element of a list with one more item is in the list, or is that item.
 get_push : {X : Type 0} (xs : List X) (y : X) (k : ℕ) (z : X) → slice_get (xs ++ y ∷ []) k ≡ Some z → (slice_get xs k ≡ Some z) ⊎ ((k ≡ length xs) × (z ≡ y))
 get_push [] y zero z is = let same : z ≡ y = cc in inr (refl, same)
 get_push [] y (suc k) z is = absurd (cc)
@@ -25,7 +25,7 @@ get_end [] y = refl
 get_end (x ∷ xs) y = get_end xs y
 
 module _ (past : List Device) (now : Device) where
-  -- an image since a moment is one of the past, or of now
+  -- An image since a moment is of the past or of now.
   pub past_or_now : (t : ℕ) (c : List ℕ) → IsImageSince (past ++ now ∷ []) t c → IsImageSince past t c ⊎ ((t ≤ length past) × IsImage now c)
   past_or_now t c (k, device, from, is, image) = elim (get_push past now k device is) [
     | inl here ↦ inl (k, device, from, here, image)
@@ -35,11 +35,11 @@ module _ (past : List Device) (now : Device) where
   pub still_since : (t : ℕ) (c : List ℕ) → IsImageSince past t c → IsImageSince (past ++ now ∷ []) t c
   still_since t c (k, device, from, is, image) = (k, device, from, get_within past now k device is, image)
 
-  -- this moment is one of those since an earlier one
+  -- The images of this moment are among those since an earlier one.
   pub counts_now : (t : ℕ) (c : List ℕ) → t ≤ length past → IsImage now c → IsImageSince (past ++ now ∷ []) t c
   counts_now t c from image = (length past, now, from, get_end past now, image)
 
-  -- since this moment there is no other
+  -- Since this moment there is no other.
   pub only_now : (c : List ℕ) → IsImageSince (past ++ now ∷ []) (length past) c → IsImage now c
   only_now c since = elim (past_or_now (length past) c since) [
     | inl gone ↦ absurd (omega (arith, gone.2, slice_get_within past gone.0 gone.1 gone.3))

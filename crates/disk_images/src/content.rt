@@ -1,4 +1,4 @@
-// What a device holds: its bytes, and which of them a crash may change.
+// The contents of a device: its bytes, and which of them a crash may change.
 ghost use Rattle.std.specs.Prelude.{◌≡◌, ◌+◌, ◌<◌, ◌≤◌, ◌↔◌, ◌⊎◌, ℕ, IfOk, IsTrue, length, replicate, false, slice_index_or};
 ghost use Rattle.spool_disk.specs.Disk.{overwritten, SameOutside};
 ghost use Rattle.spool_disk.specs.Images.{AreBytes, AddsRange, HasNoneUnsynced};
@@ -26,7 +26,7 @@ impl Model for Content {
 }
 
 impl Content {
-    // So many zero bytes, all synced.
+    // Returns `len` zero bytes, all synced.
     pub(crate) fn new(alloc: Global, len: usize) -> Result<Content, AllocError>
         ensures bytes { IfOk result (λ content. content.bytes ≡ replicate len 0) }
         ensures synced { IfOk result (λ content. content.unsynced ≡ replicate len false) }
@@ -37,21 +37,21 @@ impl Content {
         })
     }
 
-    // How many bytes.
+    // Returns the number of bytes.
     pub(crate) fn len(&self) -> usize
         ensures { result ≡ length self.now.bytes }
     {
         self.bytes.len()
     }
 
-    // The bytes.
+    // Returns the bytes.
     pub(crate) fn bytes(&self) -> &[u8]
         ensures { result.now ≡ self.now.bytes }
     {
         &self.bytes
     }
 
-    // Writes bytes over those at a place.
+    // Overwrites bytes from offset `at` on.
     pub(crate) fn overwrite(&mut self, at: usize, from: &[u8])
         requires { at + length from.now ≤ length self.old.bytes }
         ensures bytes { self.new.bytes ≡ overwritten at from.now self.old.bytes }
@@ -61,7 +61,7 @@ impl Content {
         overwrite_in(&mut self.bytes, at, from);
     }
 
-    // Lets a fault leave what it does in a range.
+    // Leaves any bytes in a range, as a fault does.
     pub(crate) fn tear<F: Faults>(&mut self, at: usize, len: usize, faults: &mut F)
         requires { at + len ≤ length self.old.bytes }
         ensures bytes { SameOutside at len self.old.bytes self.new.bytes }
@@ -88,7 +88,7 @@ impl Content {
         self.unsynced.fill(false);
     }
 
-    // A copy of it all.
+    // Returns a copy.
     pub(crate) fn copy(&self) -> Result<Content, AllocError>
         ensures { IfOk result (λ content. content ≡ self.now) }
     {
@@ -99,7 +99,7 @@ impl Content {
     }
 }
 
-// Sets a range of these marks, and no other.
+// Sets the marks of a range, and no others.
 fn mark_in(unsynced: &mut [bool], at: usize, len: usize)
     requires { at + len ≤ length unsynced.old }
     ensures { (k : ℕ) → IsTrue (slice_index_or unsynced.new k false) ↔ (IsTrue (slice_index_or unsynced.old k false) ⊎ ((at ≤ k) × (k < at + len))) }
@@ -107,7 +107,7 @@ fn mark_in(unsynced: &mut [bool], at: usize, len: usize)
     unsynced[at..at + len].fill(true);
 }
 
-// Writes bytes over those at a place.
+// Overwrites bytes from offset `at` on.
 fn overwrite_in(bytes: &mut [u8], at: usize, from: &[u8])
     requires { at + length from.now ≤ length bytes.old }
     ensures written { bytes.new ≡ overwritten at from.now bytes.old }
@@ -116,7 +116,7 @@ fn overwrite_in(bytes: &mut [u8], at: usize, from: &[u8])
     bytes[at..at + from.len()].copy_from_slice(from);
 }
 
-// Lets a fault leave what it does in a range of these bytes.
+// Leaves any bytes in a range, as a fault does.
 fn leave_in<F: Faults>(bytes: &mut [u8], at: usize, len: usize, faults: &mut F)
     requires { at + len ≤ length bytes.old }
     ensures stays { SameOutside at len bytes.old bytes.new }

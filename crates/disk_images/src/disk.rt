@@ -1,4 +1,4 @@
-// The disk that keeps exactly its images.
+// The disk with exactly the images of the definition.
 ghost use Rattle.std.specs.Prelude.{◌≡◌, ◌+◌, ◌≤◌, ◌⊎◌, ◌∷◌, [], ◌++◌, ◌<◌, ◌-◌, ◌^◌, Some, false, IfOk, IsErr, OnOk, OnErr, IsTrue, length, replicate};
 ghost use Rattle.std.proofs.Common.{subst};
 ghost use Rattle.std.proofs.lemmas.Option.{same_Some};
@@ -12,11 +12,10 @@ use crate::faults::Faults;
 use spool_disk::{DeviceFault, Disk};
 use std::alloc::{AllocError, Global};
 
-/// A disk that keeps exactly the images of the definition, and fails where its faults strike.
+/// A disk that has exactly the images of the definition, and fails if its faults strike.
 ///
-/// A moment ends with each sync that answers Ok: what the disk held then, with the places that were unsynced, is kept
-/// among the past. Between two syncs images are only added, so those at the last moment of one number are all the
-/// images at moments of that number.
+/// A moment ends with each sync that returns Ok: the disk stores its contents of that moment, with the unsynced offsets, in its past.
+/// Between two syncs images are only added, so those at the end of a moment are all images of that moment.
 #[derive(Drop)]
 pub struct ImageDisk<F: Faults> {
     now: Content,
@@ -26,7 +25,7 @@ pub struct ImageDisk<F: Faults> {
 }
 
 impl<F: Faults> ImageDisk<F> {
-    /// A disk of so many zero bytes, all synced, without a past.
+    /// Returns a disk of `len` zero bytes, all synced, without a past.
     pub fn new(alloc: Global, len: usize, faults: F) -> Result<ImageDisk<F>, AllocError>
     where
         F: Drop,
@@ -43,7 +42,7 @@ impl<F: Faults> ImageDisk<F> {
         })
     }
 
-    // Whether the device fails at this call, which is then counted. At the greatest count no call fails.
+    // Returns whether the device fails at this call, which is then counted. At the greatest count no call fails.
     fn strikes(&mut self) -> bool
         ensures now { self.new.now ≡ self.old.now }
         ensures past { self.new.past ≡ self.old.past }
@@ -58,7 +57,7 @@ impl<F: Faults> ImageDisk<F> {
         true
     }
 
-    // Keeps the disk as it is now among its past moments.
+    // Stores the current contents as a past moment.
     fn keep_moment(&mut self) -> Result<(), AllocError>
         ensures now { self.new.now ≡ self.old.now }
         ensures count { self.new.failures ≡ self.old.failures }
@@ -70,8 +69,8 @@ impl<F: Faults> ImageDisk<F> {
         Ok(())
     }
 
-    // Keeps this moment, or counts a failure where there is no memory for it. At the greatest count, where no call may
-    // fail, a moment without memory is left out.
+    // Stores this moment, or counts a failure if memory runs out. At the greatest count, when no call may fail, a moment without memory is
+    // left out.
     fn end_moment(&mut self) -> Result<(), DeviceFault>
         ensures now { self.new.now ≡ self.old.now }
         ensures past { (self.new.past.items ≡ self.old.past.items ++ self.old.now ∷ []) ⊎ (self.new.past.items ≡ self.old.past.items) }
@@ -116,7 +115,7 @@ impl<F: Faults> Disk for ImageDisk<F> {
         ensures same { ChangesNothing exact_images self.old self.new }
         ensures cause { HasCause exact_images self.old self.new result }
 
-        // Exactly as defined: it stays as it is.
+        // Exactly as defined: the device is unchanged.
         ensures still { device_of self.new ≡ device_of self.old }
         ensures since { AddsImages self.old self.new }
     {
@@ -154,8 +153,8 @@ impl<F: Faults> Disk for ImageDisk<F> {
         ensures same { ChangesNothing exact_images self.old self.new }
         ensures cause { HasCause exact_images self.old self.new result }
 
-        // Exactly as defined: nothing is unsynced, or all stays as it is. Only at the greatest count of failures, where
-        // no call may fail, a moment for which there is no memory isn't kept.
+        // Exactly as defined: nothing is unsynced, or the device is unchanged. Only at the greatest count of failures, when no call may
+        // fail, a moment for which memory runs out is not stored.
         ensures synced { OnOk result (HasNoneUnsynced (device_of self.new)) }
         ensures still { OnErr result (device_of self.new ≡ device_of self.old) }
         ensures since { failure_count self.old < 2 ^ 64 - 1 → AddsImages self.old self.new }

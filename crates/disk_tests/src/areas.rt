@@ -7,10 +7,10 @@ use spool_disk::{FuseDisk, MemDisk};
 use std::alloc::Global;
 use std::test::Fail;
 
-// The calls of a device that opening an empty spool takes: a sync, two headers and one block.
+// Number of device calls that opening an empty spool takes: a sync, two headers and one block.
 const CALLS_OF_OPEN: u64 = 4;
 
-// The room of a reopening, in areas that have no more than that.
+// Returns whether areas with no more room than that of a reopening take its record, and no other.
 fn keeps_room(areas: &mut Areas<MemDisk>) -> bool {
     let mut reopen = [0, 0, 0, 0, 0x0F, 0];
     areas.append(&mut reopen) == Err(JournalFault::Full)
@@ -28,11 +28,11 @@ fn kept_room_holds_one_record_of_one_byte(rt: HostRuntime) -> Result<(), Fail> {
     Ok(())
 }
 
-// A spool in areas of 99 bytes, of which the first is the current one.
+// A spool in areas of 99 bytes. The first area is the current one.
 type Failing = Areas<FuseDisk<MemDisk>>;
 
-// An empty one, whose device fails after so many calls from its opening on. The closed gate and the bytes from there on tell
-// that the first area is the current one.
+// Returns an empty spool on a device that fails after `calls` calls from the opening on. The closed gate and the room after it
+// prove that the first area is the current one.
 fn failing_areas(alloc: Global, calls: u64) -> Result<Failing, Fail>
     requires { calls < 1000 }
     ensures { IfOk result (λ areas. (areas.base ≡ 0) × (99 ≤ areas.end)) }
@@ -50,7 +50,7 @@ fn failing_areas(alloc: Global, calls: u64) -> Result<Failing, Fail>
     }
 }
 
-// How a byte is read, and which.
+// Reads a byte. Returns the result and the byte.
 fn read_at(areas: &mut Failing, place: u64) -> (Result<(), ReadFault>, u8)
     requires base { areas.old.base ≡ 0 }
     requires end { 99 ≤ areas.old.end }
@@ -64,7 +64,7 @@ fn read_at(areas: &mut Failing, place: u64) -> (Result<(), ReadFault>, u8)
     (read, got[0])
 }
 
-// Whether a payload of this byte is added, and lies at this place.
+// Returns whether a payload of this byte is added at this place.
 fn adds(areas: &mut Failing, byte: u8, place: u64) -> bool
     requires base { areas.old.base ≡ 0 }
     requires end { 99 ≤ areas.old.end }
@@ -74,8 +74,8 @@ fn adds(areas: &mut Failing, byte: u8, place: u64) -> bool
     areas.append(&mut [0, 0, 0, 0, byte, 0]) == Ok(place)
 }
 
-// Each append makes the next read one of the device; a read of what was read before takes no call. The read that fails
-// ends it.
+// After each append the next read calls the device. A read of bytes that were read before takes no call. The read that fails ends
+// the spool.
 #[test]
 fn reads_on_in_one_block(rt: HostRuntime) -> Result<(), Fail> {
     let mut areas = failing_areas(rt.alloc(), 10)?;
@@ -91,7 +91,7 @@ fn reads_on_in_one_block(rt: HostRuntime) -> Result<(), Fail> {
     Ok(())
 }
 
-// Whether an append fails for the device, and each later call finds it dead.
+// Returns whether an append fails because of the device, and each later call returns `Dead`.
 fn dies(areas: &mut Failing) -> bool
     requires base { areas.old.base ≡ 0 }
     requires end { 99 ≤ areas.old.end }
@@ -110,7 +110,7 @@ fn failed_append_ends_it(rt: HostRuntime) -> Result<(), Fail> {
     Ok(())
 }
 
-// It is read no more.
+// The areas cannot be read any more.
 #[test]
 fn failed_append_ends_reading(rt: HostRuntime) -> Result<(), Fail> {
     let mut areas = failing_areas(rt.alloc(), 0)?;

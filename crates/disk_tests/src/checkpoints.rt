@@ -1,4 +1,4 @@
-//! Checkpoints, which put rows into the other area.
+//! Checkpoints, which write rows to the other area.
 ghost use Rattle.std.specs.Prelude.{◌≡◌, ◌<◌, IfOk, vec_len};
 
 use crate::spools::{have_at, made, opened};
@@ -8,7 +8,7 @@ use std::alloc::{AllocError, Global};
 use std::slice;
 use std::test::Fail;
 
-// The frame of a row: its kind and twelve zeros.
+// Returns the frame of a row: its kind and twelve zeros.
 fn head(alloc: Global) -> Result<Vec<u8>, AllocError>
     ensures { IfOk result (λ head. vec_len head ≡ 18) }
 {
@@ -18,13 +18,13 @@ fn head(alloc: Global) -> Result<Vec<u8>, AllocError>
     Ok(head)
 }
 
-// Puts this one row into the other area, and answers whether that went well.
+// Writes this one row to the other area, and returns whether that succeeded.
 fn lists<D: Disk>(alloc: Global, areas: &mut Areas<D>) -> Result<bool, AllocError> {
     let mut row = head(alloc)?;
     Ok(areas.checkpoint(slice::from_mut(&mut row)).is_ok())
 }
 
-// A disk after a checkpoint of what lies on it, or nothing where that fails.
+// Returns a disk after a checkpoint, or fails if the checkpoint does.
 fn listed(alloc: Global, disk: MemDisk) -> Result<MemDisk, Fail> {
     let mut areas = opened(alloc, disk)?.areas;
     let done = lists(alloc, &mut areas);
@@ -36,7 +36,7 @@ fn listed(alloc: Global, disk: MemDisk) -> Result<MemDisk, Fail> {
     }
 }
 
-// An empty spool of two areas of 99 bytes after a checkpoint.
+// Returns an empty spool of two areas of 99 bytes after a checkpoint.
 fn listed_once(alloc: Global) -> Result<MemDisk, Fail> {
     let disk = made(alloc, 198)?;
     listed(alloc, disk)
@@ -47,13 +47,13 @@ fn listed_twice(alloc: Global) -> Result<MemDisk, Fail> {
     listed(alloc, disk)
 }
 
-// How many payloads a disk has, and the gate behind them.
+// Returns the number of payloads of a disk, and the place of the gate after them.
 fn found(alloc: Global, disk: MemDisk) -> Result<(usize, u64), Fail> {
     let opened = opened(alloc, disk)?;
     Ok((opened.payloads.len(), opened.gate))
 }
 
-// Where the payloads of a checkpoint end, whose rows have these lengths.
+// Returns the place at which the payloads of a checkpoint end, if its rows have these lengths.
 fn planned(alloc: Global, disk: MemDisk, lengths: &[u64]) -> Result<u64, Fail> {
     let areas = opened(alloc, disk)?.areas;
     let end = areas.plan(lengths);
@@ -75,7 +75,7 @@ fn a_checkpoint_is_planned(rt: HostRuntime) -> Result<(), Fail> {
     Ok(())
 }
 
-// The header that a checkpoint leaves behind is open at the lower epoch.
+// The header of the previous area is still open, at the lower epoch.
 #[test]
 fn a_checkpoint_lists_its_rows(rt: HostRuntime) -> Result<(), Fail> {
     let disk = listed_once(rt.alloc())?;
@@ -86,7 +86,7 @@ fn a_checkpoint_lists_its_rows(rt: HostRuntime) -> Result<(), Fail> {
     Ok(())
 }
 
-// An empty spool of two areas of 99 bytes, in the version 1.
+// Returns an empty spool of two areas of 99 bytes, in version 1.
 fn made_old(alloc: Global) -> Result<MemDisk, Fail> {
     let mut disk = made(alloc, 198)?;
     if disk.len() == 198 {
@@ -95,7 +95,7 @@ fn made_old(alloc: Global) -> Result<MemDisk, Fail> {
     Ok(disk)
 }
 
-// The versions of an old spool's areas before and after a checkpoint, and the disk then.
+// Returns the versions of an old spool's areas before and after a checkpoint, and the disk afterwards.
 fn listed_old(alloc: Global) -> Result<(u8, u8, MemDisk), Fail> {
     let mut areas = opened(alloc, made_old(alloc)?)?.areas;
     let before = areas.version();
@@ -109,7 +109,7 @@ fn listed_old(alloc: Global) -> Result<(u8, u8, MemDisk), Fail> {
     }
 }
 
-// The old area stays as it is.
+// The old area does not change.
 #[test]
 fn a_checkpoint_writes_the_newest_version(rt: HostRuntime) -> Result<(), Fail> {
     let (before, after, disk) = listed_old(rt.alloc())?;
@@ -119,7 +119,7 @@ fn a_checkpoint_writes_the_newest_version(rt: HostRuntime) -> Result<(), Fail> {
     Ok(())
 }
 
-// The next checkpoint closes the header that the last one left behind.
+// The next checkpoint closes the header of the area that the last one left.
 #[test]
 fn checkpoints_take_turns(rt: HostRuntime) -> Result<(), Fail> {
     let disk = listed_twice(rt.alloc())?;
@@ -127,7 +127,7 @@ fn checkpoints_take_turns(rt: HostRuntime) -> Result<(), Fail> {
     Ok(())
 }
 
-// A spool's disk after a checkpoint on a device that fails after so many calls, and whether that was done.
+// Returns whether a checkpoint on a device that fails after `calls` calls succeeded, and the disk afterwards.
 fn stopped_after(alloc: Global, calls: u64) -> Result<(bool, MemDisk), Fail>
     requires { calls < 100 }
 {
@@ -138,7 +138,7 @@ fn stopped_after(alloc: Global, calls: u64) -> Result<(bool, MemDisk), Fail>
     Ok((done?, disk))
 }
 
-// How many payloads a disk has, and how many after a checkpoint.
+// Returns the number of payloads of a disk, and their number after a checkpoint.
 fn counts(alloc: Global, disk: MemDisk) -> Result<(usize, usize), Fail> {
     let opened = opened(alloc, disk)?;
     let count = opened.payloads.len();
@@ -146,7 +146,8 @@ fn counts(alloc: Global, disk: MemDisk) -> Result<(usize, usize), Fail> {
     Ok((count, found(alloc, disk)?.0))
 }
 
-// Whether a checkpoint that is stopped there is done or not, leaves so many payloads, and then lets another be made.
+// Returns whether a checkpoint that is stopped after `calls` calls succeeds as expected, leaves this number of payloads, and does
+// not prevent the next checkpoint.
 fn leaves(alloc: Global, calls: u64, done: bool, count: usize) -> Result<bool, Fail>
     requires { calls < 100 }
 {
@@ -154,9 +155,9 @@ fn leaves(alloc: Global, calls: u64, done: bool, count: usize) -> Result<bool, F
     Ok(is_done == done && counts(alloc, disk)? == (count, 1))
 }
 
-// A checkpoint of one row takes eleven calls: a read and a sync; the header, and a closed gate with its sync; four for the
-// row; the open gate with its sync. Each is stopped in turn, and the spool opens with the old list or the new one. What was
-// left in the other area has no meaning for the next checkpoint.
+// A checkpoint of one row takes eleven calls: a read and a sync; the header, and a closed gate with its sync; four for the row;
+// the open gate with its sync. The device fails at each of them, and the spool opens with the old list or the new one. The bytes
+// left in the other area have no meaning for the next checkpoint.
 #[test]
 fn a_stopped_checkpoint_leaves_old_or_new(rt: HostRuntime) -> Result<(), Fail> {
     for calls in 0..10 {

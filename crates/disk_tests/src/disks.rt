@@ -1,11 +1,11 @@
-//! Disks in memory and in a file, and what fails of them.
+//! Disks in memory and in a file, and their failures.
 
 use spool_disk::{DeviceFault, Disk, FileDisk, FuseDisk, MemDisk, OnceDisk};
 use std::fs;
 use std::fs::File;
 use std::test::Fail;
 
-// How three bytes are read from the second on, and which.
+// Reads three bytes from offset 1 on. Returns the result and the bytes.
 fn read_three<D: Disk>(disk: &mut D) -> (Result<(), DeviceFault>, [u8; 3]) {
     let mut got = [9; 3];
     if disk.len() != 4 {
@@ -15,7 +15,7 @@ fn read_three<D: Disk>(disk: &mut D) -> (Result<(), DeviceFault>, [u8; 3]) {
     (read, got)
 }
 
-// Whether these bytes are written there.
+// Returns whether these bytes are written at this offset.
 fn writes<D: Disk>(disk: &mut D, at: u64, bytes: &[u8]) -> bool {
     match disk.len().checked_sub(at) {
         Some(room) => bytes.len() as u64 <= room && disk.write(at, bytes).is_ok(),
@@ -27,12 +27,12 @@ fn holds<D: Disk>(disk: &mut D) -> bool {
     writes(disk, 1, &[7, 8]) && disk.sync().is_ok() && read_three(disk) == (Ok(()), [7, 8, 0])
 }
 
-// Whether each call fails.
+// Returns whether each call fails.
 fn fails<D: Disk>(disk: &mut D) -> bool {
     !writes(disk, 1, &[9]) && disk.sync().is_err() && read_three(disk).0 == Err(DeviceFault)
 }
 
-// It holds what was written.
+// The disk contains the bytes that were written.
 #[test]
 fn fuse_passes_three_calls(rt: HostRuntime) -> Result<(), Fail> {
     let mut disk = FuseDisk::new(MemDisk::new(rt.alloc(), 4)?, 3);
@@ -43,7 +43,7 @@ fn fuse_passes_three_calls(rt: HostRuntime) -> Result<(), Fail> {
     Ok(())
 }
 
-// The fourth call has no effect, and later ones have theirs.
+// The fourth call has no effect. Later calls take effect.
 #[test]
 fn the_fourth_call_fails(rt: HostRuntime) -> Result<(), Fail> {
     let mut disk = OnceDisk::new(MemDisk::new(rt.alloc(), 4)?, 3);
@@ -58,7 +58,7 @@ fn the_fourth_call_fails(rt: HostRuntime) -> Result<(), Fail> {
 
 const NAME: &str = "disk_tests.disk";
 
-// A file of four bytes.
+// Returns a file of four bytes.
 fn file(rt: &HostRuntime) -> Result<FileDisk, Fail> {
     let file = File::options()
         .read(true)
@@ -70,7 +70,7 @@ fn file(rt: &HostRuntime) -> Result<FileDisk, Fail> {
     Ok(FileDisk::new(file)?)
 }
 
-// The same, which can't be written, and is cut once it is opened.
+// Returns the same file opened read-only. It is truncated after that.
 fn cut_file(rt: &HostRuntime) -> Result<FileDisk, Fail> {
     let disk = FileDisk::new(File::open(rt, NAME)?)?;
     let file = File::options().write(true).open(rt, NAME)?;
@@ -78,7 +78,7 @@ fn cut_file(rt: &HostRuntime) -> Result<FileDisk, Fail> {
     Ok(disk)
 }
 
-// A file that holds what was written, and then is cut and can't be written.
+// The file contains the bytes that were written. Then it is truncated and cannot be written.
 #[test]
 fn file_holds_what_was_written(rt: HostRuntime) -> Result<(), Fail> {
     let mut disk = file(&rt)?;

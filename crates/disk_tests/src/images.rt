@@ -1,9 +1,9 @@
-//! The images of a disk of which a call fails.
+//! The images of a disk after a failed call.
 use disk_images::{Faults, ImageDisk};
 use spool_disk::{DeviceFault, Disk};
 use std::test::Fail;
 
-// Passes so many calls, fails the next, and passes the others. What fails leaves EE.
+// Passes `passed` calls, fails the next one, and passes all later ones. A failed write leaves EE.
 #[derive(Drop)]
 struct FailsOnce {
     passed: u64,
@@ -21,12 +21,12 @@ impl Faults for FailsOnce {
     }
 }
 
-// How many bytes a disk has, and how many of its calls have failed.
+// Returns the length of a disk in bytes, and the number of its failed calls.
 fn sizes(disk: &ImageDisk<FailsOnce>) -> (u64, u64) {
     (disk.len(), disk.faults())
 }
 
-// How two bytes are written at a place.
+// Writes two bytes at an offset.
 fn write(disk: &mut ImageDisk<FailsOnce>, at: u64, bytes: &[u8; 2]) -> Result<(), DeviceFault> {
     match disk.len().checked_sub(at) {
         Some(2..) => disk.write(at, bytes),
@@ -34,13 +34,13 @@ fn write(disk: &mut ImageDisk<FailsOnce>, at: u64, bytes: &[u8; 2]) -> Result<()
     }
 }
 
-// Whether the disk has these four bytes.
+// Returns whether the disk has these four bytes.
 fn has(disk: &mut ImageDisk<FailsOnce>, bytes: &[u8; 4]) -> bool {
     let mut got = [0; 4];
     4 <= disk.len() && disk.read(0, &mut got).is_ok() && &got == bytes
 }
 
-// It holds what was written, and what failed leaves any bytes.
+// The disk contains the bytes that were written. A failed write leaves any bytes.
 #[test]
 fn write_that_fails_leaves_any_bytes(rt: HostRuntime) -> Result<(), Fail> {
     let mut disk = ImageDisk::new(rt.alloc(), 4, FailsOnce { passed: 2 })?;

@@ -1,4 +1,4 @@
-//! Documents whose bytes lie in several records.
+//! Documents that are stored in several records.
 ghost use Rattle.std.specs.Prelude.{◌≡◌, ◌≤◌, ◌+◌, length};
 
 use crate::spools::{made, opened};
@@ -8,10 +8,10 @@ use spool_disk::{Disk, FuseDisk, MemDisk};
 use std::alloc::{AllocError, Global};
 use std::test::Fail;
 
-// The calls of a device that opening the spool of `three_sends` takes: a sync, two headers and two blocks.
+// Number of device calls that opening the spool of `three_sends` takes: a sync, two headers and two blocks.
 const CALLS_OF_OPEN: u64 = 5;
 
-// Adds a payload to the current area, and answers where it begins, or 0.
+// Adds a payload to the current area. Returns the place where it begins, or 0.
 fn append(areas: &mut Areas<MemDisk>, frame: &mut [u8]) -> u64 {
     if frame.len() < 5 || 100_000 < frame.len() {
         return 0;
@@ -45,7 +45,7 @@ fn add_long(alloc: Global, areas: &mut Areas<MemDisk>) -> Result<u64, AllocError
     add(alloc, areas, &[6, 0, 0, 0, 2, 0, 1, 0, 0], &bytes)
 }
 
-// Adds three sends to job 1. Before the second there is the long one to job 2, and before the third the cancel of that job.
+// Adds three sends to job 1. The second follows the long one to job 2, the third follows the cancel of that job.
 fn add_all(alloc: Global, areas: &mut Areas<MemDisk>) -> Result<[u64; 5], AllocError> {
     Ok([
         add(alloc, areas, &[6, 0, 0, 0, 1, 0, 0, 0, 3], b"abc")?,
@@ -56,7 +56,7 @@ fn add_all(alloc: Global, areas: &mut Areas<MemDisk>) -> Result<[u64; 5], AllocE
     ])
 }
 
-// A spool that holds them.
+// Returns a spool with these payloads.
 fn three_sends(alloc: Global) -> Result<MemDisk, Fail> {
     let mut areas = opened(alloc, made(alloc, 131_600)?)?.areas;
     let places = add_all(alloc, &mut areas);
@@ -95,7 +95,7 @@ fn read_both<D: Disk>(
     (first, second)
 }
 
-// The same on a device that fails after so many calls from the opening on.
+// Does the same on a device that fails after `calls` calls from the opening on.
 fn read_twice(
     alloc: Global,
     calls: u64,
@@ -121,7 +121,7 @@ fn read_twice(
     }
 }
 
-// Whether these bytes are read from a place on, both times, with no more calls than these.
+// Returns whether these bytes are read from an offset on, both times, in at most `calls` calls.
 fn reads(alloc: Global, calls: u64, at: u64, wanted: &[u8]) -> Result<bool, Fail> {
     let mut got = [0; 10];
     let len = wanted.len();
@@ -132,7 +132,7 @@ fn reads(alloc: Global, calls: u64, at: u64, wanted: &[u8]) -> Result<bool, Fail
     Ok(read == (Ok(()), Ok(())) && &got[..len] == wanted)
 }
 
-// Whole, from within, over an end, at the last byte and behind it.
+// Whole, from the middle, across an end, at the last byte, and after it.
 #[test]
 fn document_is_read_from_any_place(rt: HostRuntime) -> Result<(), Fail> {
     assert!(rt; reads(rt.alloc(), 4, 0, b"abcdefghij")?);
@@ -143,7 +143,7 @@ fn document_is_read_from_any_place(rt: HostRuntime) -> Result<(), Fail> {
     Ok(())
 }
 
-// The second extent takes another call of the device than the first.
+// The second extent takes another device call than the first.
 #[test]
 fn device_that_fails_within_a_document_ends_it(rt: HostRuntime) -> Result<(), Fail> {
     let read = read_twice(rt.alloc(), 1, 0, &mut [0; 10])?;

@@ -9,12 +9,12 @@ use spool_disk::{DeviceFault, Disk, FuseDisk, MemDisk};
 use std::alloc::{AllocError, Global};
 use std::test::Fail;
 
-// The frame of the payload 0A 00 00 00 01, its free bytes not zero.
+// Returns the frame of the payload 0A 00 00 00 01. Its free bytes are not zero.
 fn frame_of_five() -> [u8; 10] {
     [0xFF, 0xFF, 0xFF, 0xFF, 0x0A, 0, 0, 0, 1, 0xFF]
 }
 
-// That of the payload 0F.
+// Returns the frame of the payload 0F.
 fn frame_of_one() -> [u8; 6] {
     [0, 0, 0, 0, 0x0F, 0]
 }
@@ -24,7 +24,7 @@ const TWO_ENTRIES: [u8; 20] = [
     0xA5, 0, 0, 0, 5, 0x0A, 0, 0, 0, 1, 0xA5, 0, 0, 0, 1, 0x0F, 0, 0, 0, 0,
 ];
 
-// Whether one of five bytes is appended, and then no empty one.
+// Returns whether a payload of five bytes is appended, and then not even an empty one.
 fn takes_five<D: Disk>(journal: &mut Journal, disk: &mut D) -> bool
     requires { end_of journal.old ≤ D.device.size disk.old }
     ensures { end_of journal.new ≤ D.device.size disk.new }
@@ -33,7 +33,7 @@ fn takes_five<D: Disk>(journal: &mut Journal, disk: &mut D) -> bool
         && journal.append(disk, &mut [0; 5]) == Err(JournalFault::Full)
 }
 
-// Whether one of one byte is, in the room that is kept, and then no other.
+// Returns whether a payload of one byte is appended in the reserved room, and then no other.
 fn takes_one<D: Disk>(journal: &mut Journal, disk: &mut D) -> bool
     requires { end_of journal.old ≤ D.device.size disk.old }
 {
@@ -54,7 +54,7 @@ fn appends_until_it_is_full(rt: HostRuntime) -> Result<(), Fail> {
     Ok(())
 }
 
-// How two appends end, and whether the device has failed then.
+// Returns the results of two appends, and whether the device has failed afterwards.
 fn twice<D: Disk>(
     journal: &mut Journal,
     disk: &mut D,
@@ -66,7 +66,7 @@ fn twice<D: Disk>(
     (first, second, disk.sync().is_err())
 }
 
-// The same on a device that fails after so many calls from the beginning of the journal on.
+// Does the same on a device that fails after `calls` calls from the beginning of the journal on.
 fn twice_after(
     alloc: Global,
     calls: u64,
@@ -78,7 +78,7 @@ fn twice_after(
     }
 }
 
-// Each of its four calls of the device may fail.
+// Each of its four device calls may fail.
 #[test]
 fn append_takes_four_device_calls(rt: HostRuntime) -> Result<(), Fail> {
     let stopped = (Err(JournalFault::Disk), Err(JournalFault::Dead), true);
@@ -89,7 +89,7 @@ fn append_takes_four_device_calls(rt: HostRuntime) -> Result<(), Fail> {
     Ok(())
 }
 
-// Whether these bytes are written there.
+// Returns whether these bytes are written at this offset.
 fn writes(disk: &mut MemDisk, at: u64, bytes: &[u8]) -> bool {
     match disk.len().checked_sub(at) {
         Some(room) => bytes.len() as u64 <= room && disk.write(at, bytes).is_ok(),
@@ -97,7 +97,7 @@ fn writes(disk: &mut MemDisk, at: u64, bytes: &[u8]) -> bool {
     }
 }
 
-// What is found in an area of twenty bytes at its begin, and at the tenth of them.
+// Returns the entries found in an area of twenty bytes at its beginning, and at offset 10.
 fn found(
     alloc: Global,
     disk: &mut MemDisk,
@@ -111,7 +111,7 @@ fn found(
     Ok((first, second))
 }
 
-// How one byte is appended at the tenth.
+// Appends one byte at offset 10.
 fn resumed(disk: &mut MemDisk) -> Result<u64, JournalFault> {
     if disk.len() < 20 {
         return Err(JournalFault::Dead);
@@ -119,8 +119,7 @@ fn resumed(disk: &mut MemDisk) -> Result<u64, JournalFault> {
     Journal::resume(0, 20, 10).append_kept(disk, &mut frame_of_one())
 }
 
-// A crash between the two writes leaves a record behind a closed gate: it is no entry, and the next append is written
-// over it.
+// A crash between the two writes leaves a record after a closed gate. It is no entry, and the next append overwrites it.
 #[test]
 fn resumes_at_a_gate_that_a_crash_left_closed(rt: HostRuntime) -> Result<(), Fail> {
     let mut disk = MemDisk::new(rt.alloc(), 20)?;
@@ -132,7 +131,7 @@ fn resumes_at_a_gate_that_a_crash_left_closed(rt: HostRuntime) -> Result<(), Fai
     Ok(())
 }
 
-// A disk of a block and 24 bytes, which has the entries from its byte 65,540 on.
+// Returns a disk of a block and 24 bytes, with the entries from offset 65,540 on.
 fn long_disk(alloc: Global) -> Result<MemDisk, Fail> {
     let mut disk = MemDisk::new(alloc, 65_560)?;
     if writes(&mut disk, 65_540, &TWO_ENTRIES) {
@@ -142,7 +141,7 @@ fn long_disk(alloc: Global) -> Result<MemDisk, Fail> {
     }
 }
 
-// The two bytes at a place, unless the device fails.
+// Returns the two bytes at a place, unless the device fails.
 fn two_at<D: Disk>(window: &mut Window, disk: &mut D, place: u64) -> Option<[u8; 2]>
     requires { Holds D.device disk.old window.old }
     ensures { Holds D.device disk.new window.new }
@@ -154,7 +153,7 @@ fn two_at<D: Disk>(window: &mut Window, disk: &mut D, place: u64) -> Option<[u8;
     }
 }
 
-// One call reads 65,536 bytes. After a fault the window has none.
+// One call reads 65,536 bytes. After a fault the window is empty.
 #[test]
 fn window_reads_a_block_in_one_call(rt: HostRuntime) -> Result<(), Fail> {
     let mut fuse = FuseDisk::new(long_disk(rt.alloc())?, 1);
@@ -167,7 +166,7 @@ fn window_reads_a_block_in_one_call(rt: HostRuntime) -> Result<(), Fail> {
     Ok(())
 }
 
-// Whether a block from the fifth byte on is read, whose last bytes are these.
+// Returns whether a block from offset 5 on is read, and ends with these bytes.
 fn reads_block<D: Disk>(window: &mut Window, disk: &mut D, block: &mut [u8], last: &[u8]) -> bool
     requires { Holds D.device disk.old window.old }
     ensures { Holds D.device disk.new window.new }
@@ -182,7 +181,7 @@ fn reads_block<D: Disk>(window: &mut Window, disk: &mut D, block: &mut [u8], las
     }
 }
 
-// A read of a block or more takes one call each time, and the window stays as it is.
+// A read of a block or more takes one call each time, and does not change the window.
 #[test]
 fn window_passes_large_reads_on(rt: HostRuntime) -> Result<(), Fail> {
     let mut fuse = FuseDisk::new(long_disk(rt.alloc())?, 2);

@@ -1,7 +1,7 @@
-//! The tests of the crates on disks: devices, their images, the journal, the areas of a spool and documents.
+//! Tests of the crates on disks: devices, their images, the journal, the areas of a spool and documents.
 //!
-//! What bytes of a device are is told by facts (`decision_examples`). Here run the disks that fail, after each call in turn,
-//! what takes memory, and the calls of a device that are counted.
+//! The bytes of a device are specified by examples (`decision_examples`). The tests here run disks that fail after each call in
+//! turn, calls that allocate memory, and count the calls of a device.
 #![tactic(auto)]
 
 #[cfg(test)]

@@ -1,46 +1,46 @@
-//! Spools that are opened.
+//! Opening spools.
 use crate::spools::{made, opened};
 use spool_areas::{Areas, Extent, OpenFault};
 use spool_disk::{Disk, FuseDisk, MemDisk};
 use std::alloc::Global;
 use std::test::Fail;
 
-// A header behind an open gate: the version 2, and the epoch 1.
+// A header with an open gate: version 2, epoch 1.
 const EPOCH_1: &[u8] = &[0xA5, 2, 0, 0, 0, 0, 0, 0, 0, 1, 0, 0, 0, 0, 0, 0];
 
-// The same of the epoch 2.
+// The same with epoch 2.
 const EPOCH_2: &[u8] = &[0xA5, 2, 0, 0, 0, 0, 0, 0, 0, 2, 0, 0, 0, 0, 0, 0];
 
-// Both of the version 1.
+// Both with version 1.
 const OLD_EPOCH_1: &[u8] = &[0xA5, 1, 0, 0, 0, 0, 0, 0, 0, 1, 0, 0, 0, 0, 0, 0];
 
 const OLD_EPOCH_2: &[u8] = &[0xA5, 1, 0, 0, 0, 0, 0, 0, 0, 2, 0, 0, 0, 0, 0, 0];
 
-// A header behind a closed gate.
+// A header with a closed gate.
 const CLOSED: &[u8] = &[0, 2, 0, 0, 0, 0, 0, 0, 0, 3, 0, 0, 0, 0, 0, 0];
 
-// The records of the payloads 0A 00 00 00 01 and 0F, and the closed gate behind them.
+// The records of the payloads 0A 00 00 00 01 and 0F, and the closed gate after them.
 const RECORDS: &[u8] = &[
     0xA5, 0, 0, 0, 5, 0x0A, 0, 0, 0, 1, 0xA5, 0, 0, 0, 1, 0x0F, 0,
 ];
 
-// Where these payloads lie in the first area.
+// The places of these payloads in the first area.
 const FIVE: Extent = Extent { place: 21, len: 5 };
 
 const ONE: Extent = Extent { place: 31, len: 1 };
 
-// What is written to a device of two areas of 99 bytes, each piece at its place.
+// The writes to a device of two areas of 99 bytes, each with its offset.
 type Writes<'a> = &'a [(u64, &'a [u8])];
 
 const FIRST_AREA: Writes = &[(0, EPOCH_1), (99, CLOSED), (16, RECORDS)];
 
-// What is written, the payloads that are found then, the damage, the gate behind them, and the version.
+// The writes, the payloads found afterwards, the damage, the gate after them, and the version.
 type Row<'a> = (Writes<'a>, &'a [Extent], Option<u64>, u64, u8);
 
 const ROWS: [Row; 10] = [
     (FIRST_AREA, &[FIVE, ONE], None, 32, 2),
     (&[(0, EPOCH_1)], &[], None, 16, 2),
-    // Any byte but A5 is a closed gate.
+    // Any byte except A5 is a closed gate.
     (
         &[(0, EPOCH_1), (16, RECORDS), (32, &[7])],
         &[FIVE, ONE],
@@ -48,7 +48,7 @@ const ROWS: [Row; 10] = [
         32,
         2,
     ),
-    // A record of 61 bytes ends with its next gate at 98, the area's last byte; one of 62 leaves the area.
+    // A record of 61 bytes ends with its next gate at 98, the last byte of the area. A record of 62 bytes exceeds the area.
     (
         &[(0, EPOCH_1), (16, RECORDS), (32, &[0xA5, 0, 0, 0, 61])],
         &[FIVE, ONE, Extent { place: 37, len: 61 }],
@@ -103,7 +103,7 @@ fn disk_with(alloc: Global, writes: Writes) -> Result<MemDisk, Fail> {
     Ok(disk)
 }
 
-// Whether a row is so.
+// Returns whether the opening has the results of the row.
 fn opens(alloc: Global, row: Row) -> Result<bool, Fail> {
     let (writes, payloads, damage, gate, version) = row;
     let opened = opened(alloc, disk_with(alloc, writes)?)?;
@@ -123,7 +123,7 @@ fn a_spool_opens_at_its_current_area(rt: HostRuntime) -> Result<(), Fail> {
     Ok(())
 }
 
-// The disk of an opening that fails as the device does, after so many calls.
+// Returns the disk of an opening that fails because the device fails after `calls` calls.
 fn handed_back(alloc: Global, calls: u64) -> Result<MemDisk, Fail> {
     let fuse = FuseDisk::new(disk_with(alloc, FIRST_AREA)?, calls);
     match Areas::open(alloc, fuse) {
@@ -138,20 +138,20 @@ fn handed_back(alloc: Global, calls: u64) -> Result<MemDisk, Fail> {
     }
 }
 
-// Whether it is as it was.
+// Returns whether that disk is unchanged.
 fn is_handed_back(alloc: Global, calls: u64) -> Result<bool, Fail> {
     let before = disk_with(alloc, FIRST_AREA)?;
     let disk = handed_back(alloc, calls)?;
     Ok(disk.bytes() == before.bytes())
 }
 
-// How many payloads an opening finds on a device that fails after so many calls.
+// Returns the number of payloads that an opening finds on a device that fails after `calls` calls.
 fn payloads_after(alloc: Global, calls: u64) -> Result<usize, Fail> {
     let fuse = FuseDisk::new(disk_with(alloc, FIRST_AREA)?, calls);
     Ok(opened(alloc, fuse)?.payloads.len())
 }
 
-// A sync, two headers, and one block with all records: four calls. The disk is handed back as it was.
+// An opening takes four calls: a sync, two headers, and one block with all records. The disk is returned unchanged.
 #[test]
 fn each_device_call_of_an_opening_may_fail(rt: HostRuntime) -> Result<(), Fail> {
     for calls in 0..4 {
@@ -161,7 +161,7 @@ fn each_device_call_of_an_opening_may_fail(rt: HostRuntime) -> Result<(), Fail> 
     Ok(())
 }
 
-// Whether 12,000 records of one byte are added.
+// Returns whether 12,000 records of one byte are added.
 fn add_many(areas: &mut Areas<MemDisk>) -> bool {
     for _ in 0..12_000 {
         if areas.append(&mut [0, 0, 0, 0, 7, 0]).is_err() {
@@ -171,7 +171,7 @@ fn add_many(areas: &mut Areas<MemDisk>) -> bool {
     true
 }
 
-// A spool that has them.
+// Returns a spool with these records.
 fn with_many(alloc: Global) -> Result<MemDisk, Fail> {
     let mut areas = opened(alloc, made(alloc, 200_000)?)?.areas;
     if add_many(&mut areas) {
@@ -181,7 +181,7 @@ fn with_many(alloc: Global) -> Result<MemDisk, Fail> {
     }
 }
 
-// They are longer than a block: a sync, two headers and two blocks.
+// They are longer than a block, so an opening reads a second block: a sync, two headers and two blocks.
 #[test]
 fn a_journal_is_read_in_blocks(rt: HostRuntime) -> Result<(), Fail> {
     let fuse = FuseDisk::new(with_many(rt.alloc())?, 5);

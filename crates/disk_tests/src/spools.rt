@@ -4,7 +4,7 @@ use spool_disk::{Disk, MemDisk};
 use std::alloc::Global;
 use std::test::Fail;
 
-/// An empty spool of so many bytes.
+/// Returns an empty spool of `len` bytes.
 pub fn made(alloc: Global, len: usize) -> Result<MemDisk, Fail> {
     let mut disk = MemDisk::new(alloc, len)?;
     match make(&mut disk) {
@@ -13,7 +13,7 @@ pub fn made(alloc: Global, len: usize) -> Result<MemDisk, Fail> {
     }
 }
 
-/// A disk that is opened as a spool.
+/// Opens a disk as a spool.
 pub fn opened<D: Disk + Drop>(alloc: Global, disk: D) -> Result<Opened<D>, Fail> {
     match Areas::open(alloc, disk) {
         Ok(opened) => Ok(opened),
@@ -21,7 +21,7 @@ pub fn opened<D: Disk + Drop>(alloc: Global, disk: D) -> Result<Opened<D>, Fail>
     }
 }
 
-/// Whether bytes have these among them at this place.
+/// Returns whether `bytes` contains `wanted` at offset `at`.
 pub fn have_at(bytes: &[u8], at: usize, wanted: &[u8]) -> bool {
     at <= bytes.len() && wanted.len() <= bytes.len() - at && &bytes[at..at + wanted.len()] == wanted
 }

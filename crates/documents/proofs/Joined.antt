@@ -1,4 +1,4 @@
--- What extents hold.
+-- The bytes of extents.
 use Rattle.std.proofs.Common.{◌≡◌, ◌⊎◌, inl, inr, ℕ, ◌+◌, ◌-◌, ◌<◌, ◌≤◌, List, [], ◌∷◌, ◌++◌, length, get_or, zero, suc, take, drop, refl, sym, ◌∙◌, ap, subst, arith, append_assoc, length-append, length-drop}
 use Rattle.std.proofs.lemmas.List.{take-take, drop-drop, drop-take, take_at, drop_at, drop_more, drop-append-le, take-append-le, length-take, append-nil}
 use Rattle.std.proofs.Math.Seq.{take-add}
@@ -15,7 +15,7 @@ use Rattle.spool_areas.specs.Payloads.{HasPayloads, gate_after}
 use Rattle.extents.specs.Extents.{size_of}
 use Rattle.documents.specs.Documents.{joined, LieIn}
 
--- the bytes of an extent, by its length
+-- The bytes of an extent, by its length.
 pub bytes_are : (bytes : List ℕ) (x : Extent) → bytes_of bytes x ≡ take x.len (drop x.place bytes)
 bytes_are bytes x =
     let len : x.place + x.len - x.place ≡ x.len = omega arith in
@@ -73,7 +73,7 @@ drop_past (x ∷ xs) ys (suc n) over = let same : n - length xs ≡ suc n - leng
 pub bytes_len : (bytes : List ℕ) (x : Extent) → x.place + x.len ≤ length bytes → length (bytes_of bytes x) ≡ x.len
 bytes_len bytes x inside = ap length (bytes_are bytes x) ∙ omega (arith, length-take x.len (drop x.place bytes), length-drop x.place bytes)
 
--- the next extent, where the first n were passed
+-- The next extent, after the first n.
 pub next_lies : (low high : ℕ) (xs : List Extent) (k : ℕ) (d : Extent) → k < length xs → LieIn low high (drop k xs) → (low ≤ (get_or xs k d).place) × ((get_or xs k d).place + (get_or xs k d).len ≤ high) × LieIn low high (drop (k + 1) xs)
 next_lies low high xs k d within lie =
     let parts = subst (LieIn low high) (drop_more xs k d within) lie in
@@ -95,11 +95,11 @@ module _ (r : List ℕ) (xs : List Extent) (k : ℕ) (d : Extent) (within : k < 
   long : length (bytes_of r x) ≡ x.len
   long = bytes_len r x inside
 
-  -- the whole extent is skipped
+  -- The whole extent is skipped.
   pub skipped : x.len ≤ skip → drop from (joined r xs) ≡ drop (skip - x.len) others
   skipped past = both ∙ drop_past (bytes_of r x) others skip (omega (arith, long, past)) ∙ ap (λ (n : ℕ). drop (skip - n) others) long
 
-  -- so many bytes of it are read
+  -- These n bytes of it are read.
   pub got_part : (n : ℕ) → skip + n ≤ x.len → take n (drop from (joined r xs)) ≡ take n (drop (x.place + skip) r)
   got_part n fits =
       let front : length (drop skip (bytes_of r x)) ≡ x.len - skip = omega (arith, length-drop skip (bytes_of r x), long) in
@@ -111,25 +111,25 @@ module _ (r : List ℕ) (xs : List Extent) (k : ℕ) (d : Extent) (within : k < 
       ∙ take-take n (x.len - skip) (drop skip (drop x.place r)) (omega (arith, fits))
       ∙ ap (take n) (drop-drop skip x.place r)
 
-  -- behind it the other extents follow
+  -- The other extents follow it.
   pub passed : skip ≤ x.len → drop (from + (x.len - skip)) (joined r xs) ≡ others
   passed fits =
       let n = x.len - skip in
       sym (drop-drop n from (joined r xs)) ∙ ap (drop n) both ∙ drop-drop n skip (bytes_of r x ++ others)
       ∙ drop_past (bytes_of r x) others (skip + n) (omega (arith, long, fits)) ∙ (let none : skip + n - length (bytes_of r x) ≡ 0 = omega (arith, long, fits) in ap (λ (m : ℕ). drop m others) none)
 
-  -- what was read is the next part of the document
+  -- The bytes that were read are the next part of the document.
   pub more : (at done n : ℕ) (old got : List ℕ) → from ≡ at + done → old ≡ take done (drop at (joined r xs)) → skip + n ≤ x.len → got ≡ take n (drop (x.place + skip) r) → old ++ got ≡ take (done + n) (drop at (joined r xs))
   more at done n old got is had fits read =
       ap (λ (l : List ℕ). l ++ got) had
       ∙ ap (λ (l : List ℕ). take done (drop at (joined r xs)) ++ l) (read ∙ sym (got_part n fits) ∙ ap (λ (m : ℕ). take n (drop m (joined r xs))) is ∙ ap (take n) (sym (drop-drop done at (joined r xs))))
       ∙ sym (take-add done n (drop at (joined r xs)))
 
--- a part that was written keeps the length
+-- A part that was written does not change the length.
 pub put_len : (a k : ℕ) (xs ys : List ℕ) → length ys ≡ k → a + k ≤ length xs → length (put_mid a k xs ys) ≡ length xs
 put_len a k xs ys long fits = same_len_mid a k xs ys (omega (arith, long, length-take-le k (drop a xs) (omega (arith, length-drop a xs, fits))))
 
--- and stands behind what was there
+-- The part is after the bytes before it.
 pub put_to : (a k : ℕ) (xs ys : List ℕ) → length ys ≡ k → a + k ≤ length xs → take (a + k) (put_mid a k xs ys) ≡ take a xs ++ ys
 put_to a k xs ys long fits = take-put_mid a k xs ys (a + k) (omega (arith, long)) (omega (arith, fits))
 

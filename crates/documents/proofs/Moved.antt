@@ -24,7 +24,7 @@ use Rattle.documents.specs.Placed.{placed, placed_pieces, payloads_of, places_in
 use Rattle.documents.proofs.Joined.{size_of-append}
 use Rattle.documents.proofs.Placed.{front_of, sends_behind, spells_sent, joined-append, LieIn-append, wider_lie, held_all, held_last, lie_between, one_more, sized, gate_after-append}
 
--- a piece spells its bytes behind nine others, in each version
+-- A piece spells its bytes after nine others, in each version.
 pub spells_pieces : (v : Version) → SpellsSent (row_spelling v) piece_of
 spells_pieces v (Piece j part) k bytes is = (front_of 0x43 k bytes, refl, sends_behind 0x43 (j, part) (k, bytes) is)
 spells_pieces v (Head head) k bytes is = absurd (cc is)
@@ -37,7 +37,7 @@ same_test k j is = grind (arith, nat_tests)
 other_test : (k j : ℕ) → k ≢ j → (k == j) ≡ false
 other_test k j apart = grind (arith, nat_tests)
 
--- as many parts as there are bytes for
+-- Enough parts hold all of the bytes.
 parts_whole : (k j n : ℕ) (bytes : List ℕ) → (k == j) ≡ true → length bytes ≤ n * 65536 → sent_in piece_of (map (λ b. Piece k b) (parts longest_send n bytes)) j ≡ bytes
 parts_whole k j zero [] same fits = refl
 parts_whole k j zero (b ∷ bytes) same fits = absurd (omega arith)
@@ -61,7 +61,7 @@ sent-append : (xs ys : List Row) (j : ℕ) → sent_in piece_of (xs ++ ys) j ≡
 sent-append [] ys j = refl
 sent-append (x ∷ xs) ys j = ap (λ (l : List ℕ). sent_to j (piece_of x) ++ l) (sent-append xs ys j) ∙ sym (append_assoc (sent_to j (piece_of x)) (sent_in piece_of xs j) (sent_in piece_of ys j))
 
--- the rows of jobs, each with its document
+-- The rows of jobs, each with its document.
 abbrev rows_with : (ℕ → List ℕ) → List Job → List Row
 rows_with documents jobs = flat_map (λ q. job_rows q (documents q.id)) jobs
 
@@ -70,7 +70,7 @@ none_of documents [] j apart = refl
 none_of documents (q ∷ jobs) j apart =
     sent-append (job_rows q (documents q.id)) (rows_with documents jobs) j ∙ ap (λ (l : List ℕ). l ++ sent_in piece_of (rows_with documents jobs) j) (others q (documents q.id) j apart.0) ∙ none_of documents jobs j apart.1
 
--- in a list of jobs with numbers of their own each has its document
+-- In a list of jobs with distinct numbers each has its document.
 pub in_listing : (documents : ℕ → List ℕ) (before after : List Job) (r : Job) → AllByRecursion (λ (q : Job). q.id ≢ r.id) before → AllByRecursion (λ (q : Job). q.id ≢ r.id) after
     → sent_in piece_of (rows_with documents (before ++ r ∷ after)) r.id ≡ documents r.id
 in_listing documents [] after r one two =
@@ -80,7 +80,7 @@ in_listing documents (q ∷ before) after r one two =
     sent-append (job_rows q (documents q.id)) (rows_with documents (before ++ r ∷ after)) r.id ∙ ap (λ (l : List ℕ). l ++ sent_in piece_of (rows_with documents (before ++ r ∷ after)) r.id) (others q (documents q.id) r.id one.0)
     ∙ in_listing documents before after r one.1 two
 
--- ---- a listing, and events behind it
+-- ---- a listing, and events after it
 
 pub history : (v : Version) (base j : ℕ) (rows : List Row) (events : List Event) (bytes : List ℕ) → HasPayloads base (payloads_of v rows events) bytes → joined bytes (places_in v base rows events j) ≡ document_in rows events j
 history v base j rows events bytes has =

@@ -1,4 +1,4 @@
--- What was sent lies where it was placed.
+-- The bytes that were sent are at their places.
 use Rattle.std.proofs.Common.{◌≡◌, ℕ, ◌+◌, ◌≤◌, List, [], ◌∷◌, ◌++◌, Bool, true, false, Option, None, Some, length, map, refl, sym, ◌∙◌, ap, subst, arith, append_assoc, length-append}
 use Rattle.std.proofs.lemmas.List.{append-nil}
 use Rattle.std.specs.Prelude.{◌==◌, if◌then◌else◌}
@@ -27,18 +27,18 @@ pub LieIn-append : (low high : ℕ) (xs ys : List Extent) → LieIn low high xs 
 LieIn-append low high [] ys one two = two
 LieIn-append low high (x ∷ xs) ys one two = (one.0, LieIn-append low high xs ys one.1 two)
 
--- a kind, the job, and how many bytes follow
+-- A kind, the job, and the number of bytes that follow.
 abbrev pub front_of : ℕ → ℕ → List ℕ → List ℕ
 front_of kind k bytes = kind ∷ (to_be_bytes w32 k ++ to_be_bytes w32 (length bytes))
 
 inner : {A : Type 0} (x y : A) → Some x ≡ Some y → x ≡ y
 inner x y is = cc is
 
--- a spelling ends with the bytes that it sends
+-- A spelling ends with the bytes that it sends.
 pub sends_behind : (kind : ℕ) (x y : ℕ × List ℕ) → Some x ≡ Some y → kind ∷ send_code x.0 x.1 ≡ front_of kind y.0 y.1 ++ y.1
 sends_behind kind x y is = ap (λ (p : ℕ × List ℕ). front_of kind p.0 p.1 ++ p.1) (inner x y is)
 
--- an event that sends spells the bytes behind nine others
+-- An event that sends spells the bytes after nine others.
 spells : (e : Event) (k : ℕ) (bytes : List ℕ) → sent_by e ≡ Some (k, bytes) → spelling e ≡ front_of 0x06 k bytes ++ bytes
 spells (Send j sends) k bytes is = sends_behind 0x06 (j, sends) (k, bytes) is
 spells e k bytes is = absurd (cc is)
@@ -130,6 +130,6 @@ module _ {E : Type 0} (spell : E → List ℕ) (sends : E → Option (ℕ × Lis
       let next = gate + 5 + length (spell e) in
       omega (arith, size_of-append (placed_to (gate + 5) j (sends e)) (placed_in spell sends next es j), one_sized gate j (sends e), sized next es j, length-append (sent_to j (sends e)) (sent_in sends es j))
 
--- the gate behind some payloads and others
+-- The gate after some payloads and others.
 pub gate_after-append : (base : ℕ) (some others : List (List ℕ)) → gate_after base (some ++ others) ≡ gate_after base some + length (records others)
 gate_after-append base some others = omega (arith, ap length (records-append some others), length-append (records some) (records others))

@@ -1,4 +1,4 @@
-//! Reading a document.
+//! Reads a document.
 ghost use Rattle.std.specs.Prelude.{◌≡◌, ◌<◌, ◌≤◌, ◌+◌, ◌^◌, ◌↔◌, ◌⊎◌, ℕ, List, Some, OnOk, IsErrOf, IsTrue, length, take, drop};
 ghost use Rattle.spool_disk.specs.Disk.{Blames, ChangesNothing};
 ghost use Rattle.spool_areas.specs.Header.{header_len};
@@ -9,9 +9,9 @@ ghost use Rattle.documents.specs.Documents.{joined, LieIn};
 use spool_areas::{Areas, Extent, ReadFault};
 use spool_disk::Disk;
 
-/// Reads bytes of a document, from a place in it on.
+/// Reads bytes of a document from offset `at` of the document on.
 ///
-/// The extents lie in the current area, behind its header. `into` may hold anything after `Disk`.
+/// The extents are in the current area, after its header. After `Disk`, `into` may have any contents.
 pub fn read_joined<D: Disk>(
     areas: &mut Areas<D>,
     extents: &[Extent],
@@ -31,7 +31,7 @@ pub fn read_joined<D: Disk>(
     ensures untouched { IsErrOf result ReadFault.Dead → areas.new ≡ areas.old }
     ensures unread { IsErrOf result ReadFault.Dead → into.new ≡ into.old }
 
-    // A read changes nothing, and a crash meanwhile leaves what one before it may have left.
+    // A read changes nothing, and a crash meanwhile leaves only images that were possible before it.
     ensures same { (areas.new.base ≡ areas.old.base) × (areas.new.end ≡ areas.old.end) × (areas.new.epoch ≡ areas.old.epoch) × (areas.new.gate ≡ areas.old.gate) × (areas.new.version ≡ areas.old.version) }
     ensures still { ChangesNothing D.device areas.old.disk areas.new.disk }
     ensures keeps { (payloads : List (List ℕ)) → KeepsPayloads D.device areas.old payloads → KeepsPayloads D.device areas.new payloads }

@@ -1,4 +1,4 @@
--- Codes of values in turn, written behind what was there.
+-- Codes of values in order, appended to bytes.
 use Rattle.std.proofs.Common.{◌≡◌, ℕ, ◌+◌, ◌<◌, ◌≤◌, List, [], ◌∷◌, ◌++◌, length, get_or, take, sym, ap, ◌∙◌, subst, append_assoc, arith}
 use Rattle.std.specs.Vec.{vec_len, vec_capacity}
 use Rattle.std.specs.List.{flat_map, AllByRecursion}
@@ -9,14 +9,14 @@ use Rattle.std.proofs.lemmas.List.Folds.{length-flat_map-take}
 use Rattle.std.specs.declared.vec.Vec.{Vec}
 use Rattle.std.specs.declared.alloc.Global.{Global}
 
--- so many values were written, each legal
+-- These values were written, and each is legal.
 pub record AreAdded {A : Type 0} (code : A → List ℕ) (Legal : A → Type 0) (before now : Vec ℕ Global) (values : List A) : Type 0 where
   pub bytes : now.items ≡ before.items ++ flat_map code values
   pub len : vec_len now ≡ vec_len before + length (flat_map code values)
   pub grown : vec_capacity before ≤ vec_capacity now
   pub legal : AllByRecursion Legal values
 
--- the next value has its place
+-- The next value fits.
 pub has_place : {A : Type 0} (code : A → List ℕ) (Legal : A → Type 0) (before now : Vec ℕ Global) (all : List A) (i : ℕ) (x : A) → x ≡ get_or all i x → i < length all → AreAdded code Legal before now (take i all)
     → vec_len before + length (flat_map code all) ≤ vec_capacity before → vec_len now + length (code x) ≤ vec_capacity now
 has_place {A = A} code Legal before now all i x is lt added room =
@@ -28,7 +28,7 @@ all_and_one : {A : Type 0} (Legal : A → Type 0) (xs : List A) (x : A) → AllB
 all_and_one Legal [] x h l = (l, tt)
 all_and_one Legal (y ∷ ys) x h l = (h.0, all_and_one Legal ys x h.1 l)
 
--- the next value was written
+-- The next value was written.
 pub next_added : {A : Type 0} (code : A → List ℕ) (Legal : A → Type 0) (before now after : Vec ℕ Global) (all : List A) (i : ℕ) (x : A) → x ≡ get_or all i x → i < length all → AreAdded code Legal before now (take i all)
     → after.items ≡ now.items ++ code x → vec_len after ≡ vec_len now + length (code x) → vec_capacity now ≤ vec_capacity after → Legal x → AreAdded code Legal before after (take (i + 1) all)
 next_added {A = A} code Legal before now after all i x is lt added written longer grown legal =
@@ -43,9 +43,9 @@ next_added {A = A} code Legal before now after all i x is lt added written longe
     let taken : front ++ x ∷ [] ≡ take (i + 1) all = ap (λ (y : A). front ++ y ∷ []) is ∙ sym (take_more all i x lt) in
     subst (λ (xs : List A). AreAdded code Legal before after xs) taken more
 
--- ---- one code behind the other
+-- ---- one code after another
 
--- this code was put behind what was there
+-- This code was appended to the bytes.
 pub record Put (before code after : List ℕ) : Type 0 where
   pub is : after ≡ before ++ code
 
@@ -59,11 +59,11 @@ p ▷ q = Put-then _ _ _ _ _ p q
 pub put_is : (before code after : List ℕ) → after ≡ before ++ code → Put before code after
 put_is before code after written = record { is = written }
 
--- the same of a value that is another's
+-- The same for an equal value.
 pub put_as : {A : Type 0} (before after : List ℕ) (code : A → List ℕ) (put value : A) → put ≡ value → after ≡ before ++ code put → Put before (code value) after
 put_as {A = A} before after code put value same written = record { is = written ∙ ap (λ (x : A). before ++ code x) same }
 
--- ---- two codes, one behind the other
+-- ---- two codes in order
 
 pub first_fits : (first second : List ℕ) (before : Vec ℕ Global) → vec_len before + length (first ++ second) ≤ vec_capacity before → vec_len before + length first ≤ vec_capacity before
 first_fits first second before room = omega (arith, room, length-append first second)

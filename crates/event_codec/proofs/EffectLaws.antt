@@ -1,4 +1,4 @@
--- Effects that are read are those that were written, and what was written is read again.
+-- Effects that are read have these bytes as their code, and the code of effects is read as these effects.
 use Rattle.std.proofs.Common.{◌≡◌, ℕ, zero, suc, ◌+◌, ◌-◌, ◌^◌, ◌<◌, ◌≤◌, Bool, true, false, cond, eqb, List, [], ◌∷◌, ◌++◌, length, Some, None, Result, Ok, refl, sym, ap, subst, ◌∙◌, arith, inl, inr}
 use Rattle.std.specs.Prelude.{nat_le, ◌&&◌}
 use Rattle.std.specs.Int.{w8, w16, w32, to_be_bytes}
@@ -31,7 +31,7 @@ Wide n = n < 2 ^ 32
 abbrev reads_wide : Reads (number_at w32) (to_be_bytes w32) Wide
 reads_wide = reads_number w32 (2 ^ 32) wide32
 
--- an effect that its kind allows
+-- An effect that satisfies the condition of its kind.
 abbrev pub IsLegal : Effect → Type 0
 IsLegal e = IsEffect e × (names_enough e ≡ true)
 
@@ -39,7 +39,7 @@ record TakesEffect (bytes : List ℕ) (x : Effect) (rest : List ℕ) : Type 0 wh
   taken : Takes bytes (effect_code x) rest
   legal : IsLegal x
 
--- the effect that was read is the one that was meant
+-- The effect that was read is the expected one.
 told_as : (bytes : List ℕ) (y : Effect) (after : List ℕ) (x : Effect) (rest : List ℕ) → (let r : Result (Effect × List ℕ) CodecFault = Ok (y, after) in r) ≡ Ok (x, rest) → TakesEffect bytes y after → TakesEffect bytes x rest
 told_as bytes y after x rest same this = ok_as (λ (z : Effect × List ℕ). TakesEffect bytes z.0 z.1) (y, after) (x, rest) same this
 
@@ -83,7 +83,7 @@ total_again pages rest h = again-last (number_at w32) (to_be_bytes w32) Wide rea
 
 -- ---- words
 
--- so many words at least
+-- At least `least` words.
 record AreWordsFrom (least : ℕ) (words : List (List ℕ)) : Type 0 where
   count : IsIn least 65535 (length words)
   each : AllByRecursion (IsText is_reason) words
@@ -165,7 +165,7 @@ level_code level = to_be_bytes w8 (level_number level)
 is_level : (n k : ℕ) (q p : Level) → eqb n k ≡ true → level_number q ≡ k → (let r : Result Level CodecFault = Ok q in r) ≡ Ok p → n ≡ level_number p
 is_level n k q p e h same = eqb-true n k e ∙ sym h ∙ ap level_number (ok_is q p same)
 
--- this level, or one of the others
+-- This level, or one of the others.
 by_level : (n k : ℕ) (q p : Level) (others : Result Level CodecFault) → level_number q ≡ k → (others ≡ Ok p → n ≡ level_number p) → cond (eqb n k) (Ok q) others ≡ Ok p → n ≡ level_number p
 by_level n k q p others h other e =
     elim (chosen (eqb n k) (Ok q) others (Ok p) e) [
@@ -239,7 +239,7 @@ message_again level text rest h =
 
 -- ---- effects
 
--- the fields of one kind, or else those of the others
+-- The fields of one kind, or else of the other kinds.
 by_kind : (kind n : ℕ) (read : List ℕ → Field Effect) (others : Field Effect) (bytes after : List ℕ) (x : Effect) (rest : List ℕ) → Takes bytes (to_be_bytes w8 kind) after
     → (Takes bytes (to_be_bytes w8 n) after → read after ≡ Ok (x, rest) → TakesEffect bytes x rest) → (others ≡ Ok (x, rest) → TakesEffect bytes x rest)
     → cond (eqb kind n) (read after) others ≡ Ok (x, rest) → TakesEffect bytes x rest
@@ -268,7 +268,7 @@ effect_takes bytes x rest fits e =
     let d = kind_takes bytes a.value a.rest x rest a.taken a.then in
     (d.taken, d.legal)
 
--- the kind, and what is read behind it
+-- The kind, and the fields that are read after it.
 of_kind : (kind : ℕ) (more rest : List ℕ) (y : Field Effect) → kind < 2 ^ 8 → kind_of_effect kind (more ++ rest) ≡ y → effect_at ((to_be_bytes w8 kind ++ more) ++ rest) ≡ y
 unfolding effect_at
 of_kind kind more rest y small e = again-step (number_at w8) (to_be_bytes w8) Byte reads_byte kind more rest (λ kind. kind_of_effect kind.0 kind.1) y small e
@@ -288,7 +288,7 @@ reads_effect = record { takes = effect_takes; again = effect_again }
 
 -- ---- the room of one stage
 
--- what a code takes of the room
+-- The room that a code uses.
 placed : (size room left : ℕ) (fits : Bool) → nat_le size room ≡ fits → some_room (cond fits (Some (room - size)) None) ≡ Ok left → size + left ≡ room
 unfolding some_room
 placed size room left true is e =
@@ -372,12 +372,12 @@ listed_again (e ∷ es) room left rest each enough h =
     ∙ ap (λ r. r >>= λ first. list_at effect_within (length es) first.1 >>= λ others. Ok (first.0 ∷ others.0, others.1)) first
     ∙ rw (listed_again es (effects_size es + left) left rest each.1 both.1 refl) refl
 
--- the effects of one stage, each within its limits
+-- The effects of one stage, each within its limits.
 pub record IsAllEffects (es : List Effect) : Type 0 where
   pub are : AreEffects es
   pub each : AllByRecursion IsEffect es
 
--- a number, and what is read behind it
+-- A number, and the effects that are read after it.
 record Numbered (bytes : List ℕ) (es : List Effect) (rest : List ℕ) : Type 0 where
   taken : Takes bytes (effects_code es) rest
   legal : IsAllEffects es
@@ -404,7 +404,7 @@ effects_take bytes es rest fits e =
     let n = numbered_take bytes a.value a.rest es rest a.taken a.then in
     (n.taken, n.legal)
 
--- effects that were read are those of one stage
+-- Effects that were read are those of one stage.
 pub are_effects : (bytes : List ℕ) (count : ℕ) (after : List ℕ) (es : List Effect) (rest : List ℕ) → IsBytes bytes → number_at w16 bytes ≡ Ok (count, after) → listed_at count after ≡ Ok (es, rest) → AreEffects es
 are_effects bytes count after es rest fits number e =
     let t = reads_total.takes bytes count after fits number in

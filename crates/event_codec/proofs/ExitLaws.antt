@@ -1,4 +1,4 @@
--- How a child ended, when it is read, is what was written, and what was written is read again.
+-- An exit that is read has these bytes as its code, and the code of an exit is read as this exit.
 use Rattle.std.proofs.Common.{◌≡◌, ℕ, ◌^◌, ◌<◌, true, eqb, List, ◌++◌, Ok, Err, subst, ◌∙◌, arith, inl, inr}
 use Rattle.std.specs.Int.{w8, to_be_bytes}
 use Rattle.std.proofs.lemmas.Bool.{eqb-true}
@@ -17,17 +17,17 @@ record Exited (bytes : List ℕ) (x : Exit) (rest : List ℕ) : Type 0 where
   taken : Takes bytes (exit_code x) rest
   legal : IsExit x
 
--- the first byte is the one that was looked for
+-- The first byte is this kind.
 pub of_byte : (bytes : List ℕ) (kind k : ℕ) (after : List ℕ) → Takes bytes (to_be_bytes w8 kind) after → eqb kind k ≡ true → Takes bytes (to_be_bytes w8 k) after
 of_byte bytes kind k after t e = subst (λ (n : ℕ). Takes bytes (to_be_bytes w8 n) after) (eqb-true kind k e) t
 
--- an end of one byte
+-- An exit of one byte.
 bare : (bytes after : List ℕ) (y x : Exit) (rest : List ℕ) → Takes bytes (exit_code y) after → IsExit y → done {A = Exit × List ℕ} (y, after) ≡ Ok (x, rest) → Exited bytes x rest
 bare bytes after y x rest t legal same =
     let this : Exited bytes y after = record { taken = t; legal = legal } in
     ok_as (λ (z : Exit × List ℕ). Exited bytes z.0 z.1) (y, after) (x, rest) same this
 
--- an end with a status
+-- An exit with a status.
 coded : (bytes after : List ℕ) (x : Exit) (rest : List ℕ) → Takes bytes (to_be_bytes w8 0) after → status_at after ≡ Ok (x, rest) → Exited bytes x rest
 unfolding status_at
 coded bytes after x rest t e =

@@ -1,4 +1,4 @@
--- A field that is read is the field that was written, and what was written is read again.
+-- A field that is read has these bytes as its code, and the code of a field is read as this field.
 use Rattle.std.proofs.Common.{◌≡◌, ℕ, ◌+◌, ◌^◌, ◌<◌, ◌≤◌, Bool, true, false, cond, ltb, List, [], ◌∷◌, ◌++◌, length, get_or, take, drop, Result, Ok, Err, refl, sym, ap, subst, ◌∙◌, append_assoc, arith, inl, inr}
 use Rattle.std.specs.Int.{Width, w8, w16, w32, w64, byte_len, from_be_bytes, to_be_bytes}
 use Rattle.std.specs.Prelude.{nat_le, ◌&&◌}
@@ -25,7 +25,7 @@ IsBytes-take n bytes h i =
       | inr le ↦ rw (get_or_past (take n bytes) i 0 (omega (arith, length-take n bytes))) (omega arith)
     ]
 
--- the value of a step that did not fail
+-- The value of a step that did not fail.
 pub record Stepped {A B : Type 0} (r : Result A CodecFault) (f : A → Result B CodecFault) (y : B) : Type 0 where
   pub value : A
   pub was : r ≡ Ok value
@@ -35,7 +35,7 @@ pub bind_ok : {A B : Type 0} (r : Result A CodecFault) (f : A → Result B Codec
 bind_ok (Ok x) f y e = record { value = x; was = refl; then = e }
 bind_ok (Err d) f y e = absurd cc
 
--- tests that did not fail
+-- Tests that did not fail.
 pub guard_ok : {A : Type 0} (b : Bool) (d : CodecFault) (x y : A) → cond b (Err d) (Ok x) ≡ Ok y → (b ≡ false) × (x ≡ y)
 guard_ok true d x y e = absurd cc
 guard_ok false d x y e = (refl, cc)
@@ -50,15 +50,15 @@ done x = Ok x
 pub ok_is : {A : Type 0} (x y : A) → done x ≡ done y → x ≡ y
 ok_is x y e = cc
 
--- what holds of a value holds of one that is equal, with both written out
+-- A property of a value is one of an equal value, with both written out.
 pub subst_at : {A : Type 0} (P : A → Type 0) (x y : A) → x ≡ y → P x → P y
 subst_at P x y same this = subst P same this
 
--- what holds of a value holds of the value that was read
+-- A property of a value is one of the value that was read.
 pub ok_as : {A : Type 0} (P : A → Type 0) (x y : A) → done x ≡ done y → P x → P y
 ok_as P x y e this = subst P (ok_is x y e) this
 
--- what a reader took from the front
+-- The bytes that a reader took from the front.
 pub record Takes (bytes text rest : List ℕ) : Type 0 where
   pub parts : bytes ≡ text ++ rest
   pub rest_fits : IsBytes rest
@@ -66,17 +66,17 @@ pub record Takes (bytes text rest : List ℕ) : Type 0 where
 pub Takes-then : (a x b y c : List ℕ) → Takes a x b → Takes b y c → Takes a (x ++ y) c
 Takes-then a x b y c p q = record { parts = p.parts ∙ ap (λ (t : List ℕ). x ++ t) q.parts ∙ sym (append_assoc x y c); rest_fits = q.rest_fits }
 
--- what one reader took, and what the next took behind it
+-- The bytes that two readers took, in order.
 infixl 10 ◌⨾◌
 pub ◌⨾◌ : {a x b y c : List ℕ} → Takes a x b → Takes b y c → Takes a (x ++ y) c
 p ⨾ q = Takes-then _ _ _ _ _ p q
 
--- what a reader reads, by the code and the limits of a value
+-- A reader, by the code and the limits of a value.
 pub record Reads {A : Type 0} (read : List ℕ → Field A) (code : A → List ℕ) (Legal : A → Type 0) : Type 0 where
   pub takes : (bytes : List ℕ) (x : A) (rest : List ℕ) → IsBytes bytes → read bytes ≡ Ok (x, rest) → Takes bytes (code x) rest × Legal x
   pub again : (x : A) (rest : List ℕ) → Legal x → read (code x ++ rest) ≡ Ok (x, rest)
 
--- what a step took, where more came after it
+-- The bytes that a step took, if more steps follow.
 pub record Got {A B : Type 0} (code : A → List ℕ) (Legal : A → Type 0) (bytes : List ℕ) (f : A × List ℕ → Result B CodecFault) (y : B) : Type 0 where
   pub value : A
   pub rest : List ℕ
@@ -90,7 +90,7 @@ got read code Legal reads bytes f y fits e =
     let t = reads.takes bytes s.value.0 s.value.1 fits s.was in
     record { value = s.value.0; rest = s.value.1; taken = t.0; legal = t.1; then = s.then }
 
--- what was written is read again, with more after it
+-- The code of a value is read as this value, if more bytes follow.
 pub again-then : {A B : Type 0} (read : List ℕ → Field A) (code : A → List ℕ) (Legal : A → Type 0) → Reads read code Legal → (x : A) (more rest : List ℕ) (f : A × List ℕ → Result B CodecFault) → Legal x → (read ((code x ++ more) ++ rest) >>= f) ≡ f (x, more ++ rest)
 again-then read code Legal reads x more rest f legal =
     ap (λ (t : List ℕ). read t >>= f) (append_assoc (code x) more rest) ∙ ap (λ r. r >>= f) (reads.again x (more ++ rest) legal)
@@ -98,11 +98,11 @@ again-then read code Legal reads x more rest f legal =
 pub again-last : {A B : Type 0} (read : List ℕ → Field A) (code : A → List ℕ) (Legal : A → Type 0) → Reads read code Legal → (x : A) (rest : List ℕ) (f : A × List ℕ → Result B CodecFault) → Legal x → (read (code x ++ rest) >>= f) ≡ f (x, rest)
 again-last read code Legal reads x rest f legal = ap (λ r. r >>= f) (reads.again x rest legal)
 
--- the same, where what comes after is known
+-- The same, if the result of the following steps is known.
 pub again-step : {A B : Type 0} (read : List ℕ → Field A) (code : A → List ℕ) (Legal : A → Type 0) → Reads read code Legal → (x : A) (more rest : List ℕ) (f : A × List ℕ → Result B CodecFault) (y : Result B CodecFault) → Legal x → f (x, more ++ rest) ≡ y → (read ((code x ++ more) ++ rest) >>= f) ≡ y
 again-step read code Legal reads x more rest f y legal e = again-then read code Legal reads x more rest f legal ∙ e
 
--- a value, and then the value that it is a part of
+-- A value, followed by the rest of the value that contains it.
 pub reads_then : {A B : Type 0} (first : List ℕ → Field A) (code : A → List ℕ) (Legal : A → Type 0) (second : A → List ℕ → Field B) (more : B → List ℕ) (Rest : B → Type 0) (part : B → A) → Reads first code Legal → ((a : A) → Reads (second a) more (λ b. (part b ≡ a) × Rest b))
     → Reads (λ bytes. first bytes >>= λ a. second a.0 a.1) (λ b. code (part b) ++ more b) (λ b. Legal (part b) × Rest b)
 reads_then {A = A} first code Legal second more Rest part reads others = record {

@@ -1,4 +1,4 @@
--- A policy and filters that are read are those that were written, and what was written is read again.
+-- A policy and filters that are read have these bytes as their code, and their code is read as them.
 use Rattle.std.proofs.Common.{◌≡◌, ℕ, ◌^◌, ◌<◌, Bool, true, false, cond, eqb, List, ◌++◌, length, Option, Some, None, Result, Ok, Err, refl, sym, ap, subst, ◌∙◌, arith, ◌⊎◌, inl, inr}
 use Rattle.std.specs.List.{flat_map}
 use Rattle.std.specs.Int.{w8, to_be_bytes}
@@ -14,7 +14,7 @@ use Rattle.event_codec.proofs.FieldLaws.{IsBytes, bind_ok, ok_is, Takes, Takes-t
 use Rattle.event_codec.proofs.ListLaws.{list_takes, list_again}
 use Rattle.event_codec.proofs.TextLaws.{reads_filter_name}
 
--- which way a test went
+-- The branch that a test selected.
 pub chosen : {A : Type 0} (b : Bool) (x y z : A) → cond b x y ≡ z → ((b ≡ true) × (x ≡ z)) ⊎ ((b ≡ false) × (y ≡ z))
 chosen true x y z e = inl (refl, e)
 chosen false x y z e = inr (refl, e)
@@ -109,7 +109,7 @@ filters_again fs rest h =
 pub reads_few : Reads filters_at counted_code AreFew
 reads_few = record { takes = filters_take; again = filters_again }
 
--- ---- and whether there are any
+-- ---- optional filters
 
 record Maybe (bytes : List ℕ) (o : Option (List (List ℕ))) (rest : List ℕ) : Type 0 where
   taken : Takes bytes (filters_code o) rest

@@ -1,4 +1,4 @@
--- A flag and a hold's end that are read are those that were written, and what was written is read again.
+-- A flag and a hold's end that are read have these bytes as their code, and their code is read as them.
 use Rattle.std.proofs.Common.{◌≡◌, ℕ, ◌^◌, ◌<◌, Bool, true, false, cond, eqb, List, ◌++◌, Option, Some, None, Ok, Err, refl, ap, subst, ◌∙◌, arith, inl, inr}
 use Rattle.std.specs.Int.{w8, w64, to_be_bytes}
 use Rattle.std.proofs.lemmas.Bool.{eqb-true}

@@ -1,4 +1,4 @@
--- Values in turn that are read are those that were written, and what was written is read again.
+-- Values in order that are read have these bytes as their code, and their code is read as these values.
 use Rattle.std.proofs.Common.{◌≡◌, ℕ, zero, suc, List, [], ◌∷◌, ◌++◌, length, Ok, refl, ap, ◌∙◌}
 use Rattle.std.specs.List.{flat_map, AllByRecursion}
 use Rattle.std.proofs.lemmas.List.Concat.{flat_map-cons}

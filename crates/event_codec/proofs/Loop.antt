@@ -1,15 +1,15 @@
--- Reading values one after the other, as a loop does.
+-- Reading values in order in a loop.
 use Rattle.std.proofs.Common.{◌≡◌, ℕ, suc, ◌-◌, ◌+◌, ◌≤◌, ◌<◌, List, [], ◌∷◌, ◌++◌, length, Result, Ok, Err, refl, sym, ap, ◌∙◌, append_assoc, arith}
 use Rattle.std.proofs.lemmas.List.{append-nil}
 use Rattle.field_codec.specs.declared.fault.CodecFault.{CodecFault}
 use Rattle.field_codec.specs.declared.fault.CodecFault.TheVariants.{Kind, Length, Range, Utf8, Memory}
 use Rattle.event_codec.specs.EventReading.{◌>>=◌, Fails, list_at}
 
--- values, and what they were read from after that
+-- Values, and the input that remains after them.
 abbrev pub Listing : Type 0 → Type 0 → Type 0
 Listing A T = Result (List A × T) CodecFault
 
--- what was read before, and what is still read
+-- The values that were read before, followed by the remaining ones.
 abbrev pub with_front : {A T : Type 0} → List A → Listing A T → Listing A T
 with_front front read = read >>= λ x. Ok (front ++ x.0, x.1)
 
@@ -48,7 +48,7 @@ is_done {A = A} one front count i from total le so_far =
     let step : with_front front (list_at one (count - i) from) ≡ Ok (front, from) = rw k (ap (λ (fs : List A). Ok (fs, from)) (append-nil front)) in
     sym so_far ∙ step
 
--- what the loop keeps
+-- The invariant of the loop.
 pub record IsFront {A T : Type 0} (one : T → Result (A × T) CodecFault) (front : List A) (count i : ℕ) (start from : T) : Type 0 where
   pub read : with_front front (list_at one (count - i) from) ≡ list_at one count start
   pub counted : length front ≡ i
@@ -62,7 +62,7 @@ front_starts one count start =
     let k : count - 0 ≡ count = omega arith in
     record { read = rw k (nothing_before (list_at one count start)); counted = refl }
 
--- a fault stays the fault of what would have come after it
+-- An error is also the error of the steps that would have followed.
 pub fails_then : {A B : Type 0} (e : CodecFault) (r : Result A CodecFault) (f : A → Result B CodecFault) → Fails e r → Fails e (r >>= f)
 fails_then Kind r f h = rw h refl
 fails_then Length r f h = rw h refl

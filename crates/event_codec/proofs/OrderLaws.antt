@@ -1,4 +1,5 @@
--- Items in ascending order that are read are those that were written, and what was written is read again.
+-- Items in ascending order that are read have these bytes as their code, and the code of such items is read as these
+-- items.
 use Rattle.std.proofs.Common.{◌≡◌, ℕ, zero, suc, ◌-◌, ◌^◌, ◌≤◌, true, List, [], ◌∷◌, ◌++◌, length, map, Option, Some, None, Ok, refl, sym, ap, subst, ◌∙◌, append_assoc, length-append, arith}
 use Rattle.std.specs.Int.{w8, to_be_bytes}
 use Rattle.std.specs.List.{flat_map, AllByRecursion}
@@ -15,7 +16,7 @@ use Rattle.event_codec.specs.RowReading.{last_of, is_above, Item, reason_after, 
 use Rattle.event_codec.proofs.FieldLaws.{IsBytes, bind_ok, passed_ok, ok_is, Takes, Takes-then, Reads, got, again-then, again-last, wide8, reads_ranged, ok_as}
 use Rattle.event_codec.proofs.TextLaws.{reads_reason, reads_attribute_name, reads_message}
 
--- the last of texts that were pushed one by one
+-- The last of a list of texts is the text that was pushed last.
 pub last_pushed : (texts : List (List ℕ)) (text : List ℕ) → last_of (texts ++ text ∷ []) ≡ Some text
 last_pushed texts text =
     let k : length (texts ++ text ∷ []) - 1 ≡ length texts = omega (arith, length-append texts (text ∷ [])) in
@@ -28,7 +29,7 @@ names_pushed (a ∷ attributes) x = ap (λ (l : List (List ℕ)). a.name ∷ l) 
 pub last_name_pushed : (attributes : List Attribute) (x : Attribute) → last_of (map name_of (attributes ++ x ∷ [])) ≡ Some x.name
 last_name_pushed attributes x = ap last_of (names_pushed attributes x) ∙ last_pushed (map name_of attributes) x.name
 
--- what was read behind an item of a key
+-- The item that was read after one with this key.
 pub record After {A : Type 0} (key : A → List ℕ) (code : A → List ℕ) (Legal : A → Type 0) (before : Option (List ℕ)) (bytes : List ℕ) (x : A) (next : Option (List ℕ)) (rest : List ℕ) : Type 0 where
   pub taken : Takes bytes (code x) rest
   pub legal : Legal x
@@ -79,7 +80,7 @@ ordered_takes {A = A} one key code Legal reads (suc n) before bytes xs next rest
     let ascend : AscendFrom key (Some (key a.value.0)) b.value.0 = subst (λ (k : Option (List ℕ)). AscendFrom key k b.value.0) f.next_is others.ascend in
     ok_as (λ (y : List A × (Option (List ℕ) × List ℕ)). Ordered key code Legal before (suc n) bytes y.0 y.1.1) (a.value.0 ∷ b.value.0, b.value.1) (xs, (next, rest)) b.then (record { taken = rw flat_map-cons both; count = ap suc others.count; legal = (f.legal, others.legal); ascend = (f.above, ascend) })
 
--- the key of the last item, or of the one before them all
+-- The key of the last item, or the key before all items if there are none.
 abbrev end_of : {A : Type 0} → (A → List ℕ) → Option (List ℕ) → List A → Option (List ℕ)
 end_of key before [] = before
 end_of key before (x ∷ xs) = end_of key (Some (key x)) xs
@@ -94,7 +95,7 @@ ordered_again one key code Legal reads before (x ∷ xs) rest h ascend =
     ∙ ap (λ r. r >>= λ first. list_at one (length xs) first.1 >>= λ others. Ok (first.0 ∷ others.0, others.1)) (reads.again before x (flat_map code xs ++ rest) h.0 ascend.0)
     ∙ rw (ordered_again one key code Legal reads (Some (key x)) xs rest h.1 ascend.1) refl
 
--- ---- such a list with the number of its items
+-- ---- such a list, after the number of its items
 
 abbrev reads_few : Reads (ranged_at 0 64 w8) (to_be_bytes w8) (IsIn 0 64)
 reads_few = reads_ranged 0 64 w8 (2 ^ 8) wide8 (omega arith)

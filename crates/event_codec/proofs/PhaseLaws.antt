@@ -1,4 +1,4 @@
--- A phase that is read is the one that was written, and what was written is read again.
+-- A phase that is read has these bytes as its code, and the code of a phase is read as this phase.
 use Rattle.std.proofs.Common.{◌≡◌, ℕ, ◌^◌, ◌<◌, Bool, true, eqb, List, ◌++◌, Ok, refl, ap, subst, ◌∙◌, arith, inl, inr}
 use Rattle.std.specs.Int.{w8, w64, to_be_bytes}
 use Rattle.std.proofs.lemmas.Bool.{eqb-true}
@@ -24,7 +24,7 @@ use Rattle.event_codec.proofs.EventLaws.{nested3, reads_stage_number}
 
 -- ---- reasons
 
--- the value that a number was taken for has that number
+-- The value that a number was mapped to has that number.
 is_number : {A : Type 0} (number : A → ℕ) (n k : ℕ) (q p : A) → eqb n k ≡ true → k ≡ number q → done q ≡ Ok p → n ≡ number p
 is_number number n k q p e h same = eqb-true n k e ∙ h ∙ ap number (ok_is q p same)
 
@@ -88,13 +88,13 @@ abort_reason_small RetryLimit = omega arith
 abort_reason_small AttemptLost = omega arith
 abort_reason_small NoFilter = omega arith
 
--- ---- what holds a job
+-- ---- holds
 
 record Held (bytes : List ℕ) (x : Hold) (rest : List ℕ) : Type 0 where
   taken : Takes bytes (holding_code x) rest
   legal : IsHolding x
 
--- the hold that was read is the one that was meant
+-- The hold that was read is the expected one.
 held_as : (bytes : List ℕ) (y : Hold) (after : List ℕ) (x : Hold) (rest : List ℕ) → done {A = Hold × List ℕ} (y, after) ≡ Ok (x, rest) → Held bytes y after → Held bytes x rest
 held_as bytes y after x rest same this = ok_as (λ (z : Hold × List ℕ). Held bytes z.0 z.1) (y, after) (x, rest) same this
 
@@ -158,7 +158,7 @@ reads_holding = record { takes = holding_takes; again = holding_again }
 
 -- ---- phases
 
--- the attempt and the stages of a processing job are these
+-- The attempt and the stages of a processing job.
 pub record IsNewest (attempts stages attempt stage of_all : ℕ) : Type 0 where
   pub newest : attempt ≡ attempts
   pub stage_is : IsIn 1 16 stage

@@ -1,4 +1,5 @@
--- The laws of rows: what is read is spelled so, what is spelled so is read, and no row is spelled as an event is.
+-- The laws of rows: a row that is read has these bytes as its spelling, a spelling is read as its row, and no row's
+-- spelling begins like that of an event.
 use Rattle.std.proofs.Common.{◌≡◌, ℕ, suc, ◌+◌, ◌^◌, ◌<◌, ◌≤◌, true, cond, eqb, ltb, List, [], ◌∷◌, ◌++◌, length, Option, Some, None, Result, Ok, Err, refl, sym, ap, subst, ◌∙◌, arith, inl, inr, append_assoc}
 use Rattle.std.specs.Prelude.{IfOk}
 use Rattle.std.specs.Int.{w8, w32, w64, to_be_bytes}
@@ -42,7 +43,7 @@ reads_highest = reads_ranged 0 greatest_number w32 (2 ^ 32) wide32 (omega arith)
 abbrev reads_size : Reads (ranged_at 0 longest_document w32) (to_be_bytes w32) (IsIn 0 longest_document)
 reads_size = reads_ranged 0 longest_document w32 (2 ^ 32) wide32 (omega arith)
 
--- a row that was read behind its first byte
+-- A row that was read after its first byte.
 record Spelled (version : Version) (kind : ℕ) (bytes : List ℕ) (x : Row × List ℕ) : Type 0 where
   taken : Takes (kind ∷ bytes) (row_spelling version x.0) x.1
   legal : IsRowSpellable version x.0
@@ -65,11 +66,11 @@ head_again version h rest is =
 
 -- ---- queues
 
--- what is told of a queue, and what became of it
+-- The descriptions and the state of a queue.
 abbrev HasState : QueueRow → Type 0
 HasState q = IsQueueState q × IsOrderedQueue q
 
--- the row of a queue that was added so, by what became of it
+-- The row of a queue with these fields of AddQueue, and with the state that is read.
 abbrev told_at : NewQueue → List ℕ → Field QueueRow
 told_at n bytes = queue_state_at bytes >>= λ state. Ok (queue_row n state.0, state.1)
 
@@ -139,7 +140,7 @@ queue_row_again : (version : Version) (q : QueueRow) (rest : List ℕ) → IsRow
 unfolding queue_row_at
 queue_row_again version q rest is = again-last listed_queue_at queue_row_code IsListedQueue reads_listed_queue q rest _ (is.fields.added, (is.fields.state, is.legal))
 
--- ---- jobs: as they were created
+-- ---- jobs: the fields of Create
 
 created_takes : (bytes : List ℕ) (n : NewJob) (rest : List ℕ) → IsBytes bytes → created_at bytes ≡ Ok (n, rest) → Takes bytes (created_code n) rest × IsJob n
 unfolding created_at
@@ -162,7 +163,7 @@ created_again n rest h =
 reads_created : Reads created_at created_code IsJob
 reads_created = record { takes = created_takes; again = created_again }
 
--- ---- and their media types
+-- ---- their media types
 
 record Typed (bytes : List ℕ) (o : Option (List ℕ)) (rest : List ℕ) : Type 0 where
   taken : Takes bytes (typed_code o) rest
@@ -205,7 +206,7 @@ typed_again (Some media) rest h =
 reads_typed : Reads typed_at typed_code IsTyped
 reads_typed = record { takes = typed_takes; again = typed_again }
 
--- ---- and the moments by which they are to start
+-- ---- the deadlines of their starts
 
 record Due (version : Version) (bytes : List ℕ) (o : Option ℕ) (rest : List ℕ) : Type 0 where
   taken : Takes bytes (by_code version o) rest
@@ -250,7 +251,7 @@ by_again Two (Some m) rest h =
     again-then (number_at w8) (to_be_bytes w8) Byte reads_byte 1 (to_be_bytes w64 m) rest (λ flag. flagged_by_at flag.0 flag.1) (omega arith)
     ∙ again-last (ranged_at 0 greatest_moment w64) (to_be_bytes w64) (IsIn 0 greatest_moment) reads_moment m rest (λ m. Ok (Some m.0, m.1)) h
 
--- ---- what became of a job
+-- ---- the state of a job
 
 moments_of : (a n : ℕ) (p : Phase) → IsPhaseFor a n p → HasMoments p
 moments_of a n (Incoming hold) h = h
@@ -279,11 +280,11 @@ phase_for r (Aborted reason) m h = tt
 all_wide : (n : ℕ) → n < 2 ^ 32 → IsIn 0 4294967295 n
 all_wide n lt = record { at_least = omega arith; at_most = omega (arith, lt) }
 
--- what became of a job
+-- The state of a job.
 abbrev HasBecome : Version → JobOf → Type 0
 HasBecome version r = (IsJobState r × IsLegalJob r) × IsBy version r.by
 
--- the row of a job that was created so, by what became of it
+-- The row of a job with these fields of Create, and with the state that is read.
 abbrev become_at : Version → NewJob → List ℕ → Field JobOf
 become_at version n bytes = job_state_at bytes >>= λ state. by_at version state.1 >>= λ by. Ok (job_row n state.0 by.0, by.1)
 
@@ -378,7 +379,7 @@ piece_row_again version j bytes rest is =
 
 -- ---- rows
 
--- the fields of one kind, or else those of the others
+-- The fields of one kind, or else of the other kinds.
 by_kind : (version : Version) (kind n : ℕ) (read : List ℕ → Field Row) (others : Field Row) (bytes : List ℕ) (x : Row × List ℕ) → (read bytes ≡ Ok x → Spelled version n bytes x) → (others ≡ Ok x → Spelled version kind bytes x)
     → cond (eqb kind n) (read bytes) others ≡ Ok x → Spelled version kind bytes x
 by_kind version kind n read others bytes x this other e =

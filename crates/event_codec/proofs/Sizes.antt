@@ -1,4 +1,4 @@
--- How many bytes the codes of effects have.
+-- The number of bytes of the codes of effects.
 use Rattle.std.proofs.Common.{◌≡◌, ℕ, ◌+◌, ◌≤◌, List, [], ◌∷◌, length, refl, ap, ◌∙◌, arith}
 use Rattle.std.specs.List.{flat_map}
 use Rattle.std.proofs.lemmas.List.{length-append}
@@ -32,7 +32,7 @@ listed_size (e ∷ es) =
 pub effects_code_size : (es : List Effect) → length (effects_code es) ≡ 2 + effects_size es
 effects_code_size es = omega (arith, listed_size es)
 
--- each effect has a byte at least
+-- Each effect has at least one byte.
 one_byte_at_least : (e : Effect) → 1 ≤ effect_size e
 one_byte_at_least (Pages page copies) = omega arith
 one_byte_at_least (TotalPages pages) = omega arith

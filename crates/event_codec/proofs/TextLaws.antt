@@ -1,4 +1,4 @@
--- A text of each kind is shorter than its two bytes of length can say, and so it is read again.
+-- A text of each kind is shorter than the maximum of its two-byte length, so it is read again.
 use Rattle.std.proofs.Common.{◌≡◌, ℕ, ◌<◌, ◌^◌, Bool, true, false, length, refl, arith}
 use Rattle.std.specs.Prelude.{nat_le, ◌&&◌}
 use Rattle.std.proofs.lemmas.Bool.Decides.{nat_tests}

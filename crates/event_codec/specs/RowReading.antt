@@ -1,4 +1,4 @@
--- Reading a row of a listing from left to right, with the first fault that is met.
+-- Reading a row of a listing from left to right, up to the first error.
 use Rattle.std.specs.Prelude.{ℕ, ◌+◌, ◌-◌, List, slice_get, [], ◌∷◌, length, Bool, true, false, Option, Some, None, Result, Ok, Err, is_ok, ◌==◌, if◌then◌else◌}
 use Rattle.std.specs.Int.{w8, w32, w64}
 use Rattle.std.specs.Ordering.{nat_cmp, is_lt}
@@ -81,7 +81,7 @@ waiting_at bytes = do
   first ← flag_at moment.1
   Ok (Waiting hold.0 moment.0 first.0, first.1)
 
--- Of these attempts it is the newest, and it has so many stages.
+-- The attempt is the newest, and there are this many stages.
 unfoldable pub processing_at : ℕ → ℕ → List ℕ → Field Phase
 processing_at attempts stages bytes = do
   stage ← ranged_at 1 16 w8 bytes
@@ -103,13 +103,13 @@ kind_of_phase attempts stages kind bytes =
     else if kind == 5 then aborted_at bytes
     else Err Range
 
--- the phase of a job that was started so often, with so many stages
+-- The phase of a job with this number of attempts and stages.
 unfoldable pub phase_at : ℕ → ℕ → List ℕ → Field Phase
 phase_at attempts stages bytes = do
   kind ← number_at w8 bytes
   kind_of_phase attempts stages kind.0 kind.1
 
--- ---- a media type that may be missing, and lists in ascending order
+-- ---- an optional media type, and lists in ascending order
 
 unfoldable pub some_media_at : List ℕ → Field (Option (List ℕ))
 some_media_at bytes = do
@@ -127,16 +127,16 @@ typed_at bytes = do
   flag ← number_at w8 bytes
   flagged_media_at flag.0 flag.1
 
--- the last text of those that were read
+-- The last of the texts that were read.
 abbrev pub last_of : List (List ℕ) → Option (List ℕ)
 last_of texts = slice_get texts (length texts - 1)
 
--- a text is above the one before it, where there is one
+-- A text is above the previous one, if there is one.
 abbrev pub is_above : Option (List ℕ) → List ℕ → Bool
 is_above None text = true
 is_above (Some before) text = is_lt (slice_cmp nat_cmp before text)
 
--- an item behind one of this key: its own key, and the bytes after it
+-- An item after one with this key: the item, its own key, and the bytes after it.
 abbrev pub Item : Type 0 → Type 0
 Item A = Result (A × (Option (List ℕ) × List ℕ)) CodecFault
 
@@ -146,7 +146,7 @@ reason_after from = do
   reason ← checked (is_above from.0 text.0) text.0
   Ok (reason, (Some reason, text.1))
 
--- a name that isn't above the one before it is a fault before its value is looked at
+-- A name that is not above the previous one is an error before its value is read.
 unfoldable pub attribute_after : Option (List ℕ) × List ℕ → Item Attribute
 attribute_after from = do
   text ← text_at is_attribute_name from.1
@@ -154,7 +154,7 @@ attribute_after from = do
   value ← text_at is_message text.1
   Ok (record { name = name; value = value.0 }, (Some name, value.1))
 
--- so many items, each above the one before it
+-- The items, which follow their number, each above the previous one.
 unfoldable pub ascending_at : {A : Type 0} → (Option (List ℕ) × List ℕ → Item A) → List ℕ → Field (List A)
 ascending_at one bytes = do
   count ← ranged_at 0 64 w8 bytes
@@ -175,7 +175,7 @@ head_at bytes = do
   moment ← ranged_at 0 greatest_moment w64 highest.1
   Ok (Head (record { highest = highest.0; moment = moment.0 }), moment.1)
 
--- what is told of a queue, and what became of it
+-- The descriptions and the state of a queue.
 unfoldable pub queue_state_at : List ℕ → Field QueueState
 queue_state_at bytes = do
   info ← text_at is_note bytes
@@ -187,7 +187,7 @@ queue_state_at bytes = do
   attributes ← attributes_at reasons.1
   Ok (record { info = info.0; location = location.0; accepting = accepting.0; stopped = stopped.0; message = message.0; reasons = reasons.0; attributes = attributes.0 }, attributes.1)
 
--- the row of a queue that was added so, and became this
+-- The row of a queue with these fields of AddQueue and this state.
 abbrev pub queue_row : NewQueue → QueueState → QueueRow
 queue_row queue state = record { name = queue.name; uri = queue.uri; target = queue.target; policy = queue.policy; interval = queue.interval; limit = queue.limit; info = state.info; location = state.location; accepting = state.accepting; stopped = state.stopped; message = state.message; reasons = state.reasons; attributes = state.attributes }
 
@@ -208,7 +208,7 @@ created_at bytes = do
   queue ← text_at is_queue_name job.1
   ticket_at queue.0 job.0 queue.1
 
--- what became of a job
+-- The state of a job.
 unfoldable pub job_state_at : List ℕ → Field JobState
 job_state_at bytes = do
   media ← typed_at bytes
@@ -219,7 +219,7 @@ job_state_at bytes = do
   phase ← phase_at attempts.0 (length filters.0 + 1) size.1
   Ok (record { media = media.0; filters = filters.0; attempts = attempts.0; pages = pages.0; size = size.0; phase = phase.0 }, phase.1)
 
--- the moment by which a job is to start, where it has one
+-- The moment by which a job must start, if it has one.
 unfoldable pub some_by_at : List ℕ → Field (Option ℕ)
 some_by_at bytes = do
   moment ← ranged_at 0 greatest_moment w64 bytes
@@ -237,7 +237,7 @@ by_at Two bytes = do
   flag ← number_at w8 bytes
   flagged_by_at flag.0 flag.1
 
--- the row of a job that was created so, became this, and is to start by this moment
+-- The row of a job with these fields of Create and this state, which must start by this moment.
 abbrev pub job_row : NewJob → JobState → Option ℕ → JobOf
 job_row job state by = record { id = job.job; queue = job.queue; user = job.user; title = job.title; copies = job.copies; priority = job.priority; options = job.options; media = state.media; filters = state.filters; attempts = state.attempts; pages = state.pages; size = state.size; phase = state.phase; by = by }
 
@@ -259,7 +259,7 @@ piece_row_at bytes = do
   piece ← piece_at 1 job.1
   Ok (Piece job.0 piece.0, piece.1)
 
--- the fields of a row of this kind
+-- The fields of a row of this kind.
 unfoldable pub row_fields_at : Version → ℕ → List ℕ → Field Row
 row_fields_at version kind bytes =
     if kind == 0x40 then head_at bytes
@@ -272,17 +272,17 @@ unfoldable pub row_at : Version → List ℕ → Field Row
 row_at version [] = Err Length
 row_at version (kind ∷ bytes) = row_fields_at version kind bytes
 
--- the row that all of the bytes spell in this version
+-- The row that all the bytes encode in this version.
 abbrev pub row_reading : Version → List ℕ → Result Row CodecFault
 row_reading version payload = whole (row_at version payload)
 
--- ---- memory: where reading comes to a value that is kept in memory of its own
+-- ---- memory: whether reading reaches a value that is copied
 
--- the name of a job's queue
+-- The name of a job's queue.
 unfoldable pub job_row_copies : List ℕ → Bool
 job_row_copies bytes = is_ok (ranged_at 1 greatest_number w32 bytes >>= λ job. text_at is_queue_name job.1)
 
--- the first text of a row of this kind is there as it should be, or the bytes of a piece
+-- The first text of a row of this kind, or the bytes of a piece, are valid.
 unfoldable pub row_fields_copy : ℕ → List ℕ → Bool
 row_fields_copy kind bytes =
     if kind == 0x41 then is_ok (text_at is_queue_name bytes)
@@ -290,7 +290,7 @@ row_fields_copy kind bytes =
     else if kind == 0x43 then is_ok (piece_row_at bytes)
     else false
 
--- Whether a value is copied before the first fault.
+-- A value is copied before the first error.
 unfoldable pub reaches_row_copy : List ℕ → Bool
 reaches_row_copy [] = false
 reaches_row_copy (kind ∷ bytes) = row_fields_copy kind bytes

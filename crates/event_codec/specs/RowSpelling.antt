@@ -1,4 +1,4 @@
--- The one spelling of each row of a listing in bytes.
+-- The spelling of each row of a listing.
 use Rattle.std.specs.Prelude.{◌≡◌, ℕ, ◌+◌, ◌≤◌, Bool, true, List, [], ◌∷◌, ◌++◌, length, map, Option, None, Some}
 use Rattle.std.specs.List.{flat_map, AllByRecursion}
 use Rattle.std.specs.Int.{w8, w32, w64, to_be_bytes}
@@ -48,7 +48,7 @@ abort_reason_number NoFilter = 4
 abbrev pub waiting_code : Hold → ℕ → Bool → List ℕ
 waiting_code hold not_before first = holding_code hold ++ to_be_bytes w64 not_before ++ flag_code first
 
--- The attempt of a processing job is the one that its row counts, and its stages are its filters and one.
+-- The attempt of a processing job is the number of attempts of its row, and its stages are its filters and the backend.
 abbrev pub phase_code : Phase → List ℕ
 phase_code (Incoming hold) = to_be_bytes w8 0 ++ holding_code hold
 phase_code (Waiting hold not_before first) = to_be_bytes w8 1 ++ waiting_code hold not_before first
@@ -57,18 +57,18 @@ phase_code Completed = to_be_bytes w8 3
 phase_code Canceled = to_be_bytes w8 4
 phase_code (Aborted reason) = to_be_bytes w8 5 ++ to_be_bytes w8 (abort_reason_number reason)
 
--- 0 where the job has no media type yet; else 1, and the type
+-- 0 if the job has no media type yet; otherwise 1, and the type.
 abbrev pub typed_code : Option (List ℕ) → List ℕ
 typed_code None = to_be_bytes w8 0
 typed_code (Some media) = to_be_bytes w8 1 ++ text_code media
 
--- 0 where the job may start at any time; else 1, and the moment by which it is to start. Version 1 has no such field
+-- 0 if the job may start at any time; otherwise 1, and the moment by which it must start. Version 1 has no such field.
 abbrev pub by_code : Version → Option ℕ → List ℕ
 by_code One by = []
 by_code Two None = to_be_bytes w8 0
 by_code Two (Some m) = to_be_bytes w8 1 ++ to_be_bytes w64 m
 
--- how many attributes there are in one byte, and each of them
+-- The number of attributes in one byte, and each attribute.
 abbrev pub attributes_code : List Attribute → List ℕ
 attributes_code attributes = to_be_bytes w8 (length attributes) ++ flat_map attribute_code attributes
 
@@ -77,11 +77,11 @@ attributes_code attributes = to_be_bytes w8 (length attributes) ++ flat_map attr
 abbrev pub head_code : HeadOf → List ℕ
 head_code head = to_be_bytes w32 head.highest ++ to_be_bytes w64 head.moment
 
--- the queue as it was added
+-- The queue with the fields of its AddQueue event.
 abbrev pub new_queue_of : QueueRow → NewQueue
 new_queue_of q = record { name = q.name; uri = q.uri; target = q.target; policy = q.policy; interval = q.interval; limit = q.limit }
 
--- what is told of a queue, and what became of it
+-- The descriptions and the state of a queue.
 abbrev pub queue_state_code : QueueRow → List ℕ
 queue_state_code q =
     text_code q.info
@@ -95,15 +95,15 @@ queue_state_code q =
 abbrev pub queue_row_code : QueueRow → List ℕ
 queue_row_code q = queue_code (new_queue_of q) ++ queue_state_code q
 
--- the job as it was created
+-- The job with the fields of its Create event.
 abbrev pub new_job_of : JobOf → NewJob
 new_job_of r = record { queue = r.queue; job = r.id; user = r.user; title = r.title; copies = r.copies; priority = r.priority; options = r.options }
 
--- a job as it was created: its number comes first
+-- The fields of a job's Create event. The job's number is first.
 abbrev pub created_code : NewJob → List ℕ
 created_code n = to_be_bytes w32 n.job ++ text_code n.queue ++ ticket_code n
 
--- what became of a job
+-- The state of a job.
 abbrev pub job_state_code : JobOf → List ℕ
 job_state_code r =
     typed_code r.media
@@ -113,21 +113,21 @@ job_state_code r =
     ++ to_be_bytes w32 r.size
     ++ phase_code r.phase
 
--- what is said of it behind its creation, in this version
+-- The fields after those of its Create event, in this version.
 abbrev pub job_rest_code : Version → JobOf → List ℕ
 job_rest_code version r = job_state_code r ++ by_code version r.by
 
 abbrev pub job_row_code : Version → JobOf → List ℕ
 job_row_code version r = created_code (new_job_of r) ++ job_rest_code version r
 
--- the row's kind in one byte, its fields in order, and nothing else
+-- The row's kind in one byte, followed by its fields in order.
 abbrev pub row_spelling : Version → Row → List ℕ
 row_spelling version (Head head) = 0x40 ∷ head_code head
 row_spelling version (Queue q) = 0x41 ∷ queue_row_code q
 row_spelling version (Job r) = 0x42 ∷ job_row_code version r
 row_spelling version (Piece j bytes) = 0x43 ∷ send_code j bytes
 
--- ---- what has a spelling. First the limits that the types of a row's fields have
+-- ---- spellable rows. First the limits that the types of a row's fields have
 
 pub record IsQueueState (q : QueueRow) : Type 0 where
   pub info : IsText is_note q.info
@@ -170,7 +170,7 @@ pub record IsJobState (r : JobOf) : Type 0 where
   pub pages : IsIn 0 4294967295 r.pages
   pub phase : HasMoments r.phase
 
--- a job of version 1 has no moment
+-- A job of version 1 has no moment.
 abbrev pub IsBy : Version → Option ℕ → Type 0
 IsBy One None = Unit {0}
 IsBy One (Some m) = ⊥
@@ -192,9 +192,9 @@ HasFields version (Queue q) = HasQueueFields q
 HasFields version (Job r) = HasJobFields version r
 HasFields version (Piece j bytes) = HasPieceFields j bytes
 
--- ---- and then what no type of a field says
+-- ---- and then the conditions that no type of a field states
 
--- each text is above the one before it, byte by byte
+-- Each text is above the previous one, compared by bytes.
 abbrev pub Ascend : List (List ℕ) → Type 0
 Ascend [] = Unit {0}
 Ascend (a ∷ []) = Unit {0}
@@ -207,7 +207,7 @@ pub record IsOrderedQueue (q : QueueRow) : Type 0 where
   pub reasons : Ascend q.reasons
   pub attributes : Ascend (map name_of q.attributes)
 
--- the attempt and the stages of a processing job that its row tells
+-- The attempt and the stages of a processing job, as its row determines them.
 pub record IsNewestAttempt (r : JobOf) (attempt stage stages : ℕ) : Type 0 where
   pub newest : attempt ≡ r.attempts
   pub stage_is : IsIn 1 16 stage

@@ -1,4 +1,4 @@
--- The one spelling of each event in bytes.
+-- The spelling of each event.
 use Rattle.std.specs.Prelude.{◌≡◌, ℕ, ◌≤◌, Bool, true, cond, List, [], ◌∷◌, ◌++◌, length, Option, None, Some}
 use Rattle.std.specs.List.{flat_map, AllByRecursion}
 use Rattle.std.specs.Int.{w8, w16, w32, w64, to_be_bytes}
@@ -25,7 +25,7 @@ use Rattle.spool_types.specs.Effects.{AreEffects}
 
 -- ---- fields. Numbers are big-endian
 
--- a text: its length in two bytes, and its bytes
+-- A text: its length in two bytes, and its bytes.
 abbrev pub text_code : List ℕ → List ℕ
 text_code text = to_be_bytes w16 (length text) ++ text
 
@@ -35,20 +35,20 @@ policy_number RetryJob = 1
 policy_number RetryCurrentJob = 2
 policy_number StopPrinter = 3
 
--- yes or no
+-- 1 for true, 0 for false.
 abbrev pub flag_code : Bool → List ℕ
 flag_code flag = to_be_bytes w8 (cond flag 1 0)
 
--- 1 where a job is held until it is released; or 2, and the moment until which it is
+-- 1 if a job is held until it is released; or 2, and the moment until which it is held.
 abbrev pub until_code : Option ℕ → List ℕ
 until_code None = to_be_bytes w8 1
 until_code (Some m) = to_be_bytes w8 2 ++ to_be_bytes w64 m
 
--- how many texts there are in one byte, and each of them
+-- The number of texts in one byte, and each text.
 abbrev pub counted_code : List (List ℕ) → List ℕ
 counted_code texts = to_be_bytes w8 (length texts) ++ flat_map text_code texts
 
--- 0 where nothing prints the document; else 1, and the filters
+-- 0 if no filters convert the document; otherwise 1, and the filters.
 abbrev pub filters_code : Option (List (List ℕ)) → List ℕ
 filters_code None = to_be_bytes w8 0
 filters_code (Some filters) = to_be_bytes w8 1 ++ counted_code filters
@@ -67,11 +67,11 @@ queue_code q =
 abbrev pub notes_code : QueueNotes → List ℕ
 notes_code notes = text_code notes.queue ++ text_code notes.info ++ text_code notes.location
 
--- a flag of a queue
+-- A flag of a queue.
 abbrev pub flagged_code : List ℕ → Bool → List ℕ
 flagged_code queue flag = text_code queue ++ flag_code flag
 
--- what a job is asked with, behind its queue and its number
+-- The fields of Create, except the queue and the job's number.
 abbrev pub ticket_code : NewJob → List ℕ
 ticket_code n =
     text_code n.user
@@ -83,7 +83,7 @@ ticket_code n =
 abbrev pub job_code : NewJob → List ℕ
 job_code n = text_code n.queue ++ to_be_bytes w32 n.job ++ ticket_code n
 
--- a job, and the moment by which it is to start
+-- A job, and the moment by which it must start.
 abbrev pub job_by_code : NewJob → ℕ → List ℕ
 job_by_code n by = job_code n ++ to_be_bytes w64 by
 
@@ -96,27 +96,27 @@ closing_code c = to_be_bytes w32 c.job ++ text_code c.media ++ filters_code c.fi
 abbrev pub hold_code : ℕ → Option ℕ → List ℕ
 hold_code j until = to_be_bytes w32 j ++ until_code until
 
--- how a child ended, and its status where it has one
+-- How a child ended, and its status if it has one.
 abbrev pub exit_code : Exit → List ℕ
 exit_code (Code status) = to_be_bytes w8 0 ++ to_be_bytes w8 status
 exit_code Signal = to_be_bytes w8 1
 exit_code NoStart = to_be_bytes w8 2
 exit_code Lost = to_be_bytes w8 3
 
--- ---- what a stage's child said (filter(7))
+-- ---- the standard error of a stage's child (filter(7))
 
--- a page's number, and how many copies of it were printed
+-- A page's number, and the number of its copies.
 abbrev pub pages_code : ℕ → ℕ → List ℕ
 pages_code page copies = to_be_bytes w32 page ++ to_be_bytes w32 copies
 
--- how many words there are in two bytes, and each of them
+-- The number of words in two bytes, and each word.
 abbrev pub words_code : List (List ℕ) → List ℕ
 words_code words = to_be_bytes w16 (length words) ++ flat_map text_code words
 
 abbrev pub attribute_code : Attribute → List ℕ
 attribute_code a = text_code a.name ++ text_code a.value
 
--- the most urgent first
+-- The most urgent level is first.
 abbrev pub level_number : Level → ℕ
 level_number levels.Emergency = 0
 level_number levels.Alert = 1
@@ -129,7 +129,7 @@ level_number levels.Info = 6
 abbrev pub message_code : Level → List ℕ → List ℕ
 message_code level text = to_be_bytes w8 (level_number level) ++ text_code text
 
--- the effect's kind in one byte, and its fields
+-- The effect's kind in one byte, and its fields.
 abbrev pub effect_code : Effect → List ℕ
 effect_code (effect_kinds.Pages page copies) = to_be_bytes w8 1 ++ pages_code page copies
 effect_code (effect_kinds.TotalPages pages) = to_be_bytes w8 2 ++ to_be_bytes w32 pages
@@ -139,7 +139,7 @@ effect_code (effect_kinds.DropReasons words) = to_be_bytes w8 5 ++ words_code wo
 effect_code (effect_kinds.Attribute a) = to_be_bytes w8 6 ++ attribute_code a
 effect_code (effect_kinds.Message level text) = to_be_bytes w8 7 ++ message_code level text
 
--- how many effects there are in two bytes, and each of them
+-- The number of effects in two bytes, and each effect.
 abbrev pub effects_code : List Effect → List ℕ
 effects_code es = to_be_bytes w16 (length es) ++ flat_map effect_code es
 
@@ -152,7 +152,7 @@ stage_code e =
     ++ to_be_bytes w32 e.dropped
     ++ effects_code e.effects
 
--- the event's kind in one byte, its fields in order, and nothing else
+-- The event's kind in one byte, followed by its fields in order.
 abbrev pub spelling : Event → List ℕ
 spelling (AddQueue q) = 0x01 ∷ queue_code q
 spelling (Info notes) = 0x02 ∷ notes_code notes
@@ -172,7 +172,7 @@ spelling Reopen = 0x0F ∷ []
 spelling (Purge j) = 0x10 ∷ to_be_bytes w32 j
 spelling (CreateBy n by) = 0x11 ∷ job_by_code n by
 
--- ---- what has a spelling: an event whose fields are within their limits, as the event of each value of the type is
+-- ---- spellable events: their fields are within their limits, as in each value of the type
 
 pub record IsIn (least most n : ℕ) : Type 0 where
   pub at_least : least ≤ n
@@ -231,7 +231,7 @@ pub record IsHold (j : ℕ) (until : Option ℕ) : Type 0 where
   pub job : IsJobNumber j
   pub moment : IsMoment until
 
--- the status of a child is a byte
+-- The status of a child is a byte.
 abbrev pub IsExit : Exit → Type 0
 IsExit (Code status) = IsIn 0 255 status
 IsExit Signal = Unit {0}

@@ -27,7 +27,7 @@ fn total_at(bytes: &[u8]) -> Result<(Effect, &[u8]), CodecFault>
     Ok((Effect::TotalPages(pages), rest))
 }
 
-/// So many words at least.
+/// Returns at least `least` words, which follow their number.
 #[tactic(auto, unfolding(crate::specs::EventReading::words_at, field_codec::specs::Fields::ranged_at, field_codec::specs::Fields::ranged, field_codec::specs::Fields::checked))]
 fn words_at(alloc: Global, least: u16, bytes: &[u8]) -> Result<(Words, &[u8]), CodecFault>
     ensures { Gives (λ x. (x.0, x.1.now)) result (words_at least bytes.now) }
@@ -120,7 +120,7 @@ fn effect_at(alloc: Global, bytes: &[u8]) -> Result<(Effect, &[u8]), CodecFault>
     }
 }
 
-/// An effect whose code has its place in the room, and the room that is left.
+/// Returns an effect whose code fits in the room, and the remaining room.
 #[tactic(auto, unfolding(crate::specs::EventReading::effect_within, crate::specs::EventReading::some_room))]
 fn effect_within(
     alloc: Global,
@@ -136,7 +136,8 @@ fn effect_within(
     }
 }
 
-/// So many effects, in the room of one stage. Each has three bytes at least, so the bytes bound what is reserved for them.
+/// Returns `count` effects within the room of one stage. Each has at least three bytes, so the number of bytes limits
+/// the memory reserved for the list.
 fn listed_at(alloc: Global, count: u16, bytes: &[u8]) -> Result<(Vec<Effect>, &[u8]), CodecFault>
     ensures read { Gives (λ x. (x.0.items, x.1.now)) result (listed_at count bytes.now) }
     ensures memory { IfErr result (MemoryOnly (nat_le 1 count)) }
@@ -153,7 +154,7 @@ fn listed_at(alloc: Global, count: u16, bytes: &[u8]) -> Result<(Vec<Effect>, &[
     Ok((effects, rest))
 }
 
-/// How many effects there are, and each of them.
+/// Returns the effects, which follow their number.
 #[tactic(auto, unfolding(crate::specs::EventReading::effects_at, crate::specs::EventReading::effects_copy, crate::specs::EventReading::some_effects_at, field_codec::specs::Fields::checked))]
 pub(crate) fn effects_at(alloc: Global, bytes: &[u8]) -> Result<(Effects, &[u8]), CodecFault>
     ensures read { Gives (λ x. (x.0, x.1.now)) result (effects_at bytes.now) }

@@ -66,7 +66,7 @@ fn put_message(out: &mut Vec<u8>, level: Level, text: &Message)
     put_text(out, text);
 }
 
-// The byte that an effect's code begins with.
+// Returns the first byte of an effect's code.
 fn effect_byte(effect: &Effect) -> u8
     ensures first { take 1 (effect_code effect.now) ≡ result ∷ [] }
 {
@@ -112,7 +112,7 @@ fn put_listed(out: &mut Vec<u8>, effects: &[Effect])
     }
 }
 
-/// The effects of a stage, how many there are and each of them.
+/// Appends the number of the effects of a stage, and each effect.
 pub(crate) fn put_effects(out: &mut Vec<u8>, effects: &Effects)
     requires room { vec_len out.old + length (effects_code effects.now) ≤ vec_capacity out.old }
     ensures written { out.new.items ≡ out.old.items ++ effects_code effects.now }

@@ -1,4 +1,4 @@
-//! Writing fields behind the bytes that are there already, in room that is there already.
+//! Appending fields to bytes whose capacity suffices.
 ghost use Rattle.std.specs.Prelude.{◌≡◌, ◌+◌, ◌*◌, ◌≤◌, ◌<◌, ◌^◌, ◌∷◌, ◌++◌, List, ℕ, [], true, length, vec_len, vec_capacity};
 ghost use Rattle.std.specs.Int.{w8, w16, w32, w64, to_be_bytes};
 ghost use Rattle.std.specs.List.{flat_map, AllByRecursion};
@@ -7,7 +7,7 @@ ghost use Rattle.event_codec.specs.Spelling.{text_code, counted_code, flag_code,
 
 use spool_types::{MediaType, Text, TextKind};
 
-/// Bytes as they are.
+/// Appends these bytes.
 pub(crate) fn put(out: &mut Vec<u8>, bytes: &[u8])
     requires room { vec_len out.old + length bytes.now ≤ vec_capacity out.old }
     ensures written { out.new.items ≡ out.old.items ++ bytes.now }
@@ -20,7 +20,7 @@ pub(crate) fn put(out: &mut Vec<u8>, bytes: &[u8])
     }
 }
 
-/// The byte that a spelling begins with.
+/// Appends the first byte of a spelling.
 pub(crate) fn put_kind(out: &mut Vec<u8>, kind: u8)
     requires room { vec_len out.old + 1 ≤ vec_capacity out.old }
     ensures written { out.new.items ≡ out.old.items ++ kind ∷ [] }
@@ -30,7 +30,7 @@ pub(crate) fn put_kind(out: &mut Vec<u8>, kind: u8)
     put(out, &[kind]);
 }
 
-/// A number in one byte.
+/// Appends a number in one byte.
 pub(crate) fn put_u8(out: &mut Vec<u8>, number: u8)
     requires room { vec_len out.old + 1 ≤ vec_capacity out.old }
     ensures written { out.new.items ≡ out.old.items ++ to_be_bytes w8 number }
@@ -40,7 +40,7 @@ pub(crate) fn put_u8(out: &mut Vec<u8>, number: u8)
     put(out, &number.to_be_bytes());
 }
 
-/// A number in two bytes.
+/// Appends a number in two bytes.
 pub(crate) fn put_u16(out: &mut Vec<u8>, number: u16)
     requires room { vec_len out.old + 2 ≤ vec_capacity out.old }
     ensures written { out.new.items ≡ out.old.items ++ to_be_bytes w16 number }
@@ -50,7 +50,7 @@ pub(crate) fn put_u16(out: &mut Vec<u8>, number: u16)
     put(out, &number.to_be_bytes());
 }
 
-/// A number in four bytes.
+/// Appends a number in four bytes.
 pub(crate) fn put_u32(out: &mut Vec<u8>, number: u32)
     requires room { vec_len out.old + 4 ≤ vec_capacity out.old }
     ensures written { out.new.items ≡ out.old.items ++ to_be_bytes w32 number }
@@ -60,7 +60,7 @@ pub(crate) fn put_u32(out: &mut Vec<u8>, number: u32)
     put(out, &number.to_be_bytes());
 }
 
-/// A number in eight bytes.
+/// Appends a number in eight bytes.
 pub(crate) fn put_u64(out: &mut Vec<u8>, number: u64)
     requires room { vec_len out.old + 8 ≤ vec_capacity out.old }
     ensures written { out.new.items ≡ out.old.items ++ to_be_bytes w64 number }
@@ -111,7 +111,7 @@ pub(crate) fn put_flag(out: &mut Vec<u8>, flag: bool)
     put_u8(out, u8::from(flag));
 }
 
-/// Texts in turn.
+/// Appends texts in order.
 pub(crate) fn put_texts<K: TextKind>(out: &mut Vec<u8>, texts: &[Text<K>])
     requires short { (t : List ℕ) → K.allowed t ≡ true → length t < 2 ^ 16 }
     requires room { vec_len out.old + length (flat_map text_code texts.now) ≤ vec_capacity out.old }
@@ -125,7 +125,7 @@ pub(crate) fn put_texts<K: TextKind>(out: &mut Vec<u8>, texts: &[Text<K>])
     }
 }
 
-/// How many texts there are in one byte, and each of them.
+/// Appends the number of texts in one byte, and each text.
 pub(crate) fn put_counted<K: TextKind>(out: &mut Vec<u8>, texts: &[Text<K>])
     requires short { (t : List ℕ) → K.allowed t ≡ true → length t < 2 ^ 16 }
     requires few { length texts.now ≤ 64 }
@@ -139,7 +139,7 @@ pub(crate) fn put_counted<K: TextKind>(out: &mut Vec<u8>, texts: &[Text<K>])
     put_texts(out, texts);
 }
 
-/// How many bytes the code of a text has.
+/// Returns the number of bytes of a text's code.
 pub(crate) fn text_len<K: TextKind>(text: &Text<K>) -> usize
     requires short { (t : List ℕ) → K.allowed t ≡ true → length t ≤ 2048 }
     ensures value { result ≡ length (text_code text.now) }
@@ -155,7 +155,7 @@ pub(crate) fn media_len(media: &MediaType) -> usize
     2 + media.as_str().len()
 }
 
-/// How many bytes the codes of a few texts have.
+/// Returns the number of bytes of the codes of at most 64 texts.
 pub(crate) fn texts_len<K: TextKind>(texts: &[Text<K>]) -> usize
     requires short { (t : List ℕ) → K.allowed t ≡ true → length t ≤ 2048 }
     requires few { length texts.now ≤ 64 }
@@ -169,7 +169,7 @@ pub(crate) fn texts_len<K: TextKind>(texts: &[Text<K>]) -> usize
     len
 }
 
-/// How many bytes a few texts have, with their number in one byte.
+/// Returns the number of bytes of these texts with their number in one byte.
 pub(crate) fn counted_len<K: TextKind>(texts: &[Text<K>]) -> usize
     requires short { (t : List ℕ) → K.allowed t ≡ true → length t ≤ 2048 }
     requires few { length texts.now ≤ 64 }

@@ -1,4 +1,4 @@
-//! Texts in turn, at the front of bytes.
+//! Texts in order, at the front of bytes.
 ghost use Rattle.std.specs.Prelude.{◌≡◌, length, IfOk};
 ghost use Rattle.event_codec.specs.EventReading.{Gives, list_at, text_at};
 
@@ -6,7 +6,8 @@ use field_codec::{CodecFault, text_at};
 use spool_types::{Text, TextKind};
 use std::alloc::Global;
 
-/// So many texts of the kind `K`. Each has two bytes at least, so the bytes bound what is reserved for them.
+/// Returns `count` texts of the kind `K`. Each text has at least two bytes, so the number of bytes limits the memory
+/// reserved for the list.
 pub(crate) fn texts_at<K: TextKind>(
     alloc: Global,
     count: u16,

@@ -20,7 +20,7 @@ fn hold_reason_of(number: u8) -> Result<HoldReason, CodecFault>
     }
 }
 
-/// What holds a job.
+/// Returns the hold of a job.
 #[tactic(auto, unfolding(crate::specs::RowReading::holding_at, crate::specs::RowReading::kind_of_holding, crate::specs::RowReading::indefinite_at, crate::specs::RowReading::until_moment_at, field_codec::specs::Fields::ranged_at))]
 fn holding_at(bytes: &[u8]) -> Result<(Hold, &[u8]), CodecFault>
     ensures read { Gives (λ x. (x.0, x.1.now)) result (holding_at bytes.now) }
@@ -74,7 +74,7 @@ fn waiting_at(bytes: &[u8]) -> Result<(Phase, &[u8]), CodecFault>
     ensures read { Gives (λ x. (x.0, x.1.now)) result (waiting_at bytes.now) }
     ensures memory { IfErr result (MemoryOnly false) }
 {
-    // `?` isn't proved here: a hold, which may have a moment, stands beside a slice.
+    // `?` is not proved here, because a hold, which may have a moment, is paired with a slice.
     match holding_at(bytes) {
         Ok((hold, rest)) => {
             let (seconds, rest) = u64_at(rest)?;
@@ -116,7 +116,7 @@ fn aborted_at(bytes: &[u8]) -> Result<(Phase, &[u8]), CodecFault>
     Ok((Phase::Aborted(reason), rest))
 }
 
-/// The phase of a job that was started so often, and has so many stages.
+/// Returns the phase of a job that was started `attempts` times and has `stages` stages.
 #[tactic(auto, unfolding(crate::specs::RowReading::phase_at, crate::specs::RowReading::kind_of_phase))]
 pub(crate) fn phase_at(
     attempts: u32,

@@ -30,7 +30,7 @@ pub(crate) fn flag_at(bytes: &[u8]) -> Result<(bool, &[u8]), CodecFault>
     }
 }
 
-/// Until when a job is held: a moment, or none where it is held until it is released.
+/// Returns the moment until which a job is held, or `None` if it is held until it is released.
 #[tactic(auto, unfolding(crate::specs::EventReading::until_at, crate::specs::EventReading::flagged_until_at, crate::specs::EventReading::moment_at, field_codec::specs::Fields::ranged_at))]
 fn until_at(bytes: &[u8]) -> Result<(Option<Moment>, &[u8]), CodecFault>
     ensures read { Gives (λ x. (x.0, x.1.now)) result (until_at bytes.now) }
@@ -90,7 +90,7 @@ pub(crate) fn media_at(alloc: Global, bytes: &[u8]) -> Result<(MediaType, &[u8])
     Ok((MediaType::from_name(name), rest))
 }
 
-/// How many filters there are, and each of them.
+/// Returns the filters, which follow their number.
 #[tactic(auto, unfolding(crate::specs::EventReading::filters_at, field_codec::specs::Fields::ranged_at, field_codec::specs::Fields::ranged, field_codec::specs::Fields::checked))]
 pub(crate) fn filters_at(alloc: Global, bytes: &[u8]) -> Result<(Filters, &[u8]), CodecFault>
     ensures read { Gives (λ x. (x.0, x.1.now)) result (filters_at bytes.now) }
@@ -122,7 +122,7 @@ fn maybe_filters_at(alloc: Global, bytes: &[u8]) -> Result<(Option<Filters>, &[u
     }
 }
 
-/// The bytes of a send: so many at least.
+/// Returns the bytes of a send, at least `least`.
 #[tactic(auto, unfolding(crate::specs::EventReading::piece_at, field_codec::specs::Fields::ranged_at, field_codec::specs::Fields::ranged, field_codec::specs::Fields::checked))]
 pub(crate) fn piece_at(
     alloc: Global,
@@ -143,7 +143,7 @@ pub(crate) fn piece_at(
     }
 }
 
-/// A queue as it is added.
+/// Returns a queue with the fields of AddQueue.
 #[tactic(auto, unfolding(crate::specs::EventReading::new_queue_at, field_codec::specs::Fields::ranged_at))]
 pub(crate) fn new_queue_at(alloc: Global, bytes: &[u8]) -> Result<(NewQueue, &[u8]), CodecFault>
     ensures read { Gives (λ x. (x.0, x.1.now)) result (new_queue_at bytes.now) }
@@ -216,7 +216,7 @@ fn stop_of(alloc: Global, fields: &[u8]) -> Result<Event, CodecFault>
     Ok(Event::SetStop { queue, stopped })
 }
 
-/// What a job of this queue and this number is asked with.
+/// Returns a new job of this queue and with this number.
 #[tactic(auto, unfolding(crate::specs::EventReading::ticket_at, field_codec::specs::Fields::ranged_at))]
 pub(crate) fn ticket_at(
     alloc: Global,
@@ -315,7 +315,7 @@ fn hold_of(fields: &[u8]) -> Result<Event, CodecFault>
 {
     let (number, rest) = u32_at(fields)?;
     let job = job_id(number)?;
-    // `?` isn't proved here: a moment that may be missing stands beside a slice.
+    // `?` is not proved here, because an optional moment is paired with a slice.
     match until_at(rest) {
         Ok((until, rest)) => {
             ended(rest)?;
@@ -325,7 +325,7 @@ fn hold_of(fields: &[u8]) -> Result<Event, CodecFault>
     }
 }
 
-// A job's number, and nothing after it.
+// Returns a job's number, if no bytes follow it.
 #[tactic(auto, unfolding(crate::specs::EventReading::numbered_at, field_codec::specs::Fields::ranged_at, field_codec::specs::Fields::whole))]
 fn only_job(fields: &[u8]) -> Result<JobId, CodecFault>
     ensures read { (event : ℕ → Event) → Gives event result (whole (numbered_at event fields.now)) }
@@ -382,7 +382,7 @@ fn reopen_of(fields: &[u8]) -> Result<Event, CodecFault>
     Ok(Event::Reopen)
 }
 
-// The event of this kind that its fields tell.
+// Returns the event of this kind with these fields.
 #[tactic(auto, unfolding(crate::specs::EventReading::fields_at, field_codec::specs::Fields::whole, crate::specs::EventReading::fields_copy))]
 fn event_of_kind(alloc: Global, kind: u8, fields: &[u8]) -> Result<Event, CodecFault>
     ensures read { Gives (λ e. e) result (whole (fields_at kind fields.now)) }
@@ -421,15 +421,15 @@ fn event_of(alloc: Global, payload: &[u8]) -> Result<Event, CodecFault>
     }
 }
 
-/// The event that all of the bytes spell. A field is copied once, and nothing is kept of bytes that spell none.
+/// Decodes the event that all the bytes encode. A field is copied once, and nothing is retained after an error.
 pub fn decode(alloc: Global, payload: &[u8]) -> Result<Event, CodecFault>
-    // What is read is spelled so.
+    // The bytes of the result are its spelling.
     ensures sound { IfOk result (λ event. IsSpellable event × (payload.now ≡ spelling event)) }
-    // What is spelled so is read, unless memory runs out.
+    // A spelling is decoded, unless memory runs out.
     ensures complete { (event : Event) → IsSpellable event → payload.now ≡ spelling event → Gives (λ e. e) result (Ok event) }
-    // Which fault it is.
+    // The error.
     ensures exact { Gives (λ e. e) result (reading payload.now) }
-    // Memory is wanted only where a value is copied.
+    // Memory runs out only if a value is copied.
     ensures memory { IfErr result (MemoryOnly (reaches_copy payload.now)) }
 {
     event_of(alloc, payload)

@@ -16,10 +16,10 @@ use spool_types::{
 };
 use std::alloc::Global;
 
-// How many bytes the document of a row has.
+// The maximum number of bytes of a job's document.
 const LONGEST: u32 = LONGEST_DOCUMENT as u32;
 
-/// The media type of a job, where it has one.
+/// Returns the media type of a job, if it has one.
 #[tactic(auto, unfolding(crate::specs::RowReading::typed_at, crate::specs::RowReading::flagged_media_at, crate::specs::RowReading::some_media_at))]
 fn typed_at(alloc: Global, bytes: &[u8]) -> Result<(Option<MediaType>, &[u8]), CodecFault>
     ensures read { Gives (λ x. (x.0, x.1.now)) result (typed_at bytes.now) }
@@ -35,7 +35,7 @@ fn typed_at(alloc: Global, bytes: &[u8]) -> Result<(Option<MediaType>, &[u8]), C
     }
 }
 
-// Whether a reason is above the last of those that were read.
+// Returns whether a reason is above the last one that was read.
 fn is_next_reason(read: &[Reason], reason: &Reason) -> bool
     ensures { result ≡ is_above (last_of read.now) reason.now }
 {
@@ -60,7 +60,8 @@ fn reason_after<'a>(
     Ok((reason, rest))
 }
 
-/// So many reasons in ascending order. Each has two bytes at least, so the bytes bound what is reserved for them.
+/// Returns `count` reasons in ascending order. Each has at least two bytes, so the number of bytes limits the memory
+/// reserved for the list.
 fn listed_reasons_at(
     alloc: Global,
     count: u8,
@@ -94,7 +95,7 @@ fn reasons_at(alloc: Global, bytes: &[u8]) -> Result<(Reasons, &[u8]), CodecFaul
     }
 }
 
-// Whether a name is above that of the last attribute that was read.
+// Returns whether a name is above that of the last attribute that was read.
 fn is_next_name(read: &[Attribute], name: &AttributeName) -> bool
     ensures { result ≡ is_above (last_of (map name_of read.now)) name.now }
 {
@@ -120,7 +121,7 @@ fn attribute_after<'a>(
     Ok((Attribute { name, value }, rest))
 }
 
-/// So many attributes in ascending order of their names. Each has four bytes at least.
+/// Returns `count` attributes in ascending order of their names. Each has at least four bytes.
 fn listed_attributes_at(
     alloc: Global,
     count: u8,
@@ -170,7 +171,7 @@ fn head_of(fields: &[u8]) -> Result<Row, CodecFault>
     }))
 }
 
-/// What is told of a queue, and what became of it.
+/// The descriptions and the state of a queue.
 #[derive(Drop)]
 struct QueueState {
     info: Note,
@@ -205,7 +206,7 @@ fn queue_state_at(alloc: Global, bytes: &[u8]) -> Result<(QueueState, &[u8]), Co
     Ok((state, rest))
 }
 
-// The row of a queue that was added so, and became this.
+// Returns the row of a queue with these fields of AddQueue and this state.
 fn queue_row(queue: NewQueue, state: QueueState) -> QueueRow
     ensures { result ≡ queue_row queue state }
 {
@@ -246,7 +247,7 @@ fn queue_row_of(alloc: Global, fields: &[u8]) -> Result<Row, CodecFault>
     Ok(Row::Queue(queue))
 }
 
-/// A job as it was created.
+/// Returns a job with the fields of its Create event.
 #[tactic(auto, unfolding(crate::specs::RowReading::created_at, crate::specs::RowReading::job_row_copies, field_codec::specs::Fields::ranged_at))]
 fn created_at(alloc: Global, bytes: &[u8]) -> Result<(NewJob, &[u8]), CodecFault>
     ensures read { Gives (λ x. (x.0, x.1.now)) result (created_at bytes.now) }
@@ -259,7 +260,7 @@ fn created_at(alloc: Global, bytes: &[u8]) -> Result<(NewJob, &[u8]), CodecFault
     ticket_at(alloc, queue, job, rest)
 }
 
-/// What became of a job.
+/// The state of a job.
 #[derive(Drop)]
 struct JobState {
     media: Option<MediaType>,
@@ -281,7 +282,7 @@ fn job_state_at(alloc: Global, bytes: &[u8]) -> Result<(JobState, &[u8]), CodecF
     let (size, rest) = u32_at(rest)?;
     let size: Ranged<0, { LONGEST }> = ranged(size)?;
     let stages = filters.as_slice().len() as u8 + 1;
-    // `?` isn't proved here: a phase, which may have a moment, stands beside a slice.
+    // `?` is not proved here, because a phase, which may have a moment, is paired with a slice.
     match phase_at(attempts, stages, rest) {
         Ok((phase, rest)) => {
             let state = JobState {
@@ -298,7 +299,7 @@ fn job_state_at(alloc: Global, bytes: &[u8]) -> Result<(JobState, &[u8]), CodecF
     }
 }
 
-/// The moment by which a job is to start, where it has one. Version 1 has none.
+/// Returns the moment by which a job must start, if it has one. Version 1 has none.
 #[tactic(auto, unfolding(crate::specs::RowReading::by_at, crate::specs::RowReading::flagged_by_at, crate::specs::RowReading::some_by_at, field_codec::specs::Fields::ranged_at))]
 fn by_at(version: Version, bytes: &[u8]) -> Result<(Option<Moment>, &[u8]), CodecFault>
     ensures read { Gives (λ x. (x.0, x.1.now)) result (by_at version bytes.now) }
@@ -319,7 +320,7 @@ fn by_at(version: Version, bytes: &[u8]) -> Result<(Option<Moment>, &[u8]), Code
     }
 }
 
-// The row of a job that was created so, became this, and is to start by this moment.
+// Returns the row of a job with these fields of Create and this state, which must start by this moment.
 fn job_row(created: NewJob, state: JobState, by: Option<Moment>) -> Job
     ensures { result ≡ job_row created state by }
 {
@@ -348,7 +349,7 @@ fn listed_job_at(alloc: Global, version: Version, bytes: &[u8]) -> Result<(Job, 
 {
     let (created, rest) = created_at(alloc, bytes)?;
     let (state, rest) = job_state_at(alloc, rest)?;
-    // `?` isn't proved here: a moment stands beside a slice.
+    // `?` is not proved here, because a moment is paired with a slice.
     match by_at(version, rest) {
         Ok((by, rest)) => Ok((job_row(created, state, by), rest)),
         Err(fault) => Err(fault),
@@ -392,16 +393,16 @@ fn row_of(alloc: Global, version: Version, payload: &[u8]) -> Result<Row, CodecF
     }
 }
 
-/// The row that all of the bytes spell in this version. A field is copied once, and nothing is kept of bytes that spell
-/// none.
+/// Decodes the row that all the bytes encode in this version. A field is copied once, and nothing is retained after an
+/// error.
 pub fn decode_row(alloc: Global, payload: &[u8], version: Version) -> Result<Row, CodecFault>
-    // What is read is spelled so.
+    // The bytes of the result are its spelling.
     ensures sound { IfOk result (λ row. IsRowSpellable version row × (payload.now ≡ row_spelling version row)) }
-    // What is spelled so is read, unless memory runs out.
+    // A spelling is decoded, unless memory runs out.
     ensures complete { (row : Row) → IsRowSpellable version row → payload.now ≡ row_spelling version row → Gives (λ r. r) result (Ok row) }
-    // Which fault it is.
+    // The error.
     ensures exact { Gives (λ r. r) result (row_reading version payload.now) }
-    // Memory is wanted only where a value is copied.
+    // Memory runs out only if a value is copied.
     ensures memory { IfErr result (MemoryOnly (reaches_row_copy payload.now)) }
 {
     row_of(alloc, version, payload)

@@ -74,7 +74,7 @@ fn put_waiting(out: &mut Vec<u8>, hold: Hold, not_before: Moment, first: bool)
     put_flag(out, first);
 }
 
-// The byte that a phase's code begins with.
+// Returns the first byte of a phase's code.
 fn phase_byte(phase: &Phase) -> u8
     ensures first { take 1 (phase_code phase.now) ≡ result ∷ [] }
 {
@@ -161,7 +161,7 @@ fn put_head(out: &mut Vec<u8>, head: &Head)
     put_u64(out, head.moment.get());
 }
 
-// What a queue was added with.
+// Appends the fields of the queue's AddQueue event.
 fn put_added(out: &mut Vec<u8>, queue: &QueueRow)
     requires room { vec_len out.old + length (queue_code (new_queue_of queue.now)) ≤ vec_capacity out.old }
     ensures written { out.new.items ≡ out.old.items ++ queue_code (new_queue_of queue.now) }
@@ -177,7 +177,7 @@ fn put_added(out: &mut Vec<u8>, queue: &QueueRow)
     put_u16(out, queue.limit);
 }
 
-// What is told of a queue, and what became of it.
+// Appends the descriptions and the state of a queue.
 fn put_queue_state(out: &mut Vec<u8>, queue: &QueueRow)
     requires room { vec_len out.old + length (queue_state_code queue.now) ≤ vec_capacity out.old }
     ensures written { out.new.items ≡ out.old.items ++ queue_state_code queue.now }
@@ -205,7 +205,7 @@ fn put_queue_row(out: &mut Vec<u8>, queue: &QueueRow)
     put_queue_state(out, queue);
 }
 
-// What a job was created with.
+// Appends the fields of the job's Create event.
 fn put_created(out: &mut Vec<u8>, job: &Job)
     requires room { vec_len out.old + length (created_code (new_job_of job.now)) ≤ vec_capacity out.old }
     ensures written { out.new.items ≡ out.old.items ++ created_code (new_job_of job.now) }
@@ -222,7 +222,7 @@ fn put_created(out: &mut Vec<u8>, job: &Job)
     put_text(out, &job.options);
 }
 
-// What became of a job.
+// Appends the state of a job.
 fn put_job_state(out: &mut Vec<u8>, job: &Job)
     requires room { vec_len out.old + length (job_state_code job.now) ≤ vec_capacity out.old }
     ensures written { out.new.items ≡ out.old.items ++ job_state_code job.now }
@@ -238,7 +238,7 @@ fn put_job_state(out: &mut Vec<u8>, job: &Job)
     put_phase(out, &job.phase);
 }
 
-// The moment by which a job is to start, where it has one.
+// Appends the moment by which a job must start, if any.
 fn put_by(out: &mut Vec<u8>, by: Option<Moment>)
     requires room { vec_len out.old + length (by_code Two by) ≤ vec_capacity out.old }
     ensures written { out.new.items ≡ out.old.items ++ by_code Two by }
@@ -385,14 +385,13 @@ fn encode_head_onto(head: &Head, out: &mut Vec<u8>) -> Result<(), AllocError>
     Ok(())
 }
 
-/// Adds the one spelling of a queue's row to bytes that are there already, as `encode_row_onto` does. The queue is only
-/// looked at.
+/// Appends the spelling of a queue's row to bytes, as `encode_row_onto` does. The queue is borrowed.
 pub fn encode_queue_onto(queue: &QueueRow, out: &mut Vec<u8>) -> Result<(), AllocError>
     ensures spelled { OnOk result (out.new.items ≡ out.old.items ++ row_spelling Two (Row.Queue queue.now)) }
     ensures spellable { OnOk result (IsOrderedQueue queue.now → IsRowSpellable Two (Row.Queue queue.now)) }
     ensures short { length (row_spelling Two (Row.Queue queue.now)) < 2 ^ 19 }
 
-    // It fails only where the room was missing, and then the bytes are those that were there.
+    // It fails only if the capacity did not suffice, and then the bytes are unchanged.
     ensures fits { vec_len out.old + length (row_spelling Two (Row.Queue queue.now)) ≤ vec_capacity out.old → IsOk result }
     ensures kept { OnErr result (out.new.items ≡ out.old.items) }
     ensures grown { vec_capacity out.old ≤ vec_capacity out.new }
@@ -403,13 +402,13 @@ pub fn encode_queue_onto(queue: &QueueRow, out: &mut Vec<u8>) -> Result<(), Allo
     Ok(())
 }
 
-/// The same of a job's row.
+/// Appends the spelling of a job's row. The job is borrowed.
 pub fn encode_job_onto(job: &Job, out: &mut Vec<u8>) -> Result<(), AllocError>
     ensures spelled { OnOk result (out.new.items ≡ out.old.items ++ row_spelling Two (Row.Job job.now)) }
     ensures spellable { OnOk result (IsLegalJob job.now → IsRowSpellable Two (Row.Job job.now)) }
     ensures short { length (row_spelling Two (Row.Job job.now)) < 2 ^ 19 }
 
-    // It fails only where the room was missing, and then the bytes are those that were there.
+    // It fails only if the capacity did not suffice, and then the bytes are unchanged.
     ensures fits { vec_len out.old + length (row_spelling Two (Row.Job job.now)) ≤ vec_capacity out.old → IsOk result }
     ensures kept { OnErr result (out.new.items ≡ out.old.items) }
     ensures grown { vec_capacity out.old ≤ vec_capacity out.new }
@@ -433,14 +432,14 @@ fn encode_piece_onto(job: JobId, bytes: &Piece, out: &mut Vec<u8>) -> Result<(),
     Ok(())
 }
 
-/// Adds the one spelling of a row to bytes that are there already, whose memory is made ready for all of it first. A row
-/// that no table lists is written, too, as by its fields. No bytes are read as it then.
+/// Appends the spelling of a row to bytes. The memory for all of it is reserved first. A row that cannot be in a table
+/// is written too, by its fields. No bytes are decoded as such a row.
 pub fn encode_row_onto(row: &Row, out: &mut Vec<u8>) -> Result<(), AllocError>
     ensures spelled { OnOk result (out.new.items ≡ out.old.items ++ row_spelling Two row.now) }
     ensures spellable { OnOk result (IsLegalRow row.now → IsRowSpellable Two row.now) }
     ensures short { length (row_spelling Two row.now) < 2 ^ 19 }
 
-    // It fails only where the room was missing, and then the bytes are those that were there.
+    // It fails only if the capacity did not suffice, and then the bytes are unchanged.
     ensures fits { vec_len out.old + length (row_spelling Two row.now) ≤ vec_capacity out.old → IsOk result }
     ensures kept { OnErr result (out.new.items ≡ out.old.items) }
     ensures grown { vec_capacity out.old ≤ vec_capacity out.new }
@@ -453,7 +452,7 @@ pub fn encode_row_onto(row: &Row, out: &mut Vec<u8>) -> Result<(), AllocError>
     }
 }
 
-/// The one spelling of a row, in memory that is reserved once.
+/// Returns the spelling of a row. It allocates once.
 pub fn encode_row(alloc: Global, row: &Row) -> Result<Vec<u8>, AllocError>
     ensures spelled { IfOk result (λ bytes. bytes.items ≡ row_spelling Two row.now) }
     ensures spellable { OnOk result (IsLegalRow row.now → IsRowSpellable Two row.now) }

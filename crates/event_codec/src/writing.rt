@@ -57,7 +57,7 @@ fn put_notes(out: &mut Vec<u8>, kind: u8, notes: &QueueNotes)
     put_text(out, &notes.location);
 }
 
-// An event that sets a flag of a queue.
+// Appends an event that sets a flag of a queue.
 fn put_flagged(out: &mut Vec<u8>, kind: u8, queue: &QueueName, flag: bool)
     requires room { vec_len out.old + length (kind ∷ flagged_code queue.now flag) ≤ vec_capacity out.old }
     ensures written { out.new.items ≡ out.old.items ++ kind ∷ flagged_code queue.now flag }
@@ -315,7 +315,7 @@ fn stage_len(end: &StageEnd) -> usize
     15 + exit_len(end.exit) + end.effects.code_len()
 }
 
-/// How many bytes the spelling of an event has.
+/// Returns the number of bytes of an event's spelling.
 fn spelled_len(event: &Event) -> usize
     ensures value { result ≡ length (spelling event.now) }
     ensures small { result < 2 ^ 17 }
@@ -332,12 +332,12 @@ fn spelled_len(event: &Event) -> usize
         Event::Stage(end) => 1 + stage_len(end),
         Event::Reopen => 1,
         Event::CreateBy { job, .. } => 9 + job_len(job),
-        // A job's number alone.
+        // Only a job's number.
         _ => 5,
     }
 }
 
-/// The one spelling of an event, in memory that is reserved once.
+/// Returns the spelling of an event. It allocates once.
 pub fn encode(alloc: Global, event: &Event) -> Result<Vec<u8>, AllocError>
     ensures spelled { IfOk result (λ bytes. bytes.items ≡ spelling event.now) }
     ensures spellable { OnOk result (IsSpellable event.now) }
@@ -348,13 +348,13 @@ pub fn encode(alloc: Global, event: &Event) -> Result<Vec<u8>, AllocError>
     Ok(out)
 }
 
-/// Adds the one spelling of an event to bytes that are there already, whose memory is made ready for all of it first.
+/// Appends the spelling of an event to bytes. The memory for all of it is reserved first.
 pub fn encode_onto(event: &Event, out: &mut Vec<u8>) -> Result<(), AllocError>
     ensures spelled { OnOk result (out.new.items ≡ out.old.items ++ spelling event.now) }
     ensures spellable { OnOk result (IsSpellable event.now) }
     ensures short { length (spelling event.now) < 2 ^ 17 }
 
-    // It fails only where the room was missing, and then the bytes are those that were there.
+    // It fails only if the capacity did not suffice, and then the bytes are unchanged.
     ensures fits { vec_len out.old + length (spelling event.now) ≤ vec_capacity out.old → IsOk result }
     ensures kept { OnErr result (out.new.items ≡ out.old.items) }
     ensures grown { vec_capacity out.old ≤ vec_capacity out.new }

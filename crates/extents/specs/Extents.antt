@@ -1,8 +1,8 @@
--- Extents in order, as a document is made of them.
+-- Extents in order, as those of a document.
 use Rattle.std.specs.Prelude.{ℕ, ◌+◌, List, [], ◌∷◌}
 use Rattle.extents.specs.declared.extent.Extent.{Extent}
 
--- how many bytes these have
+-- The number of bytes of these extents.
 abbrev pub size_of : List Extent → ℕ
 size_of [] = 0
 size_of (x ∷ xs) = x.len + size_of xs

@@ -1,10 +1,10 @@
-//! Where bytes lie on a device.
+//! Ranges of bytes on a device.
 
-/// A range of a device that holds a payload, or a part of one.
+/// A range of a device with a payload, or a part of one.
 #[derive(Clone, Copy, Debug, PartialEq, Eq)]
 pub struct Extent {
-    /// Where the first byte stands.
+    /// The byte offset of its first byte on the device.
     pub place: u64,
-    /// How many bytes it has.
+    /// The number of its bytes.
     pub len: u64,
 }

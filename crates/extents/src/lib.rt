@@ -1,7 +1,7 @@
-//! Where bytes lie on a device.
+//! Ranges of bytes on a device.
 //!
-//! [`Extent`] is spoken of by the areas, whose payloads it tells, and by the rows of jobs, whose documents lie in some of
-//! them. So it stands below both. `specs/Extents` says how many bytes a list of extents has.
+//! [`Extent`] is used by `spool_areas`, for the places of payloads, and by the rows of jobs in `spool_types`, for the places of
+//! their documents. So this crate is below both. `specs/Extents` defines the number of bytes of a list of extents.
 #![tactic(auto)]
 
 mod extent;

@@ -1,4 +1,4 @@
--- Fields at the front of bytes, from left to right, with the first fault that is met.
+-- Fields at the front of bytes, from left to right, up to the first error.
 use Rattle.std.specs.Prelude.{◌≡◌, ℕ, List, length, take, drop, Bool, true, ◌&&◌, Result, Ok, Err, nat_lt, nat_le, ◌==◌, if◌then◌else◌}
 use Rattle.std.specs.Int.{Width, w16, byte_len, from_be_bytes}
 use Rattle.std.specs.Str.{is_utf8}
@@ -8,17 +8,17 @@ use Rattle.spool_types.specs.declared.text.TextFault.TheVariants as text_faults
 use Rattle.field_codec.specs.declared.fault.CodecFault.{CodecFault}
 use Rattle.field_codec.specs.declared.fault.CodecFault.TheVariants.{Kind, Length, Range, Utf8, Memory}
 
--- a value and the bytes after it, or the first fault
+-- A value and the bytes after it, or the first error.
 abbrev pub Field : Type 0 → Type 0
 Field A = Result (A × List ℕ) CodecFault
 
--- one step after the other, up to the first fault
+-- Steps in order, up to the first error.
 infixl 10 ◌>>=◌
 abbrev pub ◌>>=◌ : {A B : Type 0} → Result A CodecFault → (A → Result B CodecFault) → Result B CodecFault
 (Ok x) >>= f = f x
 (Err e) >>= f = Err e
 
--- What a function returned, seen by view, is what reading gives, unless memory ran out.
+-- The result of a function, converted by `view`, is that of `reading`, unless memory ran out.
 abbrev pub Fails : {Y : Type 0} → CodecFault → Result Y CodecFault → Type 0
 Fails Kind reading = reading ≡ Err Kind
 Fails Length reading = reading ≡ Err Length
@@ -30,7 +30,7 @@ abbrev pub Gives : {X Y : Type 0} → (X → Y) → Result X CodecFault → Resu
 Gives view (Ok x) reading = reading ≡ Ok (view x)
 Gives view (Err e) reading = Fails e reading
 
--- Memory is told only where something is copied.
+-- Memory runs out only if something is copied.
 abbrev pub MemoryOnly : Bool → CodecFault → Type 0
 MemoryOnly copied fault = fault ≡ Memory → copied ≡ true
 
@@ -44,7 +44,7 @@ number_at w bytes = do
   part ← part_at (byte_len w) bytes
   Ok (from_be_bytes w part.0, part.1)
 
--- a value that passes a test
+-- The value if it passes a test, otherwise `Range`.
 unfoldable pub checked : {A : Type 0} → Bool → A → Result A CodecFault
 checked passes x = if passes then Ok x else Err Range
 
@@ -67,13 +67,13 @@ text_at allowed bytes = do
   text ← utf8_of part.0
   checked (allowed text) (text, part.1)
 
--- a value with no bytes after it
+-- A value with no bytes after it.
 unfoldable pub whole : {A : Type 0} → Field A → Result A CodecFault
 whole field = do
   x ← field
   if length x.1 == 0 then Ok x.0 else Err Length
 
--- what a text that wasn't read makes of the field
+-- The error of a field whose text was not read.
 abbrev pub codec_fault : TextFault → CodecFault
 codec_fault Bad = Range
 codec_fault text_faults.Memory = Memory

@@ -1,4 +1,4 @@
-//! Why bytes are no event, or no row.
+//! Why bytes are not an event or a row.
 ghost use Rattle.std.specs.Prelude.{◌≡◌};
 ghost use Rattle.field_codec.specs.declared.fault.CodecFault.TheVariants.{Range, Memory};
 ghost use Rattle.field_codec.specs.Fields.{codec_fault};
@@ -6,18 +6,18 @@ ghost use Rattle.field_codec.specs.Fields.{codec_fault};
 use spool_types::TextFault;
 use std::alloc::{AllocError, AllocFailed};
 
-/// What is wrong with the bytes: the first fault from left to right.
+/// The first error of the bytes, from left to right.
 #[derive(Clone, Copy, Debug, PartialEq, Eq)]
 pub enum CodecFault {
-    /// The first byte stands for no event, or where a row is read for no row.
+    /// The first byte is not that of an event, or of a row if a row is read.
     Kind,
-    /// A field passes the end, or bytes stand after the last one. No bytes at all are this too.
+    /// A field exceeds the bytes, or bytes follow the last field. Empty input is this error too.
     Length,
     /// A field's value is outside its limits.
     Range,
-    /// A text isn't UTF-8.
+    /// A text is not UTF-8.
     Utf8,
-    /// No memory was found for the copy of a field, or for a list.
+    /// Memory for the copy of a field, or for a list, ran out.
     Memory,
 }
 

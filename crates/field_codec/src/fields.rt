@@ -8,7 +8,7 @@ use crate::fault::CodecFault;
 use spool_types::{JobId, Moment, Ranged, Text, TextKind};
 use std::alloc::Global;
 
-/// The first `count` bytes.
+/// Returns the first `count` bytes.
 #[tactic(auto, unfolding(crate::specs::Fields::part_at))]
 pub fn part_at(count: usize, bytes: &[u8]) -> Result<(&[u8], &[u8]), CodecFault>
     ensures read { Gives (λ x. (x.0.now, x.1.now)) result (part_at count bytes.now) }
@@ -61,7 +61,7 @@ pub fn u64_at(bytes: &[u8]) -> Result<(u64, &[u8]), CodecFault>
     Ok((number, rest))
 }
 
-/// A number in its range.
+/// Returns a number if it is in its range.
 #[tactic(auto, unfolding(crate::specs::Fields::ranged, crate::specs::Fields::checked))]
 pub fn ranged<const LEAST: u32, const MOST: u32>(
     number: u32,
@@ -107,7 +107,7 @@ fn utf8_in(bytes: &[u8]) -> Result<&str, CodecFault>
     }
 }
 
-/// A text of the kind `K`, copied once.
+/// Returns a text of the kind `K`. It is copied once.
 #[tactic(auto, unfolding(crate::specs::Fields::text_at, crate::specs::Fields::checked))]
 pub fn text_at<K: TextKind>(alloc: Global, bytes: &[u8]) -> Result<(Text<K>, &[u8]), CodecFault>
     ensures read { Gives (λ x. (x.0, x.1.now)) result (text_at K.allowed bytes.now) }
@@ -119,7 +119,7 @@ pub fn text_at<K: TextKind>(alloc: Global, bytes: &[u8]) -> Result<(Text<K>, &[u
     Ok((copy, rest))
 }
 
-/// Nothing stands after the last field.
+/// Returns Ok if no bytes follow the last field.
 pub fn ended(rest: &[u8]) -> Result<(), CodecFault>
     ensures ok { IsOk result ↔ (length rest.now ≡ 0) }
     ensures fault { IfErr result (λ e. e ≡ CodecFault.Length) }

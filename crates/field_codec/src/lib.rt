@@ -1,19 +1,19 @@
-//! The fields of which the spellings of events and rows are made: numbers, and texts of a kind, at the front of bytes.
+//! The fields at the front of bytes that make up the spellings of events and rows: numbers, and texts of a kind.
 //!
-//! A number is big-endian. A text is its length in two bytes and its bytes of UTF-8. Each reader gives a field and the bytes
-//! after it, so that readers follow one another from left to right. [`ended`] is the last of them: nothing may be left over.
-//! `specs/Fields` says what each reads (`part_at`, `number_at`, `ranged`, `text_at`, `whole`).
+//! A number is big-endian. A text is its length in two bytes, followed by its bytes of UTF-8. Each reader returns a field and the
+//! bytes after it, so readers are called in order from left to right. [`ended`] is the last one: no bytes may be left.
+//! `specs/Fields` defines each reader (`part_at`, `number_at`, `ranged`, `text_at`, `whole`).
 //!
 //! # Promises
 //!
-//! - Each reader gives what its definition reads, or its first fault (`read`): `Length` where the field passes the end, `Utf8`
-//!   where a text isn't UTF-8, `Range` where the value is outside its limits, in this order.
-//! - [`ended`] is Ok exactly where no byte is left (`ok`), and else tells `Length` (`fault`).
+//! - Each reader returns the result of its definition, or its first error (`read`), in this order: `Length` if the field exceeds
+//!   the bytes, `Utf8` if a text is not UTF-8, `Range` if the value is outside its limits.
+//! - [`ended`] returns Ok exactly if no byte is left (`ok`), otherwise `Length` (`fault`).
 //!
-//! # Faults
+//! # Errors
 //!
-//! A number takes no memory (`memory`). A text is copied once it is whole and within its limits, and only that copy may find no
-//! memory; nothing is kept then.
+//! [`CodecFault`]. Reading a number allocates nothing (`memory`). A text is copied after it is known to be complete and within
+//! its limits, and only this copy can run out of memory. No memory is retained then.
 #![tactic(auto)]
 
 mod fault;

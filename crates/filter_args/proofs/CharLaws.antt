@@ -10,7 +10,7 @@ use Rattle.line_words.specs.declared.quoting.Quoting.TheVariants.{Bare, Single, 
 use Rattle.line_words.specs.Quoting.{is_quoting, next, keeps, said, place_after}
 use Rattle.filter_args.specs.Printing.{is_special, escaped}
 
--- each byte is above 127
+-- Each byte is above 127.
 abbrev pub AreWide : List ℕ → Type 0
 AreWide [] = Unit {0}
 AreWide (b ∷ bs) = (128 ≤ b) × AreWide bs
@@ -35,7 +35,7 @@ wide_quoting b wide = or_from _ _ (not_at b 92 (omega arith) wide) (or_from _ _ 
 wide_blank : (b : ℕ) → 128 ≤ b → is_blank b ≡ false
 wide_blank b wide = or_from _ _ (not_at b 32 (omega arith) wide) (not_at b 9 (omega arith) wide)
 
--- where a wide byte leads: out of the escape
+-- The state after a wide byte: no longer escaped.
 unescaped : Quoting → Quoting
 unescaped Bare = Bare
 unescaped Single = Single
@@ -107,7 +107,7 @@ unescaped_wide q (b ∷ bs) t some wide = (
 some_bytes : (c : ℕ) → 1 ≤ length (encode_utf8 c)
 some_bytes c = omega (arith, length-encode c, (len_utf8_bounds c).0)
 
--- what a character adds to a value, and where it leads
+-- The bytes that a character adds to a value, and the state after it.
 pub said-encode : (q : Quoting) (c : ℕ) (t : List ℕ) → said q (encode_utf8 c ++ t) ≡ cond (keeps q c) (encode_utf8 c) [] ++ said (next q c) t
 said-encode q c t = by (cases_lt c 128)
   where
@@ -131,7 +131,7 @@ place-encode q c t = by (cases_lt c 128)
     by (inr wide) =
         (unescaped_wide q (encode_utf8 c) t (some_bytes c) (wide_encode c wide)).1 ∙ ap (λ p. place_after p t) (sym (next_wide q c wide))
 
--- how a character is printed
+-- The text of a character.
 pub escaped-encode : (c : ℕ) (t : List ℕ) → escaped (encode_utf8 c ++ t) ≡ cond (is_special c) (92 ∷ encode_utf8 c) (encode_utf8 c) ++ escaped t
 escaped-encode c t = by (cases_lt c 128)
   where
@@ -156,7 +156,7 @@ next_plain b h =
     ∙ ap (λ v. cond v Single (cond (eqb b 34) Double Bare)) quotes.0
     ∙ ap (λ v. cond v Double Bare) quotes.1
 
--- without quotes and backslashes a value says itself
+-- A value without quotes and backslashes represents itself.
 pub said_plain : (raw : List ℕ) → list_any is_quoting raw ≡ false → (said Bare raw ≡ raw) × (place_after Bare raw ≡ Bare)
 said_plain [] h = (refl, refl)
 said_plain (b ∷ bs) h =

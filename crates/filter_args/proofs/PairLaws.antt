@@ -1,4 +1,4 @@
--- Pairs of which each name comes once.
+-- Pairs with unique names.
 use Rattle.std.proofs.Common.{◌≡◌, ℕ, Bool, true, false, ◌&&◌, not, cond, nat_eq, nat_lt, codes, List, [], ◌∷◌, ◌++◌, refl, ap, sym, ◌∙◌, bytes_eq, eqb, length, arith, option_map, Some, Result, Ok, Err}
 use Rattle.std.proofs.lemmas.Bool.{and_parts, and_from, not-true, not_from_false, or_parts, or_from, false_from_ne_true, true≢false, le-leb}
 use Rattle.std.proofs.lemmas.Slice.Eq.{bytes_eq-Decides}
@@ -28,7 +28,7 @@ is_among-put n (q ∷ qs) p h k =
       | false ↦ or_from _ _ parts.0 (is_among-put n qs p parts.1 k)
     ]
 
--- a pair more leaves each name once
+-- Adding a pair leaves each name unique.
 pub put-are_options : (qs : List Pair) (p : Pair) → are_options qs ≡ true → is_option_name p.0 ≡ true → are_options (put qs p) ≡ true
 put-are_options [] p h k = and_from _ _ k refl
 put-are_options (q ∷ qs) p h k =
@@ -41,7 +41,7 @@ put-are_options (q ∷ qs) p h k =
     by true e parts rest more = h
     by false e parts rest more = and_from _ _ parts.0 (and_from _ _ (not_from_false _ (is_among-put q.0 qs p (not-true _ rest.0) (other_way p.0 q.0 e))) more)
 
--- a name that isn't there comes last
+-- A new name comes last.
 put-new : (qs : List Pair) (p : Pair) → is_among p.0 qs ≡ false → put qs p ≡ qs ++ p ∷ []
 put-new [] p h = refl
 put-new (q ∷ qs) p h =
@@ -52,7 +52,7 @@ is_among-append : (n : List ℕ) (qs : List Pair) (p : Pair) (ps : List Pair) �
 is_among-append n [] p ps h = (or_parts (bytes_eq n p.0) (is_among n ps) h).0
 is_among-append n (q ∷ qs) p ps h = is_among-append n qs p ps (or_parts (bytes_eq n q.0) (is_among n (qs ++ p ∷ ps)) h).1
 
--- the name in the middle isn't among those before it
+-- A name in the middle is not among the names before it.
 fresh : (qs : List Pair) (p : Pair) (ps : List Pair) → are_options (qs ++ p ∷ ps) ≡ true → is_among p.0 qs ≡ false
 fresh [] p ps h = refl
 fresh (q ∷ qs) p ps h =
@@ -67,14 +67,14 @@ put_all-append qs (p ∷ ps) h =
     ∙ put_all-append (qs ++ p ∷ []) ps (ap are_options (append_assoc qs (p ∷ []) ps) ∙ h)
     ∙ append_assoc qs (p ∷ []) ps
 
--- options that are put one after the other are these options
+-- Options that are added in order are these options.
 pub put_all-options : (ps : List Pair) → are_options ps ≡ true → put_all [] ps ≡ ps
 put_all-options ps h = put_all-append [] ps h
 
 -- ## The map in memory
 
 module _ {Z : Type 0} where
-  -- a map takes a pair as the list does
+  -- A map takes a pair as the list does.
   pub pairs_of-insert : (es : List (Bor (List ℕ) × CowStr Z)) (name : Bor (List ℕ)) (value : CowStr Z)
       → pairs_of (insert_entry (λ x y. bytes_eq x.now y.now) es name value) ≡ put (pairs_of es) (pair_of (name, value))
   pairs_of-insert [] name value = refl
@@ -84,7 +84,7 @@ module _ {Z : Type 0} where
         | false ↦ ap (λ l. pair_of e ∷ l) (pairs_of-insert es name value)
       ]
 
-  -- and finds a value as the list does
+  -- A map finds a value as the list does.
   pub value_of-pairs_of : (name : List ℕ) (es : List (Bor (List ℕ) × CowStr Z)) → option_map cow_str_bytes (lookup (λ k. bytes_eq name k.now) es) ≡ value_of name (pairs_of es)
   value_of-pairs_of name [] = refl
   value_of-pairs_of name (e ∷ es) =
@@ -116,7 +116,7 @@ named-name name (Ok value) p h = ap (λ r. name_in r) h
     name_in (Err fault) = name
 named-name name (Err fault) p h = absurd (cc)
 
--- it has a name
+-- It has a name.
 pub pair_in-name : (word : List ℕ) (p : Pair) → pair_in word ≡ Ok p → is_option_name p.0 ≡ true
 pair_in-name word p = split (list_any is_equals word)
   where
@@ -135,7 +135,7 @@ pair_in-name word p = split (list_any is_equals word)
     split true h = of_pair (is_option_name (before_first is_equals word)) refl h
     split false h = of_name (is_option_name word) refl h
 
--- so options stay options
+-- The result is a list of options.
 pub with_word-options : (qs : List Pair) (word : List ℕ) (rs : List Pair) → are_options qs ≡ true → with_word qs word ≡ Ok rs → are_options rs ≡ true
 with_word-options qs word rs h = some (is_some_bytes word)
   where
@@ -147,7 +147,7 @@ with_word-options qs word rs h = some (is_some_bytes word)
     some true k = read (pair_in word) refl k
     some false k = let same : qs ≡ rs = cc in ap are_options (sym same) ∙ h
 
--- a word's pair, put to the map
+-- A word's pair, inserted into the map.
 pub with_word-put : {Z : Type 0} (es new : List (Bor (List ℕ) × CowStr Z)) (word : List ℕ) (name : Bor (List ℕ)) (value : CowStr Z)
     → is_some_bytes word ≡ true → pair_in word ≡ Ok (pair_of (name, value)) → new ≡ insert_entry (λ x y. bytes_eq x.now y.now) es name value
     → with_word (pairs_of es) word ≡ Ok (pairs_of new)

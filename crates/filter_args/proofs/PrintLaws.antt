@@ -1,4 +1,4 @@
--- What printed options are read as.
+-- Printed options are read as the same options.
 use Rattle.std.proofs.Common.{◌≡◌, ℕ, suc, ◌+◌, Bool, true, false, ◌&&◌, ◌||◌, not, cond, eqb, List, [], ◌∷◌, ◌++◌, length, take, drop, map, filter, refl, ap, sym, ◌∙◌, subst, arith, Ok, Err}
 use Rattle.std.proofs.lemmas.Bool.{and_parts, or_parts, or_from, or_right, and_right, ne_eqb, eqb-true, le-leb, true≢false}
 use Rattle.std.specs.List.{list_any, list_all, before_first, after_first, position_or_len}
@@ -15,7 +15,7 @@ use Rattle.filter_args.specs.Printing.{is_special, escaped, printed_value, print
 use Rattle.filter_args.proofs.CharLaws.{next_plain}
 use Rattle.filter_args.proofs.PairLaws.{put_all-options}
 
--- ## Bytes that no blank cuts
+-- ## Bytes that no blank splits
 
 abbrev pub IsUncut : Quoting → List ℕ → Type 0
 IsUncut q [] = Unit {0}
@@ -36,7 +36,7 @@ unfolding onto
 onto-first [] ws = refl
 onto-first (b ∷ bs) ws = ap (onto_first b) (onto-first bs ws)
 
--- what is printed of a value: it stays whole, ends outside quotes, and says the value
+-- The text of a value: it is not split, ends outside quotes, and represents the value.
 record IsFor (value text : List ℕ) : Type 0 where
   uncut : IsUncut Bare text
   place : place_after Bare text ≡ Bare
@@ -80,7 +80,7 @@ printed_value_for (b ∷ bs) = by (eqb b 123) refl
         (behind_backslash b bs (escaped bs) (escaped_for bs))
     by false e = escaped_for (b ∷ bs)
 
--- it opens no collection
+-- It opens no collection.
 printed_value-bracket : (value : List ℕ) → is_collection (printed_value value) ≡ false
 printed_value-bracket [] = refl
 printed_value-bracket (b ∷ bs) = by (eqb b 123) refl
@@ -159,7 +159,7 @@ pair_in-printed p h =
 
 -- ## The whole text
 
--- each name is one
+-- Each name is valid.
 abbrev pub AreNamed : List Pair → Type 0
 AreNamed [] = Unit {0}
 AreNamed (p ∷ ps) = (is_option_name p.0 ≡ true) × AreNamed ps
@@ -204,12 +204,12 @@ pairs_in-printed [] h = refl
 pairs_in-printed (p ∷ ps) h =
     ap (λ r. then_pairs r (pairs_in (map printed_pair ps))) (pair_in-printed p h.0) ∙ ap (then_pairs (Ok p)) (pairs_in-printed ps h.1)
 
--- printed options are read as these options
+-- Printed options are read as these options.
 pub reading-printed : (ps : List Pair) → are_options ps ≡ true → reading (printed ps) ≡ Ok ps
 reading-printed ps h =
     let named = named_options ps h in
     ap (λ ws. joined [] (pairs_in ws)) (words-printed ps named) ∙ ap (joined []) (pairs_in-printed ps named) ∙ ap (λ l. Ok l) (put_all-options ps h)
 
--- the same of the options that a map stands for
+-- The same for the options in a map.
 pub read_back : {ps qs : List Pair} → ps ≡ qs → are_options ps ≡ true → reading (printed qs) ≡ Ok qs
 read_back {ps} {qs} same h = subst (λ l. reading (printed l) ≡ Ok l) same (reading-printed ps h)

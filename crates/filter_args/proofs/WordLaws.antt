@@ -16,7 +16,7 @@ use Rattle.std.specs.List.{onto_first}
 use Rattle.line_words.specs.Quoting.{pieces, next, is_bare, is_cut, said, place_after}
 use Rattle.filter_args.specs.OptionTexts.{word_here, after_word, is_some_bytes, words_of, is_equals, is_collection, bare_pair, value_in, named, bare_in, named_pair, pair_in, then_pairs, pairs_in, put_read, with_word, joined, reading}
 
--- the pieces after the first
+-- The pieces after the first.
 later : Quoting → List ℕ → List (List ℕ)
 later place [] = []
 later place (b ∷ bs) = cond (is_cut place b) (pieces Bare bs) (later (next place b) bs)
@@ -39,13 +39,13 @@ later_words place (b ∷ bs) =
       | false ↦ later_words (next place b) bs
     ]
 
--- a text's words are its first one, if it isn't empty, and those of what follows
+-- A text's words are its first word, if it is not empty, and the words of the rest.
 pub words_split : (text : List ℕ) → words_of text ≡ cond (is_some_bytes (word_here Bare text)) (word_here Bare text ∷ words_of (after_word Bare text)) (words_of (after_word Bare text))
 words_split text =
     ap (filter is_some_bytes) (pieces_first Bare text)
     ∙ ap (λ l. cond (is_some_bytes (word_here Bare text)) (word_here Bare text ∷ l) l) (later_words Bare text)
 
--- a word that is read up to byte i
+-- A word that is read up to byte i.
 module _ (xs : List ℕ) (i : ℕ) (less : i < length xs) (place : Quoting) where
   at_byte : {X : Type 0} (f : List ℕ → X) → f (get_or xs i 0 ∷ drop (i + 1) xs) ≡ f (drop i xs)
   at_byte f = ap f (sym (drop_more xs i 0 less))
@@ -84,14 +84,14 @@ after_word_short place (b ∷ bs) =
     let rest = after_word_short (next place b) bs in
     elim (is_cut place b) as (λ v. length (cond v bs (after_word (next place b) bs)) ≤ suc (length bs)) [ true ↦ omega arith | false ↦ omega arith ]
 
--- what follows a word is shorter than the text
+-- The rest after a word is shorter than the text.
 pub after_word_shorter : (text : List ℕ) → 1 ≤ length text → length (after_word Bare text) < length text
 after_word_shorter [] some = absurd (omega arith)
 after_word_shorter (b ∷ bs) some =
     let rest = after_word_short (next Bare b) bs in
     elim (is_cut Bare b) as (λ v. length (cond v bs (after_word (next Bare b) bs)) < suc (length bs)) [ true ↦ omega arith | false ↦ omega arith ]
 
--- a byte that ends a word is ASCII
+-- A byte that ends a word is ASCII.
 pub cut_ascii : (place : Quoting) (b : ℕ) → is_cut place b ≡ true → b < 128
 cut_ascii place b h = by (or_cases (eqb b 32) (eqb b 9) (and_parts (is_blank b) (is_bare place) h).0)
   where
@@ -101,17 +101,17 @@ cut_ascii place b h = by (or_cases (eqb b 32) (eqb b 9) (and_parts (is_blank b) 
 
 -- ## The pairs of the words
 
--- one pair more
+-- One more pair.
 pub joined_more : (qs : List Pair) (p : Pair) (r : Result (List Pair) OptionFault) → joined qs (then_pairs (Ok p) r) ≡ joined (put qs p) r
 joined_more qs p (Ok ps) = refl
 joined_more qs p (Err fault) = refl
 
--- these options with a word, and then the pairs that were read
+-- These options with a word, and then the pairs that were read.
 abbrev pub then_joined : Result (List Pair) OptionFault → Result (List Pair) OptionFault → Result (List Pair) OptionFault
 then_joined (Ok qs) rest = joined qs rest
 then_joined (Err fault) rest = Err fault
 
--- a text's pairs are those of its first word, and then those of what follows
+-- A text's pairs are the pair of its first word and the pairs of the rest.
 pub joined_word : (qs : List Pair) (text : List ℕ)
     → joined qs (pairs_in (words_of text)) ≡ then_joined (with_word qs (word_here Bare text)) (pairs_in (words_of (after_word Bare text)))
 joined_word qs text =
@@ -127,7 +127,7 @@ joined_word qs text =
     by true = read (pair_in (word_here Bare text))
     by false = refl
 
--- ## Faults
+-- ## Errors
 
 pub fault_is : {A : Type 0} (r : Result A OptionFault) (fault : OptionFault) → result_err r ≡ Some fault → IsFault fault r
 fault_is (Ok x) fault e = absurd (cc)
@@ -147,7 +147,7 @@ pub ok_value : {A : Type 0} (r : Result A OptionFault) → result_err r ≡ None
 ok_value (Ok x) e = (x, refl)
 ok_value (Err f) e = absurd (cc)
 
--- no text says that memory is wanting
+-- No text has the error out of memory.
 pair_said : (word : List ℕ) → ¬ (result_err (pair_in word) ≡ Some Memory)
 pair_said word = by (list_any is_equals word)
   where
@@ -183,7 +183,7 @@ reading_said text = by (pairs_in (words_of text)) (pairs_said (words_of text))
     by (Ok ps) h = λ e. absurd (cc)
     by (Err f) h = h
 
--- what the first word's fault, or its pair, makes of the text's reading
+-- The error of the first word is the error of the text.
 pub fault_told : (qs : List Pair) (text : List ℕ) (fault : OptionFault) (all : Result (List Pair) OptionFault)
     → result_err (with_word qs (word_here Bare text)) ≡ Some fault → joined qs (pairs_in (words_of text)) ≡ all → result_err all ≡ Some fault
 fault_told qs text fault all told same =
@@ -193,7 +193,7 @@ fault_told qs text fault all told same =
     by (Ok rs) rest e = absurd (cc)
     by (Err f) rest e = e
 
--- where the text has no fault, its first word has none
+-- If the text has no error, its first word has none.
 pub no_fault_yet : (qs : List Pair) (text : List ℕ) (all : Result (List Pair) OptionFault)
     → result_err all ≡ None → joined qs (pairs_in (words_of text)) ≡ all → result_err (with_word qs (word_here Bare text)) ≡ None
 no_fault_yet qs text all none same =
@@ -224,18 +224,18 @@ some_equals (b ∷ bs) h = by (is_equals b) h (some_equals bs)
     by true e rest = refl
     by false e rest = rest (omega arith)
 
--- a word with '=' is a name and a value
+-- A word with '=' is a name and a value.
 pub pair_in_named : (word name raw : List ℕ) → position_or_len is_equals word < length word → name ≡ before_first is_equals word → raw ≡ after_first is_equals word → named_pair name raw ≡ pair_in word
 pair_in_named word name raw h p q =
     ap (λ l. named_pair l raw) p ∙ ap (named_pair (before_first is_equals word)) q
     ∙ ap (λ v. cond v (named_pair (before_first is_equals word) (after_first is_equals word)) (bare_in word)) (sym (some_equals word h))
 
--- a word without '=' is a bare name
+-- A word without '=' is a name alone.
 pub pair_in_bare : (word : List ℕ) → position_or_len is_equals word ≡ length word → bare_in word ≡ pair_in word
 pair_in_bare word h =
     ap (λ v. cond v (named_pair (before_first is_equals word) (after_first is_equals word)) (bare_in word)) (sym (none_equals word h))
 
--- the pair of a word without a fault
+-- The pair of a word without an error.
 pub bare_read : (name : List ℕ) → result_err (bare_in name) ≡ None → bare_in name ≡ Ok (bare_pair name)
 bare_read name = by (is_option_name name)
   where
@@ -254,7 +254,7 @@ named_read name raw = by (is_option_name name) (is_collection raw) (is_bare (pla
     by true false false e = absurd (cc)
     by false b c e = absurd (cc)
 
--- the fault of a name, or that of the value behind it
+-- The error of a name, or of the value after it.
 pub named_fault : (name raw : List ℕ) → option_or (cond (is_option_name name) None (Some BadName)) (result_err (value_in raw)) ≡ result_err (named_pair name raw)
 named_fault name raw = by (is_option_name name) (value_in raw)
   where
@@ -263,7 +263,7 @@ named_fault name raw = by (is_option_name name) (value_in raw)
     by true (Err fault) = refl
     by false value = refl
 
--- a word's fault is that of its pair
+-- A word's error is the error of its pair.
 pub word_fault_told : (qs : List Pair) (word : List ℕ) → is_some_bytes word ≡ true → result_err (pair_in word) ≡ result_err (with_word qs word)
 word_fault_told qs word some = by (pair_in word) ∙ ap (λ v. result_err (cond v (put_read qs (pair_in word)) (Ok qs))) (sym some)
   where

@@ -10,7 +10,7 @@ prefix_of Output = codes "out"
 prefix_of Errors = codes "err"
 prefix_of Side = codes "side"
 
--- the folder, and there a name of the job, the attempt and the stage
+-- A file in the folder, named by its kind, the job, the attempt and the stage.
 abbrev pub file_name : ChildFile → List ℕ → ℕ → ℕ → ℕ → List ℕ
 file_name file root job attempt stage =
     root ++ codes "/" ++ prefix_of file ++ codes "-" ++ decimal job ++ codes "-" ++ decimal attempt ++ codes "-" ++ decimal stage

@@ -4,6 +4,6 @@ use Rattle.std.specs.Fmt.{decimal}
 use Rattle.std.specs.Option.{option_to_list}
 use Rattle.spool_types.specs.State.{Job}
 
--- the job's number, its user, its title, how many copies, its options, and the document where it is a file
+-- The job's number, its user, its title, the number of copies, its options, and the document if it is a file.
 abbrev pub arguments : Job → Option (List ℕ) → List (List ℕ)
 arguments job file = decimal job.id ∷ job.user ∷ job.title ∷ decimal job.copies ∷ job.options ∷ option_to_list file

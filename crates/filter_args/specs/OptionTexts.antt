@@ -1,4 +1,4 @@
--- What a text of options says.
+-- The options of a text.
 use Rattle.std.specs.Prelude.{ℕ, Bool, ◌&&◌, cond, ◌==◌, List, [], ◌∷◌, filter, drop, length, nat_le, nat_lt, nat_eq, slice_index, codes, Result, Ok, Err}
 use Rattle.std.specs.List.{list_any, before_first, after_first, starts_with}
 use Rattle.filter_args.specs.declared.fault.OptionFault.{OptionFault}
@@ -10,12 +10,12 @@ use Rattle.line_words.specs.Quoting.{next, is_bare, is_cut, said, place_after, p
 
 -- ## Words
 
--- the first of the pieces
+-- The first of the pieces.
 abbrev pub word_here : Quoting → List ℕ → List ℕ
 word_here place [] = []
 word_here place (b ∷ bs) = cond (is_cut place b) [] (b ∷ word_here (next place b) bs)
 
--- what follows the blank that ends it
+-- The bytes after the blank that ends it.
 abbrev pub after_word : Quoting → List ℕ → List ℕ
 after_word place [] = []
 after_word place (b ∷ bs) = cond (is_cut place b) bs (after_word (next place b) bs)
@@ -26,16 +26,16 @@ is_some_bytes word = nat_le 1 (length word)
 abbrev pub words_of : List ℕ → List (List ℕ)
 words_of text = filter is_some_bytes (pieces Bare text)
 
--- ## The pair that a word says
+-- ## The pair in a word
 
 abbrev pub is_equals : ℕ → Bool
 is_equals b = b == 61
 
--- a bare name is true, and false after "no"
+-- A name alone is true, and false after "no".
 abbrev pub bare_pair : List ℕ → Pair
 bare_pair name = cond (nat_lt 2 (length name) && starts_with nat_eq name (codes "no")) (drop 2 name, codes "false") (name, codes "true")
 
--- a bracket at the start, before which there is no quote and no backslash, opens a collection
+-- A `{` at the start, without a quote or a backslash before it, opens a collection.
 abbrev pub is_collection : List ℕ → Bool
 is_collection raw = slice_index raw 0 == 123
 
@@ -55,7 +55,7 @@ bare_in name = cond (is_option_name name) (Ok (bare_pair name)) (Err BadName)
 abbrev pub named_pair : List ℕ → List ℕ → Result Pair OptionFault
 named_pair name raw = cond (is_option_name name) (named name (value_in raw)) (Err BadName)
 
--- a name alone, or a name, '=' and a value
+-- A name alone, or a name, '=' and a value.
 abbrev pub pair_in : List ℕ → Result Pair OptionFault
 pair_in word =
     cond (list_any is_equals word)
@@ -69,17 +69,17 @@ then_pairs (Err fault) rest = Err fault
 then_pairs (Ok p) (Err fault) = Err fault
 then_pairs (Ok p) (Ok ps) = Ok (p ∷ ps)
 
--- the pairs of the words in order, or the first fault
+-- The pairs of the words in order, or the first error.
 abbrev pub pairs_in : List (List ℕ) → Result (List Pair) OptionFault
 pairs_in [] = Ok []
 pairs_in (w ∷ ws) = then_pairs (pair_in w) (pairs_in ws)
 
--- these options, and then the pairs that were read
+-- These options, and then the pairs that were read.
 abbrev pub joined : List Pair → Result (List Pair) OptionFault → Result (List Pair) OptionFault
 joined qs (Ok ps) = Ok (put_all qs ps)
 joined qs (Err fault) = Err fault
 
--- a word's pair, put to these options; an empty word has none
+-- A word's pair, added to these options. An empty word has none.
 abbrev pub put_read : List Pair → Result Pair OptionFault → Result (List Pair) OptionFault
 put_read qs (Ok p) = Ok (put qs p)
 put_read qs (Err fault) = Err fault
@@ -87,6 +87,6 @@ put_read qs (Err fault) = Err fault
 abbrev pub with_word : List Pair → List ℕ → Result (List Pair) OptionFault
 with_word qs word = cond (is_some_bytes word) (put_read qs (pair_in word)) (Ok qs)
 
--- the options of a text, or its first fault
+-- The options of a text, or its first error.
 abbrev pub reading : List ℕ → Result (List Pair) OptionFault
 reading text = joined [] (pairs_in (words_of text))

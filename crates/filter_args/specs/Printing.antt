@@ -6,16 +6,16 @@ use Rattle.filter_args.specs.Pairs.{Pair}
 use Rattle.line_words.specs.Quoting.{is_quoting}
 use Rattle.filter_args.specs.OptionTexts.{is_collection}
 
--- a blank, a quote or a backslash
+-- A blank, a quote or a backslash.
 abbrev pub is_special : ℕ → Bool
 is_special b = is_blank b || is_quoting b
 
--- a backslash before each special byte
+-- A backslash before each special byte.
 abbrev pub escaped : List ℕ → List ℕ
 escaped [] = []
 escaped (b ∷ bs) = cond (is_special b) (92 ∷ b ∷ escaped bs) (b ∷ escaped bs)
 
--- and before a bracket at the start
+-- The same, with a backslash before a `{` at the start.
 abbrev pub printed_value : List ℕ → List ℕ
 printed_value value = cond (is_collection value) (92 ∷ escaped value) (escaped value)
 
@@ -25,7 +25,7 @@ printed_pair p = p.0 ++ 61 ∷ printed_value p.1
 abbrev pub after_blank : Pair → List ℕ
 after_blank p = 32 ∷ printed_pair p
 
--- the pairs with one blank between them
+-- The pairs with one blank between them.
 abbrev pub printed : List Pair → List ℕ
 printed [] = []
 printed (p ∷ ps) = printed_pair p ++ flat_map after_blank ps

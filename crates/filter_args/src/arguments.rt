@@ -7,8 +7,8 @@ ghost use Rattle.filter_args.specs.OptionFields.{texts};
 use spool_types::Job;
 use std::alloc::{AllocError, Global};
 
-/// The arguments after the program: the job's number, its user, its title, how many copies, its options, and the
-/// document's path where the child reads a file (filter(7)).
+/// Returns the arguments after the program: the job's number, its user, its title, the number of copies, its options, and the document's
+/// path if the child reads a file (filter(7)).
 pub fn words(alloc: Global, job: &Job, file: Option<&str>) -> Result<Vec<String>, AllocError>
     ensures { IfOk result (λ words. texts words ≡ arguments job.now (option_map (λ path. path.now) file.entry)) }
 {

@@ -1,16 +1,16 @@
 //! Why options were not read.
 use std::alloc::AllocError;
 
-/// Why a text of options was not read: its first fault from the left.
+/// The first error of a text of options from the left.
 #[derive(Clone, Copy, Debug, PartialEq, Eq)]
 pub enum OptionFault {
-    /// A word has no name, or its name holds another byte than letters, digits, `-`, `_` and `.`.
+    /// A word has no name, or its name contains a byte other than letters, digits, `-`, `_` and `.`.
     BadName,
-    /// A quote that nothing closes, or a backslash at the end.
+    /// A quote is not closed, or a backslash is at the end.
     Unclosed,
-    /// A value that begins with a bare `{`: collections of options are refused.
+    /// A value begins with a bare `{`: collections of options are rejected.
     Collection,
-    /// No memory was found.
+    /// Out of memory.
     Memory,
 }
 

@@ -10,7 +10,7 @@ use std::alloc::{AllocError, Global};
 /// A file of a child in the spool's folder.
 #[derive(Clone, Copy, Debug, PartialEq, Eq)]
 pub enum ChildFile {
-    /// What it reads: for the first stage the document.
+    /// Its input: for the first stage the document.
     Input,
     /// Its standard output.
     Output,
@@ -21,7 +21,7 @@ pub enum ChildFile {
 }
 
 impl ChildFile {
-    // What its name begins with.
+    // Returns the front of its name.
     fn prefix(self) -> &'static str
         ensures { result.now ≡ prefix_of self }
     {
@@ -33,7 +33,7 @@ impl ChildFile {
         }
     }
 
-    /// The path of the file for a stage of an attempt.
+    /// Returns the path of the file for a stage of an attempt.
     pub fn path(
         self,
         alloc: Global,

@@ -35,7 +35,7 @@ impl<'a> Model for Options<'a> {
 }
 
 impl<'a> Options<'a> {
-    /// Reads a text of options, one after the other from the left. A fault is told also where there is no memory.
+    /// Reads a text of options, from left to right. An error of the text takes precedence over out of memory.
     pub fn parse(alloc: Global, text: &'a str) -> Result<Options<'a>, OptionFault>
         ensures value { Gives result (λ options. options) (reading text.now) }
         ensures memory { IsErrOf result OptionFault.Memory → IsOk (reading text.now) }
@@ -53,8 +53,8 @@ impl<'a> Options<'a> {
         Ok(Options { pairs })
     }
 
-    /// The options as one text, with one blank between them and a backslash before each blank, quote and backslash of a
-    /// value, and before a `{` at its start.
+    /// Returns the options as one text, with one blank between them and a backslash before each blank, quote and backslash of a value,
+    /// and before a `{` at its start.
     pub fn print(&self) -> Result<String, AllocError>
         ensures value { IfOk result (λ text. string_bytes text ≡ printed self.now) }
         ensures read_back { reading (printed self.now) ≡ Ok self.now }
@@ -72,7 +72,7 @@ impl<'a> Options<'a> {
         Ok(text)
     }
 
-    /// The value of a name, which is there at most once.
+    /// Returns the value of a name.
     pub fn get(&self, name: &str) -> Option<&str>
         ensures { option_map (λ value. value.now) result ≡ value_of name.now self.now }
     {
@@ -81,7 +81,7 @@ impl<'a> Options<'a> {
     }
 }
 
-// The first fault of a text of options from the left, if it has one.
+// Returns the first error of a text of options from the left, if any.
 fn first_fault(text: &str) -> Option<OptionFault>
     ensures { result ≡ result_err (reading text.now) }
 {
@@ -96,7 +96,7 @@ fn first_fault(text: &str) -> Option<OptionFault>
     None
 }
 
-// The fault of a word, if it has one. An empty word has none.
+// Returns the error of a word, if any. An empty word has none.
 fn word_fault(word: &str) -> Option<OptionFault>
     ensures { (options : List Pair) → result ≡ result_err (with_word options word.now) }
 {
@@ -106,7 +106,7 @@ fn word_fault(word: &str) -> Option<OptionFault>
     pair_fault(word)
 }
 
-// Puts the pair of a word, unless the word is empty.
+// Inserts the pair of a word, unless the word is empty.
 fn add_word<'a>(
     alloc: Global,
     pairs: &mut IndexMap<&'a str, CowStr<'a, Global>>,

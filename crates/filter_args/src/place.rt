@@ -1,13 +1,13 @@
-//! Where the spooler's children run.
+//! The settings that the spooler's children share.
 
-/// What the children of every job share.
+/// The settings that the children of all jobs share.
 #[derive(Drop)]
 pub struct Place {
     /// The spool's folder.
     pub root: String,
     /// The locale, the variable LANG.
     pub lang: String,
-    /// Where programs are looked for, the variable PATH.
+    /// The search path for programs, the variable PATH.
     pub path: String,
     /// Whether each child has a side channel.
     pub side: bool,

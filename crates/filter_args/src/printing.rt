@@ -1,4 +1,4 @@
-//! How options are printed.
+//! The text of options.
 ghost use Rattle.std.specs.Prelude.{◌≡◌, ◌++◌, ◌∷◌, if◌then◌else◌, encode_utf8, OnOk};
 ghost use Rattle.std.specs.String.{string_bytes};
 ghost use Rattle.filter_args.specs.Printing.{printed_pair, printed_value, is_special};
@@ -6,7 +6,7 @@ ghost use Rattle.filter_args.specs.Printing.{printed_pair, printed_value, is_spe
 use crate::reading::opens_collection;
 use std::alloc::AllocError;
 
-/// Adds a pair.
+/// Appends a pair.
 pub(crate) fn push_pair(text: &mut String, name: &str, value: &str) -> Result<(), AllocError>
     ensures { OnOk result (string_bytes text.new ≡ string_bytes text.old ++ printed_pair (name.now, value.now)) }
 {
@@ -16,7 +16,7 @@ pub(crate) fn push_pair(text: &mut String, name: &str, value: &str) -> Result<()
     Ok(())
 }
 
-// Adds a value, with a backslash before what would end it, quote it or make it a collection.
+// Appends a value, with a backslash before each byte that would end it, quote it or make it a collection.
 fn push_value(text: &mut String, value: &str) -> Result<(), AllocError>
     ensures { OnOk result (string_bytes text.new ≡ string_bytes text.old ++ printed_value value.now) }
 {
@@ -29,7 +29,7 @@ fn push_value(text: &mut String, value: &str) -> Result<(), AllocError>
     Ok(())
 }
 
-// Adds a character, after a backslash if it is special.
+// Appends a character, after a backslash if it is special.
 fn push_escaped(text: &mut String, c: char) -> Result<(), AllocError>
     ensures { OnOk result (string_bytes text.new ≡ string_bytes text.old ++ (if is_special c then 92 ∷ encode_utf8 c else encode_utf8 c)) }
 {

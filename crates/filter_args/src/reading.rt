@@ -1,4 +1,4 @@
-//! How a text of options is read.
+//! Reading a text of options.
 ghost use Rattle.std.specs.Prelude.{◌≡◌, ◌++◌, [], cond, if◌then◌else◌, encode_utf8, None, Some, Ok, IfOk, OnOk};
 ghost use Rattle.std.specs.List.{list_all, list_any};
 ghost use Rattle.std.specs.String.{string_bytes};
@@ -15,7 +15,7 @@ use line_words::Quoting;
 use std::alloc::{AllocError, Global};
 use std::borrow::CowStr;
 
-/// The text up to the first blank that is neither in quotes nor escaped, and what follows that blank.
+/// Splits at the first blank that is neither in quotes nor escaped. The second part begins after that blank.
 pub(crate) fn split_word(text: &str) -> (&str, &str)
     ensures word { result.0.now ≡ word_here Quoting.Bare text.now }
     ensures rest { result.1.now ≡ after_word Quoting.Bare text.now }
@@ -31,7 +31,7 @@ pub(crate) fn split_word(text: &str) -> (&str, &str)
     (text, "")
 }
 
-/// The fault of the pair that a word says, if it has one.
+/// Returns the error of the pair in a word, if any.
 pub(crate) fn pair_fault(word: &str) -> Option<OptionFault>
     ensures { result ≡ result_err (pair_in word.now) }
 {
@@ -51,7 +51,7 @@ fn name_fault(name: &str) -> Option<OptionFault>
     }
 }
 
-// The fault of the value after `=`, if it has one.
+// Returns the error of the value after `=`, if any.
 fn value_fault(raw: &str) -> Option<OptionFault>
     ensures { result ≡ result_err (value_in raw.now) }
 {
@@ -65,7 +65,7 @@ fn value_fault(raw: &str) -> Option<OptionFault>
     }
 }
 
-// Whether each quote of a value is closed, and no backslash is at its end.
+// Returns whether each quote of a value is closed, and no backslash is at its end.
 fn is_closed(raw: &str) -> bool
     ensures { result ≡ is_bare (place_after Quoting.Bare raw.now) }
 {
@@ -76,7 +76,7 @@ fn is_closed(raw: &str) -> bool
     place.is_bare()
 }
 
-/// The pair that a word says: a name alone, or a name, `=` and a value.
+/// Returns the pair in a word: a name alone, or a name, `=` and a value.
 pub(crate) fn read_pair<'a>(
     alloc: Global,
     word: &'a str,
@@ -114,7 +114,7 @@ fn is_name_byte(b: u8) -> bool
     b.is_ascii_alphanumeric() || b == b'-' || b == b'_' || b == b'.'
 }
 
-// A bare name is true, and false after `no`.
+// A name alone is true, and false after `no`.
 fn bare_pair(name: &str) -> (&str, &'static str)
     ensures { (result.0.now, result.1.now) ≡ bare_pair name.now }
 {
@@ -125,7 +125,7 @@ fn bare_pair(name: &str) -> (&str, &'static str)
     }
 }
 
-// The value after `=`. One without quotes and backslashes is lent.
+// Returns the value after `=`. A value without quotes and backslashes is borrowed.
 fn read_value<'a>(alloc: Global, raw: &'a str) -> Result<CowStr<'a, Global>, AllocError>
     ensures { IfOk result (λ value. cow_str_bytes value ≡ said Quoting.Bare raw.now) }
 {
@@ -136,14 +136,14 @@ fn read_value<'a>(alloc: Global, raw: &'a str) -> Result<CowStr<'a, Global>, All
     Ok(CowStr::Borrowed(raw))
 }
 
-/// Whether a bracket at its start makes a value a collection.
+/// Returns whether the value begins with `{`, which opens a collection.
 pub(crate) fn opens_collection(raw: &str) -> bool
     ensures { result ≡ is_collection raw.now }
 {
     raw.starts_with('{')
 }
 
-// Whether a quote or a backslash is in a value.
+// Returns whether a value contains a quote or a backslash.
 fn has_marks(raw: &str) -> bool
     ensures { result ≡ list_any is_quoting raw.now }
 {
@@ -156,7 +156,7 @@ fn is_mark(b: u8) -> bool
     b == b'\\' || b == b'\'' || b == b'"'
 }
 
-// The value without its quotes and backslashes.
+// Returns the value without its quotes and backslashes.
 fn unquoted(alloc: Global, raw: &str) -> Result<String, AllocError>
     ensures { IfOk result (λ value. string_bytes value ≡ said Quoting.Bare raw.now) }
 {
@@ -169,7 +169,7 @@ fn unquoted(alloc: Global, raw: &str) -> Result<String, AllocError>
     Ok(value)
 }
 
-// Adds a character that belongs to the value.
+// Appends a character that belongs to the value.
 fn push_kept(value: &mut String, place: Quoting, c: char) -> Result<(), AllocError>
     ensures { OnOk result (string_bytes value.new ≡ string_bytes value.old ++ (if keeps place c then encode_utf8 c else [])) }
 {

@@ -11,7 +11,7 @@ use crate::place::Place;
 use spool_types::{Job, JobId, Phase, QueueRow};
 use std::alloc::{AllocError, Global};
 
-/// The environment of the stage that a processing job is in, as `NAME=value`, in a fixed order (filter(7), backend(7)).
+/// Returns the environment of the current stage of a processing job, as `NAME=value`, in a fixed order (filter(7), backend(7)).
 pub fn environment(
     alloc: Global,
     job: &Job,
@@ -57,7 +57,7 @@ fn push_document(alloc: Global, variables: &mut Vec<String>, job: &Job) -> Resul
     Ok(())
 }
 
-// The document's media type, empty where the job has none.
+// Returns the document's media type, empty if the job has none.
 fn content_type(job: &Job) -> &str
     ensures { result.now ≡ unwrap_or job.now.media [] }
 {
@@ -130,14 +130,14 @@ fn push_stage(
     Ok(())
 }
 
-// A number in decimal digits.
+// Returns a number in decimal digits.
 fn number(alloc: Global, number: u32) -> Result<String, AllocError>
     ensures { IfOk result (λ text. string_bytes text ≡ decimal number) }
 {
     format!(in alloc; "{number}")
 }
 
-// The socket of the side channel, empty where there is none.
+// Returns the path of the side channel's socket, empty if there is none.
 fn side_path(
     alloc: Global,
     place: &Place,
@@ -154,7 +154,7 @@ fn side_path(
     }
 }
 
-// Adds a variable, as `NAME=value`.
+// Appends a variable, as `NAME=value`.
 fn push(
     alloc: Global,
     variables: &mut Vec<String>,

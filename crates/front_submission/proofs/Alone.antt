@@ -1,4 +1,4 @@
--- Which jobs of a submission arrive, at each step. So no job is left behind one that was accepted.
+-- The incoming jobs of a submission at each step. After an accepted job no other one remains.
 use Rattle.std.proofs.Common.{◌≡◌, ℕ, ◌+◌, ◌≤◌, ◌<◌, zero, suc, ◌⊎◌, inl, inr, Bool, true, false, cond, ◌==◌, List, [], ◌∷◌, ◌++◌, length, refl, ap, sym, ◌∙◌, subst, arith, eq-eqb}
 use Rattle.std.proofs.lemmas.Bool.{cases_eq, cases_lt, ne_eqb}
 use Rattle.front_submission.specs.declared.step.Step.{Step}
@@ -13,7 +13,7 @@ use Rattle.front_submission.specs.Service.{JobFate, NotOwn, Arrives, Stopped, St
 use Rattle.front_submission.specs.SubmissionRuns.{SubmissionRun, Event, Served, ServedUnheard, ServedUnclear, Lost, LeftUnclear, PutOff, TurnedDown, Reads, CannotRead, GivesUp, Meanwhile, read_at, happens, run, start, end_of}
 use Rattle.front_submission.proofs.Keeping.{by_test, unclear_lost}
 
--- it doesn't arrive
+-- The job is not incoming.
 abbrev pub IsStill : JobFate → Type 0
 IsStill NotOwn = Unit {0}
 IsStill (Arrives bytes) = ⊥
@@ -22,7 +22,7 @@ IsStill StoppedGone = Unit {0}
 IsStill Stands = Unit {0}
 IsStill StandsGone = Unit {0}
 
--- what doesn't arrive doesn't arrive afterwards
+-- A job that is not incoming does not become incoming.
 abbrev pub KeepsStill : (JobFate → JobFate) → Type 0
 KeepsStill change = (s : JobFate) → IsStill s → IsStill (change s)
 
@@ -62,16 +62,16 @@ changed_still : (fate : ℕ → JobFate) (job : ℕ) (change : JobFate → JobFa
 changed_still fate job change kept k h =
     elim (k == job) as (λ v. IsStill (cond v (change (fate k)) (fate k))) [ true ↦ kept (fate k) h | false ↦ h ]
 
--- ## What is known at each step
+-- ## The invariant of each step
 
--- none arrives but this one
+-- No job except this one is incoming.
 pub record IsAlone (fate : ℕ → JobFate) (job : ℕ) : Type 0 where
   pub others : (k : ℕ) → (k ≡ job → ⊥) → IsStill (fate k)
 
 pub record NoneArrives (fate : ℕ → JobFate) : Type 0 where
   pub all : (k : ℕ) → IsStill (fate k)
 
--- no number is given twice
+-- No number is assigned twice.
 pub record IsFresh (z : Service) : Type 0 where
   pub beyond : (k : ℕ) → z.given ≤ k → IsStill (z.fate k)
 
@@ -106,12 +106,12 @@ alone_changed fate own job change kept h = record { others = λ k ne. changed_st
 none_changed : (fate : ℕ → JobFate) (job : ℕ) (change : JobFate → JobFate) → KeepsStill change → NoneArrives fate → NoneArrives (changed fate job change)
 none_changed fate job change kept h = record { all = λ k. changed_still fate job change kept k (h.all k) }
 
--- a job that is changed in any way is alone where none arrives
+-- If no job is incoming, a changed job is the only one that can be.
 alone_made : (fate : ℕ → JobFate) (job : ℕ) (change : JobFate → JobFate) → NoneArrives fate → IsAlone (changed fate job change) job
 alone_made fate job change h =
     record { others = λ k ne. subst (λ (v : Bool). IsStill (cond v (change (fate k)) (fate k))) (sym (ne_eqb k job ne)) (h.all k) }
 
--- where the own job doesn't arrive any more none does
+-- If the submission's own job is no longer incoming, no job is.
 none_left : (fate : ℕ → JobFate) (job : ℕ) → IsAlone fate job → IsStill (fate job) → NoneArrives fate
 none_left fate job h still = record { all = λ k. by_case k (cases_eq k job) }
   where
@@ -157,7 +157,7 @@ found_one job StoppedGone others own e = inl (tt, e)
 found_one job Stands others own e = inl (tt, e)
 found_one job StandsGone others own e = inl (tt, e)
 
--- one number more
+-- One more number.
 still_step : (fate : ℕ → JobFate) (job k : ℕ) → IsStill (fate job) → (k < job → IsStill (fate k)) → k < suc job → IsStill (fate k)
 still_step fate job k here below lt = by_case (cases_eq k job)
   where
@@ -206,7 +206,7 @@ found_owns z [] fresh e = none_found z fresh e
 found_owns z (one ∷ []) fresh e = by_test (Owns z) (one.size == 0) _ _ (λ _. one_found z one fresh e) (λ _. tt)
 found_owns z (one ∷ (two ∷ others)) fresh e = tt
 
--- ## A request that is served
+-- ## A request that is executed
 
 sent_owns : (z : Service) (job size count tries : ℕ) (piece : List ℕ) (s : JobFate) → IsAlone z.fate job → Owns z (after_send job size count tries (sent_reply piece s))
 sent_owns z job size count tries piece NotOwn h = tt
@@ -238,7 +238,7 @@ accepted_owns : (z : Service) (job : ℕ) (printable : Bool) → NoneArrives z.f
 accepted_owns z job true h = h
 accepted_owns z job false h = h
 
--- a job that is closed doesn't arrive any more
+-- A closed job is no longer incoming.
 closed_here_still : (fate : ℕ → JobFate) (job : ℕ) → IsStill (changed fate job closed job)
 closed_here_still fate job =
     subst (λ (v : Bool). IsStill (cond v (closed (fate job)) (fate job))) (sym (eq-eqb job job refl)) (closed_any (fate job))
@@ -320,7 +320,7 @@ lost_owns z piece (Checking job size) h = h.owns
 lost_owns z piece (Canceling job cause) h = tt
 lost_owns z piece (Ended end) h = h.owns
 
--- ## A request that isn't served
+-- ## A request that is not executed
 
 unserved_owns : (z : Service) (step : Step) → Owns z step → Owns z (lost step)
 unserved_owns z (Creating tries) h = tt
@@ -388,7 +388,7 @@ deserted_owns z (Checking job size) h = tt
 deserted_owns z (Canceling job cause) h = tt
 deserted_owns z (Ended end) h = h
 
--- ## What others do
+-- ## Actions of others
 
 gentle_owns : (z : Service) (job : ℕ) (change : JobFate → JobFate) → KeepsStill change → (step : Step) → Owns z step → Owns (with_fate z (changed z.fate job change)) step
 gentle_owns z job change kept (Creating tries) h = none_changed z.fate job change kept h
@@ -470,7 +470,7 @@ end_owns : (pieces : List (List ℕ)) (holds : Bool) (given : ℕ) (prints : Boo
 end_owns pieces holds given prints events =
     run_owns events (start pieces holds given prints) (record { fresh = record { beyond = λ k le. tt }; owns = record { all = λ k. tt } })
 
--- what arrives is listed, so nothing is where none arrives
+-- The list contains every incoming job, so it is empty if no job is incoming.
 not_listed : (job : ℕ) (s : JobFate) (others : List Own) → IsStill s → others ≡ [] → arriving_at job s others ≡ []
 not_listed job NotOwn others still e = e
 not_listed job (Arrives bytes) others still e = absurd still
@@ -483,7 +483,7 @@ nothing_listed : (fate : ℕ → JobFate) → NoneArrives fate → (given : ℕ)
 nothing_listed fate h zero = refl
 nothing_listed fate h (suc job) = not_listed job (fate job) (arriving fate job) (h.all job) (nothing_listed fate h job)
 
--- none arrives behind a job that was accepted
+-- No job is incoming after a job was accepted.
 pub none_behind : (pieces : List (List ℕ)) (holds : Bool) (given : ℕ) (prints : Bool) (events : List Event) (end : End) →
     (end_of pieces holds given prints events).step ≡ Ended end → (status end ≡ 0) ⊎ (status end ≡ 4) →
     arriving (end_of pieces holds given prints events).service.fate (end_of pieces holds given prints events).service.given ≡ []

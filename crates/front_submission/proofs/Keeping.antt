@@ -1,4 +1,4 @@
--- What is known at each step of a submission, whatever has happened.
+-- The invariant of a submission at each step.
 use Rattle.std.proofs.Common.{◌≡◌, ℕ, ◌+◌, ◌≤◌, ◌<◌, zero, suc, ◌⊎◌, inl, inr, Bool, true, false, cond, ◌==◌, List, [], ◌∷◌, ◌++◌, length, refl, ap, sym, ◌∙◌, subst, arith, eq-eqb, length-append, append_assoc, append-nil}
 use Rattle.std.proofs.lemmas.Bool.{eqb-true}
 use Rattle.front_submission.specs.declared.step.Step.{Step}
@@ -11,9 +11,9 @@ use Rattle.front_submission.specs.SubmissionSteps.{status, request, heard, lost,
 use Rattle.front_submission.specs.Service.{JobFate, NotOwn, Arrives, Stopped, StoppedGone, Stands, StandsGone, Service, changed, grown, closed, stopped, purged, with_close, with_fate, served, arriving_at, arriving, found, sent_reply, shown_reply, held_reply, closed_reply, canceled_reply, reply_to, Other, Makes, Cancels, Purges, after_other}
 use Rattle.front_submission.specs.SubmissionRuns.{SubmissionRun, Event, Served, ServedUnheard, ServedUnclear, Lost, LeftUnclear, PutOff, TurnedDown, Reads, CannotRead, GivesUp, Meanwhile, read_at, happens, run, ArePieces, joined, start, end_of}
 
--- ## What may be known of a job
+-- ## Statements about a job
 
--- if it arrives it has these bytes, and it wasn't closed
+-- If the job is incoming, it has these bytes. It was not closed.
 abbrev pub Opens : List ℕ → JobFate → Type 0
 Opens sent NotOwn = Unit {0}
 Opens sent (Arrives bytes) = bytes ≡ sent
@@ -22,7 +22,7 @@ Opens sent StoppedGone = Unit {0}
 Opens sent Stands = ⊥
 Opens sent StandsGone = ⊥
 
--- if it arrives it has the one or the other, and it wasn't closed
+-- If the job is incoming, it has one of these two contents. It was not closed.
 abbrev pub OpensEither : List ℕ → List ℕ → JobFate → Type 0
 OpensEither sent more NotOwn = Unit {0}
 OpensEither sent more (Arrives bytes) = (bytes ≡ sent) ⊎ (bytes ≡ more)
@@ -31,7 +31,7 @@ OpensEither sent more StoppedGone = Unit {0}
 OpensEither sent more Stands = ⊥
 OpensEither sent more StandsGone = ⊥
 
--- it was closed
+-- The job was closed.
 abbrev pub IsClosed : JobFate → Type 0
 IsClosed NotOwn = ⊥
 IsClosed (Arrives n) = ⊥
@@ -48,9 +48,9 @@ opens_either sent more StoppedGone h = tt
 opens_either sent more Stands h = h
 opens_either sent more StandsGone h = h
 
--- ## What changes of a job leave
+-- ## Statements that changes of a job preserve
 
--- a change that neither closes a job nor lets it grow
+-- A change that neither closes a job nor appends to it.
 record IsGentle (change : JobFate → JobFate) : Type 0 where
   pub opens : (sent : List ℕ) (s : JobFate) → Opens sent s → Opens sent (change s)
   pub either : (sent more : List ℕ) (s : JobFate) → OpensEither sent more s → OpensEither sent more (change s)
@@ -118,7 +118,7 @@ grown_either sent piece StoppedGone h = tt
 grown_either sent piece Stands h = h
 grown_either sent piece StandsGone h = h
 
--- what a change keeps of each job is kept where one job is changed
+-- A statement that a change preserves for each job is preserved if one job changes.
 changed_keeps : (P : JobFate → Type 0) (fate : ℕ → JobFate) (job : ℕ) (change : JobFate → JobFate) (k : ℕ) →
     ((s : JobFate) → P s → P (change s)) → P (fate k) → P (changed fate job change k)
 changed_keeps P fate job change k kept h =
@@ -127,19 +127,19 @@ changed_keeps P fate job change k kept h =
 changed_here : (fate : ℕ → JobFate) (job : ℕ) (change : JobFate → JobFate) → changed fate job change job ≡ change (fate job)
 changed_here fate job change = ap (λ v. cond v (change (fate job)) (fate job)) (eq-eqb job job refl)
 
--- where the job itself is changed, what is known of it becomes something else
+-- If the job itself changes, another statement about it holds.
 changed_own : (Q : JobFate → Type 0) (fate : ℕ → JobFate) (job : ℕ) (change : JobFate → JobFate) → Q (change (fate job)) → Q (changed fate job change job)
 changed_own Q fate job change h = subst Q (sym (changed_here fate job change)) h
 
--- ## What is known at each step
+-- ## The invariant of each step
 
--- so many bytes were sent, and with those that are left they are the document
+-- The bytes that were sent, followed by the remaining pieces, are the document.
 pub record IsLeft (document sent : List ℕ) (size : ℕ) (rest : List (List ℕ)) : Type 0 where
   pub all : sent ++ joined rest ≡ document
   pub sent_is : length sent ≡ size
   pub pieces : ArePieces rest
 
--- the same, where a piece of so many bytes is sent
+-- The same, while a piece of this length is sent.
 pub record IsSending (document sent : List ℕ) (size : ℕ) (piece : List ℕ) (count : ℕ) (rest : List (List ℕ)) : Type 0 where
   pub all : (sent ++ piece) ++ joined rest ≡ document
   pub sent_is : length sent ≡ size
@@ -147,7 +147,7 @@ pub record IsSending (document sent : List ℕ) (size : ℕ) (piece : List ℕ) 
   pub some : 0 < count
   pub pieces : ArePieces rest
 
--- nothing was closed, or this job was, with the whole document
+-- No job was closed, or this job was closed with the whole document.
 abbrev pub MayBeClosed : List ℕ → Service → ℕ → Type 0
 MayBeClosed document z job = ((z.closes ≡ []) × Opens document (z.fate job)) ⊎ ((z.closes ≡ document ∷ []) × IsClosed (z.fate job))
 
@@ -175,14 +175,14 @@ Keeps document piece rest z (Ended end) = KeepsEnd document z end
 abbrev pub KeepsHistory : List ℕ → SubmissionRun → Type 0
 KeepsHistory document w = Keeps document w.piece w.rest w.service w.step
 
--- one of two steps, by a test
+-- One of two steps, selected by a test.
 pub by_test : (P : Step → Type 0) (b : Bool) (x y : Step) → (b ≡ true → P x) → (b ≡ false → P y) → P (cond b x y)
 by_test P true x y f g = f refl
 by_test P false x y f g = g refl
 
--- ## A request that is served
+-- ## A request that is executed
 
--- jobs that arrive with these sizes
+-- The jobs are incoming and have these sizes.
 AllArrive : (ℕ → JobFate) → List Own → Type 0
 AllArrive fate [] = Unit {0}
 AllArrive fate (one ∷ others) = (bytes : List ℕ) × (fate one.job ≡ Arrives bytes) × (length bytes ≡ one.size) × AllArrive fate others
@@ -201,12 +201,12 @@ unfolding AllArrive
 arriving_all fate zero = tt
 arriving_all fate (suc job) = arriving_one fate job (fate job) refl (arriving fate job) (arriving_all fate job)
 
--- a piece was sent: what is left is behind it
+-- After a piece was sent, the pieces after it remain.
 sent_left : (document sent : List ℕ) (size : ℕ) (piece : List ℕ) (count : ℕ) (rest : List (List ℕ)) (new : ℕ) → length (sent ++ piece) ≡ new →
     IsSending document sent size piece count rest → IsLeft document (sent ++ piece) new rest
 sent_left document sent size piece count rest new e g = record { all = g.all; sent_is = e; pieces = g.pieces }
 
--- a piece that isn't empty makes the bytes more
+-- A non-empty piece makes the sent bytes longer.
 longer : (sent piece : List ℕ) (size count : ℕ) → length sent ≡ size → length piece ≡ count → 0 < count → length (sent ++ piece) ≡ size → ⊥
 longer sent piece size count a b some e = let l : length (sent ++ piece) ≡ length sent + length piece = length-append sent piece in absurd (omega arith)
 
@@ -218,7 +218,7 @@ no_bytes [] e = refl
 no_bytes (b ∷ bs) e = absurd (omega arith)
 
 module _ (document piece : List ℕ) (rest : List (List ℕ)) (z : Service) where
-  -- the job that was found
+  -- The job that was found.
   taken_keeps : (own : Own) → (bytes : List ℕ) → z.fate own.job ≡ Arrives bytes → length bytes ≡ own.size → Keeps document piece rest z Finding → Keeps document piece rest z (taken own)
   taken_keeps own bytes is size h =
       by_test (Keeps document piece rest z) (own.size == 0) _ _
@@ -231,7 +231,7 @@ module _ (document piece : List ℕ) (rest : List (List ℕ)) (z : Service) wher
   found_keeps (one ∷ []) all h = taken_keeps one all.0 all.1 all.2 h
   found_keeps (one ∷ (two ∷ others)) all h = h
 
-  -- a piece that is sent
+  -- A piece that is sent.
   sent_keeps : (job size count tries : ℕ) (s : JobFate) → z.fate job ≡ s → (sent : List ℕ) → z.closes ≡ [] → Opens sent s →
       IsSending document sent size piece count rest →
       Keeps document piece rest (with_fate z (changed z.fate job (grown piece))) (after_send job size count tries (sent_reply piece s))
@@ -252,7 +252,7 @@ module _ (document piece : List ℕ) (rest : List (List ℕ)) (z : Service) wher
   sent_keeps job size count tries Stands is sent none o g = none
   sent_keeps job size count tries StandsGone is sent none o g = none
 
-  -- what is shown where a piece may have been sent
+  -- The state of a job after a piece may have been sent.
   measured_keeps : (job size count : ℕ) (bytes : List ℕ) → z.fate job ≡ Arrives bytes → (sent : List ℕ) → z.closes ≡ [] →
       (bytes ≡ sent) ⊎ (bytes ≡ sent ++ piece) → IsSending document sent size piece count rest →
       Keeps document piece rest z (measured job size count (length bytes))
@@ -302,7 +302,7 @@ module _ (document piece : List ℕ) (rest : List (List ℕ)) (z : Service) wher
   stands_keeps job size true is c = (c, is)
   stands_keeps job size false is c = (c, is)
 
-  -- what is shown where the job may have been closed
+  -- The state of a job that may have been closed.
   check_keeps : (job size : ℕ) (s : JobFate) → z.fate job ≡ s →
       ((z.closes ≡ []) × Opens document s) ⊎ ((z.closes ≡ document ∷ []) × IsClosed s) → Keeps document piece rest z (after_check job size (shown_reply z.prints s))
   check_keeps job size NotOwn is (inl h) = inl h.0
@@ -327,12 +327,12 @@ module _ (document piece : List ℕ) (rest : List (List ℕ)) (z : Service) wher
   closed_here : (job : ℕ) (s : JobFate) → z.fate job ≡ s → changed z.fate job closed job ≡ closed s
   closed_here job s is = changed_here z.fate job closed ∙ ap closed is
 
-  -- the job is closed with the whole document
+  -- The job is closed with the whole document.
   closes_all : (job : ℕ) (bytes : List ℕ) → z.fate job ≡ Arrives bytes → bytes ≡ document → z.closes ≡ [] → with_close (z.fate job) z.closes ≡ document ∷ []
   closes_all job bytes is o none =
       closes_as job (Arrives bytes) is ∙ ap (λ (c : List (List ℕ)). c ++ bytes ∷ []) none ∙ ap (λ (m : List ℕ). m ∷ []) o
 
-  -- where it isn't known whether the close was served
+  -- It is unknown whether the close was executed.
   unheard_keeps : (job size tries : ℕ) (again : Bool) (s : JobFate) → z.fate job ≡ s → Opens document s → z.closes ≡ [] →
       Keeps document piece rest (served z piece (request (Closing job size tries again))) (Checking job size)
   unheard_keeps job size tries again NotOwn is o none = inl (closes_as job NotOwn is ∙ none, subst (Opens document) (sym (closed_here job NotOwn is)) tt)
@@ -355,7 +355,7 @@ module _ (document piece : List ℕ) (rest : List (List ℕ)) where
   closing_keeps z job size tries again Stands is o none = absurd o
   closing_keeps z job size tries again StandsGone is o none = absurd o
 
-  -- the request is served, and its reply heard
+  -- The request is executed, and its reply is received.
   heard_keeps : (z : Service) (step : Step) → Keeps document piece rest z step → Keeps document piece rest (served z piece (request step)) (heard step (reply_to z piece (request step)))
   heard_keeps z (Creating tries) h = ([], (h.0, subst (Opens []) (sym (changed_here z.fate z.given (λ fate. Arrives []))) refl, h.1))
   heard_keeps z Finding h = found_keeps document piece rest z (arriving z.fate z.given) (arriving_all z.fate z.given) h
@@ -369,7 +369,7 @@ module _ (document piece : List ℕ) (rest : List (List ℕ)) where
   heard_keeps z (Canceling job cause) h = canceled_keeps document piece rest (with_fate z (changed z.fate job stopped)) job cause (z.fate job) h
   heard_keeps z (Ended end) h = h
 
-  -- it is served, and its reply is lost
+  -- The request is executed, and its reply is lost.
   lost_keeps : (z : Service) (step : Step) → Keeps document piece rest z step → Keeps document piece rest (served z piece (request step)) (lost step)
   lost_keeps z (Creating tries) h = h
   lost_keeps z Finding h = h
@@ -384,7 +384,7 @@ module _ (document piece : List ℕ) (rest : List (List ℕ)) where
   lost_keeps z (Canceling job cause) h = h
   lost_keeps z (Ended end) h = h
 
-  -- ## A request that isn't served
+  -- ## A request that is not executed
 
   unserved_keeps : (z : Service) (step : Step) → Keeps document piece rest z step → Keeps document piece rest z (lost step)
   unserved_keeps z (Creating tries) h = h
@@ -412,7 +412,7 @@ module _ (document piece : List ℕ) (rest : List (List ℕ)) where
   put_off_keeps z (Canceling job cause) h = h
   put_off_keeps z (Ended end) h = h
 
-  -- a job that may have been closed: at most once, with the whole document
+  -- A job that may have been closed was closed at most once, with the whole document.
   either_closed : (z : Service) (job : ℕ) → MayBeClosed document z job → (z.closes ≡ []) ⊎ (z.closes ≡ document ∷ [])
   either_closed z job (inl h) = inl h.0
   either_closed z job (inr h) = inr h.0
@@ -457,7 +457,7 @@ module _ (document piece : List ℕ) (rest : List (List ℕ)) where
   unread_keeps z (Canceling job cause) h = h
   unread_keeps z (Ended end) h = h
 
-  -- ## What others do
+  -- ## Actions of others
 
   gentle_keeps : (z : Service) (job : ℕ) (change : JobFate → JobFate) → IsGentle change → (step : Step) → Keeps document piece rest z step →
       Keeps document piece rest (with_fate z (changed z.fate job change)) step
@@ -506,7 +506,7 @@ module _ (document piece : List ℕ) (rest : List (List ℕ)) where
   others_keep z step (Cancels job) h = gentle_keeps z job stopped stopped_gently step h
   others_keep z step (Purges job) h = gentle_keeps z job purged purged_gently step h
 
--- what isn't clear is as good as lost
+-- An unclear reply has the same effect as a lost one.
 pub unclear_lost : (step : Step) → heard step Unclear ≡ lost step
 unclear_lost (Creating tries) = refl
 unclear_lost Finding = refl
@@ -578,7 +578,7 @@ pub end_keeps : (pieces : List (List ℕ)) (holds : Bool) (given : ℕ) (prints 
 end_keeps pieces holds given prints events are =
     run_keeps (joined pieces) events (start pieces holds given prints) (refl, record { all = refl; sent_is = refl; pieces = are })
 
--- at most one job was closed, at each step
+-- At most one job is closed at each step.
 one_at_most : (document : List ℕ) (closes : List (List ℕ)) → (closes ≡ []) ⊎ (closes ≡ document ∷ []) → length closes ≤ 1
 one_at_most document closes (inl e) = subst (λ (c : List (List ℕ)). length c ≤ 1) (sym e) (omega arith)
 one_at_most document closes (inr e) = subst (λ (c : List (List ℕ)). length c ≤ 1) (sym e) (omega arith)
@@ -599,7 +599,7 @@ closes_once document piece rest z (Ended (Unprintable job)) h = one_at_most docu
 closes_once document piece rest z (Ended (Refused job cause canceled)) h = one_at_most document z.closes (inl h)
 closes_once document piece rest z (Ended (Unknown job)) h = one_at_most document z.closes h
 
--- what each status says
+-- The meaning of each status.
 pub accepted_once : (document : List ℕ) (z : Service) (end : End) → KeepsEnd document z end → status end ≡ 0 → (z.closes ≡ document ∷ []) × (z.prints ≡ true)
 accepted_once document z (Accepted job) h e = h
 accepted_once document z (Unprintable job) h e = absurd (omega arith)

@@ -1,5 +1,4 @@
--- A service that does each request wholly or not at all, as far as one submission sees it: what it makes of a request, and what
--- it replies.
+-- A service that executes each request completely or not at all, as one submission observes it: the effect of a request, and its reply.
 use Rattle.std.specs.Prelude.{ℕ, zero, suc, Bool, cond, ◌==◌, List, [], ◌∷◌, ◌++◌, length, None, Some}
 use Rattle.front_submission.specs.declared.step.Request.{Request}
 use Rattle.front_submission.specs.declared.step.Request.TheVariants.{Create, Find, Read, Send, Show, Hold, Close, Cancel, Nothing}
@@ -9,31 +8,31 @@ use Rattle.front_submission.specs.declared.reply.Shown.TheVariants.{Arriving, Wa
 use Rattle.front_submission.specs.declared.reply.Reply.{Reply}
 use Rattle.front_submission.specs.declared.reply.Reply.TheVariants.{Created, Sent, Closed, Done, Jobs, Job, Gone, NotIncoming, Denied, Unclear}
 
--- what has become of the job of a number, if it is one of this submission
+-- The state of the job with a number, if it belongs to this submission.
 pub data JobFate : Type 0 where
-  -- it is none
+  -- It does not belong to this submission.
   NotOwn : JobFate
-  -- it has these bytes
+  -- It is incoming and has these bytes.
   Arrives : List ℕ → JobFate
-  -- it was canceled before it was closed, and may then be purged
+  -- It was canceled before it was closed, and may be purged after that.
   Stopped : JobFate
   StoppedGone : JobFate
-  -- it was closed, and may be purged once it has ended
+  -- It was closed, and may be purged once it has ended.
   Stands : JobFate
   StandsGone : JobFate
 
 pub record Service : Type 0 where
   pub fate : ℕ → JobFate
-  -- the number that the next job gets
+  -- The number of the next job.
   pub given : ℕ
-  -- the documents of the jobs of this submission that were ever closed
+  -- The documents of all jobs of this submission that were ever closed.
   pub closes : List (List ℕ)
-  -- whether filters lead to the printer
+  -- Whether filters convert to the printer's type.
   pub prints : Bool
 
--- ## What it makes of a request
+-- ## The effect of a request
 
--- the job of this number alone is changed
+-- Only the job with this number changes.
 abbrev pub changed : (ℕ → JobFate) → ℕ → (JobFate → JobFate) → ℕ → JobFate
 changed fate job change k = cond (k == job) (change (fate k)) (fate k)
 
@@ -54,7 +53,7 @@ purged Stopped = StoppedGone
 purged Stands = StandsGone
 purged fate = fate
 
--- the documents, and that of this job where it is closed now
+-- The closed documents, with that of this job if it is closed now.
 abbrev pub with_close : JobFate → List (List ℕ) → List (List ℕ)
 with_close (Arrives bytes) closes = closes ++ bytes ∷ []
 with_close fate closes = closes
@@ -62,7 +61,7 @@ with_close fate closes = closes
 abbrev pub with_fate : Service → (ℕ → JobFate) → Service
 with_fate z fate = record { fate = fate; given = z.given; closes = z.closes; prints = z.prints }
 
--- the piece is that which a `send` has
+-- `piece` is the piece of a `send`.
 abbrev pub served : Service → List ℕ → Request → Service
 served z piece Create =
     record { fate = changed z.fate z.given (λ fate. Arrives []); given = suc z.given; closes = z.closes; prints = z.prints }
@@ -76,13 +75,13 @@ served z piece (Show job) = z
 served z piece (Hold job) = z
 served z piece Nothing = z
 
--- ## What it replies
+-- ## The reply to a request
 
 abbrev pub arriving_at : ℕ → JobFate → List Own → List Own
 arriving_at job (Arrives bytes) others = record { job = job; size = length bytes } ∷ others
 arriving_at job fate others = others
 
--- the jobs that arrive, of the numbers below this one
+-- The incoming jobs with numbers below this one.
 abbrev pub arriving : (ℕ → JobFate) → ℕ → List Own
 arriving fate zero = []
 arriving fate (suc job) = arriving_at job (fate job) (arriving fate job)
@@ -127,10 +126,10 @@ reply_to z piece (Close job) = closed_reply z.prints (z.fate job)
 reply_to z piece (Cancel job) = canceled_reply (z.fate job)
 reply_to z piece Nothing = Unclear
 
--- ## What others do meanwhile
+-- ## Actions of others
 
 pub data Other : Type 0 where
-  -- a job of theirs gets a number
+  -- A job of another submission gets a number.
   Makes : Other
   Cancels : ℕ → Other
   Purges : ℕ → Other

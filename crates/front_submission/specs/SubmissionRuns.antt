@@ -9,31 +9,31 @@ use Rattle.front_submission.specs.Service.{NotOwn, Service, served, reply_to, Ot
 pub record SubmissionRun : Type 0 where
   pub service : Service
   pub step : Step
-  -- the piece that was read last, and those that aren't read yet
+  -- The piece that was read last, and the unread pieces.
   pub piece : List ℕ
   pub rest : List (List ℕ)
-  -- whether the job is to be held
+  -- Whether the job must be held.
   pub holds : Bool
 
 pub data Event : Type 0 where
-  -- the request is served, and its reply heard, or lost, or not clear
+  -- The request is executed, and its reply is received, lost or unclear.
   Served : Event
   ServedUnheard : Event
   ServedUnclear : Event
-  -- it isn't served: its connection is lost, or the reply isn't clear, puts it off, or turns it down
+  -- The request is not executed: its connection is lost, or the reply is unclear, puts it off, or refuses it.
   Lost : Event
   LeftUnclear : Event
   PutOff : Event
   TurnedDown : Event
-  -- the next piece is read, or can't be
+  -- The next piece is read, or cannot be read.
   Reads : Event
   CannotRead : Event
-  -- nobody served for too long
+  -- No service was reachable for too long.
   GivesUp : Event
-  -- others do something
+  -- Others act.
   Meanwhile : Other → Event
 
--- the same, with this service and this step
+-- The run with this service and this step.
 abbrev pub with_step : SubmissionRun → Service → Step → SubmissionRun
 with_step w z step = record { service = z; step = step; piece = w.piece; rest = w.rest; holds = w.holds }
 
@@ -43,7 +43,7 @@ undone w step = with_step w w.service step
 abbrev pub done : SubmissionRun → Step → SubmissionRun
 done w step = with_step w (served w.service w.piece (request w.step)) step
 
--- the next piece is read where it is wanted. Behind the last one there is one of no byte
+-- The next piece is read if it is needed. After the last piece follows one of 0 bytes.
 abbrev pub read_at : SubmissionRun → Step → List (List ℕ) → SubmissionRun
 read_at w (Reading job size) [] = record { service = w.service; step = supplied (Reading job size) 0 w.holds; piece = []; rest = []; holds = w.holds }
 read_at w (Reading job size) (piece ∷ rest) =
@@ -67,24 +67,24 @@ abbrev pub run : List Event → SubmissionRun → SubmissionRun
 run [] w = w
 run (event ∷ events) w = run events (happens w event)
 
--- no piece is empty
+-- No piece is empty.
 abbrev pub ArePieces : List (List ℕ) → Type 0
 ArePieces [] = Unit {0}
 ArePieces (piece ∷ rest) = (0 < length piece) × ArePieces rest
 
--- the document
+-- The document.
 abbrev pub joined : List (List ℕ) → List ℕ
 joined [] = []
 joined (piece ∷ rest) = piece ++ joined rest
 
--- a service that has no job of the submission
+-- A service that has no job of the submission.
 abbrev pub fresh : ℕ → Bool → Service
 fresh given prints = record { fate = λ job. NotOwn; given = given; closes = []; prints = prints }
 
--- a document of these pieces, and a service whose next number and filters are these
+-- The start of a run, with the document's pieces and the service's next number and filters.
 abbrev pub start : List (List ℕ) → Bool → ℕ → Bool → SubmissionRun
 start pieces holds given prints = record { service = fresh given prints; step = Creating most_tries; piece = []; rest = pieces; holds = holds }
 
--- what has become of a document in the end
+-- The final state of a run.
 abbrev pub end_of : List (List ℕ) → Bool → ℕ → Bool → List Event → SubmissionRun
 end_of pieces holds given prints events = run events (start pieces holds given prints)

@@ -1,4 +1,4 @@
--- What a submission says next, and what becomes of it: a row for each step, and for each step and reply.
+-- The requests and transitions of a submission: a row for each step, and for each step and reply.
 use Rattle.std.specs.Prelude.{ℕ, ◌+◌, ◌-◌, Bool, true, false, cond, ◌==◌, Option, None, Some}
 use Rattle.front_submission.specs.declared.step.Step.{Step}
 use Rattle.front_submission.specs.declared.step.Step.TheVariants.{Creating, Finding, Clearing, Reading, Sending, Measuring, Holding, Closing, Checking, Canceling, Ended}
@@ -15,13 +15,13 @@ use Rattle.front_submission.specs.declared.reply.Shown.TheVariants.{Arriving, Wa
 use Rattle.front_submission.specs.declared.reply.Reply.{Reply}
 use Rattle.front_submission.specs.declared.reply.Reply.TheVariants.{Created, Sent, Closed, Done, Jobs, Job, Gone, Later, NotIncoming, Denied}
 
--- how often a request is said again where the service puts it off
+-- How many times a request is repeated if the service puts it off.
 abbrev pub most_tries : ℕ
 most_tries = 20
 
--- ## How it ends
+-- ## Outcomes
 
--- the status of the program
+-- The exit status of the program.
 abbrev pub status : End → ℕ
 status (Accepted job) = 0
 status (Refused job cause canceled) = 1
@@ -31,22 +31,22 @@ status (Unprintable job) = 4
 abbrev pub refused : Option ℕ → Cause → Bool → Step
 refused job cause canceled = Ended (Refused job cause canceled)
 
--- nothing is known of a job, and none is canceled
+-- No job is known, and none is canceled.
 abbrev pub without_job : Cause → Step
 without_job cause = refused None cause false
 
--- its job isn't canceled any more
+-- The job is not canceled.
 abbrev pub let_go : ℕ → Cause → Step
 let_go job cause = refused (Some job) cause false
 
 abbrev pub unknown : ℕ → Step
 unknown job = Ended (Unknown job)
 
--- its job was closed
+-- The job was closed.
 abbrev pub accepted : ℕ → Bool → Step
 accepted job printable = Ended (cond printable (Accepted job) (Unprintable job))
 
--- ## What is said next
+-- ## Requests
 
 abbrev pub request : Step → Request
 request (Creating tries) = Create
@@ -61,13 +61,13 @@ request (Checking job size) = Show job
 request (Canceling job cause) = Cancel job
 request (Ended end) = Nothing
 
--- ## What a reply makes of it
+-- ## Replies
 
--- a request that is put off is said again, so many times, and then it is refused
+-- A request that is put off is repeated this many times, and is then refused.
 abbrev pub again_or : ℕ → (ℕ → Step) → Step → Step
 again_or tries again over = cond (tries == 0) over (again (tries - 1))
 
--- to `create`. What isn't clear may have been done, so the job is looked for
+-- After `create`. If the reply is unclear, the command may have been executed, so the job is searched for.
 abbrev pub after_create : ℕ → Reply → Step
 after_create tries (Created job) = Reading job 0
 after_create tries Later = again_or tries Creating (without_job Declined)
@@ -75,7 +75,7 @@ after_create tries NotIncoming = without_job Declined
 after_create tries Denied = without_job Declined
 after_create tries reply = Finding
 
--- a job that arrives and has no byte is its own
+-- An incoming job of 0 bytes is the submission's own.
 abbrev pub taken : Own → Step
 taken own = cond (own.size == 0) (Reading own.job 0) (Canceling own.job OtherSize)
 
@@ -84,18 +84,18 @@ one_of own (Some another) = Clearing another
 one_of None None = Creating most_tries
 one_of (Some own) None = taken own
 
--- of two jobs one is canceled, and then they are looked for again
+-- If there are two jobs, one is canceled and the search is repeated.
 abbrev pub own_found : Found → Step
 own_found found = one_of found.own found.another
 
--- to the search
+-- After the search.
 abbrev pub after_find : Reply → Step
 after_find (Jobs found) = own_found found
 after_find NotIncoming = without_job Declined
 after_find Denied = without_job Declined
 after_find reply = Finding
 
--- to `send`, where the job's size has to be what was sent
+-- After `send`. The job's size must be the number of bytes sent.
 abbrev pub after_send : ℕ → ℕ → ℕ → ℕ → Reply → Step
 after_send job size piece tries (Sent new) = cond (new == size + piece) (Reading job new) (Canceling job OtherSize)
 after_send job size piece tries Later = again_or tries (Sending job size piece) (Canceling job Declined)
@@ -103,14 +103,14 @@ after_send job size piece tries NotIncoming = Canceling job Declined
 after_send job size piece tries Denied = Canceling job Declined
 after_send job size piece tries reply = Measuring job size piece
 
--- the piece wasn't sent, or it was
+-- The piece was not sent, or it was sent.
 abbrev pub measured : ℕ → ℕ → ℕ → ℕ → Step
 measured job size piece new =
     cond (new == size) (Sending job size piece most_tries)
     (cond (new == size + piece) (Reading job new)
     (Canceling job OtherSize))
 
--- to `job`, where the reply of a `send` was lost
+-- After `job`, if the reply to a `send` was lost.
 abbrev pub after_measure : ℕ → ℕ → ℕ → Reply → Step
 after_measure job size piece (Job (Arriving new)) = measured job size piece new
 after_measure job size piece (Job WasClosed) = unknown job
@@ -121,7 +121,7 @@ after_measure job size piece NotIncoming = Canceling job Declined
 after_measure job size piece Denied = Canceling job Declined
 after_measure job size piece reply = Measuring job size piece
 
--- to `hold`, which may be said twice
+-- After `hold`, which may be repeated.
 abbrev pub after_hold : ℕ → ℕ → ℕ → Reply → Step
 after_hold job size tries Done = Closing job size most_tries false
 after_hold job size tries Later = again_or tries (Holding job size) (Canceling job Declined)
@@ -129,7 +129,7 @@ after_hold job size tries NotIncoming = Canceling job Declined
 after_hold job size tries Denied = Canceling job Declined
 after_hold job size tries reply = Holding job size tries
 
--- to `close`. One that isn't incoming any more was closed, or ended by somebody else
+-- After `close`. A job that is no longer incoming was closed, or was ended by someone else.
 abbrev pub after_close : ℕ → ℕ → ℕ → Bool → Reply → Step
 after_close job size tries again (Closed printable) = accepted job printable
 after_close job size tries again Later = again_or tries (λ left. Closing job size left again) (Canceling job Declined)
@@ -142,7 +142,7 @@ shown_closed job size WasClosed = accepted job true
 shown_closed job size NoFilters = accepted job false
 shown_closed job size NeverClosed = let_go job EndedEarly
 
--- to `job`, where the reply of a `close` was lost
+-- After `job`, if the reply to a `close` was lost.
 abbrev pub after_check : ℕ → ℕ → Reply → Step
 after_check job size (Job shown) = shown_closed job size shown
 after_check job size Gone = unknown job
@@ -150,7 +150,7 @@ after_check job size NotIncoming = unknown job
 after_check job size Denied = unknown job
 after_check job size reply = Checking job size
 
--- to `cancel`
+-- After `cancel`.
 abbrev pub after_cancel : ℕ → Cause → Reply → Step
 after_cancel job cause Done = refused (Some job) cause true
 after_cancel job cause Gone = let_go job cause
@@ -171,9 +171,9 @@ heard (Checking job size) reply = after_check job size reply
 heard (Canceling job cause) reply = after_cancel job cause reply
 heard (Ended end) reply = Ended end
 
--- ## What else may happen
+-- ## Other events
 
--- the reply is lost with its connection
+-- The connection is lost before the reply.
 abbrev pub lost : Step → Step
 lost (Creating tries) = Finding
 lost Finding = Finding
@@ -187,21 +187,21 @@ lost (Checking job size) = Checking job size
 lost (Canceling job cause) = Canceling job cause
 lost (Ended end) = Ended end
 
--- behind the last piece
+-- After the last piece.
 abbrev pub at_end : ℕ → ℕ → Bool → Step
 at_end job size holds = cond holds (Holding job size most_tries) (Closing job size most_tries false)
 
--- the next piece is there. One of no byte is the end
+-- The next piece was read. A piece of 0 bytes is the end.
 abbrev pub supplied : Step → ℕ → Bool → Step
 supplied (Reading job size) piece holds = cond (piece == 0) (at_end job size holds) (Sending job size piece most_tries)
 supplied step piece holds = step
 
--- the document can't be read on
+-- The document cannot be read.
 abbrev pub unread : Step → Step
 unread (Reading job size) = Canceling job Unreadable
 unread step = step
 
--- nobody serves for too long. Where a `close` was said it may have been served
+-- No service was reachable for too long. A `close` that was sent may have been executed.
 abbrev pub deserted_closing : ℕ → Bool → Step
 deserted_closing job true = unknown job
 deserted_closing job false = let_go job Deserted

@@ -1,30 +1,37 @@
-//! The decisions of a submission: how one document becomes exactly one job, over connections that may be lost at any moment.
+//! The decisions of a submission, which turns one document into exactly one job over connections that may be lost at any moment.
 //!
-//! A job is made in steps: `create`, a `send` for each piece, `close`. Until it is closed nothing of it prints. So what a lost
-//! reply leaves open is asked, on a new connection, before anything is said again. The machine ([`Step`]) has no socket and no
-//! document: its caller says what [`Step::request`] wants, and tells it what came of that.
+//! A job is submitted in steps: `create`, a `send` for each piece of the document, and `close`. Nothing is printed before `close`. If a
+//! reply is lost, the submission first determines the state of the job on a new connection, and only then repeats a request. [`Step`] is a
+//! state machine without a socket or a document. Its caller does what [`Step::request`] returns, and passes the result to the machine.
 //!
-//! | Lost reply of | Then it asks | And goes on |
+//! | Lost reply to | Query | Next step |
 //! |---|---|---|
-//! | `create` | which jobs that arrive have its token | with the one that has it, or with another `create` |
-//! | `send` | `job N` | from SIZE, which is that before the send or that behind it |
-//! | `close` | `job N` | with another `close` where the job still arrives; else the answer tells how it ended |
+//! | `create` | which incoming jobs have the token | continue with the job that has it, or repeat `create` |
+//! | `send` | `job N` | continue at SIZE, which is the size before or after the send |
+//! | `close` | `job N` | repeat `close` if the job is still incoming; otherwise the reply states how the job ended |
 //!
-//! An answer that is none of these, or a job that somebody else has ended, ends the submission. Before that its job is canceled,
-//! where it may still arrive.
+//! Any other reply, or a job that someone else has ended, ends the submission. Its job is canceled first if it may still be incoming.
 //!
 //! # Promises
 //!
-//! - Each call is exactly a row of the table of its definition (`Moves`: `request`, `heard`, `lost`, `supplied`, `unread`,
-//!   `deserted`), and [`End::status`] the status of the program (`status`).
-//! - [`acts_once`]: whatever is served, refused, put off or lost, and whatever others cancel, purge and create meanwhile, at
-//!   most one job of the submission is ever closed. Where it ends with status 0 or 4 exactly one was, with exactly the
-//!   document's bytes, and no job of it is left that arrives; where it ends with status 1 none was closed. It is said of a
-//!   service that does each request wholly or not at all (`Service`), and of every list of what happens (`Runs`).
+//! - [`Step`]: its transitions are exactly the rows of the tables in `SubmissionSteps` (`request`, `heard`, `lost`, `supplied`, `unread`,
+//!   `deserted`), and [`End::status`] is the program's exit status (`status`).
+//! - [`acts_once`] holds for every sequence of events (`SubmissionRuns`): each request is executed or not, its reply is received, lost or
+//!   unclear, it is put off or refused, a piece cannot be read, no service is reachable, and others cancel, purge and create jobs
+//!   meanwhile. No two jobs of the submission are ever closed (`at_most_once`). With status 0 exactly one was closed, with the document's
+//!   bytes, and filters convert it for the printer (`accepted`). With status 4 the same holds for a job that no filters convert
+//!   (`unprintable`). With either status no job of the submission is left incoming (`alone`). With status 1 no job was ever closed
+//!   (`refused`).
 //!
-//! # Faults
+//! # Not proved
 //!
-//! None: no call takes memory, and none fails.
+//! - The law requires a service that executes each request completely or not at all (`Service`), and that executes nothing more from a lost
+//!   connection. That `spool_service` is such a service was read in the code.
+//! - That `spool_front` follows the decisions: see its page.
+//!
+//! # Errors
+//!
+//! None: no call allocates memory, and none fails.
 #![tactic(auto)]
 
 mod laws;

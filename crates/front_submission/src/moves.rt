@@ -1,15 +1,15 @@
-//! What is said next, and what becomes of a submission.
+//! The requests and transitions of a submission.
 ghost use Rattle.std.specs.Prelude.{◌≡◌, ◌+◌, Some, None, false, IsTrue, ◌↔◌};
 ghost use Rattle.front_submission.specs.SubmissionSteps.{most_tries, status, refused, unknown, accepted, request, heard, lost, supplied, unread, deserted, own_found, after_create, after_find, after_send, measured, after_measure, after_hold, after_close, shown_closed, after_check, after_cancel};
 
 use crate::reply::{Found, Own, Reply, Shown};
 use crate::step::{Cause, End, Request, Step};
 
-/// How often a request is said again where the service puts it off.
+/// How many times a request is repeated if the service puts it off.
 const MOST_TRIES: u8 = 20;
 
 impl End {
-    /// The status of the program: 0 accepted, 1 refused, 3 not known, 4 accepted and unprintable.
+    /// Returns the exit status of the program: 0 accepted, 1 refused, 3 unknown, 4 accepted and unprintable.
     pub fn status(self) -> u8
         ensures { result ≡ status self }
     {
@@ -22,7 +22,7 @@ impl End {
     }
 }
 
-// A document that is refused.
+// Returns the end with a refused document.
 fn refused(job: Option<u32>, cause: Cause, canceled: bool) -> Step
     ensures { result ≡ refused job cause canceled }
 {
@@ -42,14 +42,14 @@ fn unknown(job: u32) -> Step
 }
 
 impl Step {
-    /// Where each submission begins.
+    /// Returns the first step of a submission.
     pub fn start() -> Step
         ensures { result ≡ Step.Creating most_tries }
     {
         Step::Creating { tries: MOST_TRIES }
     }
 
-    /// What the front is to do next.
+    /// Returns the next request.
     pub fn request(self) -> Request
         ensures { result ≡ request self }
     {
@@ -71,7 +71,7 @@ impl Step {
         }
     }
 
-    /// What a reply makes of it.
+    /// Returns the step after a reply.
     pub fn heard(self, reply: Reply) -> Step
         ensures { result ≡ heard self reply }
     {
@@ -99,7 +99,7 @@ impl Step {
         }
     }
 
-    /// What the loss of the connection makes of it, where a reply was awaited.
+    /// Returns the step after the connection was lost before the reply.
     pub fn lost(self) -> Step
         ensures { result ≡ lost self }
     {
@@ -116,8 +116,8 @@ impl Step {
         }
     }
 
-    /// What the next piece of the document makes of it. One of no byte is the document's end. `holds` tells whether the job is
-    /// to be held.
+    /// Returns the step after the next piece of the document, which has `piece` bytes. A piece of 0 bytes is the document's end. `holds`
+    /// states whether the job must be held.
     pub fn supplied(self, piece: u32, holds: bool) -> Step
         ensures { result ≡ supplied self piece holds }
     {
@@ -144,7 +144,7 @@ impl Step {
         }
     }
 
-    /// What a document makes of it that can't be read on.
+    /// Returns the step after the document could not be read.
     pub fn unread(self) -> Step
         ensures { result ≡ unread self }
     {
@@ -157,7 +157,7 @@ impl Step {
         }
     }
 
-    /// What becomes of it where nobody serves for too long.
+    /// Returns the step after no service was reachable for too long.
     pub fn deserted(self) -> Step
         ensures { result ≡ deserted self }
     {
@@ -186,7 +186,7 @@ impl Step {
     }
 }
 
-// What a reply to `create` makes of it.
+// Returns the step after a reply to `create`.
 fn created(tries: u8, reply: Reply) -> Step
     ensures { result ≡ after_create tries reply }
 {
@@ -198,7 +198,7 @@ fn created(tries: u8, reply: Reply) -> Step
     }
 }
 
-// What the jobs that were found make of it.
+// Returns the step after the search for jobs.
 fn found_own(reply: Reply) -> Step
     ensures { result ≡ after_find reply }
 {
@@ -223,7 +223,7 @@ fn own_found(found: Found) -> Step
     }
 }
 
-// A job whose size is none that it may have.
+// Returns the step after the size of a job was found to be wrong.
 fn odd(job: u32) -> Step
     ensures { result ≡ Step.Canceling job Cause.OtherSize }
 {
@@ -233,7 +233,7 @@ fn odd(job: u32) -> Step
     }
 }
 
-// A job that the service refuses to go on with.
+// Returns the step after the service refused a request for a job.
 fn turned_down(job: u32) -> Step
     ensures { result ≡ Step.Canceling job Cause.Declined }
 {
@@ -243,14 +243,14 @@ fn turned_down(job: u32) -> Step
     }
 }
 
-// Whether one size is another one and a piece more.
+// Returns whether `new` is `size` plus `piece`.
 fn is_behind(new: u64, size: u64, piece: u32) -> bool
     ensures { IsTrue result ↔ (new ≡ size + piece) }
 {
     size <= new && new - size == u64::from(piece)
 }
 
-// What a reply to `send` makes of it.
+// Returns the step after a reply to `send`.
 fn sent(job: u32, size: u64, piece: u32, tries: u8, reply: Reply) -> Step
     ensures { result ≡ after_send job size piece tries reply }
 {
@@ -271,7 +271,7 @@ fn sent(job: u32, size: u64, piece: u32, tries: u8, reply: Reply) -> Step
     }
 }
 
-// What is shown of a job makes of it, where a piece may have been sent.
+// Returns the step after the state of a job was queried, if a piece may have been sent.
 fn measured(job: u32, size: u64, piece: u32, reply: Reply) -> Step
     ensures { result ≡ after_measure job size piece reply }
 {
@@ -306,7 +306,7 @@ fn measured_at(job: u32, size: u64, piece: u32, new: u64) -> Step
     odd(job)
 }
 
-// What a reply to `hold` makes of it.
+// Returns the step after a reply to `hold`.
 fn held(job: u32, size: u64, tries: u8, reply: Reply) -> Step
     ensures { result ≡ after_hold job size tries reply }
 {
@@ -327,7 +327,7 @@ fn held(job: u32, size: u64, tries: u8, reply: Reply) -> Step
     }
 }
 
-// What a reply to `close` makes of it.
+// Returns the step after a reply to `close`.
 fn closed(job: u32, size: u64, tries: u8, again: bool, reply: Reply) -> Step
     ensures { result ≡ after_close job size tries again reply }
 {
@@ -344,7 +344,7 @@ fn closed(job: u32, size: u64, tries: u8, again: bool, reply: Reply) -> Step
     }
 }
 
-// A job that was closed.
+// Returns the end with a closed job.
 fn accepted(job: u32, printable: bool) -> Step
     ensures { result ≡ accepted job printable }
 {
@@ -356,7 +356,7 @@ fn accepted(job: u32, printable: bool) -> Step
     Step::Ended { end }
 }
 
-// What is shown of a job makes of it, where it may have been closed.
+// Returns the step after the state of a job was queried, if the job may have been closed.
 fn checked(job: u32, size: u64, reply: Reply) -> Step
     ensures { result ≡ after_check job size reply }
 {
@@ -384,7 +384,7 @@ fn shown_closed(job: u32, size: u64, shown: Shown) -> Step
     }
 }
 
-// What a reply to `cancel` makes of it.
+// Returns the step after a reply to `cancel`.
 fn canceled(job: u32, cause: Cause, reply: Reply) -> Step
     ensures { result ≡ after_cancel job cause reply }
 {

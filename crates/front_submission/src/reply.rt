@@ -1,33 +1,33 @@
-//! What the service told.
+//! The replies of the service.
 
-/// A job that arrives and has the token.
+/// An incoming job that has the token.
 #[derive(Clone, Copy)]
 pub struct Own {
     pub job: u32,
     pub size: u64,
 }
 
-/// The jobs that arrive and have the token: one of them, and the number of another one, if there are two.
+/// The incoming jobs that have the token: one of them, and the number of another one if there are several.
 #[derive(Clone, Copy)]
 pub struct Found {
     pub own: Option<Own>,
     pub another: Option<u32>,
 }
 
-/// What has become of a job.
+/// The state of a job.
 #[derive(Clone, Copy)]
 pub enum Shown {
-    /// It arrives, and has so many bytes.
+    /// The job is incoming and has this number of bytes.
     Arriving { size: u64 },
-    /// It was closed.
+    /// The job was closed.
     WasClosed,
-    /// It was closed, and no filters lead to its printer.
+    /// The job was closed, and no filters convert it for its printer.
     NoFilters,
-    /// It has ended, and was never closed.
+    /// The job has ended and was never closed.
     NeverClosed,
 }
 
-/// What came of a request.
+/// The reply to a request.
 #[derive(Clone, Copy)]
 pub enum Reply {
     /// `ok job N`.
@@ -38,18 +38,18 @@ pub enum Reply {
     Closed { printable: bool },
     /// `ok`.
     Done,
-    /// The jobs that were looked for.
+    /// The jobs that a search found.
     Jobs { found: Found },
     /// The lines of `job N`.
     Job { shown: Shown },
     /// `error job`.
     Gone,
-    /// `error memory` or `error full`: it wasn't done, and may be done later.
+    /// `error memory` or `error full`: the request was not executed, and can be repeated later.
     Later,
     /// `error 6 NotIncoming`.
     NotIncoming,
-    /// Another refusal: it wasn't done.
+    /// Another refusal: the request was not executed.
     Denied,
-    /// What doesn't tell whether it was done, as `error disk`.
+    /// A reply that leaves unknown whether the request was executed, such as `error disk`.
     Unclear,
 }

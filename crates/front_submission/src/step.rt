@@ -1,81 +1,81 @@
-//! Where a submission stands, what it says next, and how it ends.
+//! The steps of a submission, its requests and its outcomes.
 
-/// What the front does next.
+/// The next action of the front end.
 #[derive(Clone, Copy)]
 pub enum Request {
-    /// Says `create`, with the token.
+    /// Send `create`, with the token.
     Create,
-    /// Looks for jobs that arrive and have the token.
+    /// Search for incoming jobs that have the token.
     Find,
-    /// Reads the next piece of the document, from this place on.
+    /// Read the next piece of the document, from this offset on.
     Read { size: u64 },
-    /// Says `send`, with the piece that begins at this place.
+    /// Send `send`, with the piece that begins at this offset.
     Send { job: u32, size: u64, piece: u32 },
-    /// Says `job`.
+    /// Send `job`.
     Show { job: u32 },
-    /// Says `hold`, so that the job waits once it is closed.
+    /// Send `hold`, so that the job is held once it is closed.
     Hold { job: u32 },
-    /// Says `close`.
+    /// Send `close`.
     Close { job: u32 },
-    /// Says `cancel`.
+    /// Send `cancel`.
     Cancel { job: u32 },
-    /// Nothing: the submission has ended.
+    /// Do nothing: the submission has ended.
     Nothing,
 }
 
 /// Why a document was refused.
 #[derive(Clone, Copy)]
 pub enum Cause {
-    /// The service said so.
+    /// The service refused it.
     Declined,
-    /// The job has another size than what was sent.
+    /// The size of the job differs from the number of bytes sent.
     OtherSize,
-    /// Somebody else ended the job before it was closed.
+    /// The job was ended by someone else before it was closed.
     EndedEarly,
-    /// The document couldn't be read.
+    /// The document cannot be read.
     Unreadable,
-    /// Nobody served for too long.
+    /// No service was reachable for too long.
     Deserted,
 }
 
-/// How a submission ends.
+/// The outcome of a submission.
 #[derive(Clone, Copy)]
 pub enum End {
     /// The job was closed.
     Accepted {
         job: u32,
     },
-    /// The job was closed, and no filters lead to its printer.
+    /// The job was closed, and no filters convert it for its printer.
     Unprintable {
         job: u32,
     },
-    /// Nothing will print: the job was never closed, if there was one. `canceled` tells whether the service has canceled it.
+    /// Nothing will be printed: the job was never closed, or there was no job. `canceled` states whether the service has canceled it.
     Refused {
         job: Option<u32>,
         cause: Cause,
         canceled: bool,
     },
-    /// The job may have been closed, and it can't be found out.
+    /// The job may have been closed, and this cannot be determined.
     Unknown {
         job: u32,
     },
 }
 
-/// Where a submission stands. `tries` are those that are left where the service puts a request off, and `size` is what is known
-/// to have been sent.
+/// The state of a submission. `tries` is the number of attempts that are left if the service puts a request off, and `size` the number of
+/// bytes that are known to have been sent.
 #[derive(Clone, Copy)]
 pub enum Step {
     /// No job is known.
     Creating {
         tries: u8,
     },
-    /// The reply of a `create` was lost.
+    /// The reply to a `create` was lost.
     Finding,
-    /// One more job with the token than is wanted is canceled.
+    /// A surplus job with the token is canceled.
     Clearing {
         job: u32,
     },
-    /// The next piece is wanted.
+    /// The next piece of the document is needed.
     Reading {
         job: u32,
         size: u64,
@@ -87,26 +87,26 @@ pub enum Step {
         piece: u32,
         tries: u8,
     },
-    /// The reply of a `send` was lost.
+    /// The reply to a `send` was lost.
     Measuring {
         job: u32,
         size: u64,
         piece: u32,
     },
-    /// The whole document was sent, and its job is to be held.
+    /// The whole document was sent, and its job must be held.
     Holding {
         job: u32,
         size: u64,
         tries: u8,
     },
-    /// The whole document was sent. `again` tells whether a `close` was said before.
+    /// The whole document was sent. `again` states whether a `close` was sent before.
     Closing {
         job: u32,
         size: u64,
         tries: u8,
         again: bool,
     },
-    /// The reply of a `close` was lost.
+    /// The reply to a `close` was lost.
     Checking {
         job: u32,
         size: u64,
@@ -116,7 +116,7 @@ pub enum Step {
         job: u32,
         cause: Cause,
     },
-    /// Nothing is to be done any more.
+    /// The submission has ended.
     Ended {
         end: End,
     },

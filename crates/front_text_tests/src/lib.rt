@@ -1,4 +1,4 @@
-//! Tests of the front's texts: what is printed, byte for byte.
+//! Tests of the texts of `front_texts`, byte by byte.
 #![tactic(auto)]
 
 #[cfg(test)]

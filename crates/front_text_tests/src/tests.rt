@@ -1,4 +1,4 @@
-//! What is printed. Expected texts are written by hand, from RFC 8011 (words of states), RFC 9110 (a date) and CUPS's `lpstat` and `lpq`.
+//! Expected texts are written by hand, from RFC 8011 (names of states), RFC 9110 (a date) and the output of CUPS's `lpstat` and `lpq`.
 
 ghost use Rattle.std.specs.Prelude.{◌≤◌};
 
@@ -8,6 +8,7 @@ use front_texts::{
     queues_json, queues_table, read_job_line, read_job_shown, read_last_line, read_queue_line,
     read_watch_line, safe_text, size_text,
 };
+use program_version::with_version;
 use spool_types::Moment;
 use std::alloc::{AllocError, Global};
 use std::test::Fail;
@@ -25,6 +26,11 @@ const DEN: &str =
 
 const SHOWN: &str =
     "job 7\nqueue lab\nuser \"ann\"\ntitle \"P \\\"1\\\"\"\noptions \"media=A4\"\ncopies 2\npriority 50\nsize 65536\npages 1\nattempts 1\ntype text/plain\nby 1700000000\nstate 5\nreason job-printing\nstage 1 of 2 attempt 1\n";
+
+const FOOTER: &str = with_version!(
+    "</tbody>\n</table>\n<p class=\"faint\">Cegmandi ",
+    "</p>\n</body>\n</html>\n"
+);
 
 fn jobs(alloc: Global, rows: &[&str]) -> Result<Vec<JobLine>, AllocError> {
     let mut jobs = Vec::new(alloc);
@@ -46,7 +52,7 @@ fn queues(alloc: Global, rows: &[&str]) -> Result<Vec<QueueLine>, AllocError> {
     Ok(queues)
 }
 
-// The lines with their line feeds.
+// Returns the lines, each with its line feed.
 fn joined(alloc: Global, lines: &[String]) -> Result<String, AllocError> {
     let mut text = String::new(alloc);
     for line in lines {
@@ -56,7 +62,7 @@ fn joined(alloc: Global, lines: &[String]) -> Result<String, AllocError> {
     Ok(text)
 }
 
-// A word for what a line of `watch` tells.
+// Returns a word for the type of a line of `watch`.
 fn told(alloc: Global, line: &str) -> Result<&'static str, AllocError> {
     let word = match read_watch_line(alloc, line.as_bytes())? {
         Some(WatchLine::Job(_)) => "job",
@@ -69,7 +75,7 @@ fn told(alloc: Global, line: &str) -> Result<&'static str, AllocError> {
     Ok(word)
 }
 
-// A word for what a last line says, and a text of it.
+// Returns a word for the type of a last line, and a part of the line.
 fn ended(line: &str) -> (&'static str, &str) {
     match read_last_line(line) {
         Some(LastLine::Done { words }) => ("done", words),
@@ -79,7 +85,7 @@ fn ended(line: &str) -> (&'static str, &str) {
     }
 }
 
-// The one job as it is printed.
+// Returns the job as it is printed.
 fn shown_lines(alloc: Global) -> Result<String, AllocError> {
     match read_job_shown(alloc, SHOWN.as_bytes())? {
         Some(job) => joined(alloc, &job_page(alloc, &job, 60)?),
@@ -126,7 +132,7 @@ fn moment_words(alloc: Global, seconds: u64) -> Result<String, AllocError> {
     }
 }
 
-// Whether a text stands in another one.
+// Returns whether a text contains another one.
 fn has(text: &[u8], part: &[u8]) -> bool {
     text.windows(part.len().max(1)).any(|window| window == part)
 }
@@ -295,5 +301,6 @@ fn pages(rt: HostRuntime) -> Result<(), Fail> {
     assert!(rt; has(&page, b"<td>&lt;b&gt;&amp;&#39;x&#39;</td>"));
     assert!(rt; has(&page, b"<td class=\"state arriving\">arriving</td>"));
     assert!(rt; !has(&page, b"<script"));
+    assert!(rt; page.ends_with(FOOTER.as_bytes()));
     Ok(())
 }

@@ -1,11 +1,11 @@
--- What is escaped has no markup.
+-- An escaped text contains no markup.
 use Rattle.std.proofs.Common.{◌≡◌, ℕ, Bool, true, false, ◌==◌, [], ◌∷◌, refl, ◌∙◌}
 use Rattle.std.proofs.lemmas.Bool.{or_from}
 use Rattle.std.proofs.lemmas.List.Folds.{list_any-append}
 use Rattle.std.specs.List.{list_any}
 use Rattle.front_texts.specs.Escape.{entity, escaped, is_markup, NoMarkup}
 
--- the reference of one byte, by whether it is one of the five
+-- The reference of a byte, which is one of the five characters or not.
 entity_clean : (b : ℕ) → list_any is_markup (entity b) ≡ false
 entity_clean b = by (b == 38) (b == 60) (b == 62) (b == 34) (b == 39) refl refl refl refl refl
   where

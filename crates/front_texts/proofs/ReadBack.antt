@@ -34,9 +34,9 @@ use Rattle.front_texts.specs.declared.job_line.JobHead.{JobHead}
 use Rattle.front_texts.specs.declared.job_line.JobTail.{JobTail}
 use Rattle.front_texts.proofs.WordLaws.{is_solid, IsWhole, first_word-front, after_word-front, whole_from, decimal_whole, number_back, escaped_text, quoted_back}
 
--- ## The state and the word beside it
+-- ## The state and its reason
 
--- a word that stands beside a state
+-- A reason of a state.
 record IsReasonWord (w : List ℕ) : Type 0 where
   pub whole : IsWhole w
   pub reads : reason_in w ≡ Some (reason_of w)
@@ -101,7 +101,7 @@ reason_word now Completed = completed_word
 reason_word now Canceled = canceled_word
 reason_word now (Aborted reason) = word_of_abort reason
 
--- the decimals of a number up to 9
+-- The digits of a number up to 9.
 read_as : (n : ℕ) → n ≤ 9 → job_state_of (decimal n) ≡ job_state_in n
 read_as n le = ap (option_and_then job_state_in) (number_back 9 n le (omega arith))
 
@@ -157,12 +157,12 @@ queue_whole q is =
 
 -- ## The row
 
--- a row of these words, of which the texts are escaped
+-- A row of these words, whose texts are escaped.
 abbrev row : List ℕ → List ℕ → List ℕ → List ℕ → List ℕ → List ℕ → List ℕ → List ℕ → List ℕ
 row number queue state word user size pages title =
     codes "job" ++ 32 ∷ (number ++ 32 ∷ (queue ++ 32 ∷ (state ++ 32 ∷ (word ++ 32 ∷ (34 ∷ (user ++ 34 ∷ (32 ∷ (size ++ 32 ∷ (pages ++ 32 ∷ (34 ∷ (title ++ 34 ∷ [])))))))))))
 
--- the same row as it is printed, with its line feed, whatever stands between the words
+-- The same row as it is printed, with its line feed, for any separators between the words.
 joined_pieces : (j sp qt lf d q s w u z p t : List ℕ) → (j ++ d ++ sp ++ q ++ sp ++ s ++ sp ++ w ++ sp) ++ (qt ++ (u ++ qt)) ++ (sp ++ z ++ sp ++ p ++ sp) ++ (qt ++ (t ++ qt)) ++ lf ≡ (j ++ (d ++ (sp ++ (q ++ (sp ++ (s ++ (sp ++ (w ++ (sp ++ (qt ++ (u ++ (qt ++ (sp ++ (z ++ (sp ++ (p ++ (sp ++ (qt ++ (t ++ qt))))))))))))))))))) ++ lf
 joined_pieces j sp qt lf d q s w u z p t = simp append_assoc
 
@@ -210,7 +210,7 @@ tail_read user z p title wz wp =
     ap (λ f. tail_from (text_of f) (rest_of f)) (quoted_back user rest)
     ∙ tail_value (Some user) rest z p (32 ∷ last) title (first_word-front z (p ++ 32 ∷ last) wz) f2 a2 (ap text_of t) (ap rest_of t)
 
--- ## The whole
+-- ## The whole row
 
 pub job_rows : JobRowsReadBack
 job_rows now r line is printed =

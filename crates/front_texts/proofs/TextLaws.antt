@@ -1,10 +1,10 @@
--- Words of which each is a text of a kind, read from the front.
+-- Words that are all texts of a type, read from the front.
 use Rattle.std.proofs.Common.{◌≡◌, ℕ, ◌+◌, ◌<◌, ◌≤◌, Bool, List, [], ◌∷◌, ◌++◌, length, get_or, map, drop, refl, ap, sym, ◌∙◌, append_assoc, Option, None, Some, Bor}
 use Rattle.std.proofs.lemmas.List.{drop_more, drop_all, append-nil}
 use Rattle.spool_types.specs.Values.{text_in}
 use Rattle.front_texts.specs.QueueRows.{with_text, texts_in, now_of}
 
--- texts more in front
+-- Further texts before the others.
 abbrev pub with_texts : List (List ℕ) → Option (List (List ℕ)) → Option (List (List ℕ))
 with_texts ws None = None
 with_texts ws (Some vs) = Some (ws ++ vs)

@@ -1,4 +1,4 @@
--- Words, numbers and quoted texts that were printed, read again.
+-- Words, numbers and quoted texts read as the values that were printed.
 use Rattle.std.proofs.Common.{◌≡◌, ℕ, zero, suc, ◌+◌, ◌-◌, ◌*◌, ◌/◌, ◌%◌, ◌<◌, ◌≤◌, ◌^◌, ◌⊎◌, inl, inr, Bool, true, false, not, ◌&&◌, ◌||◌, cond, nat_le, List, [], ◌∷◌, ◌++◌, length, refl, ap, sym, ◌∙◌, arith, None, Some, append_assoc}
 use Rattle.std.proofs.lemmas.Bool.{and_from, le-leb, cases_lt}
 use Rattle.std.proofs.lemmas.Bool.Decides.{nat_tests}
@@ -14,11 +14,11 @@ use Rattle.command_lines.specs.Replies.{escaped_byte}
 
 -- ## Words
 
--- a byte that ends no word
+-- A byte that does not end a word.
 abbrev pub is_solid : ℕ → Bool
 is_solid b = not (is_blank b)
 
--- a word that no blank cuts
+-- A non-empty word without blanks.
 pub record IsWhole (w : List ℕ) : Type 0 where
   pub some : 1 ≤ length w
   pub solid : list_all is_solid w ≡ true
@@ -52,14 +52,14 @@ after_blanks-front [] rest is = let h : 1 ≤ 0 = is.some in absurd (omega arith
 after_blanks-front (b ∷ bs) rest is =
     ap (λ v. cond v (after_blanks (bs ++ 32 ∷ rest)) (b ∷ (bs ++ 32 ∷ rest))) (not_blank b (first_part _ _ is.solid))
 
--- a word behind a blank, and what follows it
+-- The first word after a blank, and the text after it.
 pub first_word-front : (w rest : List ℕ) → IsWhole w → first_word (32 ∷ (w ++ 32 ∷ rest)) ≡ w
 first_word-front w rest is = ap word_here (after_blanks-front w rest is) ∙ word_here-front w rest is.solid
 
 pub after_word-front : (w rest : List ℕ) → IsWhole w → after_word (32 ∷ (w ++ 32 ∷ rest)) ≡ 32 ∷ rest
 after_word-front w rest is = ap behind_word (after_blanks-front w rest is) ∙ behind_word-front w rest is.solid
 
--- bytes that pass a test which no blank passes
+-- A word whose bytes pass a test that no blank passes.
 pub whole_from : (passes : ℕ → Bool) (w : List ℕ) → ((b : ℕ) → passes b ≡ true → is_solid b ≡ true) → 1 ≤ length w → list_all passes w ≡ true → IsWhole w
 whole_from passes w each some all = record { some = some; solid = kept w all }
   where
@@ -76,7 +76,7 @@ read_on-append n (x ∷ xs) d = read_on-append (10 * n + (x - 48)) xs d
 digit_of : (d : ℕ) → d < 10 → is_ascii_digit (48 + d) ≡ true
 digit_of d h = grind (arith, nat_tests)
 
--- the decimals of a number are digits, and read as the number
+-- The digits of a number, which read as the number.
 pub record ReadsAs (n : ℕ) (w : List ℕ) : Type 0 where
   pub digits : list_all is_ascii_digit w ≡ true
   pub value : read_on 0 w ≡ n
@@ -96,7 +96,7 @@ digit_more n w is =
 same_reads : (n : ℕ) (v w : List ℕ) → w ≡ v → ReadsAs n v → ReadsAs n w
 same_reads n v w e is = record { digits = ap (list_all is_ascii_digit) e ∙ is.digits; value = ap (read_on 0) e ∙ is.value }
 
--- by whether it has one digit
+-- A number of one digit, or of more.
 by_size : (n : ℕ) → n < 2 ^ 64 → (10 ≤ n → ReadsAs (n / 10) (decimal (n / 10))) → ReadsAs n (decimal n)
 by_size n s less = by (cases_lt n 10)
   where
@@ -117,7 +117,7 @@ digit_solid b h = grind (arith, nat_tests)
 pub decimal_whole : (n : ℕ) → n < 2 ^ 64 → IsWhole (decimal n)
 decimal_whole n s = let some : 0 < length (decimal n) = decimal_nonempty n s in whole_from is_ascii_digit (decimal n) digit_solid (omega arith) (decimal_reads n s).digits
 
--- a number up to the most
+-- A number up to the greatest.
 pub number_back : (most n : ℕ) → n ≤ most → n < 2 ^ 64 → number_in most (decimal n) ≡ Some n
 number_back most n le s =
     let is = decimal_reads n s in
@@ -149,7 +149,7 @@ quoted_byte b bs rest more is = by (is_quote b) (is_backslash b) refl refl
         ∙ ap (λ v. cond v (quoted true more) (with_bytes (b ∷ []) (quoted false more))) f
         ∙ ap (with_bytes (b ∷ [])) is
 
--- a text behind its opening quote, and what follows the closing one
+-- A text after its opening quote, and the text after the closing one.
 pub quoted_back : (text rest : List ℕ) → quoted false (escaped_text text ++ 34 ∷ rest) ≡ Some (text, rest)
 quoted_back [] rest = refl
 quoted_back (b ∷ bs) rest =

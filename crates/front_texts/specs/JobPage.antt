@@ -22,31 +22,31 @@ use Rattle.front_texts.specs.declared.job_shown.JobMoments.{JobMoments}
 abbrev pub is_lf : ℕ → Bool
 is_lf b = b == 10
 
--- up to the first line feed
+-- The text before the first line feed.
 abbrev pub line_here : List ℕ → List ℕ
 line_here [] = []
 line_here (b ∷ bs) = cond (is_lf b) [] (b ∷ line_here bs)
 
--- behind it
+-- The text after it.
 abbrev pub behind_line : List ℕ → List ℕ
 behind_line [] = []
 behind_line (b ∷ bs) = cond (is_lf b) bs (behind_line bs)
 
--- the first line is of this name
+-- The first line has this name.
 abbrev pub is_named : List ℕ → List ℕ → Bool
 is_named text name = is_word (first_word (line_here text)) name
 
--- the value of the first line, if it is of this name
+-- The value of the first line, if it has this name.
 unfoldable pub field : List ℕ → List ℕ → Option (List ℕ)
 field text name = cond (is_named text name) (Some (after_blanks (after_word (line_here text)))) None
 
--- what follows it, or the same text where it isn't of this name
+-- The text after it, or the same text if it does not have this name.
 unfoldable pub after_field : List ℕ → List ℕ → List ℕ
 after_field text name = cond (is_named text name) (behind_line text) text
 
 -- ## Values
 
--- a text in quotes, behind which nothing follows
+-- A text in quotes that ends the line.
 abbrev pub whole_text : (List ℕ → Bool) → List ℕ → Option (List ℕ)
 whole_text allowed line = cond (is_end (after_quoted line)) (option_and_then (text_in allowed) (quoted_text line)) None
 
@@ -59,7 +59,7 @@ copies_in word = option_and_then (within 1 9999) (count_in word)
 abbrev pub priority_in : List ℕ → Option ℕ
 priority_in word = option_and_then (within 1 100) (count_in word)
 
--- ## What was asked for
+-- ## The fields that were given at the start
 
 abbrev pub names_of : Option ℕ → Option (List ℕ) → Option (List ℕ) → Option JobNames
 names_of (Some number) (Some queue) (Some user) = Some (record { number = number; queue = queue; user = user })
@@ -90,7 +90,7 @@ asked_of (Some names) (Some wishes) = Some (record {
 })
 asked_of names wishes = None
 
--- the text behind the lines up to each of these
+-- The text after the lines up to each of these.
 abbrev pub after_names : List ℕ → List ℕ
 after_names text = after_field (after_field (after_field text (codes "job")) (codes "queue")) (codes "user")
 
@@ -116,7 +116,7 @@ asked_in text = asked_of (names_at text) (wishes_at (after_names text))
 abbrev pub after_asked : List ℕ → List ℕ
 after_asked text = after_wishes (after_names text)
 
--- ## What became of it
+-- ## The fields that change
 
 abbrev pub counts_of : Option ℕ → Option ℕ → Option ℕ → Option JobCounts
 counts_of (Some size) (Some pages) (Some attempts) = Some (record { size = size; pages = pages; attempts = attempts })
@@ -125,12 +125,12 @@ counts_of size pages attempts = None
 abbrev pub counts_in : Option (List ℕ) → Option (List ℕ) → Option (List ℕ) → Option JobCounts
 counts_in size pages attempts = counts_of (option_and_then count_in size) (option_and_then count_in pages) (option_and_then count_in attempts)
 
--- no media type where no line tells one
+-- No media type if its line is missing.
 abbrev pub media_of : Option (List ℕ) → Option (Option (List ℕ))
 media_of None = Some None
 media_of (Some word) = option_map (λ media. Some media) (media_in word)
 
--- no moment where no line tells one
+-- No moment if its line is missing.
 abbrev pub moment_of : Option (List ℕ) → Option (Option ℕ)
 moment_of None = Some None
 moment_of (Some word) = option_map (λ moment. Some moment) (moment_in word)
@@ -165,7 +165,7 @@ stage_words line =
     (stage_in (count_in (first_word line)) (count_in (first_word stages)) (count_in (first_word attempt)))
     None
 
--- no stage where no line tells one
+-- No stage if its line is missing.
 abbrev pub stage_of : Option (List ℕ) → Option (Option StageShown)
 stage_of None = Some None
 stage_of (Some line) = stage_words line
@@ -174,7 +174,7 @@ abbrev pub moments_of : Option (Option ℕ) → Option (Option ℕ) → Option (
 moments_of (Some until) (Some before) (Some stage) = Some (record { hold_until = until; not_before = before; stage = stage })
 moments_of until before stage = None
 
--- up to the text's end
+-- The moments and the stage, up to the end of the text.
 abbrev pub moments_in : List ℕ → Option JobMoments
 moments_in text =
     let before = after_field text (codes "hold-until") in

@@ -14,7 +14,7 @@ abbrev pub head_of : Option ℕ → Option (List ℕ) → Option JobState → Op
 head_of (Some number) (Some queue) (Some state) (Some reason) = Some (record { number = number; queue = queue; state = state; reason = reason })
 head_of number queue state reason = None
 
--- the front of a row, of its words
+-- The first words of a row.
 abbrev pub head_row : List ℕ → List ℕ → List ℕ → List ℕ → Option JobHead
 head_row number queue state reason = head_of (job_in number) (text_in is_queue_name queue) (job_state_of state) (reason_in reason)
 
@@ -22,7 +22,7 @@ abbrev pub tail_of : Option (List ℕ) → Option ℕ → Option ℕ → Option 
 tail_of (Some user) (Some size) (Some pages) (Some title) = Some (record { user = user; size = size; pages = pages; title = title })
 tail_of user size pages title = None
 
--- a row from its user on, whose quoted text was read and behind which this follows
+-- A row from the user on, from the quoted text that was read and the text after it.
 abbrev pub tail_from : Option (List ℕ) → List ℕ → Option JobTail
 tail_from user line =
     let pages = after_word line in
@@ -47,7 +47,7 @@ joined (Some head) (Some tail) = Some (record {
 })
 joined head tail = None
 
--- the words of a row behind its name
+-- The words of a row after `job`.
 abbrev pub job_words : List ℕ → Option JobLine
 job_words line =
     let queue = after_word line in
@@ -55,6 +55,6 @@ job_words line =
     let reason = after_word state in
     joined (head_row (first_word line) (first_word queue) (first_word state) (first_word reason)) (tail_row (after_word reason))
 
--- a row without its line feed
+-- A row without its line feed.
 abbrev pub job_row : List ℕ → Option JobLine
 job_row line = cond (is_word (first_word line) (codes "job")) (job_words (after_word line)) None

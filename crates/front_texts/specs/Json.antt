@@ -13,7 +13,7 @@ use Rattle.front_texts.specs.declared.queue_line.QueueLine.{QueueLine}
 
 -- ## Jobs
 
--- a text, or null
+-- A text or null.
 abbrev pub text_data : Option (List ℕ) → Data
 text_data None = null
 text_data (Some text) = string text
@@ -64,7 +64,7 @@ moments_data c =
     (member (codes "not_before") (moment_data c.not_before)
     no_members)))
 
--- members, each put in at its key
+-- The members, each inserted at its key.
 abbrev pub with_counts : JobStatus → Members → Members
 with_counts c ms =
     put (codes "attempts") (number (unsigned c.attempts)) (put (codes "pages") (number (unsigned c.pages)) (put (codes "size") (number (unsigned c.size)) ms))

@@ -1,4 +1,4 @@
--- What `lpq` prints, as that of CUPS prints it, but that no text is cut.
+-- The output of `lpq`, as CUPS prints it, except that no text is cut.
 use Rattle.std.specs.Prelude.{ℕ, ◌+◌, ◌/◌, ◌%◌, Bool, ◌&&◌, not, cond, ◌==◌, nat_eq, List, [], ◌∷◌, ◌++◌, codes}
 use Rattle.std.specs.Cmp.Lexicographic.{pointwise}
 use Rattle.std.specs.Fmt.{decimal}
@@ -12,7 +12,7 @@ use Rattle.front_texts.specs.declared.queue_line.QueueLine.{QueueLine}
 use Rattle.front_texts.specs.declared.states.PrinterState.{PrinterState}
 use Rattle.front_texts.specs.declared.states.PrinterState.TheVariants as printers
 
--- a job of the queue that hasn't ended
+-- A job of the queue that has not ended.
 abbrev pub is_entry : List ℕ → JobLine → Bool
 is_entry queue j = not (is_ended j.state) && pointwise nat_eq j.queue queue
 
@@ -55,11 +55,11 @@ bytes_part j = decimal j.size ++ codes " bytes\n"
 abbrev pub entry_line : ℕ → JobLine → List ℕ
 entry_line rank j = rank_cell rank j ++ owner_cell j ++ number_cell j ++ title_cell j ++ bytes_part j
 
--- the rank of the next job: one that prints has none
+-- The rank of the next job. A processing job has no rank.
 abbrev pub next_rank : ℕ → JobLine → ℕ
 next_rank rank j = cond (is_processing j.state) rank (rank + 1)
 
--- a job if it is shown, and the rank of the one behind it
+-- A job if it is shown, and the rank of the next one.
 abbrev pub entry_part : List ℕ → ℕ → JobLine → List ℕ
 entry_part queue rank j = cond (is_entry queue j) (entry_line rank j) []
 

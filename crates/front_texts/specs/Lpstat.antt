@@ -1,4 +1,4 @@
--- What `lpstat` prints, as that of CUPS prints it, with `-` where a moment isn't known.
+-- The output of `lpstat`, as CUPS prints it, with `-` for an unknown date.
 use Rattle.std.specs.Prelude.{ℕ, ◌-◌, Bool, true, false, ◌&&◌, cond, nat_eq, List, [], ◌∷◌, ◌++◌, length, codes, chars, replicate, Option, None, Some}
 use Rattle.std.specs.Cmp.Lexicographic.{pointwise}
 use Rattle.std.specs.Fmt.{decimal}
@@ -13,7 +13,7 @@ use Rattle.front_texts.specs.declared.states.JobState.TheVariants as jobs
 use Rattle.front_texts.specs.declared.states.PrinterState.{PrinterState}
 use Rattle.front_texts.specs.declared.states.PrinterState.TheVariants as printers
 
--- a text, blanks up to the end of its column, and one more
+-- A text, blanks up to the end of its column, and one more blank.
 abbrev pub padded : ℕ → List ℕ → List ℕ
 padded columns text = text ++ replicate (columns - str_width false (chars text)) 32 ++ 32 ∷ []
 
@@ -31,17 +31,17 @@ is_processing jobs.Completed = false
 abbrev pub is_printing : List ℕ → JobLine → Bool
 is_printing queue j = is_processing j.state && pointwise nat_eq j.queue queue
 
--- the first job of a queue that is processing
+-- The first processing job of a queue.
 abbrev pub printing_job : List ℕ → List JobLine → Option ℕ
 printing_job queue [] = None
 printing_job queue (j ∷ js) = cond (is_printing queue j) (Some j.number) (printing_job queue js)
 
--- what is told of a queue, or that nothing is
+-- The message of a queue, or that the reason is unknown.
 abbrev pub message_of : List ℕ → List ℕ
 message_of [] = codes "reason unknown"
 message_of (b ∷ bs) = b ∷ bs
 
--- the name of a job
+-- The id of a job.
 abbrev pub job_name : List ℕ → ℕ → List ℕ
 job_name queue job = queue ++ codes "-" ++ decimal job
 
@@ -63,7 +63,7 @@ printer_line q job = state_line q.name q.message q.state job
 abbrev pub printers_text : List QueueLine → List JobLine → List ℕ
 printers_text queues js = flat_map (λ (q : QueueLine). printer_line q (printing_job q.name js)) queues
 
--- ## What they accept (-a)
+-- ## Whether queues accept jobs (-a)
 
 abbrev pub accepting_line : QueueLine → List ℕ
 accepting_line q =
@@ -71,7 +71,7 @@ accepting_line q =
     (q.name ++ codes " accepting requests since -\n")
     (q.name ++ codes " not accepting requests since - -\n\t" ++ message_of q.message ++ codes "\n")
 
--- ## Jobs that haven't ended (-o)
+-- ## Jobs that have not ended (-o)
 
 abbrev pub request_cell : JobLine → List ℕ
 request_cell j = padded 23 (job_name j.queue j.number)

@@ -1,4 +1,4 @@
--- The page of queues and jobs: each text that isn't the page's own goes in as `escaped`.
+-- The page of queues and jobs: each text other than the page's own is `escaped`.
 use Rattle.std.specs.Prelude.{ℕ, Bool, cond, List, [], ◌++◌, codes, Option, None, Some}
 use Rattle.std.specs.Fmt.{decimal}
 use Rattle.std.specs.List.{flat_map}
@@ -14,7 +14,7 @@ cell text = codes "<td>" ++ escaped text ++ codes "</td>"
 abbrev pub number_cell : ℕ → List ℕ
 number_cell number = codes "<td class=\"n\">" ++ decimal number ++ codes "</td>"
 
--- the state's word is also its class, and so its colour
+-- The name of the state is also the class of the cell, which determines its color.
 abbrev pub state_class : List ℕ → List ℕ
 state_class word = codes "<td class=\"state " ++ escaped word ++ codes "\">"
 
@@ -46,7 +46,7 @@ job_numbers j = number_cell j.size ++ number_cell j.pages
 abbrev pub job_middle : JobLine → List ℕ
 job_middle j = cell j.user ++ job_numbers j
 
--- the reason beside its state, if there is one
+-- The reason of the state, if it has one.
 abbrev pub word_part : Option (List ℕ) → List ℕ
 word_part None = []
 word_part (Some reason) = codes " <span class=\"faint\">" ++ escaped reason ++ codes "</span>"
@@ -59,7 +59,7 @@ job_html j = job_front j ++ job_middle j ++ job_notes j ++ codes "</tr>\n"
 
 -- ## The page
 
--- with the line that asks for it anew, if it follows
+-- The line that reloads the page, if `follows` is set.
 abbrev pub refresh : Bool → List ℕ
 refresh follows = cond follows REFRESH.now []
 

@@ -17,7 +17,7 @@ abbrev pub head_of : Option (List ℕ) → Option PrinterState → Option Bool �
 head_of (Some name) (Some state) (Some accepting) (Some target) = Some (record { name = name; state = state; accepting = accepting; target = target })
 head_of name state accepting target = None
 
--- the front of a row, of its words
+-- The first words of a row.
 abbrev pub head_row : List ℕ → List ℕ → List ℕ → List ℕ → Option QueueHead
 head_row name state accepting target = head_of (text_in is_queue_name name) (printer_state_of state) (accepting_in accepting) (media_in target)
 
@@ -28,12 +28,12 @@ rules_of policy interval limit = None
 abbrev pub rules_row : List ℕ → List ℕ → List ℕ → Option QueueRules
 rules_row policy interval limit = rules_of (policy_in policy) (interval_in interval) (limit_in limit)
 
--- a text more in front, if these are texts
+-- One more text before the others, if these are texts.
 abbrev pub with_text : Option (List ℕ) → Option (List (List ℕ)) → Option (List (List ℕ))
 with_text (Some text) (Some texts) = Some (text ∷ texts)
 with_text text texts = None
 
--- words that are texts of a kind, each of them
+-- Words that are all texts of a type.
 abbrev pub texts_in : (List ℕ → Bool) → List (List ℕ) → Option (List (List ℕ))
 texts_in allowed [] = Some []
 texts_in allowed (word ∷ words) = with_text (text_in allowed word) (texts_in allowed words)
@@ -47,7 +47,7 @@ is_comma b = b == 44
 abbrev pub at_most : ℕ → List (List ℕ) → Option (List (List ℕ))
 at_most most texts = cond (nat_le (length texts) most) (Some texts) None
 
--- the reasons that a word joins by commas, or none
+-- The reasons in a word, which are separated by commas, or `none`.
 abbrev pub reasons_in : List ℕ → Option (List (List ℕ))
 reasons_in word = cond (is_word word (codes "none")) (Some []) (option_and_then (at_most 64) (texts_in is_reason (slice_split is_comma word)))
 
@@ -76,7 +76,7 @@ joined (Some head) (Some rules) (Some notes) = Some (record {
 })
 joined head rules notes = None
 
--- the words of a row behind its name
+-- The words of a row after `queue`.
 abbrev pub queue_words : List ℕ → Option QueueLine
 queue_words line =
     let state = after_word line in
@@ -90,6 +90,6 @@ queue_words line =
     (rules_row (first_word policy) (first_word interval) (first_word limit))
     (notes_row (after_word limit))
 
--- a row without its line feed
+-- A row without its line feed.
 abbrev pub queue_row : List ℕ → Option QueueLine
 queue_row line = cond (is_word (first_word line) (codes "queue")) (queue_words (after_word line)) None

@@ -1,4 +1,4 @@
--- What the printed row of a job reads as.
+-- The meaning of the printed row of a job.
 use Rattle.std.specs.Prelude.{◌≡◌, ℕ, ◌<◌, ◌≤◌, ◌^◌, cond, List, ◌++◌, codes, Option, None, Some, IsTrue}
 use Rattle.std.specs.Str.{is_utf8}
 use Rattle.spool_types.specs.Limits.{greatest_number}
@@ -14,7 +14,7 @@ use Rattle.front_texts.specs.declared.job_line.JobLine.{JobLine}
 use Rattle.front_texts.specs.declared.states.JobState.{JobState}
 use Rattle.front_texts.specs.declared.states.JobState.TheVariants as states
 
--- what each job of the spooler is, by the types of its fields
+-- The property that each job of the spooler has, by the types of its fields.
 pub record IsJob (r : Job) : Type 0 where
   pub least : 1 ≤ r.id
   pub most : r.id ≤ greatest_number
@@ -35,7 +35,7 @@ state_of now Completed = states.Completed
 state_of now Canceled = states.Canceled
 state_of now (Aborted reason) = states.Aborted
 
--- the word beside the state, if it is one
+-- The reason of the state, if it has one.
 abbrev pub reason_of : List ℕ → Option (List ℕ)
 reason_of word = cond (is_word word (codes "none")) None (Some word)
 
@@ -51,6 +51,6 @@ line_of now r = record {
   title = r.title;
 }
 
--- each row that the spooler prints reads as its job, as it is at the moment now
+-- Each row that the spooler prints reads as its job at the moment `now`.
 abbrev pub JobRowsReadBack : Type 0
 JobRowsReadBack = (now : ℕ) (r : Job) (line : List ℕ) → IsJob r → line ++ codes "\n" ≡ job_line now r → job_row line ≡ Some (line_of now r)

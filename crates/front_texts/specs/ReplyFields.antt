@@ -1,4 +1,4 @@
--- The fields of a row: words, numbers, reasons, and texts in quotes.
+-- The fields of a row: words, numbers, reasons and texts in quotes.
 use Rattle.std.specs.Prelude.{ℕ, Bool, true, false, cond, List, [], ◌∷◌, codes, Option, None, Some}
 use Rattle.std.specs.Option.{option_map, option_and_then}
 use Rattle.line_words.specs.Blanks.{after_blanks}
@@ -12,11 +12,11 @@ use Rattle.front_texts.specs.StateWords.{job_state_in, printer_state_in}
 use Rattle.front_texts.specs.declared.states.JobState.{JobState}
 use Rattle.front_texts.specs.declared.states.PrinterState.{PrinterState}
 
--- a word that is this one
+-- The word equals this one.
 abbrev pub is_word : List ℕ → List ℕ → Bool
 is_word word name = is_same word name
 
--- a text in quotes at the front of a line, and what follows it
+-- The text in quotes at the front of a line, and the text after it.
 abbrev pub quoted_here : List ℕ → QuotedFront
 quoted_here [] = None
 quoted_here (b ∷ bs) = cond (is_quote b) (quoted false bs) None
@@ -39,7 +39,7 @@ abbrev pub is_empty : List ℕ → Bool
 is_empty [] = true
 is_empty (b ∷ bs) = false
 
--- nothing follows but blanks
+-- Only blanks follow.
 abbrev pub is_end : List ℕ → Bool
 is_end rest = is_empty (after_blanks rest)
 
@@ -49,7 +49,7 @@ count_in word = decimal 4294967295 word
 abbrev pub limit_in : List ℕ → Option ℕ
 limit_in word = decimal 65535 word
 
--- seconds
+-- An interval in seconds.
 abbrev pub interval_in : List ℕ → Option ℕ
 interval_in word = decimal 86400 word
 
@@ -62,7 +62,7 @@ job_state_of word = option_and_then job_state_in (decimal 9 word)
 abbrev pub printer_state_of : List ℕ → Option PrinterState
 printer_state_of word = option_and_then printer_state_in (decimal 9 word)
 
--- one reason, or the word for none
+-- A reason or `none`.
 abbrev pub reason_in : List ℕ → Option (Option (List ℕ))
 reason_in word = cond (is_word word (codes "none")) (Some None) (option_map (λ reason. Some reason) (text_in is_reason word))
 

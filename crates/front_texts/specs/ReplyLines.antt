@@ -1,4 +1,4 @@
--- Last lines of replies, and lines of `watch`.
+-- The last lines of replies, and the lines of `watch`.
 use Rattle.std.specs.Prelude.{ℕ, Bool, ◌&&◌, cond, ◌==◌, List, codes, Option, None, Some}
 use Rattle.std.specs.List.{before_first, after_first}
 use Rattle.std.specs.Option.{option_map}
@@ -16,7 +16,7 @@ use Rattle.front_texts.specs.declared.reply_lines.WatchLine.TheVariants.{Job, Qu
 
 -- ## The last line of a reply
 
--- it was done, it was refused for a cause that has a number, or it failed
+-- A success, a refusal with a number, or an error.
 pub data Last : Type 0 where
   done : List ℕ → Last
   refused : ℕ → List ℕ → Last
@@ -30,7 +30,7 @@ last_of (Failed word) = failed word.now
 abbrev pub is_space : ℕ → Bool
 is_space b = b == 32
 
--- a cause that has a number and a name, or the word of a fault
+-- A number and a name, or the word of an error.
 abbrev pub error_of : Option ℕ → List ℕ → List ℕ → Last
 error_of None words name = failed words
 error_of (Some number) words name = refused number name
@@ -58,7 +58,7 @@ gone_job job = option_map (λ job. GoneJob job) job
 abbrev pub gone_queue : Option (List ℕ) → Option WatchLine
 gone_queue name = option_map (λ name. GoneQueue name) name
 
--- a job or a queue that is gone, by its kind and its name
+-- A job or a queue that was removed, from its kind and its name.
 abbrev pub gone : List ℕ → List ℕ → Option WatchLine
 gone kind name =
     cond (is_word kind (codes "job")) (gone_job (job_in name))

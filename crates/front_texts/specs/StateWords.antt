@@ -1,4 +1,4 @@
--- States of jobs and of queues: their numbers (RFC 8011) and their words.
+-- The states of jobs and queues: their numbers (RFC 8011) and their names.
 use Rattle.std.specs.Prelude.{ℕ, Bool, true, false, cond, ◌==◌, nat_eq, List, codes, Option, None, Some}
 use Rattle.std.specs.Cmp.Lexicographic.{pointwise}
 use Rattle.front_texts.specs.declared.states.JobState.{JobState}
@@ -35,7 +35,7 @@ job_state_word jobs.Canceled = codes "canceled"
 job_state_word jobs.Aborted = codes "aborted"
 job_state_word jobs.Completed = codes "completed"
 
--- nothing more becomes of it
+-- The job has ended.
 abbrev pub is_ended : JobState → Bool
 is_ended jobs.Pending = false
 is_ended jobs.Held = false
@@ -45,12 +45,12 @@ is_ended jobs.Canceled = true
 is_ended jobs.Aborted = true
 is_ended jobs.Completed = true
 
--- the reason of a job whose document still comes
+-- The reason of a job whose document is still incoming.
 abbrev pub is_arriving : Option (List ℕ) → Bool
 is_arriving None = false
 is_arriving (Some reason) = pointwise nat_eq reason (codes "job-incoming")
 
--- the state for a person
+-- The state for a user.
 abbrev pub shown_word : JobState → Option (List ℕ) → List ℕ
 shown_word state reason = cond (is_arriving reason) (codes "arriving") (job_state_word state)
 

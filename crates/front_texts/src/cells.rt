@@ -1,4 +1,4 @@
-//! Texts that fit so many columns of a terminal.
+//! Texts that fit into a number of terminal columns.
 ghost use Rattle.std.specs.Prelude.{◌≡◌, ◌≤◌, IfOk, OnOk, false, chars, map, encode_utf8_all, string_bytes};
 ghost use Rattle.unicode_width.specs.Width.{str_width};
 ghost use Rattle.front_texts.specs.Cells.{safe_char, safe_text, Fits};
@@ -6,11 +6,11 @@ ghost use Rattle.front_texts.specs.Cells.{safe_char, safe_text, Fits};
 use std::alloc::{AllocError, Global};
 use unicode_width::{UnicodeWidthChar, UnicodeWidthStr};
 
-// What stands where a text was cut.
+// The mark at the end of a text that was cut.
 const CUT: &str = "…";
 
-/// A text with U+FFFD for each character that would steer a terminal: the controls, and those that turn the direction of what
-/// follows.
+/// Returns the text with U+FFFD for each character that controls a terminal: control characters, and those that break a line or change the
+/// direction of text.
 pub fn safe_text(alloc: Global, text: &str) -> Result<String, AllocError>
     ensures value { IfOk result (λ safe. string_bytes safe ≡ safe_text text.now) }
 {
@@ -27,7 +27,7 @@ fn safe_char(c: char) -> char
     }
 }
 
-/// A text that takes no more columns than these: the text itself, or its beginning and `…`. It is cut between characters.
+/// Returns the text if it takes at most this number of columns, or else its beginning and `…`. It is cut between characters.
 pub fn fitted(alloc: Global, text: &str, columns: usize) -> Result<String, AllocError>
     requires { 1 ≤ columns }
     ensures fits { IfOk result (λ cell. Fits columns (string_bytes cell)) }
@@ -44,7 +44,7 @@ pub fn fitted(alloc: Global, text: &str, columns: usize) -> Result<String, Alloc
     Ok(String::new(alloc))
 }
 
-// The first characters of a text, whose columns are no more than these if each is counted alone.
+// Returns the first characters of a text that take at most this number of columns, if each is counted alone.
 fn beginning(alloc: Global, text: &str, columns: usize) -> Result<String, AllocError> {
     let mut kept = String::new(alloc);
     let mut used: usize = 0;
@@ -58,7 +58,7 @@ fn beginning(alloc: Global, text: &str, columns: usize) -> Result<String, AllocE
     Ok(kept)
 }
 
-// The columns of a character. The selector of an emoji may make the one before it wider.
+// Returns the columns of a character. The emoji variation selector may widen the character before it.
 fn columns_of(c: char) -> usize {
     match c {
         '\u{fe0f}' => 1,
@@ -66,7 +66,7 @@ fn columns_of(c: char) -> usize {
     }
 }
 
-/// Adds a text and as many blanks as its column has room for behind it, and two more. A text that is wider than the column is cut.
+/// Appends a text, blanks up to the end of its column, and two more blanks. A text that is wider than the column is cut.
 pub(crate) fn push_cell(
     alloc: Global,
     line: &mut String,
@@ -82,7 +82,7 @@ pub(crate) fn push_cell(
     push_blanks(line, 2)
 }
 
-/// Adds a number at the right end of its column, and two blanks.
+/// Appends a number, aligned to the right of its column, and two blanks.
 pub(crate) fn push_right(line: &mut String, text: &str, columns: usize) -> Result<(), AllocError> {
     push_blanks(line, columns.saturating_sub(text.width()))?;
     line.push_str(text)?;

@@ -4,8 +4,8 @@ ghost use Rattle.front_texts.specs.Escape.{entity, escaped};
 
 use std::alloc::{AllocError, Global};
 
-/// Adds a text to a page so that it stands for itself: `&`, `<`, `>`, `"` and `'` are written as references. Out of memory,
-/// some of it may be there.
+/// Appends a text to a page as plain text: `&`, `<`, `>`, `"` and `'` are written as character references. If memory runs out, a part of it
+/// may have been appended.
 pub fn push_escaped(page: &mut Vec<u8>, text: &str) -> Result<(), AllocError>
     ensures value { OnOk result (page.new.items ≡ page.old.items ++ escaped text.now) }
 {
@@ -31,7 +31,7 @@ fn push_byte(page: &mut Vec<u8>, byte: u8) -> Result<(), AllocError>
     }
 }
 
-/// The same text by itself.
+/// Returns the escaped text.
 pub fn escape(alloc: Global, text: &str) -> Result<Vec<u8>, AllocError>
     ensures value { IfOk result (λ safe. safe.items ≡ escaped text.now) }
 {

@@ -1,4 +1,4 @@
-//! The fields of a row: words, numbers, reasons, and texts in quotes.
+//! The fields of a row: words, numbers, reasons and texts in quotes.
 ghost use Rattle.std.specs.Prelude.{◌≡◌, IfOk};
 ghost use Rattle.std.specs.Option.{option_map, option_and_then};
 ghost use Rattle.spool_types.specs.Values.{text_in};
@@ -11,14 +11,14 @@ use line_words::{Word, after_blanks, decimal, is_quote, read_quoted};
 use spool_types::{Interval, Moment, Policy, Reason, Text, TextKind};
 use std::alloc::{AllocError, Global};
 
-/// Whether a word is this one.
+/// Returns whether a word equals `name`.
 pub(crate) fn is_word(word: &[u8], name: &[u8]) -> bool
     ensures { result ≡ is_word word.now name.now }
 {
     word == name
 }
 
-/// The text in quotes at a line's front, and what follows it; no text, and nothing, where none is there.
+/// Returns the text in quotes at the front of a line and the rest of the line, or no text and an empty rest if there is none.
 pub(crate) fn quoted_text<'a>(
     alloc: Global,
     line: &'a [u8],
@@ -38,7 +38,7 @@ pub(crate) fn quoted_text<'a>(
     }
 }
 
-/// The text of a kind that such a word is, if there is one.
+/// Returns the word as a text of the type `K`, if it is a valid one.
 pub(crate) fn text_of_word<K: TextKind>(
     alloc: Global,
     word: Option<Word<'_>>,
@@ -51,42 +51,42 @@ pub(crate) fn text_of_word<K: TextKind>(
     }
 }
 
-/// Whether a row ends here.
+/// Returns whether only blanks are left of a row.
 pub(crate) fn is_end(rest: &[u8]) -> bool
     ensures { result ≡ is_end rest.now }
 {
     after_blanks(rest).is_empty()
 }
 
-/// A number of at most 32 bits.
+/// Reads a number of at most 32 bits.
 pub(crate) fn count(word: &[u8]) -> Option<u32>
     ensures { result ≡ count_in word.now }
 {
     u32::try_from(decimal(word, 4_294_967_295)?).ok()
 }
 
-/// A number of at most 16 bits.
+/// Reads a number of at most 16 bits.
 pub(crate) fn limit(word: &[u8]) -> Option<u16>
     ensures { result ≡ limit_in word.now }
 {
     u16::try_from(decimal(word, 65_535)?).ok()
 }
 
-/// The state of a job.
+/// Reads the state of a job.
 pub(crate) fn job_state(word: &[u8]) -> Option<JobState>
     ensures { result ≡ job_state_of word.now }
 {
     JobState::from_number(decimal(word, 9)?)
 }
 
-/// The state of a queue.
+/// Reads the state of a queue.
 pub(crate) fn printer_state(word: &[u8]) -> Option<PrinterState>
     ensures { result ≡ printer_state_of word.now }
 {
     PrinterState::from_number(decimal(word, 9)?)
 }
 
-/// The reason beside a state: one, or the word for none.
+/// Reads the reason of a state: a reason or `none`.
 pub(crate) fn reason(alloc: Global, word: &[u8]) -> Result<Option<Option<Reason>>, AllocError>
     ensures { IfOk result (λ found. found ≡ reason_in word.now) }
 {
@@ -99,7 +99,7 @@ pub(crate) fn reason(alloc: Global, word: &[u8]) -> Result<Option<Option<Reason>
     }
 }
 
-/// What a queue does with a job that fails.
+/// Reads the policy of a queue for failed jobs.
 pub(crate) fn policy(word: &[u8]) -> Option<Policy>
     ensures { result ≡ policy_in word.now }
 {
@@ -118,7 +118,7 @@ pub(crate) fn policy(word: &[u8]) -> Option<Policy>
     None
 }
 
-/// Whether a queue takes jobs.
+/// Reads whether a queue accepts jobs.
 pub(crate) fn accepting(word: &[u8]) -> Option<bool>
     ensures { result ≡ accepting_in word.now }
 {
@@ -131,14 +131,14 @@ pub(crate) fn accepting(word: &[u8]) -> Option<bool>
     None
 }
 
-/// How long a queue waits before it tries a job again.
+/// Reads the interval of a queue between attempts, in seconds.
 pub(crate) fn interval(word: &[u8]) -> Option<Interval>
     ensures { result ≡ interval_in word.now }
 {
     Interval::new(u32::try_from(decimal(word, 86_400)?).ok()?)
 }
 
-/// A moment.
+/// Reads a moment, in seconds.
 pub(crate) fn moment(word: &[u8]) -> Option<Moment>
     ensures { result ≡ moment_in word.now }
 {

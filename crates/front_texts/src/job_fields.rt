@@ -8,10 +8,10 @@ use crate::sizes::{moment_text, size_text};
 use spool_types::Moment;
 use std::alloc::{AllocError, Global};
 
-// The columns of the fields' names.
+// The columns of the field names.
 const NAME_COLUMNS: usize = 10;
 
-/// One job as lines of a name and a value, for a terminal of so many columns. What isn't there has no line.
+/// Returns the job as lines of a name and a value, of at most `width` columns. A field without a value has no line.
 pub fn job_page(alloc: Global, job: &JobShown, width: usize) -> Result<Vec<String>, AllocError>
     requires { 1 ≤ width }
     ensures fits { IfOk result (λ lines. AllFit width lines.items) }
@@ -23,7 +23,7 @@ pub fn job_page(alloc: Global, job: &JobShown, width: usize) -> Result<Vec<Strin
     Ok(lines)
 }
 
-// A line of a name and a value.
+// Appends a line of a name and a value.
 fn push_line(
     alloc: Global,
     lines: &mut Vec<String>,
@@ -123,7 +123,7 @@ fn push_moments(
     push_stage(alloc, lines, job_status.stage, width)
 }
 
-// A job that waits for no moment has the beginning there.
+// A job that waits for no moment has the moment 0 there, which is not shown.
 fn shown_moment(moment: Option<Moment>) -> Option<Moment> {
     match moment {
         Some(moment) if moment == Moment::ZERO => None,

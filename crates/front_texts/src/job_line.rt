@@ -17,17 +17,17 @@ pub struct JobLine {
     pub number: JobId,
     pub queue: QueueName,
     pub state: JobState,
-    /// The word beside the state, if there is one.
+    /// The reason of the state, if it has one.
     pub reason: Option<Reason>,
     pub user: UserName,
-    /// The document's bytes.
+    /// The size of the document in bytes.
     pub size: u32,
-    /// The pages that were printed.
+    /// The number of printed pages.
     pub pages: u32,
     pub title: Title,
 }
 
-// The front of a row, up to its user.
+// The first fields of a row, before the user.
 #[derive(Drop)]
 pub(crate) struct JobHead {
     pub number: JobId,
@@ -36,7 +36,7 @@ pub(crate) struct JobHead {
     pub reason: Option<Reason>,
 }
 
-// A row from its user on.
+// The fields of a row from the user on.
 #[derive(Drop)]
 pub(crate) struct JobTail {
     pub user: UserName,
@@ -45,7 +45,7 @@ pub(crate) struct JobTail {
     pub title: Title,
 }
 
-/// The job of a row `job N QUEUE STATE REASON "USER" SIZE PAGES "TITLE"` without its line feed; `None` where the line is none.
+/// Reads a row `job N QUEUE STATE REASON "USER" SIZE PAGES "TITLE"` without its line feed. Returns `None` if it is invalid.
 pub fn read_job_line(alloc: Global, line: &[u8]) -> Result<Option<JobLine>, AllocError>
     ensures value { IfOk result (λ job. job ≡ job_row line.now) }
 {
@@ -56,7 +56,7 @@ pub fn read_job_line(alloc: Global, line: &[u8]) -> Result<Option<JobLine>, Allo
     job_words(alloc, rest)
 }
 
-// The words of a row behind its name.
+// Reads the words of a row after `job`.
 fn job_words(alloc: Global, line: &[u8]) -> Result<Option<JobLine>, AllocError>
     ensures { IfOk result (λ job. job ≡ job_words line.now) }
 {
@@ -133,7 +133,7 @@ fn job_tail(alloc: Global, line: &[u8]) -> Result<Option<JobTail>, AllocError>
 }
 
 impl JobLine {
-    /// Its state for a person: that its document still comes, or the word of the state.
+    /// Returns the state for a user: `arriving` while the document is incoming, or else the name of the state.
     pub fn state_word(&self) -> &'static str
         ensures { result.now ≡ shown_word self.now.state self.now.reason }
     {
@@ -144,7 +144,7 @@ impl JobLine {
         }
     }
 
-    /// Whether it has ended, and nothing more becomes of it.
+    /// Returns whether the job has ended.
     pub fn has_ended(&self) -> bool
         ensures { result ≡ is_ended self.now.state }
     {
@@ -155,7 +155,7 @@ impl JobLine {
     }
 }
 
-/// Whether a reason says that the document still comes.
+/// Returns whether the reason states that the document is still incoming.
 pub(crate) fn is_arriving(reason: Option<&Reason>) -> bool
     ensures { result ≡ is_arriving (option_copied reason.entry) }
 {

@@ -1,4 +1,4 @@
-//! One job with all its fields, as `job N` shows it.
+//! One job with all its fields, as `job N` returns it.
 ghost use Rattle.std.specs.Prelude.{◌≡◌, IfOk, option_copied};
 ghost use Rattle.front_texts.specs.StateWords.{shown_word};
 ghost use Rattle.front_texts.specs.JobPage.{copies_in, priority_in, line_here, behind_line, field, after_field, whole_text, names_in, wishes_in, asked_of, asked_in, after_asked, counts_in, media_of, moment_of, marks_in, state_and_reason_in, stage_of, moments_in, job_status_of, job_status_in, shown_job};
@@ -21,7 +21,7 @@ pub struct JobShown {
     pub job_status: JobStatus,
 }
 
-/// What was asked for.
+/// The fields that were given when the job was created.
 #[derive(Drop)]
 pub struct JobAsked {
     pub number: JobId,
@@ -33,27 +33,27 @@ pub struct JobAsked {
     pub priority: Priority,
 }
 
-/// What became of it.
+/// The fields that change while the job is processed.
 #[derive(Drop)]
 pub struct JobStatus {
     pub size: u32,
     pub pages: u32,
     pub attempts: u32,
-    /// Its media type, once it is closed.
+    /// The media type, once the job is closed.
     pub media: Option<MediaType>,
-    /// The moment by which it is to start.
+    /// The moment by which the job must have started.
     pub by: Option<Moment>,
     pub state: JobState,
     pub reason: Option<Reason>,
-    /// The moment until which it is held.
+    /// The moment until which the job is held.
     pub hold_until: Option<Moment>,
-    /// The moment before which it isn't tried.
+    /// The moment before which no attempt starts.
     pub not_before: Option<Moment>,
-    /// The stage that runs.
+    /// The running stage.
     pub stage: Option<StageShown>,
 }
 
-/// A stage that runs: which of how many, in which attempt.
+/// A running stage: its number, the number of stages, and the attempt.
 #[derive(Clone, Copy, Debug)]
 pub struct StageShown {
     pub stage: u32,
@@ -61,7 +61,7 @@ pub struct StageShown {
     pub attempt: u32,
 }
 
-// Parts of the two.
+// Parts of the two types above.
 #[derive(Drop)]
 pub(crate) struct JobNames {
     pub number: JobId,
@@ -103,8 +103,8 @@ pub(crate) struct JobMoments {
     pub stage: Option<StageShown>,
 }
 
-/// The job of the lines `NAME VALUE` of a reply to `job N`, each with its line feed and without the `ok 1` that follows them;
-/// `None` where they aren't those of a job.
+/// Reads the job in the lines `NAME VALUE` of a reply to `job N`, each with its line feed and without the final `ok 1`. Returns `None` if
+/// they are invalid.
 pub fn read_job_shown(alloc: Global, text: &[u8]) -> Result<Option<JobShown>, AllocError>
     ensures value { IfOk result (λ job. job ≡ shown_job text.now) }
 {
@@ -116,7 +116,7 @@ pub fn read_job_shown(alloc: Global, text: &[u8]) -> Result<Option<JobShown>, Al
     }
 }
 
-// What was asked for, and the text behind it.
+// Reads the fields that were given at the start, and returns the rest of the text.
 fn asked(alloc: Global, text: &[u8]) -> Result<(Option<JobAsked>, &[u8]), AllocError>
     ensures value { IfOk result (λ found. found.0 ≡ asked_in text.now) }
     ensures rest { IfOk result (λ found. found.1.now ≡ after_asked text.now) }
@@ -200,7 +200,7 @@ fn wishes(
     }
 }
 
-// What became of it.
+// Reads the fields that change.
 fn job_status(alloc: Global, text: &[u8]) -> Result<Option<JobStatus>, AllocError>
     ensures { IfOk result (λ job_status. job_status ≡ job_status_in text.now) }
 {
@@ -241,7 +241,7 @@ fn marks(
     }
 }
 
-// No media type where no line tells one.
+// Reads a media type, which is `None` if its line is missing.
 fn media_of(alloc: Global, word: Option<&[u8]>) -> Result<Option<Option<MediaType>>, AllocError>
     ensures { IfOk result (λ media. media ≡ media_of (option_copied word.entry)) }
 {
@@ -254,7 +254,7 @@ fn media_of(alloc: Global, word: Option<&[u8]>) -> Result<Option<Option<MediaTyp
     }
 }
 
-// No moment where no line tells one.
+// Reads a moment, which is `None` if its line is missing.
 fn moment_of(word: Option<&[u8]>) -> Option<Option<Moment>>
     ensures { result ≡ moment_of (option_copied word.entry) }
 {
@@ -280,7 +280,7 @@ fn state_and_reason(
     }
 }
 
-// The moments that a job waits for, and the stage that runs, up to the text's end.
+// Reads the moments that a job waits for and the running stage, up to the end of the text.
 fn moments(text: &[u8]) -> Option<JobMoments>
     ensures { result ≡ moments_in text.now }
 {
@@ -300,7 +300,7 @@ fn moments(text: &[u8]) -> Option<JobMoments>
     }
 }
 
-// `S of N attempt A`, where a line tells it.
+// Reads `S of N attempt A`, which is `None` if its line is missing.
 fn stage_of(words: Option<&[u8]>) -> Option<Option<StageShown>>
     ensures { result ≡ stage_of (option_copied words.entry) }
 {
@@ -347,7 +347,7 @@ fn job_status_of(
     }
 }
 
-// A text in quotes, behind which nothing follows.
+// Reads a text in quotes that ends the line.
 fn whole_text<K: TextKind>(alloc: Global, line: &[u8]) -> Result<Option<Text<K>>, AllocError>
     ensures { IfOk result (λ text. text ≡ whole_text K.allowed line.now) }
 {
@@ -370,7 +370,7 @@ fn priority_of(word: &[u8]) -> Option<Priority>
     Priority::new(count(word)?)
 }
 
-// The value of the first line, if it is of this name, and the text behind it; no value, and the same text, where it isn't.
+// Returns the value of the first line and the rest of the text if the line has this name. Otherwise returns no value and the same text.
 #[tactic(auto, unfolding(crate::specs::JobPage::field, crate::specs::JobPage::after_field))]
 fn field<'a>(text: &'a [u8], name: &[u8]) -> (Option<&'a [u8]>, &'a [u8])
     ensures value { option_copied result.0 ≡ field text.now name.now }
@@ -385,7 +385,7 @@ fn field<'a>(text: &'a [u8], name: &[u8]) -> (Option<&'a [u8]>, &'a [u8])
     }
 }
 
-// The bytes before the first line feed, and those behind it.
+// Splits a text at its first line feed, which is dropped.
 fn first_line(text: &[u8]) -> (&[u8], &[u8])
     ensures line { result.0.now ≡ line_here text.now }
     ensures rest { result.1.now ≡ behind_line text.now }
@@ -399,7 +399,7 @@ fn first_line(text: &[u8]) -> (&[u8], &[u8])
 }
 
 impl JobStatus {
-    /// Its state for a person.
+    /// Returns the state for a user.
     pub fn state_word(&self) -> &'static str
         ensures { result.now ≡ shown_word self.now.state self.now.reason }
     {

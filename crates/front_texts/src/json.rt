@@ -13,7 +13,7 @@ use std::alloc::{AllocError, Global};
 // The members of an object.
 type JsonMembers = Map<String, Value>;
 
-/// A job as an object.
+/// Returns a job as an object.
 pub fn job_json(alloc: Global, job: &JobLine) -> Result<Value, AllocError>
     ensures value { IfOk result (λ object. view object ≡ job_data job.now) }
 {
@@ -30,7 +30,7 @@ pub fn job_json(alloc: Global, job: &JobLine) -> Result<Value, AllocError>
     })
 }
 
-// A reason, or null.
+// Returns a reason or null.
 fn reason_json(alloc: Global, reason: Option<&Reason>) -> Result<Value, AllocError>
     ensures { IfOk result (λ value. view value ≡ text_data (option_copied reason.entry)) }
 {
@@ -40,7 +40,7 @@ fn reason_json(alloc: Global, reason: Option<&Reason>) -> Result<Value, AllocErr
     }
 }
 
-/// The jobs as an array of objects, in their order.
+/// Returns the jobs as an array of objects, in their order.
 pub fn jobs_json(alloc: Global, jobs: &[JobLine]) -> Result<Value, AllocError>
     ensures value { IfOk result (λ array. view array ≡ jobs_data jobs.now) }
 {
@@ -51,7 +51,7 @@ pub fn jobs_json(alloc: Global, jobs: &[JobLine]) -> Result<Value, AllocError>
     Ok(Value::Array(array))
 }
 
-/// A queue as an object.
+/// Returns a queue as an object.
 pub fn queue_json(alloc: Global, queue: &QueueLine) -> Result<Value, AllocError>
     ensures value { IfOk result (λ object. view object ≡ queue_data queue.now) }
 {
@@ -149,7 +149,7 @@ fn text_json(alloc: Global, text: &str) -> Result<Value, AllocError>
     Ok(Value::String(String::from_str(alloc, text)?))
 }
 
-/// The queues as an array of objects, in their order.
+/// Returns the queues as an array of objects, in their order.
 pub fn queues_json(alloc: Global, queues: &[QueueLine]) -> Result<Value, AllocError>
     ensures value { IfOk result (λ array. view array ≡ queues_data queues.now) }
 {
@@ -160,7 +160,7 @@ pub fn queues_json(alloc: Global, queues: &[QueueLine]) -> Result<Value, AllocEr
     Ok(Value::Array(array))
 }
 
-/// A job with all its fields as an object. What isn't there is null.
+/// Returns a job with all its fields as an object. A field without a value is null.
 pub fn job_shown_json(alloc: Global, job: &JobShown) -> Result<Value, AllocError>
     ensures value { IfOk result (λ object. view object ≡ shown_data job.now) }
 {
@@ -261,7 +261,7 @@ fn moments_json(alloc: Global, job_status: &JobStatus) -> Result<Value, AllocErr
     })
 }
 
-// A media type, or null.
+// Returns a media type or null.
 fn media_json(alloc: Global, media: Option<&MediaType>) -> Result<Value, AllocError>
     ensures { IfOk result (λ value. view value ≡ text_data (option_copied media.entry)) }
 {
@@ -271,7 +271,7 @@ fn media_json(alloc: Global, media: Option<&MediaType>) -> Result<Value, AllocEr
     }
 }
 
-// A moment's seconds, or null.
+// Returns the seconds of a moment or null.
 fn moment_json(moment: Option<Moment>) -> Value
     ensures { view result ≡ moment_data moment }
 {

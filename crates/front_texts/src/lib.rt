@@ -1,38 +1,42 @@
-//! The replies of the service, read and shown to a person: tables for a terminal, JSON, a page of HTML, and the forms of
-//! `lpstat` and `lpq`. All of it is functions of texts and values: no file, no socket, no clock.
+//! Reads the replies of the service and formats them for users: tables for a terminal, JSON, an HTML page, and the output of `lpstat` and
+//! `lpq`.
 //!
-//! # What is read
+//! All functions map texts and values to texts and values. They use no file, socket or clock. Lines are passed without their line feeds.
+//! The fields of a row are those of cegmandi_protocol(5), with values that the types of `spool_types` allow. Any other row is `None`, also
+//! if something follows its last field.
 //!
-//! Lines are given without their line feeds. A row is the words of *The commands* of the README, of values that the types of
-//! `spool_types` allow; anything else is `None`, and so is a row with something behind its last word.
+//! # Promises
 //!
-//! - [`read_job_line`], [`read_queue_line`], [`read_watch_line`], [`read_last_line`]: the value of a line (`JobRows`,
-//!   `QueueRows`, `ReplyLines`: `value`).
-//! - [`job_rows_read_back`]: each row that the spooler prints of a job reads as that job, as it is at that moment (`ReadBack`).
-//! - [`read_job_shown`]: the value of the lines `NAME VALUE` of a job (`JobPage`, `value`). Those that a job may lack are left out.
+//! - [`read_job_line`], [`read_queue_line`], [`read_watch_line`], [`read_last_line`]: return exactly the value of a line (`value`;
+//!   `JobRows`, `QueueRows`, `ReplyLines`). [`read_job_shown`]: returns exactly the value of the lines `NAME VALUE` of a job (`value`,
+//!   `JobPage`). Lines that a job need not have are optional.
+//! - [`job_rows_read_back`]: each row that the spooler prints for a job reads as that job at that moment (`ReadBack`).
+//! - [`jobs_table`], [`queues_table`], [`job_page`]: no line takes more columns than allowed, as Unicode counts them (`fits`), and a table
+//!   has a line of column names and one for each row (`count`).
+//! - [`fitted`]: cuts a text between characters and appends `…`, and leaves a text that fits as it is (`fits`, `whole`). [`safe_text`]:
+//!   replaces each character that controls a terminal with U+FFFD (`value`).
+//! - [`job_json`], [`jobs_json`], [`queue_json`], [`queues_json`], [`job_shown_json`]: return exactly their values (`value`, `Json`).
+//! - [`page`]: returns exactly its bytes (`value`, `Page`): the page's own texts, and every other text appended by [`push_escaped`].
+//!   [`escaped_texts_have_no_markup`]: an escaped text contains no `<`, `>`, `"` or `'`, so it cannot open or close anything. [`escape`]
+//!   returns an escaped text.
+//! - [`lpstat_printers`], [`lpstat_accepting`], [`lpstat_jobs`], [`lpq`]: return exactly their bytes (`value`; `Lpstat`, `Lpq`).
+//! - [`size_text`], [`moment_text`]: return sizes, and moments in UTC (`value`, `Sizes`). The names of states are those of the tables in
+//!   `StateWords`.
 //!
-//! # What is shown
+//! # Not proved
 //!
-//! - [`jobs_table`], [`queues_table`], [`job_page`]: no line is wider than the terminal, as Unicode counts columns (`fits`), and
-//!   a table has a line of names and one for each row (`count`). What stands in a cell is only tested. [`fitted`] cuts a text,
-//!   between characters and with `…`; one that fits is left as it is (`whole`). [`safe_text`] keeps what would steer a
-//!   terminal from it (`value`).
-//! - [`job_json`], [`jobs_json`], [`queue_json`], [`queues_json`], [`job_shown_json`]: the whole value (`Json`, `value`).
-//! - [`page`]: the bytes of the page (`Page`, `value`). Each text that isn't the page's own goes in by [`push_escaped`], and so
-//!   opens and closes nothing ([`escaped_texts_have_no_markup`]).
-//! - [`lpstat_printers`], [`lpstat_accepting`], [`lpstat_jobs`], [`lpq`]: their bytes (`Lpstat`, `Lpq`, `value`).
-//! - [`size_text`], [`moment_text`]: sizes, and moments in UTC (`Sizes`, `value`). The words of states are the tables of `States`.
+//! - The contents of a table's cells, which are only tested.
 //!
-//! # What differs from CUPS
+//! # Differences from CUPS
 //!
-//! - `lpstat -p`, `-a` and `-o` have `-` where CUPS tells since when, or when a job was made: the service's rows don't tell it. A
-//!   queue that is processing without a job that is known is `now printing` and no job.
-//! - The size in `lpstat -o` and `lpq` is the document's bytes, not kilobytes times 1,024. `lpq` cuts no text, so a long one moves
-//!   what follows it to the right.
+//! - `lpstat -p`, `-a` and `-o` print `-` in place of dates, since the service's rows do not contain them. A processing queue whose job is
+//!   unknown is `now printing` without a job.
+//! - The size in `lpstat -o` and `lpq` is the document's size in bytes, not in kilobytes times 1,024. `lpq` cuts no text, so a long one
+//!   moves the following columns to the right.
 //!
-//! # Faults
+//! # Errors
 //!
-//! Out of memory is the one fault. A text that is added to may then have some of what was to be added.
+//! The only error is out of memory. A part of a text may then have been appended.
 #![tactic(auto)]
 
 mod cells;

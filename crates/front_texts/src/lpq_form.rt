@@ -1,4 +1,4 @@
-//! What `lpq` prints.
+//! The output of `lpq`.
 ghost use Rattle.std.specs.Prelude.{◌≡◌, ◌++◌, ◌+◌, ◌<◌, ◌≤◌, OnOk, IfOk};
 ghost use Rattle.front_texts.specs.Lpq.{is_entry, has_entry, ready_line, rank_ending, rank_cell, owner_cell, number_cell, title_cell, bytes_part, entry_line, entry_part, next_rank, rank_after, entries, entries_text, queue_text};
 
@@ -11,10 +11,10 @@ use spool_types::QueueName;
 use std::alloc::{AllocError, Global};
 use std::io::Write;
 
-// The names of the columns.
+// The column names.
 const HEADING: &str = "Rank    Owner   Job     File(s)                         Total Size\n";
 
-/// What `lpq` prints of a queue: how it stands, and its jobs that haven't ended in their order, those of other queues left out.
+/// Returns the output of `lpq` for a queue: its state, and its jobs that have not ended, in their order.
 pub fn lpq(alloc: Global, queue: &QueueLine, jobs: &[JobLine]) -> Result<Vec<u8>, AllocError>
     ensures value { IfOk result (λ text. text.items ≡ queue_text queue.now jobs.now) }
 {
@@ -79,7 +79,7 @@ fn push_entries(
     Ok(())
 }
 
-// Adds a job if it is shown, and gives the rank of the next one.
+// Appends a job if it is shown, and returns the rank of the next one.
 fn push_if_entry(
     alloc: Global,
     text: &mut Vec<u8>,
@@ -99,7 +99,7 @@ fn push_if_entry(
     Ok(next_rank(job, rank))
 }
 
-// A job that prints has no rank.
+// Returns the rank of the next job. A processing job has no rank.
 fn next_rank(job: &JobLine, rank: usize) -> usize
     requires { rank < usize.MAX }
     ensures value { result ≡ next_rank rank job.now }
@@ -143,7 +143,7 @@ fn push_rank(
     push_padded(text, word.as_str(), 7)
 }
 
-// How the word of a rank ends in English: 1st, 2nd, 3rd, 4th, 11th.
+// Returns the ending of a rank in English: 1st, 2nd, 3rd, 4th, 11th.
 fn rank_ending(rank: usize) -> &'static str
     ensures { result.now ≡ rank_ending rank }
 {

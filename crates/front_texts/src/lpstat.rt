@@ -1,4 +1,4 @@
-//! What `lpstat` prints.
+//! The output of `lpstat`.
 ghost use Rattle.std.specs.Prelude.{◌≡◌, ◌++◌, OnOk, IfOk, replicate};
 ghost use Rattle.std.specs.List.{flat_map};
 ghost use Rattle.front_texts.specs.Lpstat.{padded, is_printing, printing_job, message_of, job_name, printing_line, stopped_line, printer_line, printers_text, accepting_line, pending_part, request_cell, owner_cell, bytes_cell};
@@ -12,8 +12,8 @@ use std::alloc::{AllocError, Global};
 use std::io::Write;
 use unicode_width::UnicodeWidthStr;
 
-/// What `lpstat -p` prints: a line for each queue, and for one that is stopped why. When that was isn't known, so `-` stands
-/// there.
+/// Returns the output of `lpstat -p`: a line for each queue, and for a stopped queue a line with the reason. The date is unknown, so it is
+/// `-`.
 pub fn lpstat_printers(
     alloc: Global,
     queues: &[QueueLine],
@@ -28,7 +28,7 @@ pub fn lpstat_printers(
     Ok(text)
 }
 
-// The first job of a queue that is processing.
+// Returns the first processing job of a queue.
 pub(crate) fn printing_job(jobs: &[JobLine], queue: &QueueName) -> Option<JobId>
     ensures { result ≡ printing_job queue.now jobs.now }
 {
@@ -70,7 +70,7 @@ fn push_printing(text: &mut Vec<u8>, name: &str, job: JobId) -> Result<(), Alloc
     text.extend_from_slice(b".  enabled since -\n")
 }
 
-// The name of a job: its queue and its number.
+// Appends the id of a job: its queue and its number.
 fn push_job_name(text: &mut Vec<u8>, queue: &str, job: JobId) -> Result<(), AllocError>
     ensures { OnOk result (text.new.items ≡ text.old.items ++ job_name queue.now job) }
 {
@@ -86,7 +86,7 @@ fn push_stopped(text: &mut Vec<u8>, name: &str, why: &str) -> Result<(), AllocEr
     text.extend_from_slice(b"\n")
 }
 
-// What is told of a queue, or that nothing is.
+// Returns the message of a queue, or that the reason is unknown.
 fn message_of(queue: &QueueLine) -> &str
     ensures { result.now ≡ message_of queue.now.message }
 {
@@ -98,7 +98,7 @@ fn message_of(queue: &QueueLine) -> &str
     }
 }
 
-/// What `lpstat -a` prints: whether each queue takes jobs.
+/// Returns the output of `lpstat -a`: whether each queue accepts jobs.
 pub fn lpstat_accepting(alloc: Global, queues: &[QueueLine]) -> Result<Vec<u8>, AllocError>
     ensures value { IfOk result (λ text. text.items ≡ flat_map accepting_line queues.now) }
 {
@@ -121,7 +121,7 @@ fn push_accepting(text: &mut Vec<u8>, queue: &QueueLine) -> Result<(), AllocErro
     }
 }
 
-/// What `lpstat -o` prints: `QUEUE-N USER SIZE -` for each job that hasn't ended. When it was made isn't known.
+/// Returns the output of `lpstat -o`: `QUEUE-N USER SIZE -` for each job that has not ended. The date of its creation is unknown.
 pub fn lpstat_jobs(alloc: Global, jobs: &[JobLine]) -> Result<Vec<u8>, AllocError>
     ensures value { IfOk result (λ text. text.items ≡ flat_map pending_part jobs.now) }
 {
@@ -169,7 +169,7 @@ fn push_bytes(alloc: Global, text: &mut Vec<u8>, job: &JobLine) -> Result<(), Al
     text.extend_from_slice(b" -\n")
 }
 
-// Adds a text, blanks up to the end of its column, and one more.
+// Appends a text, blanks up to the end of its column, and one more blank.
 pub(crate) fn push_padded(text: &mut Vec<u8>, value: &str, columns: usize) -> Result<(), AllocError>
     ensures { OnOk result (text.new.items ≡ text.old.items ++ padded columns value.now) }
 {

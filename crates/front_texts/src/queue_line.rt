@@ -21,20 +21,20 @@ use std::alloc::{AllocError, Global};
 pub struct QueueLine {
     pub name: QueueName,
     pub state: PrinterState,
-    /// Whether it takes jobs.
+    /// Whether the queue accepts jobs.
     pub accepting: bool,
-    /// The media type that its device takes.
+    /// The media type that the device takes.
     pub target: MediaType,
     pub policy: Policy,
-    /// How long it waits before it tries a job again, in seconds.
+    /// The interval between attempts, in seconds.
     pub interval: Interval,
-    /// How often a job may be started; 0 for as often as wanted.
+    /// The number of attempts at a job. 0 means no limit.
     pub limit: u16,
     pub reasons: Reasons,
     pub message: Message,
 }
 
-// The front of a row, up to its media type.
+// The first fields of a row, up to the media type.
 #[derive(Drop)]
 pub(crate) struct QueueHead {
     pub name: QueueName,
@@ -43,7 +43,7 @@ pub(crate) struct QueueHead {
     pub target: MediaType,
 }
 
-// What a queue does with a job that fails.
+// The fields about failed jobs.
 #[derive(Drop)]
 pub(crate) struct QueueRules {
     pub policy: Policy,
@@ -51,15 +51,15 @@ pub(crate) struct QueueRules {
     pub limit: u16,
 }
 
-// What is told of a queue.
+// The reasons and the message.
 #[derive(Drop)]
 pub(crate) struct QueueNotes {
     pub reasons: Reasons,
     pub message: Message,
 }
 
-/// The queue of a row `queue NAME STATE accepting TYPE POLICY INTERVAL LIMIT REASONS "MESSAGE"` without its line feed;
-/// `None` where the line is none.
+/// Reads a row `queue NAME STATE accepting TYPE POLICY INTERVAL LIMIT REASONS "MESSAGE"` without its line feed. Returns `None` if it is
+/// invalid.
 pub fn read_queue_line(alloc: Global, line: &[u8]) -> Result<Option<QueueLine>, AllocError>
     ensures value { IfOk result (λ queue. queue ≡ queue_row line.now) }
 {
@@ -70,7 +70,7 @@ pub fn read_queue_line(alloc: Global, line: &[u8]) -> Result<Option<QueueLine>, 
     queue_words(alloc, rest)
 }
 
-// The words of a row behind its name.
+// Reads the words of a row after `queue`.
 fn queue_words(alloc: Global, line: &[u8]) -> Result<Option<QueueLine>, AllocError>
     ensures { IfOk result (λ queue. queue ≡ queue_words line.now) }
 {
@@ -161,7 +161,7 @@ fn queue_notes(alloc: Global, line: &[u8]) -> Result<Option<QueueNotes>, AllocEr
     }
 }
 
-// The reasons that a word joins by commas, or none.
+// Reads the reasons in a word, which are separated by commas, or `none`.
 fn reasons(alloc: Global, word: &[u8]) -> Result<Option<Reasons>, AllocError>
     ensures { IfOk result (λ reasons. reasons ≡ reasons_in word.now) }
 {
@@ -175,7 +175,7 @@ fn reasons(alloc: Global, word: &[u8]) -> Result<Option<Reasons>, AllocError>
     }
 }
 
-// What stands between the commas of a word.
+// Splits a word at its commas.
 fn parts(alloc: Global, word: &[u8]) -> Result<Vec<&[u8]>, AllocError>
     ensures { IfOk result (λ parts. map now_of parts.items ≡ slice_split is_comma word.now) }
 {
@@ -196,7 +196,7 @@ fn reason_list(alloc: Global, parts: &[&[u8]]) -> Result<Option<Vec<Reason>>, Al
 }
 
 impl QueueLine {
-    /// Whether it takes jobs, for a person.
+    /// Returns whether the queue accepts jobs, as `yes` or `no`.
     pub fn accepting_word(&self) -> &'static str
         ensures { result.now ≡ yes_or_no self.now.accepting }
     {

@@ -1,4 +1,4 @@
-//! Last lines of replies, and lines of `watch`.
+//! The last lines of replies, and the lines of `watch`.
 ghost use Rattle.std.specs.Prelude.{◌≡◌, IfOk};
 ghost use Rattle.std.specs.List.{before_first, after_first};
 ghost use Rattle.std.specs.Option.{option_map};
@@ -15,26 +15,26 @@ use std::alloc::{AllocError, Global};
 /// The last line of a reply.
 #[derive(Clone, Copy, Debug)]
 pub enum LastLine<'a> {
-    /// `ok`, and what follows it.
+    /// `ok` and the words after it.
     Done { words: &'a str },
-    /// `error N NAME`: the spooler refuses it, for a cause that has a number.
+    /// `error N NAME`: a refusal with a number.
     Refused { number: u32, name: &'a str },
-    /// `error WORD`: a fault.
+    /// `error WORD`: an error without a number.
     Failed { word: &'a str },
 }
 
-/// What a line of `watch` tells.
+/// A line of `watch`.
 #[derive(Drop)]
 pub enum WatchLine {
     Job(JobLine),
     Queue(QueueLine),
     GoneJob(JobId),
     GoneQueue(QueueName),
-    /// Lines were left out: what is known has to be asked for anew.
+    /// Lines were omitted, so the client must query the state again.
     Missed,
 }
 
-/// The last line of a reply without its line feed; `None` where the line is a row, or nothing that ends a reply.
+/// Reads the last line of a reply, without its line feed. Returns `None` for a row and for any line that does not end a reply.
 pub fn read_last_line(line: &str) -> Option<LastLine<'_>>
     ensures value { option_map last_of result ≡ last_line line.now }
 {
@@ -48,7 +48,7 @@ pub fn read_last_line(line: &str) -> Option<LastLine<'_>>
     None
 }
 
-// What an error is, by what follows its word.
+// Reads the words after `error`.
 fn error_line(words: &str) -> LastLine<'_>
     ensures { last_of result ≡ error_line words.now }
 {
@@ -59,7 +59,7 @@ fn error_line(words: &str) -> LastLine<'_>
     }
 }
 
-// What stands before the first blank, and what follows it.
+// Splits the line at its first blank, which is dropped.
 fn parted(line: &str) -> (&str, &str)
     ensures word { result.0.now ≡ before_first is_space line.now }
     ensures rest { result.1.now ≡ after_first is_space line.now }
@@ -70,7 +70,7 @@ fn parted(line: &str) -> (&str, &str)
     }
 }
 
-/// What a line of `watch` without its line feed tells; `None` where it tells nothing.
+/// Reads a line of `watch`, without its line feed. Returns `None` if it is invalid.
 pub fn read_watch_line(alloc: Global, line: &[u8]) -> Result<Option<WatchLine>, AllocError>
     ensures value { IfOk result (λ news. news ≡ watch_line line.now) }
 {
@@ -102,7 +102,7 @@ fn queue_news(queue: Option<QueueLine>) -> Option<WatchLine>
     Some(WatchLine::Queue(queue?))
 }
 
-// What is gone: a job, or a queue.
+// Reads which job or queue was removed.
 fn gone_line(alloc: Global, line: &[u8]) -> Result<Option<WatchLine>, AllocError>
     ensures { IfOk result (λ news. news ≡ gone_line line.now) }
 {

@@ -1,4 +1,4 @@
-//! Sizes and moments for a person.
+//! Sizes and moments for users.
 ghost use Rattle.std.specs.Prelude.{◌≡◌, IfOk, string_bytes};
 ghost use Rattle.front_texts.specs.Sizes.{size_text, IsMomentText};
 
@@ -6,10 +6,10 @@ use httpdate::{HttpDate, fmt_http_date};
 use spool_types::Moment;
 use std::alloc::{AllocError, Global};
 
-// Up to here a size is told in its unit, and from here on in the next one.
+// The greatest number that is shown in a unit. Greater sizes are shown in the next unit.
 const MOST_IN_UNIT: u32 = 9_999;
 
-/// A size: bytes up to 9,999, then units of 1,024 bytes up to 9,999, and then units of 1,048,576, each rounded up.
+/// Returns a size: in bytes up to 9,999, then in KiB up to 9,999, and then in MiB, each rounded up.
 pub fn size_text(alloc: Global, bytes: u32) -> Result<String, AllocError>
     ensures value { IfOk result (λ text. string_bytes text ≡ size_text bytes) }
 {
@@ -24,7 +24,7 @@ pub fn size_text(alloc: Global, bytes: u32) -> Result<String, AllocError>
     format!(in alloc; "{mebibytes} MiB")
 }
 
-/// A moment: the date and the time of day in UTC as HTTP has them, up to the year 9999, and the seconds beyond.
+/// Returns a moment: the date and time in UTC in the format of HTTP, up to the year 9999, and the number of seconds after that.
 pub fn moment_text(alloc: Global, moment: Moment) -> Result<String, AllocError>
     ensures value { IfOk result (λ text. IsMomentText moment (string_bytes text)) }
 {

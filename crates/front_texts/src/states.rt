@@ -1,4 +1,4 @@
-//! States of jobs and of queues, and their words.
+//! The states of jobs and queues, and their names.
 ghost use Rattle.std.specs.Prelude.{◌≡◌};
 ghost use Rattle.front_texts.specs.StateWords.{job_state_in, job_state_number, job_state_word, printer_state_in, printer_state_number, printer_state_word};
 
@@ -8,7 +8,7 @@ pub enum JobState {
     Pending,
     Held,
     Processing,
-    /// No job of this spooler stops; one of another version may.
+    /// No job of this spooler has this state. A job of another version may have it.
     Stopped,
     Canceled,
     Aborted,
@@ -16,7 +16,7 @@ pub enum JobState {
 }
 
 impl JobState {
-    /// The state of this number.
+    /// Returns the state with this number.
     pub fn from_number(number: u64) -> Option<JobState>
         ensures value { result ≡ job_state_in number }
     {
@@ -32,7 +32,7 @@ impl JobState {
         }
     }
 
-    /// Its number.
+    /// Returns the number of the state.
     pub fn number(self) -> u8
         ensures value { result ≡ job_state_number self }
     {
@@ -47,7 +47,7 @@ impl JobState {
         }
     }
 
-    /// Its word for a person.
+    /// Returns the name of the state for a user.
     pub fn word(self) -> &'static str
         ensures value { result.now ≡ job_state_word self }
     {
@@ -72,7 +72,7 @@ pub enum PrinterState {
 }
 
 impl PrinterState {
-    /// The state of this number.
+    /// Returns the state with this number.
     pub fn from_number(number: u64) -> Option<PrinterState>
         ensures value { result ≡ printer_state_in number }
     {
@@ -84,7 +84,7 @@ impl PrinterState {
         }
     }
 
-    /// Its number.
+    /// Returns the number of the state.
     pub fn number(self) -> u8
         ensures value { result ≡ printer_state_number self }
     {
@@ -95,7 +95,7 @@ impl PrinterState {
         }
     }
 
-    /// Its word for a person.
+    /// Returns the name of the state for a user.
     pub fn word(self) -> &'static str
         ensures value { result.now ≡ printer_state_word self }
     {

@@ -9,7 +9,7 @@ use crate::sizes::size_text;
 use std::alloc::{AllocError, Global};
 use unicode_width::UnicodeWidthStr;
 
-// The columns of what is as wide in each table.
+// The widths of the columns that are the same in each table.
 const NUMBER_COLUMNS: usize = 6;
 
 const STATE_COLUMNS: usize = 10;
@@ -20,12 +20,12 @@ const PAGES_COLUMNS: usize = 5;
 
 const ACCEPTS_COLUMNS: usize = 7;
 
-// From so many columns on, each of these is shown.
+// The least width of a terminal for which these columns are shown.
 const WITH_USER: usize = 60;
 
 const WITH_SIZES: usize = 76;
 
-// The columns of a table whose names are as wide as these, in a terminal of so many columns.
+// The widths of the terminal and of the columns for queues and users.
 #[derive(Clone, Copy)]
 struct TableColumns {
     whole: usize,
@@ -36,7 +36,7 @@ struct TableColumns {
     ghost there: { 1 ≤ whole },
 }
 
-/// The jobs as a table: a line of names, and a line for each job. A narrow terminal is shown fewer columns.
+/// Returns the jobs as a table: a line of column names, and a line for each job. A narrow terminal gets fewer columns.
 pub fn jobs_table(alloc: Global, jobs: &[JobLine], width: usize) -> Result<Vec<String>, AllocError>
     requires { 1 ≤ width }
     ensures fits { IfOk result (λ lines. AllFit width lines.items) }
@@ -51,7 +51,7 @@ pub fn jobs_table(alloc: Global, jobs: &[JobLine], width: usize) -> Result<Vec<S
     Ok(lines)
 }
 
-// The columns: those of queues and users are as wide as the widest, up to a share of the width.
+// Returns the column widths. Those for queues and users fit the widest name, up to a share of the terminal's width.
 fn job_columns(jobs: &[JobLine], width: usize) -> TableColumns
     requires { 1 ≤ width }
     ensures { result.whole ≡ width }
@@ -127,7 +127,7 @@ fn job_row(alloc: Global, job: &JobLine, columns: TableColumns) -> Result<String
     ended(alloc, line.as_str(), columns.whole)
 }
 
-// A line as it is printed: without blanks at its end, and no wider than the terminal.
+// Returns a line as it is printed: without blanks at its end, and at most as wide as the terminal.
 fn ended(alloc: Global, line: &str, width: usize) -> Result<String, AllocError>
     requires { 1 ≤ width }
     ensures { IfOk result (λ line. Fits width (string_bytes line)) }
@@ -136,8 +136,8 @@ fn ended(alloc: Global, line: &str, width: usize) -> Result<String, AllocError>
     fitted(alloc, safe.as_str(), width)
 }
 
-/// The queues as a table: a line of names, and a line for each queue. Behind its state stand its reasons and its message, or
-/// the media type that it prints.
+/// Returns the queues as a table: a line of column names, and a line for each queue. Each line ends with the reasons and the message of the
+/// queue, or with its media type if there are none.
 pub fn queues_table(
     alloc: Global,
     queues: &[QueueLine],
@@ -189,7 +189,7 @@ fn queue_row(alloc: Global, queue: &QueueLine, columns: TableColumns) -> Result<
     ended(alloc, line.as_str(), columns.whole)
 }
 
-// The reasons and the message of a queue, or the media type that it prints.
+// Appends the reasons and the message of a queue, or its media type if there are none.
 fn push_notes(line: &mut String, queue: &QueueLine) -> Result<(), AllocError> {
     if queue.reasons.as_slice().is_empty() && queue.message.as_str().is_empty() {
         return line.push_str(queue.target.as_str());

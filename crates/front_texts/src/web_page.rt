@@ -6,30 +6,34 @@ ghost use Rattle.front_texts.specs.Page.{cell, number_cell, state_class, state_c
 use crate::escaping::push_escaped;
 use crate::job_line::JobLine;
 use crate::queue_line::QueueLine;
+use program_version::with_version;
 use spool_types::Reason;
 use std::alloc::{AllocError, Global};
 use std::io::Write;
 
-// What stands before the page's title, without the line that asks for it anew.
+// The text before the page's title, without the line that reloads the page.
 const OPENING: &str =
     "<!doctype html>\n<html lang=\"en\">\n<head>\n<meta charset=\"utf-8\">\n<meta name=\"viewport\" content=\"width=device-width, initial-scale=1\">\n";
 
-// A browser reads the page again after five seconds.
+// The line with which a browser reloads the page after five seconds.
 const REFRESH: &str = "<meta http-equiv=\"refresh\" content=\"5\">\n";
 
 const STYLE: &str =
     "<title>Printers and jobs</title>\n<style>\n:root { color-scheme: light dark; --ink: #1c1c1e; --paper: #ffffff; --line: #d7d7dc; --faint: #63636a; --go: #0b6e3a; --wait: #7a5200; --stop: #b3261e; --done: #44546a }\n@media (prefers-color-scheme: dark) { :root { --ink: #ececf0; --paper: #17181b; --line: #3a3b41; --faint: #a3a3ab; --go: #63d297; --wait: #f0c063; --stop: #ff8d85; --done: #a9bcd6 } }\nbody { margin: 2rem auto; max-width: 64rem; padding: 0 1rem; font: 16px/1.5 system-ui, sans-serif; color: var(--ink); background: var(--paper) }\nh1 { font-size: 1.5rem } h2 { font-size: 1.15rem; margin: 2rem 0 .5rem }\ntable { width: 100%; border-collapse: collapse } th, td { padding: .4rem .6rem; text-align: left; vertical-align: top; border-bottom: 1px solid var(--line) } td:last-child { min-width: 9rem; overflow-wrap: anywhere }\nth { font-weight: 600; color: var(--faint) } .n { text-align: right; font-variant-numeric: tabular-nums } .faint { color: var(--faint) }\n.state { font-weight: 600 } .idle, .completed { color: var(--done) } .processing { color: var(--go) } .pending, .arriving, .held { color: var(--wait) } .stopped, .aborted, .canceled { color: var(--stop) }\n</style>\n</head>\n<body>\n<h1>Printers and jobs</h1>\n";
 
 const QUEUES: &str =
-    "<h2>Printers</h2>\n<table>\n<thead><tr><th>Printer</th><th>State</th><th>Takes jobs</th><th>Prints</th><th>Notes</th></tr></thead>\n<tbody>\n";
+    "<h2>Printers</h2>\n<table>\n<thead><tr><th>Printer</th><th>State</th><th>Accepts jobs</th><th>Prints</th><th>Notes</th></tr></thead>\n<tbody>\n";
 
 const JOBS: &str =
     "</tbody>\n</table>\n<h2>Jobs</h2>\n<table>\n<thead><tr><th class=\"n\">Job</th><th>Printer</th><th>State</th><th>User</th><th class=\"n\">Bytes</th><th class=\"n\">Pages</th><th>Title</th></tr></thead>\n<tbody>\n";
 
-const CLOSING: &str = "</tbody>\n</table>\n</body>\n</html>\n";
+const CLOSING: &str = with_version!(
+    "</tbody>\n</table>\n<p class=\"faint\">Cegmandi ",
+    "</p>\n</body>\n</html>\n"
+);
 
-/// The queues and the jobs as a page of HTML by itself: it has no script and asks nothing of a server. `stamp` tells when it
-/// was made. With `follows` a browser reads it again every five seconds.
+/// Returns the queues and jobs as an HTML page. It contains no script and needs no server. `stamp` is the time of the page. With `follows`
+/// a browser reloads it every five seconds.
 pub fn page(
     alloc: Global,
     queues: &[QueueLine],
@@ -57,7 +61,7 @@ fn push_head(page: &mut Vec<u8>, stamp: &str, follows: bool) -> Result<(), Alloc
     Ok(())
 }
 
-// A text of the page itself.
+// Appends a text of the page itself.
 fn push_text(page: &mut Vec<u8>, text: &str) -> Result<(), AllocError>
     ensures { OnOk result (page.new.items ≡ page.old.items ++ text.now) }
 {
@@ -115,7 +119,7 @@ fn push_job_rows(page: &mut Vec<u8>, jobs: &[JobLine]) -> Result<(), AllocError>
     Ok(())
 }
 
-// A cell of a row.
+// Appends a cell.
 fn push_cell(page: &mut Vec<u8>, text: &str) -> Result<(), AllocError>
     ensures { OnOk result (page.new.items ≡ page.old.items ++ cell text.now) }
 {
@@ -124,7 +128,7 @@ fn push_cell(page: &mut Vec<u8>, text: &str) -> Result<(), AllocError>
     page.extend_from_slice(b"</td>")
 }
 
-// A cell whose colour tells the state beside its word.
+// Appends a cell with the name of a state, whose color depends on the state.
 fn push_state(page: &mut Vec<u8>, word: &str) -> Result<(), AllocError>
     ensures { OnOk result (page.new.items ≡ page.old.items ++ state_cell word.now) }
 {
@@ -160,7 +164,7 @@ fn push_queue_front(page: &mut Vec<u8>, queue: &QueueLine) -> Result<(), AllocEr
     push_cell(page, queue.accepting_word())
 }
 
-// Its reasons and its message.
+// Appends the reasons and the message of a queue.
 fn push_queue_notes(page: &mut Vec<u8>, queue: &QueueLine) -> Result<(), AllocError>
     ensures { OnOk result (page.new.items ≡ page.old.items ++ queue_notes queue.now) }
 {
@@ -219,14 +223,14 @@ fn push_job_numbers(page: &mut Vec<u8>, job: &JobLine) -> Result<(), AllocError>
     push_number(page, job.pages)
 }
 
-// A cell of a number.
+// Appends a cell with a number.
 fn push_number(page: &mut Vec<u8>, number: u32) -> Result<(), AllocError>
     ensures { OnOk result (page.new.items ≡ page.old.items ++ number_cell number) }
 {
     write!(page, "<td class=\"n\">{number}</td>").map_err(|_| AllocError)
 }
 
-// Its title, and the reason beside its state.
+// Appends the title of a job and the reason of its state.
 fn push_job_notes(page: &mut Vec<u8>, job: &JobLine) -> Result<(), AllocError>
     ensures { OnOk result (page.new.items ≡ page.old.items ++ job_notes job.now) }
 {

@@ -1,4 +1,4 @@
--- Each form's command is simple, so that what clap finds by it is a function of the words.
+-- Each form's command is simple, so the values that clap finds are a function of the arguments.
 use Rattle.std.proofs.Common.{◌≡◌, refl, true}
 use Rattle.clap.specs.Words.{is_simple_and_free}
 use Rattle.front_words.specs.Apps.{app_for}

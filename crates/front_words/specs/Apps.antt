@@ -1,5 +1,6 @@
 -- The command of each form, as clap reads it.
-use Rattle.std.specs.Prelude.{[], ◌∷◌, codes}
+use Rattle.std.specs.Prelude.{[], ◌∷◌, codes, true}
+use Rattle.clap.specs.Simple.{on_top}
 use Rattle.clap.specs.Words.{App, Rule, Text, new_app, with_rule}
 use Rattle.front_words.specs.CommandOptions.{flag_rule, letter_flag_rule, letter_rule, listed, named_app, needed, several, task_app, text_rule, word_rule}
 use Rattle.front_words.specs.declared.forms.Form.{Form}
@@ -13,7 +14,7 @@ use Rattle.front_words.specs.declared.forms.Form.TheVariants.{Devices, Check, Pa
 abbrev pub with_titles : App → App
 with_titles app = with_rule (with_rule app (text_rule (codes "title"))) (text_rule (codes "user"))
 
--- these, and `[--copies N] [--priority P] [--pages PAGES] [-o NAME=VALUE]..`
+-- These options, and `[--copies N] [--priority P] [--pages PAGES] [-o NAME=VALUE]..`
 abbrev pub with_document : App → App
 with_document app =
     with_rule (with_rule (with_rule (with_rule (with_titles app) (text_rule (codes "copies"))) (text_rule (codes "priority")))
@@ -67,11 +68,11 @@ set_app = with_rule (with_rule (queue_app (codes "spool queue set")) (text_rule 
 abbrev pub page_app : App
 page_app = with_rule (with_rule (task_app (codes "spool page")) (needed (word_rule (codes "file")))) (flag_rule (codes "follow"))
 
--- `spool` with no task that there is
+-- `spool [--version] TASK..` without a known task.
 abbrev pub other_app : App
-other_app = with_rule (new_app (codes "spool")) (needed (several (word_rule (codes "task"))))
+other_app = with_rule (on_top (λ s. record s { has_version = true }) (new_app (codes "spool"))) (needed (several (word_rule (codes "task"))))
 
--- ---- the programs by name
+-- ---- the programs with their own names
 
 -- `lp [-d DEST] [-t TITLE] [-U USER] [-n N] [-q P] [-o NAME=VALUE].. [-P PAGES] [-H WHEN] [-c] [-s] [FILE]..`
 abbrev pub lp_words : App
@@ -88,7 +89,7 @@ lp_app =
     (several (letter_rule 111 (codes "option")))) (letter_rule 80 (codes "pages"))) (letter_rule 72 (codes "handling"))) (letter_flag_rule 99 (codes "copy")))
     (letter_flag_rule 115 (codes "quiet"))
 
--- -T, and the same by -J and -C
+-- -T, with the further letters -J and -C.
 abbrev pub title_rule : Rule
 title_rule = record (letter_rule 84 (codes "title")) { short_aliases = 74 ∷ 67 ∷ [] }
 
@@ -128,7 +129,7 @@ lpq_app =
 abbrev pub lprm_app : App
 lprm_app = with_rule (with_rule (named_app (codes "lprm")) (needed (several (word_rule (codes "job"))))) (letter_rule 80 (codes "queue"))
 
--- ---- all of them
+-- ---- all forms
 
 abbrev pub app_for : Form → App
 app_for Submit = submit_app

@@ -1,4 +1,4 @@
--- What the words ask for, by the values that clap finds in them.
+-- The task that the arguments ask for, by the values that clap finds in them.
 use Rattle.std.specs.Prelude.{◌≡◌, ⊤, Bool, true, false, ◌&&◌, ◌||◌, List, [], ◌∷◌, Option, None, Some, IsSome, codes, drop, if◌then◌else◌, is_some, map, unwrap_or}
 use Rattle.std.specs.Option.{option_map}
 use Rattle.std.specs.Str.{bytes_eq}
@@ -27,14 +27,14 @@ use Rattle.front_words.specs.declared.asked.Task.TheVariants as task_is
 
 -- ---- documents
 
--- what -H of lp says
+-- The hold of a value of lp's -H: until it is released, none, or until a moment.
 abbrev pub handling_of : Text → Option Hold
 handling_of text =
     if bytes_eq text (codes "hold") || bytes_eq text (codes "indefinite") then Some Indefinite
     else (if bytes_eq text (codes "immediate") || bytes_eq text (codes "no-hold") then Some No
     else option_map Until (moment_of text))
 
--- until the moment of --at, or with --hold alone until it is released
+-- The hold of --at, or of --hold alone.
 abbrev pub held : Bool → Option Moment → Hold
 held told (Some moment) = Until moment
 held true None = Indefinite
@@ -47,7 +47,7 @@ hold_by None at told = option_map (held told) at
 abbrev pub hold_of : List Row → Option Hold
 hold_of found = hold_by (first_of (codes "handling") found) (moment_or_none (first_of (codes "at") found)) (is_told (first_of (codes "hold") found))
 
--- one copy at priority 50, where no other numbers are given
+-- The defaults are one copy and priority 50.
 pub record IsSubmission (found : List Row) (s : Submission) : Type 0 where
   pub queue : option_map (λ text. text.now) s.queue ≡ first_of (codes "queue") found
   pub files : map (λ text. text.now) s.files.items ≡ all_in (codes "file") found
@@ -62,7 +62,7 @@ pub record IsSubmission (found : List Row) (s : Submission) : Type 0 where
   pub wait : s.wait ≡ is_told (first_of (codes "wait") found)
   pub quiet : s.quiet ≡ is_told (first_of (codes "quiet") found)
 
--- each number and each moment is one
+-- Each number is in its range, and each moment is valid.
 pub record FitSubmission (found : List Row) : Type 0 where
   pub copies : IsSome (number_or 1 9999 1 (first_of (codes "copies") found))
   pub priority : IsSome (number_or 1 100 50 (first_of (codes "priority") found))
@@ -84,12 +84,12 @@ abbrev pub IsStatusTask : List Row → Task → Type 0
 IsStatusTask found (task_is.Status s) = IsStatus found s
 IsStatusTask found other = ⊥
 
--- JOB is one, and doesn't go with -q
+-- JOB is a job, and is not combined with -q.
 abbrev pub FitStatus : List Row → Type 0
 FitStatus found =
     IsSome (job_or_none (first_of (codes "job") found)) × ((is_some (first_of (codes "job") found) && is_some (first_of (codes "queue") found)) ≡ false)
 
--- this is done to the jobs, in their order
+-- The action applies to the jobs, in their order.
 abbrev pub IsJobs : Option JobAct → List Row → Task → Type 0
 IsJobs act found (task_is.Jobs this jobs) = (act ≡ Some this) × (jobs_of (all_in (codes "job") found) ≡ Some jobs.items)
 IsJobs act found other = ⊥
@@ -103,12 +103,12 @@ until_of found = option_map act_is.Hold (moment_or_none (first_of (codes "until"
 abbrev pub FitHold : List Row → Type 0
 FitHold found = IsSome (moment_or_none (first_of (codes "until") found)) × FitJobs found
 
--- the jobs of these queues are canceled
+-- The jobs of these queues are canceled.
 abbrev pub IsClear : List Text → Task → Type 0
 IsClear names (task_is.Clear queues) = map (λ text. text.now) queues.items ≡ names
 IsClear names other = ⊥
 
--- `cancel`: with -a the words are queues, and otherwise there is one at least
+-- `cancel`: with -a the arguments are queues; otherwise there is at least one job.
 abbrev pub IsCancelBy : Bool → List Row → Task → Type 0
 IsCancelBy true found asked = IsClear (all_in (codes "job") found) asked
 IsCancelBy false found asked = IsJobs (Some act_is.Cancel) found asked
@@ -123,7 +123,7 @@ FitCancelBy false found = IsSome (first_of (codes "job") found) × FitJobs found
 abbrev pub FitCancel : List Row → Type 0
 FitCancel found = FitCancelBy (is_told (first_of (codes "all") found)) found
 
--- `lprm`: where the first word is `-`, it is the jobs of the queue of -P
+-- `lprm`: if the first argument is `-`, the jobs of the queue of -P are canceled.
 abbrev pub only : Option Text → List Text
 only None = []
 only (Some text) = text ∷ []
@@ -167,7 +167,7 @@ IsLpstatTask found other = ⊥
 
 -- ---- queues
 
--- this is done to the queue of NAME
+-- The action applies to the queue NAME.
 abbrev pub IsQueue : (QueueAct → Type 0) → List Row → Task → Type 0
 IsQueue IsDone found (task_is.Queue name act) = (first_of (codes "name") found ≡ Some name.now) × IsDone act
 IsQueue IsDone found other = ⊥
@@ -175,7 +175,7 @@ IsQueue IsDone found other = ⊥
 abbrev pub FitQueue : List Row → Type 0
 FitQueue found = IsSome (first_of (codes "name") found)
 
--- one of the four words
+-- The text is one of the four policies.
 abbrev pub is_policy : Text → Bool
 is_policy text =
     bytes_eq text (codes "abort-job") || (bytes_eq text (codes "retry-job") || (bytes_eq text (codes "retry-current-job") || bytes_eq text (codes "stop-printer")))
@@ -183,7 +183,7 @@ is_policy text =
 abbrev pub policy_in : List Row → Text
 policy_in found = unwrap_or (first_of (codes "policy") found) (codes "retry-job")
 
--- PDF, tried again after 30 seconds and five times, where nothing else is given
+-- The defaults are PDF, an interval of 30 seconds and five attempts.
 pub record IsNew (found : List Row) (q : NewQueue) : Type 0 where
   pub uri : first_of (codes "uri") found ≡ Some q.uri.now
   pub media : q.media.now ≡ unwrap_or (first_of (codes "media") found) (codes "application/pdf")
@@ -211,9 +211,9 @@ abbrev pub IsPage : List Row → Task → Type 0
 IsPage found (task_is.Page file follow) = (first_of (codes "file") found ≡ Some file.now) × (follow ≡ is_told (first_of (codes "follow") found))
 IsPage found other = ⊥
 
--- ---- all of them
+-- ---- all tasks
 
--- what the values that were found ask for
+-- The found values ask for this task.
 abbrev pub IsTask : Form → List Row → Task → Type 0
 IsTask form_is.Submit found asked = IsSubmit found asked
 IsTask form_is.Status found asked = IsStatusTask found asked
@@ -241,7 +241,7 @@ IsTask form_is.Lpq found asked = IsLpqTask found asked
 IsTask form_is.Lprm found asked = IsRemoval found asked
 IsTask form_is.Other found asked = ⊥
 
--- the values that were found are those of a task
+-- The found values fit the form's task.
 abbrev pub Fit : Form → List Row → Type 0
 Fit form_is.Submit found = FitSubmission found
 Fit form_is.Status found = FitStatus found
@@ -269,19 +269,19 @@ Fit form_is.Lpq found = FitJobs found
 Fit form_is.Lprm found = FitRemoval found
 Fit form_is.Other found = ⊥
 
--- a task, and the sockets where it is asked for
+-- The task, and the sockets of the services it is for.
 abbrev pub IsAskedIn : Form → List Row → Asked → Type 0
 IsAskedIn form found asked = (map (λ text. text.now) asked.sockets.items ≡ all_in (codes "socket") found) × IsTask form found asked.task
 
--- what clap finds in the words of their form
+-- The values that clap finds by the form's command.
 abbrev pub found_in : List Text → List Row
 found_in words = matches_of (app_for (form_in words)) (drop (skipped (form_in words)) words)
 
--- the words ask for this
+-- The arguments ask for this.
 abbrev pub IsAsked : List Text → Asked → Type 0
 IsAsked words asked = IsAskedIn (form_in words) (found_in words) asked
 
--- clap finds no fault in the words of their form, and the values that it finds are those of a task
+-- Clap finds no error in the arguments of their form, and the values that it finds fit a task.
 abbrev pub AreTaken : List Text → Type 0
 AreTaken words =
     AreFaultlessFor (app_for (form_in words)) (drop (skipped (form_in words)) words) × Fit (form_in words) (found_in words)

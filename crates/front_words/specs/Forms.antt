@@ -1,4 +1,4 @@
--- Which command line the words are: a task of `spool`, or a program by its own name.
+-- The form of a command line: a task of `spool`, or a program with its own name.
 use Rattle.std.specs.Prelude.{ℕ, List, [], ◌∷◌, Option, None, Some, codes, if◌then◌else◌}
 use Rattle.std.specs.Str.{bytes_eq}
 use Rattle.clap.specs.Words.{Text}
@@ -8,11 +8,11 @@ use Rattle.front_words.specs.declared.forms.Form.TheVariants.{Submit, Status, Qu
 use Rattle.front_words.specs.declared.forms.Form.TheVariants.{QueueAdd, QueueSet, QueueAccept, QueueReject, QueueEnable, QueueDisable}
 use Rattle.front_words.specs.declared.forms.Form.TheVariants.{Devices, Check, Page, Lp, Lpr, Lpstat, CancelJobs, Lpq, Lprm, Other}
 
--- a program's name: what follows the last slash of its path
+-- A program's name: the part after the last slash of its path.
 abbrev pub base_name : Text → Text
 base_name path = last_part 47 path
 
--- the programs that go by names of their own
+-- The programs with their own names.
 abbrev pub form_of_program : Text → Option Form
 form_of_program name =
     if bytes_eq name (codes "lp") then Some Lp
@@ -23,7 +23,7 @@ form_of_program name =
     else (if bytes_eq name (codes "lprm") then Some Lprm
     else None)))))
 
--- the tasks of `spool` of one word
+-- The tasks of `spool` of one word.
 abbrev pub form_of_task : Text → Form
 form_of_task task =
     if bytes_eq task (codes "submit") then Submit
@@ -40,7 +40,7 @@ form_of_task task =
     else (if bytes_eq task (codes "page") then Page
     else Other)))))))))))
 
--- the tasks of two words, of which the first is `queue`
+-- The tasks of two words: `queue` and an action.
 abbrev pub form_of_act : Text → Form
 form_of_act act =
     if bytes_eq act (codes "add") then QueueAdd
@@ -55,7 +55,7 @@ abbrev pub queue_form : List Text → Form
 queue_form [] = Other
 queue_form (act ∷ rest) = form_of_act act
 
--- what the words behind the program's name are
+-- The form of the arguments after the program's name.
 abbrev pub spool_form : List Text → Form
 spool_form [] = Other
 spool_form (task ∷ rest) = if bytes_eq task (codes "queue") then queue_form rest else form_of_task task
@@ -64,12 +64,12 @@ abbrev pub or_spool : Option Form → List Text → Form
 or_spool (Some form) rest = form
 or_spool None rest = spool_form rest
 
--- what the words are, of which the first is the program's name
+-- The form of the arguments, including the program's name.
 abbrev pub form_in : List Text → Form
 form_in [] = Other
 form_in (name ∷ rest) = or_spool (form_of_program (base_name name)) rest
 
--- how many words stand before those that the form's own command reads
+-- The number of arguments before those that the form's command reads.
 abbrev pub skipped : Form → ℕ
 skipped Lp = 0
 skipped Lpr = 0

@@ -1,4 +1,4 @@
--- Why words are refused.
+-- Why arguments are refused.
 use Rattle.std.specs.Prelude.{◌≡◌, ⊤}
 use Rattle.clap.specs.Words.{kind_of}
 use Rattle.clap.specs.declared.error.kind.ErrorKind.TheVariants.{ValueValidation}
@@ -7,17 +7,17 @@ use Rattle.front_words.specs.declared.fault.WordsFault.TheVariants.{Refused, Mem
 use Rattle.front_words.specs.declared.fault.Wrong.{Wrong}
 use Rattle.front_words.specs.declared.fault.Wrong.TheVariants as wrong
 
--- the words are refused only where this doesn't hold; memory may run out in any case
+-- The arguments are refused only if p is false. Memory may run out in any case.
 abbrev pub RefusesOnly : Type 0 → WordsFault → Type 0
 RefusesOnly p (Refused error) = p → ⊥
 RefusesOnly p Memory = ⊤
 
--- the values are wrong only where this doesn't hold; memory may run out in any case
+-- The values are refused only if p is false. Memory may run out in any case.
 abbrev pub BlamesOnly : Type 0 → Wrong → Type 0
 BlamesOnly p (wrong.Value text) = p → ⊥
 BlamesOnly p wrong.Memory = ⊤
 
--- what is wrong with values is told with status 2, or memory ran out
+-- An invalid value is reported with status 2, unless memory runs out.
 abbrev pub IsMistake : Wrong → WordsFault → Type 0
 IsMistake (wrong.Value text) (Refused error) = kind_of error ≡ ValueValidation
 IsMistake (wrong.Value text) Memory = ⊤

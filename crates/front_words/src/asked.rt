@@ -1,177 +1,172 @@
-//! What a command line asks for.
+//! The tasks that a command line can ask for.
 
-/// What the words ask for, and where.
+/// The task of a command line, and the services it is for.
 #[derive(Drop)]
 pub struct Asked<'a> {
-    /// The sockets that are named, in their order. With none it is the usual one.
+    /// The named sockets, in their order. If there is none, the default socket is used.
     pub sockets: Vec<&'a str>,
     pub task: Task<'a>,
 }
 
-/// What is to be done.
+/// A task.
 #[derive(Drop)]
 pub enum Task<'a> {
-    /// Documents are to be printed, each as a job of its own.
+    /// Print documents, each as a separate job.
     Submit(Submission<'a>),
-    /// One job, the jobs of a queue, or all.
+    /// Show one job, the jobs of a queue, or all jobs.
     Status(Status<'a>),
-    /// The queues.
+    /// Show the queues.
     Queues { json: bool },
-    /// What changes, from now on.
+    /// Print a line for each change.
     Watch,
-    /// The same is done to each of these jobs.
+    /// Apply the same action to each of these jobs.
     Jobs { act: JobAct, jobs: Vec<u32> },
-    /// Each job of these queues is canceled; with none named, each job of all queues.
+    /// Cancel all jobs of these queues, or of all queues if none is named.
     Clear { queues: Vec<&'a str> },
-    /// Something about one queue.
+    /// Apply an action to a queue.
     Queue { name: &'a str, act: QueueAct<'a> },
-    /// The devices that the backends find.
+    /// List the devices that the backends find.
     Devices,
-    /// Whether the service can print.
+    /// Check whether the services can print.
     Check,
-    /// The queues and the jobs as a page, written to a file.
+    /// Write the queues and jobs as a page to a file.
     Page { file: &'a str, follow: bool },
-    /// What lpstat tells.
+    /// Print what lpstat prints.
     Lpstat(Lpstat<'a>),
-    /// What lpq tells.
+    /// Print what lpq prints.
     Lpq(Lpq<'a>),
 }
 
 /// Documents for a queue.
 #[derive(Drop)]
 pub struct Submission<'a> {
-    /// The queue. Without one it is that of the environment, or the only one that there is.
+    /// The queue. If it is missing, the queue of the environment or the only queue is used.
     pub queue: Option<&'a str>,
-    /// The files, where `-` is the standard input. With none it is the standard input.
+    /// The files. `-`, or an empty list, is standard input.
     pub files: Vec<&'a str>,
-    /// The title. Without one each job is called after its file.
+    /// The title. If it is missing, each job has the name of its file.
     pub title: Option<&'a str>,
-    /// In whose name. Without one it is whoever runs the program.
+    /// The owner. If it is missing, it is the current user.
     pub user: Option<&'a str>,
-    /// From 1 to 9,999.
+    /// The number of copies, from 1 to 9,999.
     pub copies: u32,
-    /// From 1 to 100.
+    /// The priority, from 1 to 100.
     pub priority: u32,
-    /// Options as they were given: each `NAME=VALUE`, or several with blanks between them.
+    /// The options as given: each is `NAME=VALUE`, or several of these separated by blanks.
     pub options: Vec<&'a str>,
-    /// The ranges of pages, which are one more option: `page-ranges=PAGES`.
+    /// The page ranges, which become the option `page-ranges=PAGES`.
     pub pages: Option<&'a str>,
-    /// Whether the job waits, and for what.
+    /// Whether and until when the job is held.
     pub hold: Hold,
-    /// By when it has to have started.
+    /// The moment by which the job must have started.
     pub by: Option<Moment>,
-    /// Whether the program waits for the job's end.
+    /// Whether the program waits for the end of the job.
     pub wait: bool,
-    /// Whether nothing is said of a job that is accepted.
+    /// Whether nothing is printed for an accepted job.
     pub quiet: bool,
 }
 
 /// A moment.
 #[derive(Clone, Copy)]
 pub enum Moment {
-    /// So many seconds since the epoch.
+    /// Seconds since 1970.
     Epoch(u64),
-    /// So many seconds from now.
+    /// Seconds from now.
     FromNow(u64),
 }
 
-/// Whether a job waits before it may start.
+/// Whether and until when a job is held.
 #[derive(Clone, Copy)]
 pub enum Hold {
-    /// It doesn't.
+    /// Not held.
     No,
-    /// Until it is released.
+    /// Held until it is released.
     Indefinite,
-    /// Until this moment.
+    /// Held until this moment.
     Until(Moment),
 }
 
-/// What is done to a job.
+/// An action on a job.
 #[derive(Clone, Copy)]
 pub enum JobAct {
-    /// It is canceled.
     Cancel,
-    /// It waits, until it is released or until this moment.
+    /// Hold the job until this moment, or until it is released.
     Hold(Option<Moment>),
-    /// It waits no longer.
     Release,
-    /// It is forgotten.
+    /// Remove the ended job.
     Purge,
-    /// Its child is asked to end, so that its queue goes on.
+    /// Terminate the running filter or backend of the job, so that its queue continues.
     End,
 }
 
-/// What is shown of jobs.
+/// Which jobs are shown, and how.
 #[derive(Clone, Copy)]
 pub struct Status<'a> {
-    /// This job alone.
+    /// Only this job.
     pub job: Option<u32>,
-    /// The jobs of this queue alone. There is no job then.
+    /// Only the jobs of this queue. `job` is then `None`.
     pub queue: Option<&'a str>,
-    /// As JSON.
+    /// Whether the output is JSON.
     pub json: bool,
 }
 
-/// What is done to a queue.
+/// An action on a queue.
 #[derive(Clone, Copy)]
 pub enum QueueAct<'a> {
-    /// It is made.
     Add(NewQueue<'a>),
-    /// What people read about it is set.
+    /// Set the description and the location.
     Set { info: &'a str, location: &'a str },
-    /// It takes jobs.
     Accept,
-    /// It takes none.
     Reject,
-    /// It prints.
+    /// Start printing.
     Enable,
-    /// It stops.
+    /// Stop printing.
     Disable,
 }
 
-/// A queue that is made.
+/// A new queue.
 #[derive(Clone, Copy)]
 pub struct NewQueue<'a> {
-    /// Its device.
+    /// The device.
     pub uri: &'a str,
-    /// The type of document that the device takes.
+    /// The media type that the device takes.
     pub media: &'a str,
-    /// What becomes of a job that fails: one of the four words for that.
+    /// What happens to a job that fails: one of the four policies.
     pub policy: &'a str,
-    /// The seconds before another try, up to 86,400.
+    /// The seconds before another attempt, up to 86,400.
     pub interval: u32,
-    /// How many tries a job has, up to 65,535.
+    /// The number of attempts at a job, up to 65,535.
     pub limit: u32,
 }
 
-/// What lpstat tells. A list has names with commas or blanks between them, and the empty one means all.
+/// What lpstat shows. A list contains names separated by commas or blanks. The empty list means all.
 #[derive(Drop)]
 pub struct Lpstat<'a> {
-    /// Whether the service runs.
+    /// Whether the service is running.
     pub scheduler: bool,
-    /// Which queue is the usual one.
+    /// The default queue.
     pub usual: bool,
-    /// All that there is to tell.
+    /// All of this.
     pub all: bool,
-    /// Which of these queues print.
+    /// Whether these queues print.
     pub printers: Option<&'a str>,
-    /// Which of these queues take jobs.
+    /// Whether these queues accept jobs.
     pub accepting: Option<&'a str>,
     /// The devices of these queues.
     pub devices: Option<&'a str>,
     /// The jobs of these queues.
     pub jobs: Option<&'a str>,
-    /// Queues and jobs whose jobs are listed, too.
+    /// Queues and jobs whose jobs are also listed.
     pub names: Vec<&'a str>,
 }
 
-/// What lpq tells.
+/// What lpq shows.
 #[derive(Drop)]
 pub struct Lpq<'a> {
-    /// Of this queue. Without one it is that of the environment, or the only one that there is.
+    /// The queue. If it is missing, the queue of the environment or the only queue is used.
     pub queue: Option<&'a str>,
-    /// Of all queues.
+    /// Whether the jobs of all queues are shown.
     pub all: bool,
-    /// These jobs alone, if there are any.
+    /// If not empty, only these jobs are shown.
     pub jobs: Vec<u32>,
 }

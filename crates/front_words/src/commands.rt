@@ -1,4 +1,4 @@
-//! The commands of the tasks of `spool`, as clap knows them.
+//! The clap commands of the tasks of `spool`.
 ghost use Rattle.std.specs.Prelude.{◌≡◌, IfOk};
 ghost use Rattle.clap.specs.Words.{app_of};
 ghost use Rattle.front_words.specs.Apps.{add_app, app_for, hold_app, jobs_app, other_app, page_app, queue_app, queues_app, set_app, status_app, submit_app, submit_words};
@@ -11,26 +11,28 @@ use crate::options::{
 };
 use crate::programs;
 use clap::Command;
+use program_version::VERSION;
 use std::alloc::{AllocError, Global};
 
 const TASKS: &str = "Tasks:
-  submit QUEUE FILE..     print files, each as a job
-  status [JOB]            show one job, or those of a queue, or all
+  submit QUEUE FILE..     print files, each as a separate job
+  status [JOB]            show one job, the jobs of a queue, or all jobs
   queues                  show the queues
-  watch                   show what changes
+  watch                   print a line for each change
   cancel JOB..            cancel jobs
-  hold JOB..              let jobs wait
-  release JOB..           let them go on
-  purge JOB..             forget jobs that have ended
-  end JOB..               end the child that holds a queue up
-  queue add NAME URI      make a queue; also queue set, accept, reject, enable, disable
-  devices                 tell which command lists devices
-  check                   see whether the service is there, and whether each queue can print
-  page FILE               write the queues and jobs as a page
+  hold JOB..              hold jobs
+  release JOB..           release held jobs
+  purge JOB..             remove jobs that have ended
+  end JOB..               terminate the running filter or backend of jobs
+  queue add NAME URI      create a queue; also queue set, accept, reject, enable, disable
+  devices                 name the command that lists devices
+  check                   check the service, its programs and its queues
+  page FILE               write the queues and jobs as an HTML page
 
-`spool TASK --help` tells more of each. As lp, lpr, lpstat, cancel, lpq and lprm it takes their options.";
+`spool TASK --help` lists the options of a task.
+Called as lp, lpr, lpstat, cancel, lpq or lprm, spool takes the options of that program.";
 
-/// The command of a form.
+/// Returns the clap command of a form.
 pub fn command_for<'a>(alloc: Global, form: Form) -> Result<Command<'a>, AllocError>
     ensures { IfOk result (λ command. app_of command ≡ app_for form) }
 {
@@ -38,31 +40,31 @@ pub fn command_for<'a>(alloc: Global, form: Form) -> Result<Command<'a>, AllocEr
         Form::Submit => submit_command(alloc),
         Form::Status => status_command(alloc),
         Form::Queues => queues_command(alloc),
-        Form::Watch => task_command(alloc, "spool watch", "Shows what changes, a line each"),
-        Form::Cancel => jobs_command(alloc, "spool cancel", "Cancels jobs"),
+        Form::Watch => task_command(alloc, "spool watch", "Print a line for each change"),
+        Form::Cancel => jobs_command(alloc, "spool cancel", "Cancel jobs"),
         Form::Hold => hold_command(alloc),
-        Form::Release => jobs_command(alloc, "spool release", "Lets held jobs go on"),
-        Form::Purge => jobs_command(alloc, "spool purge", "Forgets jobs that have ended"),
-        Form::End => jobs_command(alloc, "spool end", "Ends the child that a job waits for"),
+        Form::Release => jobs_command(alloc, "spool release", "Release held jobs"),
+        Form::Purge => jobs_command(alloc, "spool purge", "Remove jobs that have ended"),
+        Form::End => jobs_command(
+            alloc,
+            "spool end",
+            "Terminate the running filter or backend of jobs",
+        ),
         Form::QueueAdd => add_command(alloc),
         Form::QueueSet => set_command(alloc),
-        Form::QueueAccept => queue_command(alloc, "spool queue accept", "Lets a queue take jobs"),
-        Form::QueueReject => queue_command(
-            alloc,
-            "spool queue reject",
-            "Lets a queue take no jobs",
-        ),
-        Form::QueueEnable => queue_command(alloc, "spool queue enable", "Lets a queue print"),
-        Form::QueueDisable => queue_command(alloc, "spool queue disable", "Stops a queue"),
+        Form::QueueAccept => queue_command(alloc, "spool queue accept", "Let a queue accept jobs"),
+        Form::QueueReject => queue_command(alloc, "spool queue reject", "Let a queue reject jobs"),
+        Form::QueueEnable => queue_command(alloc, "spool queue enable", "Start a queue"),
+        Form::QueueDisable => queue_command(alloc, "spool queue disable", "Stop a queue"),
         Form::Devices => task_command(
             alloc,
             "spool devices",
-            "Tells which command lists the devices that backends find",
+            "Name the command that lists the devices that backends find",
         ),
         Form::Check => task_command(
             alloc,
             "spool check",
-            "Sees whether the service is there, and whether each queue can print",
+            "Check whether the service is running, its programs can be run and each queue can print",
         ),
         Form::Page => page_command(alloc),
         Form::Lp => programs::lp_command(alloc),
@@ -83,26 +85,17 @@ fn submit_command<'a>(alloc: Global) -> Result<Command<'a>, AllocError>
     handling_options(alloc, command)
 }
 
-// What is printed, and by which queue.
+// The queue and the files.
 fn submit_words<'a>(alloc: Global) -> Result<Command<'a>, AllocError>
     ensures { IfOk result (λ command. app_of command ≡ submit_words) }
 {
-    let command = task_command(
-        alloc,
-        "spool submit",
-        "Prints files, each as a job of its own",
-    )?;
+    let command = task_command(alloc, "spool submit", "Print files, each as a separate job")?;
     command
-        .arg(needed_word(alloc, "queue", "QUEUE", "The queue that prints"))?
-        .arg(needed_words(
-            alloc,
-            "file",
-            "FILE",
-            "The files; `-` is the standard input",
-        ))
+        .arg(needed_word(alloc, "queue", "QUEUE", "The queue"))?
+        .arg(needed_words(alloc, "file", "FILE", "The files; `-` is standard input"))
 }
 
-// What a job is called, and whose it is.
+// Adds the options for the title and the owner of a job.
 fn title_options<'a>(alloc: Global, command: Command<'a>) -> Result<Command<'a>, AllocError>
     ensures { IfOk result (λ more. app_of more ≡ with_titles (app_of command.entry)) }
 {
@@ -111,12 +104,17 @@ fn title_options<'a>(alloc: Global, command: Command<'a>) -> Result<Command<'a>,
             alloc,
             "title",
             "TITLE",
-            "The title [default: the file's name]",
+            "The title of the job [default: the file's name]",
         ))?
-        .arg(text_option(alloc, "user", "USER", "In whose name [default: yours]"))
+        .arg(text_option(
+            alloc,
+            "user",
+            "USER",
+            "The owner of the job [default: the current user]",
+        ))
 }
 
-// What a job is: its title, its owner and how it is printed.
+// Adds the options for the title, the owner and the printing of a job.
 fn document_options<'a>(alloc: Global, command: Command<'a>) -> Result<Command<'a>, AllocError>
     ensures { IfOk result (λ more. app_of more ≡ with_document (app_of command.entry)) }
 {
@@ -126,74 +124,90 @@ fn document_options<'a>(alloc: Global, command: Command<'a>) -> Result<Command<'
             alloc,
             "copies",
             "N",
-            "How many, from 1 to 9999 [default: 1]",
+            "The number of copies, from 1 to 9999 [default: 1]",
         ))?
-        .arg(text_option(alloc, "priority", "P", "From 1 to 100 [default: 50]"))?
-        .arg(text_option(alloc, "pages", "PAGES", "These pages alone, as 1-4,7"))?
+        .arg(text_option(
+            alloc,
+            "priority",
+            "P",
+            "The priority, from 1 to 100 [default: 50]",
+        ))?
+        .arg(text_option(
+            alloc,
+            "pages",
+            "PAGES",
+            "Print only these pages, such as 1-4,7",
+        ))?
         .arg(letter_options(
             alloc,
             'o',
             "option",
             "NAME=VALUE",
-            "An option of the printer or a filter",
+            "Set an option of the printer or of a filter",
         ))
 }
 
-// When it is printed, and what is told of it.
+// Adds the options for the time of printing and for the output.
 fn handling_options<'a>(alloc: Global, command: Command<'a>) -> Result<Command<'a>, AllocError>
     ensures { IfOk result (λ more. app_of more ≡ with_handling (app_of command.entry)) }
 {
     command
-        .arg(flag_option(alloc, "hold", "Let it wait until it is released"))?
+        .arg(flag_option(alloc, "hold", "Hold the job until it is released"))?
         .arg(text_option(
             alloc,
             "at",
             "MOMENT",
-            "Let it wait until then: seconds of the epoch, or +SECONDS from now",
+            "Hold the job until then: seconds since 1970, or +SECONDS from now",
         ))?
         .arg(text_option(
             alloc,
             "by",
             "MOMENT",
-            "Abort it where it hasn't started by then",
+            "Cancel the job if it has not started by then",
         ))?
-        .arg(flag_option(alloc, "wait", "Wait for its end"))?
-        .arg(flag_option(alloc, "quiet", "Say nothing of a job that is accepted"))
+        .arg(flag_option(alloc, "wait", "Wait until the job has ended"))?
+        .arg(flag_option(alloc, "quiet", "Print nothing for an accepted job"))
 }
 
 fn status_command<'a>(alloc: Global) -> Result<Command<'a>, AllocError>
     ensures { IfOk result (λ command. app_of command ≡ status_app) }
 {
-    let command = task_command(alloc, "spool status", "Shows jobs")?;
+    let command = task_command(alloc, "spool status", "Show jobs")?;
     command
-        .arg(word(alloc, "job", "JOB", "This job alone"))?
-        .arg(letter_option(alloc, 'q', "queue", "QUEUE", "The jobs of this queue alone"))?
-        .arg(flag_option(alloc, "json", "As JSON"))
+        .arg(word(alloc, "job", "JOB", "Show only this job"))?
+        .arg(letter_option(
+            alloc,
+            'q',
+            "queue",
+            "QUEUE",
+            "Show only the jobs of this queue",
+        ))?
+        .arg(flag_option(alloc, "json", "Print JSON"))
 }
 
 fn queues_command<'a>(alloc: Global) -> Result<Command<'a>, AllocError>
     ensures { IfOk result (λ command. app_of command ≡ queues_app) }
 {
-    let command = task_command(alloc, "spool queues", "Shows the queues")?;
-    command.arg(flag_option(alloc, "json", "As JSON"))
+    let command = task_command(alloc, "spool queues", "Show the queues")?;
+    command.arg(flag_option(alloc, "json", "Print JSON"))
 }
 
 fn jobs_command<'a>(alloc: Global, name: &'a str, about: &'a str) -> Result<Command<'a>, AllocError>
     ensures { IfOk result (λ command. app_of command ≡ jobs_app name.entry.now) }
 {
     let command = task_command(alloc, name, about)?;
-    command.arg(needed_words(alloc, "job", "JOB", "The jobs, as 12 or office-12"))
+    command.arg(needed_words(alloc, "job", "JOB", "The jobs, such as 12 or office-12"))
 }
 
 fn hold_command<'a>(alloc: Global) -> Result<Command<'a>, AllocError>
     ensures { IfOk result (λ command. app_of command ≡ hold_app) }
 {
-    let command = jobs_command(alloc, "spool hold", "Lets jobs wait")?;
+    let command = jobs_command(alloc, "spool hold", "Hold jobs")?;
     command.arg(text_option(
         alloc,
         "until",
         "MOMENT",
-        "Until then: seconds of the epoch, or +SECONDS from now",
+        "Hold the jobs until then: seconds since 1970, or +SECONDS from now",
     ))
 }
 
@@ -211,32 +225,32 @@ fn queue_command<'a>(
 fn add_command<'a>(alloc: Global) -> Result<Command<'a>, AllocError>
     ensures { IfOk result (λ command. app_of command ≡ add_app) }
 {
-    let command = queue_command(alloc, "spool queue add", "Makes a queue")?;
+    let command = queue_command(alloc, "spool queue add", "Create a queue")?;
     command
-        .arg(needed_word(alloc, "uri", "URI", "Its device"))?
+        .arg(needed_word(alloc, "uri", "URI", "The device"))?
         .arg(text_option(
             alloc,
             "media",
             "TYPE",
-            "What the device takes [default: application/pdf]",
+            "The media type that the device takes [default: application/pdf]",
         ))?
         .arg(text_option(
             alloc,
             "policy",
             "POLICY",
-            "What becomes of a job that fails: abort-job, retry-job, retry-current-job or stop-printer [default: retry-job]",
+            "What to do with a job that fails: abort-job, retry-job, retry-current-job or stop-printer [default: retry-job]",
         ))?
         .arg(text_option(
             alloc,
             "interval",
             "SECONDS",
-            "Before another try, up to 86400 [default: 30]",
+            "The time before another attempt, up to 86400 [default: 30]",
         ))?
         .arg(text_option(
             alloc,
             "limit",
             "N",
-            "How many tries, up to 65535 [default: 5]",
+            "The number of attempts at a job, up to 65535; 0 means no limit [default: 5]",
         ))
 }
 
@@ -246,28 +260,33 @@ fn set_command<'a>(alloc: Global) -> Result<Command<'a>, AllocError>
     let command = queue_command(
         alloc,
         "spool queue set",
-        "Sets what people read about a queue",
+        "Set the description and the location of a queue",
     )?;
     command
-        .arg(text_option(alloc, "info", "TEXT", "What it is [default: nothing]"))?
-        .arg(text_option(alloc, "location", "TEXT", "Where it is [default: nothing]"))
+        .arg(text_option(alloc, "info", "TEXT", "The description [default: empty]"))?
+        .arg(text_option(alloc, "location", "TEXT", "The location [default: empty]"))
 }
 
 fn page_command<'a>(alloc: Global) -> Result<Command<'a>, AllocError>
     ensures { IfOk result (λ command. app_of command ≡ page_app) }
 {
-    let command = task_command(alloc, "spool page", "Writes the queues and jobs as a page")?;
+    let command = task_command(
+        alloc,
+        "spool page",
+        "Write the queues and jobs as an HTML page",
+    )?;
     command
-        .arg(needed_word(alloc, "file", "FILE", "The page's file"))?
-        .arg(flag_option(alloc, "follow", "Write it anew as things change"))
+        .arg(needed_word(alloc, "file", "FILE", "The file to write"))?
+        .arg(flag_option(alloc, "follow", "Rewrite the file every five seconds"))
 }
 
-// With no task that there is.
+// The command of `spool` without a known task, for help, the version and errors.
 fn other_command<'a>(alloc: Global) -> Result<Command<'a>, AllocError>
     ensures { IfOk result (λ command. app_of command ≡ other_app) }
 {
     Command::new(alloc, "spool")
-        .about("Prints, and shows what prints")
+        .about("Print files, and manage print jobs and queues")
+        .version(VERSION)
         .after_help(TASKS)
-        .arg(needed_words(alloc, "task", "TASK", "One of these tasks"))
+        .arg(needed_words(alloc, "task", "TASK", "One of the tasks below"))
 }

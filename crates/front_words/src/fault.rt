@@ -1,4 +1,4 @@
-//! Why words say nothing.
+//! Why a command line is refused.
 ghost use Rattle.std.specs.Prelude.{◌≡◌};
 ghost use Rattle.clap.specs.Words.{kind_of};
 ghost use Rattle.clap.specs.declared.error.kind.ErrorKind.TheVariants.{OutOfMemory};
@@ -9,21 +9,21 @@ use clap::error::ErrorKind;
 use clap::{Command, Error};
 use std::alloc::AllocError;
 
-/// Why the words say nothing.
+/// Why a command line is refused.
 #[derive(Drop)]
 pub enum WordsFault {
-    /// They are refused, or ask for the help. It is what there is to print.
+    /// The arguments are invalid, or ask for help or the version. The error contains the text to print.
     Refused(Error),
-    /// They, or the text to print, found no memory.
+    /// Out of memory while reading the arguments or formatting the text.
     Memory,
 }
 
-// Why the values that were found say nothing.
+// Why the values that clap found are refused.
 #[derive(Clone, Copy)]
 pub enum Wrong {
-    // One is no value that it may be.
+    // A value is invalid. The text says which one.
     Value(&'static str),
-    // Memory ran out.
+    // Out of memory.
     Memory,
 }
 
@@ -35,7 +35,7 @@ impl From<AllocError> for Wrong {
     }
 }
 
-// What clap's fault is here.
+// Converts an error of clap.
 pub fn words_fault(error: Error) -> WordsFault
     ensures { RefusesOnly (kind_of error ≡ OutOfMemory) result }
 {
@@ -46,7 +46,7 @@ pub fn words_fault(error: Error) -> WordsFault
     }
 }
 
-// The fault of values, in the form of clap's own.
+// Returns an invalid value as an error of clap.
 pub fn mistake(command: &mut Command<'_>, wrong: Wrong) -> WordsFault
     ensures { IsMistake wrong result }
 {

@@ -1,11 +1,11 @@
-//! Which command line the words are: a task of `spool`, or a program by its own name.
+//! The form of a command line: a task of `spool`, or a program with its own name.
 ghost use Rattle.std.specs.Prelude.{◌≡◌, drop, map};
 ghost use Rattle.front_words.specs.Forms.{form_in, form_of_act, form_of_program, form_of_task, queue_form, skipped, spool_form};
 
 use crate::given::last_part;
 use std::convert::AsStr;
 
-/// A command line, by its words. Each has options of its own.
+/// The form of a command line. Each form has its own options.
 #[derive(Clone, Copy)]
 pub enum Form {
     Submit,
@@ -32,11 +32,11 @@ pub enum Form {
     CancelJobs,
     Lpq,
     Lprm,
-    /// No task of `spool`, or none yet.
+    /// `spool` without a known task.
     Other,
 }
 
-/// The form of the words, of which the first is the program's name.
+/// Returns the form of the arguments, including the program's name.
 pub fn form_of<S: AsStr>(words: &[S]) -> Form
     ensures { result ≡ form_in (map S.text words.now) }
 {
@@ -49,7 +49,7 @@ pub fn form_of<S: AsStr>(words: &[S]) -> Form
     }
 }
 
-/// The words that the form's own command reads: the last word that chose the form, and those behind it.
+/// Returns the arguments that the form's command reads: the last one that selects the form, and all after it.
 pub fn own_words<S: AsStr>(form: Form, words: &[S]) -> &[S]
     ensures { map S.text result.now ≡ drop (skipped form) (map S.text words.now) }
 {
@@ -61,7 +61,7 @@ pub fn own_words<S: AsStr>(form: Form, words: &[S]) -> &[S]
     }
 }
 
-// How many words stand before those.
+// Returns the number of arguments before those.
 fn skipped(form: Form) -> usize
     ensures { result ≡ skipped form }
 {
@@ -74,7 +74,7 @@ fn skipped(form: Form) -> usize
     }
 }
 
-// The program that goes by this name.
+// Returns the form of the program with this name.
 fn form_of_program(name: &[u8]) -> Option<Form>
     ensures { result ≡ form_of_program name.now }
 {
@@ -95,7 +95,7 @@ fn form_of_program(name: &[u8]) -> Option<Form>
     }
 }
 
-// The task that the words behind the program's name begin with.
+// Returns the form of the task in the arguments after the program's name.
 fn spool_form<S: AsStr>(words: &[S]) -> Form
     ensures { result ≡ spool_form (map S.text words.now) }
 {
@@ -142,7 +142,7 @@ fn form_of_task(task: &str) -> Form
     }
 }
 
-// What is done to a queue, by the words behind `queue`.
+// Returns the form of the action on a queue, from the arguments after `queue`.
 fn queue_form<S: AsStr>(words: &[S]) -> Form
     ensures { result ≡ queue_form (map S.text words.now) }
 {

@@ -11,37 +11,37 @@ use clap::ArgMatches;
 use line_words::decimal;
 use std::alloc::{AllocError, Global};
 
-// The greatest number of a job, and the greatest moment.
+// The greatest job number, and the greatest moment.
 const GREATEST_JOB: u32 = 2_147_483_647;
 
 const GREATEST_MOMENT: u64 = 4_000_000_000_000;
 
-// The text of an option or a word.
+// Returns the value of an option or argument.
 pub fn text_given<'a>(matches: &ArgMatches<'a>, name: &str) -> Option<&'a str>
     ensures { option_map (λ text. text.now) result ≡ first_of name.now (rows_of (found_of matches.now)) }
 {
     matches.get_str(name)
 }
 
-// The text of a word that has to be there.
+// Returns the value of a required argument.
 pub fn text_needed<'a>(matches: &ArgMatches<'a>, name: &str) -> Result<&'a str, Wrong>
     ensures { MatchResult result (λ text. first_of name.now (rows_of (found_of matches.now)) ≡ Some text.now)
         (BlamesOnly (IsSome (first_of name.now (rows_of (found_of matches.now))))) }
 {
     match text_given(matches, name) {
         Some(text) => Ok(text),
-        None => Err(Wrong::Value("a word is missing")),
+        None => Err(Wrong::Value("a required argument is missing")),
     }
 }
 
-// Whether an option is there.
+// Returns whether a flag is set.
 pub fn flag_given(matches: &ArgMatches<'_>, name: &str) -> bool
     ensures { result ≡ is_told (first_of name.now (rows_of (found_of matches.now))) }
 {
     word_given(matches, name, "true")
 }
 
-// Whether this word is given.
+// Returns whether the option or argument has this value.
 pub fn word_given(matches: &ArgMatches<'_>, name: &str, word: &str) -> bool
     ensures { result ≡ is_word word.now (first_of name.now (rows_of (found_of matches.now))) }
 {
@@ -51,7 +51,7 @@ pub fn word_given(matches: &ArgMatches<'_>, name: &str, word: &str) -> bool
     }
 }
 
-// All texts of an option or a word.
+// Returns all values of an option or argument.
 pub fn texts_given<'a>(
     alloc: Global,
     matches: &ArgMatches<'a>,
@@ -74,7 +74,7 @@ fn copy_of<'a>(alloc: Global, found: &[&'a str]) -> Result<Vec<&'a str>, AllocEr
     Ok(texts)
 }
 
-// The number of an option, or the usual one.
+// Returns the number of an option, or its default.
 pub fn number_given(
     matches: &ArgMatches<'_>,
     name: &str,
@@ -94,7 +94,7 @@ pub fn number_given(
     }
 }
 
-// The number of decimal digits, if it is in the range.
+// Returns the decimal number if it is in the range.
 fn number_in(text: &[u8], least: u32, most: u32) -> Option<u32>
     ensures { result ≡ number_in least most text.now }
 {
@@ -102,7 +102,7 @@ fn number_in(text: &[u8], least: u32, most: u32) -> Option<u32>
     if least <= number { Some(number) } else { None }
 }
 
-// The moment of an option.
+// Returns the moment of an option.
 pub fn moment_given(
     matches: &ArgMatches<'_>,
     name: &str,
@@ -120,7 +120,7 @@ pub fn moment_given(
     }
 }
 
-// Seconds of the epoch, or behind a plus seconds from now.
+// Returns the moment in a text: seconds since 1970, or `+` and seconds from now.
 pub fn moment_of(text: &[u8]) -> Option<Moment>
     ensures { result ≡ moment_of text.now }
 {
@@ -132,7 +132,7 @@ pub fn moment_of(text: &[u8]) -> Option<Moment>
     }
 }
 
-// The job of an option or a word, if it is there.
+// Returns the job of an option or argument, if one is given.
 pub fn job_given(matches: &ArgMatches<'_>, name: &str) -> Result<Option<u32>, Wrong>
     ensures { MatchResult result (λ job. job_or_none (first_of name.now (rows_of (found_of matches.now))) ≡ Some job)
         (BlamesOnly (IsSome (job_or_none (first_of name.now (rows_of (found_of matches.now)))))) }
@@ -146,9 +146,9 @@ pub fn job_given(matches: &ArgMatches<'_>, name: &str) -> Result<Option<u32>, Wr
     }
 }
 
-const NO_JOB: Wrong = Wrong::Value("JOB is no number of a job, as 12 or office-12");
+const NO_JOB: Wrong = Wrong::Value("JOB must be the number of a job, such as 12 or office-12");
 
-// The jobs of a word, each.
+// Returns the jobs of an argument.
 pub fn jobs_given(alloc: Global, matches: &ArgMatches<'_>, name: &str) -> Result<Vec<u32>, Wrong>
     ensures { MatchResult result (λ jobs. jobs_of (all_in name.now (rows_of (found_of matches.now))) ≡ Some jobs.items)
         (BlamesOnly (IsSome (jobs_of (all_in name.now (rows_of (found_of matches.now)))))) }
@@ -160,7 +160,7 @@ pub fn jobs_given(alloc: Global, matches: &ArgMatches<'_>, name: &str) -> Result
     }
 }
 
-// The jobs of texts, if each is one.
+// Returns the jobs in the texts, or `None` if a text is not a job.
 fn jobs_of(alloc: Global, texts: &[&str]) -> Result<Option<Vec<u32>>, AllocError>
     ensures { IfOk result (λ jobs. option_map (λ jobs. jobs.items) jobs ≡ jobs_of (map (λ text. text.now) texts.now)) }
 {
@@ -174,14 +174,14 @@ fn jobs_of(alloc: Global, texts: &[&str]) -> Result<Option<Vec<u32>>, AllocError
     Ok(Some(jobs))
 }
 
-// The number of a job, alone or behind a queue's name and a hyphen.
+// Returns the number of a job, which may follow the name of a queue and a hyphen.
 fn job_of(text: &[u8]) -> Option<u32>
     ensures { result ≡ job_of text.now }
 {
     number_in(last_part(text, b'-'), 1, GREATEST_JOB)
 }
 
-// What follows the last of these bytes.
+// Returns the part after the last such byte, or the whole text if there is none.
 pub fn last_part(text: &[u8], mark: u8) -> &[u8]
     ensures { result.now ≡ last_part mark text.now }
 {

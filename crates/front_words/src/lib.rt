@@ -1,27 +1,33 @@
-//! What a person's command line asks for, as clap reads it.
+//! Reads the command lines of `spool`, `lp`, `lpr`, `lpstat`, `cancel`, `lpq` and `lprm`.
 //!
-//! The program goes by several names. As `lp`, `lpr`, `lpstat`, `cancel`, `lpq` or `lprm` it takes the options that are known of
-//! these. By any other name it is `spool`, and the first word behind the name is a task, or `queue` and the next word what is
-//! done to a queue. So the words have a form, each form has a command of clap's of its own, and that reads the words from the
-//! last one on that chose the form. Options stand behind the task.
+//! The first arguments determine the form of a command line. Called as `lp`, `lpr`, `lpstat`, `cancel`, `lpq` or `lprm`, the form is that
+//! program. By any other name the program is `spool`, and its first argument is a task, or `queue` followed by an action on a queue.
+//!
+//! Each form has its own clap command, and so its own help and its own contract. The command reads the arguments from the last one that
+//! selects the form, so options follow the task. An option that asks for what happens anyway is accepted (`lp -c`, `lpr -h`). Any other
+//! option without a meaning is refused, never ignored.
 //!
 //! # Promises
 //!
-//! - The form is a function of the words, `form_in` of `specs/Forms`, which `form_of` computes. A program's name is what follows the last
-//!   slash of its path.
-//! - [`read_words`] (`asked`): the answer is what the values ask for that clap finds by the form's command (`IsAsked`). `Apps` has
-//!   these commands in clap's own terms, and `Asked` what values mean, form by form: which job, which queue, how many copies, and
-//!   what holds where an option isn't given.
-//! - [`read_words`] (`taken`): words are refused exactly where clap finds a fault in them, or values are none of a task (`Fit`): a
-//!   number out of its range, a moment or a job that is none, two words that don't go together. Memory may run out in any
-//!   case. Words with no task, or with one that there isn't, are always refused; that is also how the help is asked for.
-//! - A number is of decimal digits alone. A moment is of digits, seconds of the epoch, or of a plus and digits, seconds from now:
-//!   clap's own numbers would take `+60` for 60 and so for a moment of 1970. A job is its number, alone or behind the last hyphen.
+//! - The form is a function of the arguments (`form_in` in `specs/Forms`), which `form_of` computes. A program's name is the part after
+//!   the last slash of its path.
+//! - [`read_words`] (`asked`): returns the task that the values ask for that clap finds by the form's command (`IsAsked`). `Apps` defines
+//!   these commands in clap's terms. `AskedTasks` defines the meaning of the values of each form: the jobs, queues and numbers, and the
+//!   defaults of options that are not given.
+//! - [`read_words`] (`taken`): refuses the arguments exactly if clap finds an error in them or their values fit no task (`Fit`): a number
+//!   is out of its range, a moment or a job is invalid, or two arguments exclude each other. Memory may run out in any case. Arguments
+//!   without a known task, and requests for help or the version, are always refused.
+//! - A number consists of decimal digits only. A moment is digits (seconds since 1970), or `+` and digits (seconds from now): clap's own
+//!   numbers would accept `+60` as 60, which is a moment in 1970. A job is its number, alone or after the last hyphen.
 //!
-//! # Faults
+//! # Not proved
 //!
-//! [`WordsFault::Refused`] is what there is to print: clap's own error, or one of the same kind that says which value is wrong.
-//! Its status is 2, or 0 where it is the help. [`WordsFault::Memory`]: memory ran out.
+//! - The texts of help, the version and errors, which clap formats.
+//!
+//! # Errors
+//!
+//! [`WordsFault::Refused`] contains the text to print: clap's own error, or an error of the same type that names the invalid value. Its
+//! exit status is 2, or 0 for help and the version. [`WordsFault::Memory`]: out of memory.
 #![tactic(auto)]
 
 mod asked;

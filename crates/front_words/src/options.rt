@@ -1,4 +1,4 @@
-//! The options and the words of a command.
+//! The options and arguments of a command.
 ghost use Rattle.std.specs.Prelude.{◌≡◌, ◌++◌, ◌∷◌, [], IfOk, MatchResult, Some, false, map, true};
 ghost use Rattle.clap.specs.Words.{app_of, found_of, is_simple_and_free, matches_of, rows_of, rule_of};
 ghost use Rattle.front_words.specs.WordFaults.{RefusesOnly};
@@ -10,7 +10,7 @@ use clap::{Arg, ArgAction, ArgMatches, Command};
 use std::alloc::{AllocError, Global};
 use std::convert::AsStr;
 
-// The command of a task of `spool`, with the option of all of them.
+// Returns the command of a task of `spool`, with the option that all tasks have.
 pub fn task_command<'a>(
     alloc: Global,
     name: &'a str,
@@ -24,7 +24,7 @@ pub fn task_command<'a>(
         .arg(socket_option(alloc))
 }
 
-// The command of a program that goes by its own name. There `-h` isn't the help: others took it for a host.
+// Returns the command of a program with its own name. It has no `-h` for help, since `-h` means a host in other implementations.
 pub fn named_command<'a>(
     alloc: Global,
     name: &'a str,
@@ -39,7 +39,7 @@ pub fn named_command<'a>(
         .arg(socket_option(alloc))
 }
 
-// `--help` alone.
+// Returns the option `--help` without `-h`.
 fn help_option<'a>(alloc: Global) -> Arg<'a>
     ensures rule { rule_of result ≡ help_rule }
     ensures local { result.global ≡ false }
@@ -58,12 +58,12 @@ fn socket_option<'a>(alloc: Global) -> Arg<'a>
         alloc,
         "socket",
         "SOCKET",
-        "Ask the service on this socket; each one that is given is asked",
+        "The socket of the service; can be repeated",
     )
     .action(ArgAction::Append)
 }
 
-// An option with a text that isn't empty.
+// Returns an option `--NAME` with a non-empty value.
 pub fn text_option<'a>(alloc: Global, name: &'a str, value: &'a str, help: &'a str) -> Arg<'a>
     ensures rule { rule_of result ≡ text_rule name.entry.now }
     ensures local { result.global ≡ false }
@@ -71,7 +71,7 @@ pub fn text_option<'a>(alloc: Global, name: &'a str, value: &'a str, help: &'a s
     word(alloc, name, value, help).long(name)
 }
 
-// The same, by a letter alone.
+// Returns an option of one letter with a non-empty value.
 pub fn letter_option<'a>(
     alloc: Global,
     letter: char,
@@ -85,7 +85,7 @@ pub fn letter_option<'a>(
     word(alloc, name, value, help).short(letter)
 }
 
-// An option that is there or isn't.
+// Returns a flag `--NAME`.
 pub fn flag_option<'a>(alloc: Global, name: &'a str, help: &'a str) -> Arg<'a>
     ensures rule { rule_of result ≡ flag_rule name.entry.now }
     ensures local { result.global ≡ false }
@@ -96,7 +96,7 @@ pub fn flag_option<'a>(alloc: Global, name: &'a str, help: &'a str) -> Arg<'a>
         .help(help)
 }
 
-// The same, by a letter alone.
+// Returns a flag of one letter.
 pub fn letter_flag<'a>(alloc: Global, letter: char, name: &'a str, help: &'a str) -> Arg<'a>
     ensures rule { rule_of result ≡ letter_flag_rule letter name.entry.now }
     ensures local { result.global ≡ false }
@@ -107,7 +107,7 @@ pub fn letter_flag<'a>(alloc: Global, letter: char, name: &'a str, help: &'a str
         .help(help)
 }
 
-// A word that isn't empty.
+// Returns an optional, non-empty argument.
 pub fn word<'a>(alloc: Global, name: &'a str, value: &'a str, help: &'a str) -> Arg<'a>
     ensures rule { rule_of result ≡ word_rule name.entry.now }
     ensures local { result.global ≡ false }
@@ -118,7 +118,7 @@ pub fn word<'a>(alloc: Global, name: &'a str, value: &'a str, help: &'a str) -> 
         .help(help)
 }
 
-// A word that has to be there.
+// Returns a required, non-empty argument.
 pub fn needed_word<'a>(alloc: Global, name: &'a str, value: &'a str, help: &'a str) -> Arg<'a>
     ensures rule { rule_of result ≡ needed (word_rule name.entry.now) }
     ensures local { result.global ≡ false }
@@ -126,7 +126,7 @@ pub fn needed_word<'a>(alloc: Global, name: &'a str, value: &'a str, help: &'a s
     word(alloc, name, value, help).required(true)
 }
 
-// Words, any number of them.
+// Returns an argument that can be repeated, and can be missing.
 pub fn words<'a>(alloc: Global, name: &'a str, value: &'a str, help: &'a str) -> Arg<'a>
     ensures rule { rule_of result ≡ several (word_rule name.entry.now) }
     ensures local { result.global ≡ false }
@@ -134,7 +134,7 @@ pub fn words<'a>(alloc: Global, name: &'a str, value: &'a str, help: &'a str) ->
     word(alloc, name, value, help).action(ArgAction::Append)
 }
 
-// Words, of which one at least has to be there.
+// Returns an argument that can be repeated, and is required at least once.
 pub fn needed_words<'a>(alloc: Global, name: &'a str, value: &'a str, help: &'a str) -> Arg<'a>
     ensures rule { rule_of result ≡ needed (several (word_rule name.entry.now)) }
     ensures local { result.global ≡ false }
@@ -142,7 +142,7 @@ pub fn needed_words<'a>(alloc: Global, name: &'a str, value: &'a str, help: &'a 
     words(alloc, name, value, help).required(true)
 }
 
-// An option by a letter that may be there several times.
+// Returns an option of one letter that can be repeated.
 pub fn letter_options<'a>(
     alloc: Global,
     letter: char,
@@ -156,7 +156,7 @@ pub fn letter_options<'a>(
     letter_option(alloc, letter, name, value, help).action(ArgAction::Append)
 }
 
-// An option by a letter whose value may be left out, and is then empty.
+// Returns an option of one letter whose value can be omitted and is then empty.
 pub fn letter_list<'a>(alloc: Global, letter: char, name: &'a str, help: &'a str) -> Arg<'a>
     ensures rule { rule_of result ≡ listed (letter_rule letter name.entry.now) }
     ensures local { result.global ≡ false }
@@ -167,7 +167,7 @@ pub fn letter_list<'a>(alloc: Global, letter: char, name: &'a str, help: &'a str
         .value_parser(ValueParser::String)
 }
 
-// One that a further letter stands for.
+// Returns the option with one more letter.
 pub fn lettered(arg: Arg<'_>, letter: char) -> Result<Arg<'_>, AllocError>
     ensures rule { IfOk result (λ more. rule_of more
         ≡ record (rule_of arg.entry) { short_aliases = (rule_of arg.entry).short_aliases ++ letter ∷ [] }) }
@@ -176,7 +176,7 @@ pub fn lettered(arg: Arg<'_>, letter: char) -> Result<Arg<'_>, AllocError>
     arg.short_alias(letter)
 }
 
-// What clap finds in the words.
+// Returns the values that clap finds in the arguments.
 pub fn parse<'a, S: AsStr>(
     command: &mut Command<'a>,
     words: &'a [S],

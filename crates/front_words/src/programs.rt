@@ -1,4 +1,4 @@
-//! The commands of lp and its like, as clap knows them.
+//! The clap commands of lp, lpr, lpstat, cancel, lpq and lprm.
 ghost use Rattle.std.specs.Prelude.{◌≡◌, IfOk, false};
 ghost use Rattle.clap.specs.Words.{app_of, rule_of};
 ghost use Rattle.front_words.specs.Apps.{cancel_app, lp_app, lp_words, lpq_app, lpr_app, lpr_words, lprm_app, lpstat_app, lpstat_words, title_rule, with_numbers};
@@ -21,49 +21,61 @@ pub fn lp_command<'a>(alloc: Global) -> Result<Command<'a>, AllocError>
             'o',
             "option",
             "NAME=VALUE",
-            "An option of the printer or a filter",
+            "Set an option of the printer or of a filter",
         ))?
-        .arg(letter_option(alloc, 'P', "pages", "PAGES", "These pages alone, as 1-4,7"))?
+        .arg(letter_option(
+            alloc,
+            'P',
+            "pages",
+            "PAGES",
+            "Print only these pages, such as 1-4,7",
+        ))?
         .arg(letter_option(
             alloc,
             'H',
             "handling",
             "WHEN",
-            "hold, immediate, seconds of the epoch, or +SECONDS from now",
+            "When to print: hold, immediate, seconds since 1970, or +SECONDS from now",
         ))?
         .arg(letter_flag(
             alloc,
             'c',
             "copy",
-            "Print a copy of the file, as it always is",
+            "Ignored: a copy of the file is always printed",
         ))?
-        .arg(letter_flag(alloc, 's', "quiet", "Don't say which number the job has"))
+        .arg(letter_flag(alloc, 's', "quiet", "Do not print the number of the job"))
 }
 
-// What is printed, and by which queue.
+// The files, the queue, the title and the owner.
 fn lp_words<'a>(alloc: Global) -> Result<Command<'a>, AllocError>
     ensures { IfOk result (λ command. app_of command ≡ lp_words) }
 {
-    let command = named_command(alloc, "lp", "Prints files")?;
+    let command = named_command(alloc, "lp", "Print files")?;
     command
         .arg(words(
             alloc,
             "file",
             "FILE",
-            "The files; with none, or as `-`, the standard input",
+            "The files; `-` or no file is standard input",
         ))?
-        .arg(letter_option(alloc, 'd', "queue", "DEST", "The queue that prints"))?
+        .arg(letter_option(alloc, 'd', "queue", "DEST", "The queue"))?
         .arg(letter_option(
             alloc,
             't',
             "title",
             "TITLE",
-            "The title [default: the file's name]",
+            "The title of the job [default: the file's name]",
         ))?
-        .arg(letter_option(alloc, 'U', "user", "USER", "In whose name [default: yours]"))
+        .arg(letter_option(
+            alloc,
+            'U',
+            "user",
+            "USER",
+            "The owner of the job [default: the current user]",
+        ))
 }
 
-// How often it is printed, and how soon.
+// Adds the number of copies and the priority.
 fn lp_numbers<'a>(alloc: Global, command: Command<'a>) -> Result<Command<'a>, AllocError>
     ensures { IfOk result (λ more. app_of more ≡ with_numbers (app_of command.entry)) }
 {
@@ -73,9 +85,15 @@ fn lp_numbers<'a>(alloc: Global, command: Command<'a>) -> Result<Command<'a>, Al
             'n',
             "copies",
             "N",
-            "How many, from 1 to 9999 [default: 1]",
+            "The number of copies, from 1 to 9999 [default: 1]",
         ))?
-        .arg(letter_option(alloc, 'q', "priority", "P", "From 1 to 100 [default: 50]"))
+        .arg(letter_option(
+            alloc,
+            'q',
+            "priority",
+            "P",
+            "The priority, from 1 to 100 [default: 50]",
+        ))
 }
 
 pub fn lpr_command<'a>(alloc: Global) -> Result<Command<'a>, AllocError>
@@ -88,39 +106,40 @@ pub fn lpr_command<'a>(alloc: Global) -> Result<Command<'a>, AllocError>
             '#',
             "copies",
             "N",
-            "How many, from 1 to 9999 [default: 1]",
+            "The number of copies, from 1 to 9999 [default: 1]",
         ))?
         .arg(letter_options(
             alloc,
             'o',
             "option",
             "NAME=VALUE",
-            "An option of the printer or a filter",
+            "Set an option of the printer or of a filter",
         ))?
-        .arg(letter_flag(alloc, 'q', "hold", "Let it wait until it is released"))?
-        .arg(letter_flag(
-            alloc,
-            'h',
-            "no-banner",
-            "Print no banner, as there never is one",
-        ))
+        .arg(letter_flag(alloc, 'q', "hold", "Hold the job until it is released"))?
+        .arg(letter_flag(alloc, 'h', "no-banner", "Ignored: there is never a banner"))
 }
 
-// What is printed, and by which queue.
+// The files, the queue, the title and the owner.
 fn lpr_words<'a>(alloc: Global) -> Result<Command<'a>, AllocError>
     ensures { IfOk result (λ command. app_of command ≡ lpr_words) }
 {
-    let command = named_command(alloc, "lpr", "Prints files")?;
+    let command = named_command(alloc, "lpr", "Print files")?;
     command
         .arg(words(
             alloc,
             "file",
             "FILE",
-            "The files; with none, or as `-`, the standard input",
+            "The files; `-` or no file is standard input",
         ))?
-        .arg(letter_option(alloc, 'P', "queue", "DEST", "The queue that prints"))?
+        .arg(letter_option(alloc, 'P', "queue", "DEST", "The queue"))?
         .arg(title_option(alloc)?)?
-        .arg(letter_option(alloc, 'U', "user", "USER", "In whose name [default: yours]"))
+        .arg(letter_option(
+            alloc,
+            'U',
+            "user",
+            "USER",
+            "The owner of the job [default: the current user]",
+        ))
 }
 
 pub fn lpstat_command<'a>(alloc: Global) -> Result<Command<'a>, AllocError>
@@ -128,69 +147,93 @@ pub fn lpstat_command<'a>(alloc: Global) -> Result<Command<'a>, AllocError>
 {
     let command = lpstat_words(alloc)?;
     command
-        .arg(letter_list(alloc, 'p', "printers", "Which of these queues print"))?
-        .arg(letter_list(alloc, 'a', "accepting", "Which of these queues take jobs"))?
-        .arg(letter_list(alloc, 'v', "devices", "The devices of these queues"))?
-        .arg(letter_list(alloc, 'o', "jobs", "The jobs of these queues"))
+        .arg(letter_list(alloc, 'p', "printers", "Show whether these queues print"))?
+        .arg(letter_list(
+            alloc,
+            'a',
+            "accepting",
+            "Show whether these queues accept jobs",
+        ))?
+        .arg(letter_list(
+            alloc,
+            'v',
+            "devices",
+            "Not supported: the service does not report its devices",
+        ))?
+        .arg(letter_list(alloc, 'o', "jobs", "Show the jobs of these queues"))
 }
 
-// What is told of the service, and of whose jobs.
+// The jobs to list, and the flags about the service.
 fn lpstat_words<'a>(alloc: Global) -> Result<Command<'a>, AllocError>
     ensures { IfOk result (λ command. app_of command ≡ lpstat_words) }
 {
-    let command = named_command(alloc, "lpstat", "Tells of queues and jobs")?;
+    let command = named_command(alloc, "lpstat", "Show queues and jobs")?;
     command
-        .arg(words(alloc, "name", "NAME", "Queues and jobs whose jobs are told"))?
-        .arg(letter_flag(alloc, 'r', "scheduler", "Whether the service runs"))?
-        .arg(letter_flag(alloc, 'd', "usual", "Which queue is the usual one"))?
-        .arg(letter_flag(alloc, 't', "all", "All that there is to tell"))
+        .arg(words(
+            alloc,
+            "name",
+            "NAME",
+            "Show the jobs of these queues, and these jobs",
+        ))?
+        .arg(letter_flag(
+            alloc,
+            'r',
+            "scheduler",
+            "Show whether the service is running",
+        ))?
+        .arg(letter_flag(alloc, 'd', "usual", "Show the default queue"))?
+        .arg(letter_flag(alloc, 't', "all", "Show all of this"))
 }
 
 pub fn cancel_command<'a>(alloc: Global) -> Result<Command<'a>, AllocError>
     ensures { IfOk result (λ command. app_of command ≡ cancel_app) }
 {
-    let command = named_command(alloc, "cancel", "Cancels jobs")?;
+    let command = named_command(alloc, "cancel", "Cancel jobs")?;
     command
         .arg(words(
             alloc,
             "job",
             "JOB",
-            "The jobs, as 12 or office-12; with -a the queues",
+            "The jobs, such as 12 or office-12; with -a, queues",
         ))?
-        .arg(letter_flag(alloc, 'a', "all", "Each job of these queues, or of all"))
+        .arg(letter_flag(
+            alloc,
+            'a',
+            "all",
+            "Cancel all jobs of these queues, or of all queues",
+        ))
 }
 
 pub fn lpq_command<'a>(alloc: Global) -> Result<Command<'a>, AllocError>
     ensures { IfOk result (λ command. app_of command ≡ lpq_app) }
 {
-    let command = named_command(alloc, "lpq", "Tells the jobs of a queue")?;
+    let command = named_command(alloc, "lpq", "Show the jobs of a queue")?;
     command
-        .arg(words(alloc, "job", "JOB", "These jobs alone, as 12 or office-12"))?
-        .arg(letter_option(alloc, 'P', "queue", "DEST", "The queue whose jobs are told"))?
-        .arg(letter_flag(alloc, 'a', "all", "The jobs of all queues"))
+        .arg(words(
+            alloc,
+            "job",
+            "JOB",
+            "Show only these jobs, such as 12 or office-12",
+        ))?
+        .arg(letter_option(alloc, 'P', "queue", "DEST", "The queue"))?
+        .arg(letter_flag(alloc, 'a', "all", "Show the jobs of all queues"))
 }
 
 pub fn lprm_command<'a>(alloc: Global) -> Result<Command<'a>, AllocError>
     ensures { IfOk result (λ command. app_of command ≡ lprm_app) }
 {
-    let command = named_command(alloc, "lprm", "Cancels jobs")?;
+    let command = named_command(alloc, "lprm", "Cancel jobs")?;
     command
         .arg(needed_words(
             alloc,
             "job",
             "JOB",
-            "The jobs, as 12 or office-12; `-` is each job of the queue of -P",
+            "The jobs, such as 12 or office-12; `-` means all jobs of the queue of -P",
         ))?
-        .arg(letter_option(
-            alloc,
-            'P',
-            "queue",
-            "DEST",
-            "The queue whose jobs `-` means",
-        ))
+        .arg(letter_option(alloc, 'P', "queue", "DEST", "The queue for `-`"))
 }
 
-// The title of lpr, by any of three letters.
+// The title of lpr, which has three letters.
 fn title_option<'a>(alloc: Global) -> Result<Arg<'a>, AllocError>
     ensures rule { IfOk result (λ title. rule_of title ≡ title_rule) }
     ensures local { IfOk result (λ title. title.global ≡ false) }
@@ -200,7 +243,7 @@ fn title_option<'a>(alloc: Global) -> Result<Arg<'a>, AllocError>
         'T',
         "title",
         "TITLE",
-        "The title, also by -J and -C [default: the file's name]",
+        "The title of the job, also -J and -C [default: the file's name]",
     );
     let title = lettered(title, 'J')?;
     lettered(title, 'C')

@@ -1,4 +1,4 @@
-//! What the values that clap found ask for, form by form.
+//! Converts the values that clap found into a task, form by form.
 ghost use Rattle.std.specs.Prelude.{◌≡◌, ◌∷◌, [], ⊤, IfOk, IsSome, MatchResult, Some, codes, map};
 ghost use Rattle.clap.specs.Words.{first_of, found_of, rows_of};
 ghost use Rattle.front_words.specs.AskedTasks.{Fit, FitCancel, FitHold, FitJobs, FitNew, FitQueue, FitRemoval, FitStatus, FitSubmission};
@@ -18,7 +18,7 @@ use crate::given::{
 use clap::ArgMatches;
 use std::alloc::{AllocError, Global};
 
-// What the values ask for, and where.
+// Returns the task and the sockets that the values ask for.
 pub fn asked_in<'a>(alloc: Global, form: Form, matches: &ArgMatches<'a>) -> Result<Asked<'a>, Wrong>
     ensures asked { IfOk result (IsAskedIn form (rows_of (found_of matches.now))) }
     ensures fit { MatchResult result (λ _. Fit form (rows_of (found_of matches.now))) (BlamesOnly (Fit form (rows_of (found_of matches.now)))) }
@@ -57,7 +57,7 @@ fn task_in<'a>(alloc: Global, form: Form, matches: &ArgMatches<'a>) -> Result<Ta
         Form::CancelJobs => cancel_in(alloc, matches),
         Form::Lpq => lpq_in(alloc, matches),
         Form::Lprm => lprm_in(alloc, matches),
-        Form::Other => Err(Wrong::Value("there is no such task; `spool --help` lists them")),
+        Form::Other => Err(Wrong::Value("no such task; `spool --help` lists all tasks")),
     }
 }
 
@@ -70,14 +70,14 @@ fn submit_in<'a>(alloc: Global, matches: &ArgMatches<'a>) -> Result<Task<'a>, Wr
         "copies",
         (1, 9_999),
         1,
-        "the copies are no number from 1 to 9999",
+        "the number of copies must be from 1 to 9999",
     )?;
     let priority = number_given(
         matches,
         "priority",
         (1, 100),
         50,
-        "the priority is no number from 1 to 100",
+        "the priority must be a number from 1 to 100",
     )?;
     let hold = hold_given(matches)?;
     let by = moment_given(matches, "by", NO_MOMENT)?;
@@ -97,16 +97,15 @@ fn submit_in<'a>(alloc: Global, matches: &ArgMatches<'a>) -> Result<Task<'a>, Wr
     }))
 }
 
-const NO_MOMENT: &str =
-    "the moment is neither seconds of the epoch nor +SECONDS, up to 4000000000000";
+const NO_MOMENT: &str = "MOMENT must be seconds since 1970 or +SECONDS, up to 4000000000000";
 
-// Whether the job waits, by --hold and --at of `spool submit`, -H of lp or -q of lpr.
+// Returns whether and until when the job is held, from --hold and --at of `spool submit`, -H of lp or -q of lpr.
 fn hold_given(matches: &ArgMatches<'_>) -> Result<Hold, Wrong>
     ensures { MatchResult result (λ hold. hold_of (rows_of (found_of matches.now)) ≡ Some hold) (BlamesOnly (IsSome (hold_of (rows_of (found_of matches.now))))) }
 {
     if let Some(text) = text_given(matches, "handling") {
         return handling_of(text).ok_or(Wrong::Value(
-            "-H is neither hold, immediate, seconds of the epoch nor +SECONDS",
+            "-H must be hold, indefinite, immediate, no-hold, seconds since 1970 or +SECONDS",
         ));
     }
     match moment_given(matches, "at", NO_MOMENT)? {
@@ -116,7 +115,7 @@ fn hold_given(matches: &ArgMatches<'_>) -> Result<Hold, Wrong>
     }
 }
 
-// What -H says of it.
+// Returns the hold that the value of -H asks for, or `None` if the value is invalid.
 fn handling_of(text: &str) -> Option<Hold>
     ensures { result ≡ handling_of text.now }
 {
@@ -136,7 +135,7 @@ fn status_in<'a>(matches: &ArgMatches<'a>) -> Result<Task<'a>, Wrong>
     let job = job_given(matches, "job")?;
     let queue = text_given(matches, "queue");
     if text_given(matches, "job").is_some() && queue.is_some() {
-        return Err(Wrong::Value("JOB and -q don't go together"));
+        return Err(Wrong::Value("JOB and -q cannot be used together"));
     }
     let json = flag_given(matches, "json");
     Ok(Task::Status(Status { job, queue, json }))
@@ -174,7 +173,7 @@ fn add_in<'a>(matches: &ArgMatches<'a>) -> Result<Task<'a>, Wrong>
     let policy = text_given(matches, "policy").unwrap_or("retry-job");
     if !is_policy(policy) {
         return Err(Wrong::Value(
-            "POLICY is none of abort-job, retry-job, retry-current-job and stop-printer",
+            "POLICY must be abort-job, retry-job, retry-current-job or stop-printer",
         ));
     }
     let interval = number_given(
@@ -182,14 +181,14 @@ fn add_in<'a>(matches: &ArgMatches<'a>) -> Result<Task<'a>, Wrong>
         "interval",
         (0, 86_400),
         30,
-        "the interval is no number up to 86400",
+        "the interval must be a number from 0 to 86400",
     )?;
     let limit = number_given(
         matches,
         "limit",
         (0, 65_535),
         5,
-        "the limit is no number up to 65535",
+        "the limit must be a number from 0 to 65535",
     )?;
     let media = text_given(matches, "media").unwrap_or("application/pdf");
     queue_in(
@@ -258,7 +257,7 @@ fn cancel_in<'a>(alloc: Global, matches: &ArgMatches<'a>) -> Result<Task<'a>, Wr
         return Ok(Task::Clear { queues });
     }
     if text_given(matches, "job").is_none() {
-        return Err(Wrong::Value("no JOB is named; -a cancels all jobs"));
+        return Err(Wrong::Value("no JOB given; -a cancels all jobs"));
     }
     jobs_in(alloc, JobAct::Cancel, matches)
 }
@@ -274,7 +273,7 @@ fn lpq_in<'a>(alloc: Global, matches: &ArgMatches<'a>) -> Result<Task<'a>, Wrong
     }))
 }
 
-// The jobs, or with `-` those of the queue.
+// Returns the removal of the jobs, or of all jobs of the queue if the first argument is `-`.
 fn lprm_in<'a>(alloc: Global, matches: &ArgMatches<'a>) -> Result<Task<'a>, Wrong>
     ensures asked { IfOk result (IsRemoval (rows_of (found_of matches.now))) }
     ensures fit { MatchResult result (λ _. FitRemoval (rows_of (found_of matches.now))) (BlamesOnly (FitRemoval (rows_of (found_of matches.now)))) }
@@ -283,7 +282,7 @@ fn lprm_in<'a>(alloc: Global, matches: &ArgMatches<'a>) -> Result<Task<'a>, Wron
         return jobs_in(alloc, JobAct::Cancel, matches);
     }
     let Some(queue) = text_given(matches, "queue") else {
-        return Err(Wrong::Value("`-` wants a queue: -P DEST -"));
+        return Err(Wrong::Value("`-` needs a queue: -P DEST -"));
     };
     let queues = only(alloc, queue)?;
     Ok(Task::Clear { queues })

@@ -1,4 +1,4 @@
-//! The words of the command line.
+//! Reading the command line.
 ghost use Rattle.std.specs.Prelude.{IfOk, MatchResult, map};
 ghost use Rattle.clap.specs.Words.{found_of, rows_of};
 ghost use Rattle.front_words.specs.AskedTasks.{AreTaken, Fit, IsAsked, IsAskedIn};
@@ -14,7 +14,7 @@ use clap::{ArgMatches, Command};
 use std::alloc::Global;
 use std::convert::AsStr;
 
-/// Reads the words of the command line, of which the first is the program's name.
+/// Reads the arguments of the command line, including the program's name.
 pub fn read_words<'a, S: AsStr>(alloc: Global, words: &'a [S]) -> Result<Asked<'a>, WordsFault>
     ensures asked { IfOk result (IsAsked (map S.text words.entry.now)) }
     ensures taken { MatchResult result (λ _. AreTaken (map S.text words.entry.now))
@@ -30,7 +30,7 @@ pub fn read_words<'a, S: AsStr>(alloc: Global, words: &'a [S]) -> Result<Asked<'
     }
 }
 
-// What the values ask for, or what clap would say of them.
+// Returns the task that the values ask for, or an error of clap if a value is invalid.
 fn asked_or_mistake<'a>(
     alloc: Global,
     form: Form,

@@ -1,5 +1,5 @@
-//! Command lines as people write them, and what the front takes them for. It is what no clause says: that the options of each
-//! program are those that its users know.
+//! Tests of `front_words` with command lines as users write them. No clause states that each program has the options that its users know:
+//! these tests show it.
 #![tactic(auto)]
 
 #[cfg(test)]

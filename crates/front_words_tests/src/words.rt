@@ -1,6 +1,7 @@
 use front_words::{
     Asked, Hold, JobAct, Moment, QueueAct, Submission, Task, WordsFault, read_words,
 };
+use program_version::with_version;
 use std::test::Fail;
 
 fn task_of<'a>(rt: &HostRuntime, words: &'a [&'a str]) -> Result<Task<'a>, Fail> {
@@ -135,6 +136,17 @@ fn helps(rt: HostRuntime) -> Result<(), Fail> {
         return Err("no help")?;
     };
     println!(rt; "{error}")?;
+    Ok(())
+}
+
+#[test]
+fn prints_the_version(rt: HostRuntime) -> Result<(), Fail> {
+    let Err(WordsFault::Refused(error)) = read_words(rt.alloc(), &["spool", "--version"]) else {
+        return Err("no version")?;
+    };
+    let text = format!(in rt.alloc(); "{error}")?;
+    assert_eq!(rt; text.as_str(), with_version!("spool (Cegmandi) ", "\n"));
+    assert!(rt; error.exit_code() == 0);
     Ok(())
 }
 

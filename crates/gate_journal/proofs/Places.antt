@@ -1,4 +1,4 @@
--- What stands at a place of a journal with known entries.
+-- The contents at an offset of a journal with known entries.
 use Rattle.std.proofs.Common.{◌≡◌, ◌≢◌, ℕ, ◌+◌, ◌<◌, ◌^◌, List, [], ◌∷◌, ◌++◌, length, get_or, take, drop, refl, sym, subst, ◌∙◌, ap, arith, append_assoc, Option, Some}
 use Rattle.std.proofs.lemmas.List.{take_at, drop_at, drop-drop, get_or-drop}
 use Rattle.std.proofs.lemmas.Bool.Decides.{nat_tests}
@@ -19,7 +19,7 @@ shorts_after : (before after : List (List ℕ)) → AreShort (before ++ after) �
 shorts_after [] after shorts = shorts
 shorts_after (p ∷ before) after shorts = shorts_after before after shorts.1
 
--- what stands behind the first records
+-- The bytes after the first records.
 there : (base place : ℕ) (bytes front rest : List ℕ) → drop base bytes ≡ front ++ rest → place ≡ base + length front → drop place bytes ≡ rest
 there base place bytes front rest stands at =
     ap (λ (n : ℕ). drop n bytes) at ∙ sym (drop-drop (length front) base bytes) ∙ ap (drop (length front)) stands ∙ drop_at front rest (length front) refl
@@ -73,7 +73,7 @@ same_size (x ∷ p) (y ∷ q) r s is e =
 pub regroup : (p : List ℕ) (ps : List (List ℕ)) (tail : List ℕ) → records (p ∷ ps) ++ tail ≡ 165 ∷ (to_be_bytes w32 (length p) ++ (p ++ (records ps ++ tail)))
 regroup p ps tail = append_assoc (record_of p) (records ps) tail ∙ append_assoc (165 ∷ to_be_bytes w32 (length p)) p (records ps ++ tail)
 
--- bytes have one list of entries
+-- Bytes have at most one list of entries.
 pub one_list : (ps qs : List (List ℕ)) (g h : ℕ) (r s : List ℕ) → g ≢ 165 → h ≢ 165 → AreShort ps → AreShort qs → records ps ++ g ∷ r ≡ records qs ++ h ∷ s → ps ≡ qs
 one_list [] [] g h r s a b short_ps short_qs e = refl
 one_list [] (q ∷ qs) g h r s a b short_ps short_qs e = let is : g ≡ 165 = cc in absurd (a is)
@@ -88,7 +88,7 @@ one_list (p ∷ ps) (q ∷ qs) g h r s a b short_ps short_qs e =
     let others : ps ≡ qs = one_list ps qs g h r s a b short_ps.1 short_qs.1 both.1 in
     cc (both.0, others)
 
--- what was read, of a disk that tells its bytes
+-- The bytes that were read from a disk that reports its bytes.
 pub read_told : (told : Option (List ℕ)) (bytes got : List ℕ) (at n : ℕ) → told ≡ Some bytes → length got ≡ n → Reads told at got → got ≡ take n (drop at bytes)
 read_told told bytes got at n tells long reads =
     let there : got ≡ take (length got) (drop at bytes) = subst (λ (o : Option (List ℕ)). Reads o at got) tells reads in

@@ -1,4 +1,4 @@
--- How what stands at a place goes on with the entries before it.
+-- The contents at an offset continue the entries before it.
 use Rattle.std.proofs.Common.{◌≡◌, ◌≢◌, ℕ, ◌+◌, ◌-◌, ◌<◌, ◌≤◌, ◌^◌, List, [], ◌∷◌, ◌++◌, length, get_or, take, drop, refl, sym, ◌∙◌, ap, arith, append_assoc, length-drop, take-append-drop}
 use Rattle.std.proofs.lemmas.List.{drop_at, drop_more, drop-drop, length-take-le}
 use Rattle.std.proofs.lemmas.Bool.{cases_eq}
@@ -21,14 +21,14 @@ chosen_closed end place gate n shut = grind (arith, nat_tests)
 chosen_open : (end place gate n : ℕ) → gate ≡ 165 → choose end place gate n ≢ End
 chosen_open end place gate n is = grind (arith, nat_tests)
 
--- an entry stands behind an open gate
+-- An entry is after an open gate.
 open_before : (end place gate n at len : ℕ) → Entry at len ≡ choose end place gate n → gate ≡ 165
 open_before end place gate n at len found = elim (cases_eq gate 165) [
   | inl is ↦ is
   | inr shut ↦ let e = chosen_closed end place gate n shut in absurd (cc)
 ]
 
--- a record and what follows it
+-- A record and the bytes after it.
 one_record : (place n : ℕ) (bytes : List ℕ) → place + 5 + n ≤ length bytes → get_or bytes place 0 ≡ 165 → to_be_bytes w32 n ≡ take 4 (drop (place + 1) bytes)
     → drop place bytes ≡ record_of (take n (drop (place + 5) bytes)) ++ drop (place + 5 + n) bytes
 one_record place n bytes fits gate spelt =
@@ -50,7 +50,7 @@ one_record place n bytes fits gate spelt =
     ∙ sym (append_assoc (to_be_bytes w32 (length payload)) payload (drop (place + 5 + n) bytes)))
 
 module _ (base place : ℕ) (payloads : List (List ℕ)) (bytes : List ℕ) (first : HasFirst base place payloads bytes) where
-  -- what stands behind the first entries begins at place
+  -- The bytes after the first entries begin at `place`.
   behind_first : drop base bytes ≡ records payloads ++ drop place bytes
   behind_first =
       first.stands ∙ ap (λ (l : List ℕ). records payloads ++ l)
@@ -95,7 +95,7 @@ module _ (base place : ℕ) (payloads : List (List ℕ)) (bytes : List ℕ) (fir
       no_other (omega arith) (λ is. chosen_open end place (get_or bytes place 0) (length_at bytes place) is (sym exact))
   goes_on end Damaged inside within exact lies spelt = tt
 
--- three facts of an answer, and a fourth from them
+-- Three properties of a result, and a fourth that follows from them.
 pub three_ok : {T X : Type 0} (r : Result T X) (P Q R S : T → Type 0) → ((x : T) → P x → Q x → R x → S x) → IfOk r P → IfOk r Q → IfOk r R → IfOk r S
 three_ok (Ok x) P Q R S all p q s = all x p q s
 three_ok (Err e) P Q R S all p q s = tt

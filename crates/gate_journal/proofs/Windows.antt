@@ -1,14 +1,14 @@
--- What a window holds of a disk.
+-- The bytes of a disk in a window.
 use Rattle.std.proofs.Common.{◌≡◌, sym, ◌∙◌, ap, ℕ, ◌+◌, ◌-◌, ◌≤◌, List, [], length, take, drop, arith, Option, Some, None, length-drop}
 use Rattle.std.proofs.lemmas.List.{drop-take, drop-drop, take-take, length-take-le}
 use Rattle.spool_disk.specs.Disk.{Reads}
 
--- no bytes are those of any place
+-- No bytes are the bytes from any offset on.
 pub no_bytes : (told : Option (List ℕ)) (at : ℕ) (got : List ℕ) → got ≡ [] → Reads told at got
 no_bytes None at got is = tt
 no_bytes (Some bytes) at got is = is ∙ ap (λ (l : List ℕ). take (length l) (drop at bytes)) (sym is)
 
--- a part of what was read
+-- A part of the bytes that were read.
 part_of : (start k n : ℕ) (got bytes : List ℕ) → got ≡ take (length got) (drop start bytes) → k + n ≤ length got → take n (drop k got) ≡ take n (drop (start + k) bytes)
 part_of start k n got bytes is fits =
     let m = length got - k in

@@ -2,15 +2,15 @@
 use Rattle.std.specs.Prelude.{ℕ, List}
 use Rattle.spool_disk.specs.Disk.{DiskView, Reads}
 
--- some bytes, and the place of the first
+-- Some bytes, and the offset of the first.
 pub record Stretch : Type 0 where
   pub start : ℕ
   pub bytes : List ℕ
 
--- how many bytes are read at a time
+-- The number of bytes that are read at a time.
 abbrev pub block_len : ℕ
 block_len = 65536
 
--- where the disk tells its bytes, these are those from their start on
+-- If the disk reports its bytes, these are the bytes from their start on.
 abbrev pub Holds : {D : Type 0} → DiskView D → D → Stretch → Type 0
 Holds v disk stretch = Reads (v.bytes disk) stretch.start stretch.bytes

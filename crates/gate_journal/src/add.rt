@@ -1,4 +1,4 @@
-// The two writes of an append: the record behind the closed gate, and then the gate.
+// The two writes of an append: the record after the closed gate, and then the gate.
 ghost use Rattle.std.specs.Prelude.{◌≡◌, ◌+◌, ◌<◌, ◌≤◌, ◌^◌, List, ℕ, ◌++◌, [], ◌∷◌, length, OnOk};
 ghost use Rattle.spool_disk.specs.Disk.{IsSynced, IsWritten, LeavesOnly, ChangesOnly, HasCause};
 ghost use Rattle.gate_journal.specs.Entries.{record_of, IsBeforeOrAfter, KeepsEntries};
@@ -8,8 +8,8 @@ use crate::frame::fill;
 use crate::layout::OPEN_GATE;
 use spool_disk::{DeviceFault, Disk, persist};
 
-// Puts the record of a frame at the closed gate at a place. The gate is opened by a write of its own, and only once all
-// that lies behind it is on the device: else a crash could leave it open before anything.
+// Writes the record of a frame at the closed gate at offset `place`. The gate is opened by a write of its own, after the bytes that follow
+// it are on the device. Otherwise a crash could leave an open gate without a record.
 pub(crate) fn add<D: Disk>(disk: &mut D, place: u64, frame: &mut [u8]) -> Result<(), DeviceFault>
     requires room { place + 1 < 2 ^ 64 }
     requires whole { 5 ≤ length frame.old }

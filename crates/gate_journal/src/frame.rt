@@ -1,8 +1,8 @@
-// The frame that a caller hands in: four free bytes, the payload and one free byte.
+// The frame that a caller passes: four free bytes, the payload, and one free byte.
 ghost use Rattle.std.specs.Prelude.{◌≡◌, ◌<◌, ◌≤◌, ◌^◌, length};
 ghost use Rattle.gate_journal.specs.Frame.{payload_of, framed};
 
-// Writes the payload's length before it, and the closed gate behind it.
+// Writes the payload's length before it, and the closed gate after it.
 pub(crate) fn fill(frame: &mut [u8])
     requires whole { 5 ≤ length frame.old }
     requires short { length frame.old < 2 ^ 32 }

@@ -8,18 +8,18 @@ use crate::add::add;
 use crate::layout::{HEAD_LEN, KEPT_ROOM};
 use spool_disk::{DeviceFault, Disk, persist};
 
-/// Why nothing was added for certain.
+/// The reason why it is not certain that a record was added.
 #[derive(Clone, Copy, Debug, PartialEq, Eq)]
 pub enum JournalFault {
-    /// The record doesn't fit. Nothing has changed.
+    /// The record does not fit. Nothing has changed.
     Full,
-    /// The device has failed. The record may be on it or not, and the journal is dead from now on.
+    /// The device failed. The record may be on it or not, and the journal is dead from now on.
     Disk,
     /// An earlier append met `Disk`. Nothing has changed.
     Dead,
 }
 
-/// Where a journal lies on a disk, and where its closed gate lies. It doesn't hold the disk: each call is given it.
+/// The offsets of a journal on a disk, and of its closed gate. It does not hold the disk, which each call takes as an argument.
 #[derive(Drop)]
 pub struct Journal {
     base: u64,
@@ -33,8 +33,8 @@ impl Journal {
     ghost use Rattle.gate_journal.specs.Journal.{state_of, base_of, end_of, place_of, is_dead};
     ghost use Rattle.gate_journal.specs.Appends.{Appends};
 
-    /// Begins a journal without entries in the `len` bytes from `base` on: it writes the first closed gate and syncs.
-    /// The bytes behind that gate stay. An area of at least 7 bytes has room for one record of one byte.
+    /// Begins a journal without entries in the `len` bytes from `base` on: it writes the first closed gate and syncs. The bytes after that
+    /// gate are unchanged. An area of at least 7 bytes has room for one record of one byte.
     pub fn begin<D: Disk>(disk: &mut D, base: u64, len: u64) -> Result<Journal, DeviceFault>
         requires len { kept_room ≤ len }
         requires within { base + len ≤ D.device.size disk.old }
@@ -55,8 +55,8 @@ impl Journal {
         })
     }
 
-    /// The journal in the `len` bytes from `base` on whose closed gate lies at `place`, as `next_entry` found it. It
-    /// calls no device, so the entries and the images are as they were.
+    /// Returns the journal in the `len` bytes from `base` on with its closed gate at `place`, where `next_entry` found it. It calls no
+    /// device, so the entries and the images are unchanged.
     pub fn resume(base: u64, len: u64, place: u64) -> Journal
         requires fits { base + len < 2 ^ 64 }
         requires within { place < base + len }
@@ -73,19 +73,19 @@ impl Journal {
         }
     }
 
-    /// How many bytes there are from the closed gate to the end.
+    /// Returns the number of bytes from the closed gate to the end.
     pub fn room(&self) -> u64
         ensures { result ≡ end_of self.now - place_of self.now }
     {
         self.end - self.place
     }
 
-    /// Adds the payload of a frame, and answers the payload's place on the disk.
+    /// Adds the payload of a frame, and returns the payload's offset on the disk.
     ///
-    /// A frame is four free bytes, the payload, which may be empty, and one free byte. The length and the closed next
-    /// gate are filled in, and the frame is written as it lies behind the closed gate; a sync, the open gate, and a
-    /// second sync follow. It is `Full` exactly where the record and the 7 bytes kept behind it, room for one record of
-    /// one byte and its next gate, would leave the area. After `Disk` every append answers `Dead`.
+    /// A frame is four free bytes, the payload, which may be empty, and one free byte. The call fills in the length and the closed next
+    /// gate, and writes the frame after the closed gate. Then it syncs, opens the gate, and syncs again. It returns `Full` exactly if the
+    /// record and the 7 bytes reserved after it, room for one record of one byte and its next gate, would extend beyond the area. After
+    /// `Disk` every append returns `Dead`.
     pub fn append<D: Disk>(&mut self, disk: &mut D, frame: &mut [u8]) -> Result<u64, JournalFault>
         requires whole { 5 ≤ length frame.old }
         requires short { length frame.old < 2 ^ 32 }
@@ -95,8 +95,8 @@ impl Journal {
         self.append_with(disk, frame, KEPT_ROOM)
     }
 
-    /// The same into the room that `append` keeps: it is `Full` exactly where the record and its next gate would leave
-    /// the area.
+    /// Does the same as `append`, but may use the room that `append` reserves: it returns `Full` exactly if the record and its next gate
+    /// would extend beyond the area.
     pub fn append_kept<D: Disk>(
         &mut self,
         disk: &mut D,
@@ -110,7 +110,7 @@ impl Journal {
         self.append_with(disk, frame, 1)
     }
 
-    // Adds a record, where so many bytes are free from its next gate on.
+    // Adds a record if at least `room` bytes are free from its next gate on.
     fn append_with<D: Disk>(
         &mut self,
         disk: &mut D,

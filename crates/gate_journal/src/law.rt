@@ -2,7 +2,7 @@
 ghost use Rattle.std.specs.Prelude.{◌≡◌, ℕ, List};
 ghost use Rattle.gate_journal.specs.Entries.{HasEntries};
 
-/// Bytes have at most one list of entries from a place on, so what a journal holds is determined by its bytes.
+/// Bytes have at most one list of entries from an offset on, so a journal's bytes determine its entries.
 pub fn entries_law()
     ensures { (base : ℕ) (some others : List (List ℕ)) (bytes : List ℕ) → HasEntries base some bytes → HasEntries base others bytes → some ≡ others }
 {}

@@ -1,11 +1,10 @@
-//! How a record lies: a gate, the payload's length in four bytes, the payload.
+//! The layout of a record: a gate, the payload's length in four bytes, and the payload.
 
-/// An open gate. Every other byte is a closed one.
+/// An open gate. Every other byte is a closed gate.
 pub const OPEN_GATE: u8 = 0xA5;
 
-/// How many bytes of a record stand before its payload: the gate and the length.
+/// The number of bytes of a record before its payload: the gate and the length.
 pub const HEAD_LEN: u64 = 5;
 
-/// How many bytes `append` keeps free from a record's next gate on: room for one record of one byte, and the gate behind
-/// it.
+/// The number of bytes that `append` reserves from a record's next gate on: room for one record of one byte, and the gate after it.
 pub const KEPT_ROOM: u64 = 7;

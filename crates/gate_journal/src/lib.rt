@@ -1,50 +1,62 @@
-//! The journal of one area of a disk: a list of records, each behind a gate. After a crash a record is whole or absent.
+//! The journal of one area of a disk: a list of records, each after a gate. After a crash a record is whole or absent.
 //!
-//! # How it lies
+//! The records follow each other from the area's base on. A record is a gate, the payload's length in four bytes with the high byte first,
+//! and the payload. The byte after it is the next gate. A gate is open if it is A5, and closed at every other value; a closed gate is
+//! written as 00. The entries are the payloads of the records up to the first closed gate (`HasEntries`). The bytes after that gate have no
+//! meaning.
 //!
-//! From the area's base on, records follow one another. A record is a gate, the payload's length in four bytes with the
-//! high byte first, and the payload; the byte behind it is the next gate. A gate is open where it is A5, and closed at
-//! every other value; what is written as a closed gate is 00. The entries are the payloads of the records up to the
-//! first closed gate (`HasEntries`). What lies behind that gate has no meaning. Bytes have one list of entries
-//! (`entries_law`).
+//! An append writes twice and syncs twice. The first write stores the length, the payload and the closed next gate after the closed gate.
+//! Until that gate opens, a crash may leave anything there, and it has no meaning. After a sync has returned Ok, the second write opens the
+//! gate: a crash leaves that one byte A5 or not, and in both cases the whole record after it. After the second sync it is A5 for certain,
+//! and only then is the record acknowledged.
 //!
-//! # What it promises to the layer above, on every disk that meets `Disk`
+//! # Promises
 //!
-//! 1. `Journal::begin` leaves no entries: every image has none (`none`), and nothing is unsynced (`durable`).
-//! 2. `Journal::resume` at a closed gate adds nothing: it calls no device.
-//! 3. `Journal::append`, where every image at its start has the old entries and no others (`KeepsEntries`): after Ok
-//!    every image has the old entries and this one (`added`) and nothing is unsynced (`durable`); a crash at any moment
-//!    of the call leaves the old entries, or these and this one (`any_moment`, `IsBeforeOrAfter`), whatever the call
-//!    answers; and all bytes but the gate and the written range stay (`changes`, `inside`). All of it is one record
-//!    (`Appends`), over the room that has to stay free behind the record.
-//! 4. `next_entry` is the entry at a place (`exact`): an entry, the end, or damage where a record leaves the area. From
-//!    the base on it gives the entries one after another, and then the end (`entry`, `at_end`), and what it gives are
-//!    the entries (`goes_on`). It changes nothing.
-//! 5. `Window::read` reads as the disk does (`data`, `same`, `cause`), and a whole block at a time: what the window has is
-//!    what the disk tells (`Holds`), before and after (`held`). Whoever writes to the disk clears the window first.
+//! On every disk that meets `Disk`:
 //!
-//! 2 to 4 hold for every list of entries, so a caller needn't know them. They speak of disks that tell their bytes; on
-//! any other the calls have the same answers and faults.
+//! - [`entries_law`]: bytes have at most one list of entries.
+//! - [`Journal::begin`] leaves no entries: every image has none (`none`), and nothing is unsynced (`durable`). It writes only the first
+//!   gate (`written`, `changes`).
+//! - [`Journal::resume`] at a closed gate adds nothing, since it calls no device (`base`, `end`, `place`, `alive`).
+//! - [`Journal::append`] and [`Journal::append_kept`] (`Appends`), if every image at the start has the old entries and no others
+//!   (`KeepsEntries`): after Ok every image has the old entries and the new one (`added`), and nothing is unsynced (`durable`). A crash at
+//!   any moment of the call leaves the old entries, or these and the new one, whatever the call returns (`any_moment`, `IsBeforeOrAfter`).
+//!   All bytes outside the gate and the written range are unchanged (`changes`, `inside`). Both calls have one definition, for the room
+//!   that must stay free after the record.
+//! - [`next_entry`] returns what is at an offset (`exact`): an entry, the end, or damage if a record extends beyond the area. From the base
+//!   on it returns the entries in order, and then the end (`entry`, `at_end`), and after known first entries it returns one more, or the
+//!   end if there are no others (`goes_on`). An entry and its next gate are before the end (`lies`). It changes nothing (`same`).
+//! - [`Window::read`] has the clauses of the disk's own read (`data`, `same`, `cause`), and reads a whole block at a time. The window's
+//!   bytes equal what the disk reports (`Holds`), before and after (`held`). A caller that writes to the disk clears the window first.
 //!
-//! # How it keeps them
+//! The promises of `resume`, the appends and `next_entry` apply to every list of entries, so a caller need not know the entries. A frame is
+//! shorter than 2^32 bytes, since its length has four bytes, and an area is inside the disk; the caller ensures both.
 //!
-//! An append writes twice and syncs twice. The first write puts the length, the payload and the closed next gate behind
-//! the closed gate: until the gate opens, a crash may leave anything there, and it has no meaning. Only once a sync has
-//! answered Ok does the second write open the gate: a crash leaves that one byte A5 or not, and behind it the whole
-//! record either way. After the second sync it is A5 for certain, and only then is the record acknowledged.
+//! # Invariants
 //!
-//! The invariants: `place` is below `end`, and, unless the journal is dead, the gate at `place` is closed in every
-//! image. A window has the memory of one block from its making on, so no read has an answer for want of memory.
+//! - `place` is below `end`. Unless the journal is dead, the gate at `place` is closed in every image.
+//! - The window does not hold the disk, so no clause is about another disk than the caller's. Its memory is allocated once, by
+//!   `Areas::open`, so no read fails because memory ran out.
 //!
-//! # Faults and what they leave
+//! # Not proved
 //!
-//! - `Dead`, before any other fault, exactly where an earlier append met `Disk`. Nothing has changed.
-//! - `Full` exactly where the record and the room kept behind it (7 bytes in `append`, 1 in `append_kept`) don't fit
-//!   before the area's end. Nothing has changed: not the journal, the disk or the frame.
-//! - `Disk` only where the device's count of faults rose during the call. Each image has the old entries, or these and
-//!   this one. The journal is dead from then on.
-//! - `DeviceFault` from `begin`, `next_entry` and `Window::read`, only where that count rose. A window that was to be filled
-//!   has no bytes then.
+//! - Entries on disks that do not report their bytes: on such a disk only the results and faults are promised.
+//!
+//! # Errors
+//!
+//! - `Dead`, before any other fault, exactly if an earlier append met `Disk`. Nothing has changed.
+//! - `Full` exactly if the record and the room reserved after it (7 bytes in `append`, 1 in `append_kept`) do not fit before the area's
+//!   end. Nothing has changed: not the journal, the disk or the frame.
+//! - `Disk` only if the device's count of failures rose during the call. Each image has the old entries, or these and the new one. The
+//!   journal is dead from then on.
+//! - `DeviceFault` from `begin`, `next_entry` and `Window::read`, only if that count rose. If a window was being filled, it has no bytes
+//!   after that.
+//!
+//! # Cost
+//!
+//! An append syncs twice. A read of 64 KiB or more bypasses the window, so no large payload is copied twice. A block may extend beyond the
+//! bytes asked for, and a device that fails anywhere in a block fails that read. The spool builds the frame of a record in a buffer that it
+//! retains, so it allocates nothing after the longest record was written.
 #![tactic(auto)]
 
 mod add;

@@ -1,4 +1,4 @@
-// Reading a disk in blocks.
+// Reads a disk in blocks.
 ghost use Rattle.std.specs.Prelude.{◌≡◌, ◌↔◌, ◌+◌, ◌-◌, ◌≤◌, ℕ, [], length, take, drop, IfOk, OnOk, IsTrue};
 ghost use Rattle.spool_disk.specs.Disk.{Reads, ChangesNothing, HasCause};
 ghost use Rattle.gate_journal.specs.Window.{block_len, Holds};
@@ -7,15 +7,15 @@ use spool_disk::{DeviceFault, Disk};
 use std::alloc::{AllocError, Global};
 use std::marker::Model;
 
-// How many bytes are read at a time.
+// The number of bytes that are read at a time.
 const BLOCK_LEN: usize = 65_536;
 
-/// Bytes of a disk that were read together, so that a small read among them calls no device. It doesn't hold the disk:
-/// each call is given it, and whoever writes to the disk clears the window first.
+/// Bytes of a disk that were read together, so that a small read among them calls no device. It does not hold the disk, which each call
+/// takes as an argument. A caller that writes to the disk clears the window first.
 #[derive(Drop)]
 pub struct Window {
     start: u64,
-    // The first bytes of the block are those that were read, and this is how many.
+    // The number of bytes at the start of the block that were read.
     len: usize,
     block: Vec<u8>,
 }
@@ -32,7 +32,7 @@ impl Model for Window {
 }
 
 impl Window {
-    /// A window without bytes. It takes the memory of a block, and none later.
+    /// Returns a window without bytes. It allocates a block here, and nothing later.
     pub fn new(alloc: Global) -> Result<Window, AllocError>
         ensures { IfOk result (λ w. w.bytes ≡ []) }
     {
@@ -43,15 +43,15 @@ impl Window {
         })
     }
 
-    /// Forgets its bytes.
+    /// Discards its bytes.
     pub fn clear(&mut self)
         ensures { self.new.bytes ≡ [] }
     {
         self.len = 0;
     }
 
-    /// Reads the bytes from a place on, as `Disk::read` does. Where the window doesn't have them all it is filled from
-    /// that place on, with a block or with what the disk has left; a read of a block or more goes past it.
+    /// Reads the bytes from offset `place` on, as `Disk::read` does. If the window does not have all of them, it is filled from that offset
+    /// on, with a block or with the rest of the disk. A read of a block or more bypasses it.
     pub fn read<D: Disk>(
         &mut self,
         disk: &mut D,
@@ -73,7 +73,7 @@ impl Window {
         Ok(())
     }
 
-    // Sees to it that it has so many bytes from a place on.
+    // Ensures that it has `len` bytes from offset `place` on.
     fn reach<D: Disk>(&mut self, disk: &mut D, place: u64, len: usize) -> Result<(), DeviceFault>
         requires held { Holds D.device disk.old self.old }
         requires within { place + len ≤ D.device.size disk.old }
@@ -90,7 +90,7 @@ impl Window {
         self.fill(disk, place)
     }
 
-    // Whether it has so many bytes from a place on.
+    // Returns whether it has `len` bytes from offset `place` on.
     fn has(&self, place: u64, len: usize) -> bool
         ensures { IsTrue result ↔ ((self.now.start ≤ place) × (place - self.now.start + len ≤ length self.now.bytes)) }
     {
@@ -100,7 +100,7 @@ impl Window {
         len <= self.len - (place - self.start) as usize
     }
 
-    // Reads anew, from a place on.
+    // Reads from the disk again, from offset `place` on.
     fn fill<D: Disk>(&mut self, disk: &mut D, place: u64) -> Result<(), DeviceFault>
         requires within { place ≤ D.device.size disk.old }
         ensures start { OnOk result (self.new.start ≡ place) }
@@ -129,7 +129,7 @@ impl Window {
     }
 }
 
-// Reads into the first bytes of a block.
+// Reads into the first `len` bytes of a block.
 fn read_front<D: Disk>(
     disk: &mut D,
     place: u64,

@@ -1,4 +1,4 @@
--- Slots that come and go at the end, those that a sweep leaves, and the first number above one.
+-- Slots that are added or deleted at the end, the slots that a sweep leaves, and the first number above a given one.
 use Rattle.std.proofs.Common.{Vec, Global, vec_len, vec_capacity, append-nil, ◌≡◌, ℕ, zero, suc, ◌+◌, ◌-◌, ◌<◌, ◌≤◌, ◌==◌, Bool, true, false, cond, IsTrue, List, [], ◌∷◌, ◌++◌, length, get_or, drop, map, filter, Some, None, Option, IsSome, is_some, true≢false, refl, sym, ap, subst, ◌∙◌, arith, add-one}
 use Rattle.std.specs.Prelude.{T, IfSome, All, nat_lt, slice_get}
 use Rattle.std.specs.declared.cmp.Ordering.TheVariants.{Less}
@@ -21,7 +21,7 @@ use Rattle.job_rows.specs.RowSlots.{number_of, slot_entry, row_of, held, numbers
 use Rattle.job_rows.proofs.Rising.{t_from, true_from, first_of, second_of, both_from, less_from, sorted_insert}
 use Rattle.job_rows.proofs.Holding.{eq_yes, is_less, less_is, rising, held_at, number_at, seat, seat_below, length_held}
 
--- ## A slot more, or less, at the end
+-- ## One more or one less slot at the end
 
 pub held_append : (ss ts : List Slot) → held (ss ++ ts) ≡ held ss ++ held ts
 held_append [] ts = refl
@@ -46,11 +46,11 @@ t_front : (ss ts : List Slot) → T (is_sorted nat_cmp (map slot_entry (ss ++ ts
 t_front [] ts h = tt
 t_front (s ∷ ss) ts h = both_from _ _ (below_front (number_of s) ss ts (first_of _ _ h)) (t_front ss ts (second_of _ _ h))
 
--- what stands in front rises still
+-- A prefix of the slots is in ascending order.
 pub sorted_front : (ss ts : List Slot) → IsTrue (is_sorted nat_cmp (map slot_entry (ss ++ ts))) → IsTrue (is_sorted nat_cmp (map slot_entry ss))
 sorted_front ss ts h = true_from _ (t_front ss ts (t_from _ h))
 
--- the last slot holds a row
+-- The last slot has a row.
 record IsLast (ss : List Slot) : Type 0 where
   number : ℕ
   row : JobRow
@@ -64,7 +64,7 @@ last_row (s ∷ ss) ends some = by_row (get_or (s ∷ ss) (length (s ∷ ss) - 1
     by_row (Held n r) is held = record { number = n; row = r; is = get_or_default (s ∷ ss) (length (s ∷ ss) - 1) (Held n r) s (omega arith) ∙ sym is }
     by_row (Gone n) is held = absurd (true≢false (sym held))
 
--- a number above all that have a row is above those of all slots
+-- A number above those of all rows is above those of all slots.
 above_slots : (ss : List Slot) (n : ℕ) → IsTrue (is_sorted nat_cmp (map slot_entry ss)) → EndsHeld ss → All (λ m. m < n) (numbers ss) → (j : ℕ) (d : Slot) → j < length ss → number_of (get_or ss j d) < n
 above_slots ss n sorted ends above j d lt =
     let last = last_row ss ends (omega arith) in
@@ -99,7 +99,7 @@ seat_last (Gone m ∷ ss) zero n r last is = absurd (cc)
 seat_last (Held m q ∷ ss) (suc i) n r last is = ap suc (seat_last ss i n r (omega arith) is)
 seat_last (Gone m ∷ ss) (suc i) n r last is = seat_last ss i n r (omega arith) is
 
--- the last row is the last slot's
+-- The last row is that of the last slot.
 pub last_of : (ss : List Slot) (s : Slot) → EndsHeld ss → slice_get ss (length ss - 1) ≡ Some s → slice_get (held ss) (length (held ss) - 1) ≡ row_of s
 last_of ss s ends read =
     let some = slice_get_within ss (length ss - 1) s read in
@@ -115,7 +115,7 @@ last_of ss s ends read =
     ∙ ap Some (held_at n r ss at (Held n r) r (omega arith) last.is)
     ∙ sym (ap row_of is)
 
--- ## What a sweep leaves
+-- ## The result of a sweep
 
 abbrev pub is_row : Slot → Bool
 is_row s = is_some (row_of s)
@@ -157,7 +157,7 @@ each_swept (Gone n ∷ ss) i lt = each_swept ss i lt
 pub ends_swept : (ss : List Slot) → EndsHeld (filter is_row ss)
 ends_swept ss = λ some. each_swept ss _ (omega arith)
 
--- ## The first number above one
+-- ## The first number above a given one
 
 above_all : (ss : List Slot) (number : ℕ) → ((j : ℕ) (d : Slot) → j < length ss → number < number_of (get_or ss j d)) → first_above number (numbers ss) ≡ first_number ss
 above_all [] number above = refl
@@ -180,7 +180,7 @@ first_parted (Held n r ∷ ss) number (suc at) parted =
     ∙ first_parted ss number at (rest_parted ss (Held n r) number at parted)
 first_parted (Gone n ∷ ss) number (suc at) parted = first_parted ss number at (rest_parted ss (Gone n) number at parted)
 
--- it is above the given one
+-- It is above the given number.
 pub first_higher : (ns : List ℕ) (number : ℕ) (o : Option ℕ) → o ≡ first_above number ns → IfSome o (λ n. number < n)
 first_higher ns number None is = tt
 first_higher [] number (Some n) is = absurd (cc)
@@ -197,7 +197,7 @@ place_later ns m n there = either (m == n)
     either true = omega arith
     either false = omega arith
 
--- and it is there
+-- It occurs.
 pub first_there : (ns : List ℕ) (number : ℕ) (o : Option ℕ) → o ≡ first_above number ns → IfSome o (HasNumber ns)
 first_there ns number None is = tt
 first_there [] number (Some n) is = absurd (cc)
@@ -207,7 +207,7 @@ first_there (m ∷ ns) number (Some n) is = by_test (nat_lt number m) is (first_
     by_test true found later = let same : m ≡ n = cc in subst (λ p. p < suc (length ns)) (sym (ap (λ b. cond b 0 (suc (position_in ns n))) (eq_yes m n same))) (omega arith)
     by_test false found later = place_later ns m n (later found)
 
--- ## The numbers rise
+-- ## The numbers are in ascending order
 
 below_numbers : (k : ℕ) (ss : List Slot) → T (below_all nat_cmp k (map slot_entry ss)) → AllByRecursion (λ n. nat_cmp k n ≡ Less) (numbers ss)
 below_numbers k [] h = tt
@@ -223,7 +223,7 @@ t_ascending (Gone n ∷ ss) h = t_ascending ss (second_of _ _ h)
 pub ascending : (ss : List Slot) → IsTrue (is_sorted nat_cmp (map slot_entry ss)) → IsStrictlyIncreasing (numbers ss)
 ascending ss sorted = IsStrictlyIncreasing-from_sorted (numbers ss) (t_ascending ss (t_from _ sorted))
 
--- ## Gone slots that were let go at the end
+-- ## Gone slots that were deleted at the end
 
 pub record IsTrimmed (old new : Vec Slot Global) : Type 0 where
   pub rows : held new.items ≡ held old.items
@@ -243,7 +243,7 @@ trimmed_more old between new n kept split shorter same = record {
   capacity = same ∙ kept.capacity;
 }
 
--- ## The number behind one that is there
+-- ## The number after an existing one
 
 first_all : (n : ℕ) (ns : List ℕ) → AllByRecursion (λ m. nat_cmp n m ≡ Less) ns → first_above n ns ≡ slice_get ns 0
 first_all n [] all = refl
@@ -268,7 +268,7 @@ behind_in (n ∷ ns) up (suc at) number is =
 pub first_behind : (ss : List Slot) → IsTrue (is_sorted nat_cmp (map slot_entry ss)) → (at number : ℕ) → slice_get (numbers ss) at ≡ Some number → first_above number (numbers ss) ≡ slice_get (numbers ss) (at + 1)
 first_behind ss sorted at number is = rw add-one (behind_in (numbers ss) (t_ascending ss (t_from _ sorted)) at number is)
 
--- the least number
+-- The least number.
 pub first_is : (ss : List Slot) → first_number ss ≡ slice_get (numbers ss) 0
 first_is [] = refl
 first_is (Held n r ∷ ss) = refl

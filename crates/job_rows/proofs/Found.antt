@@ -1,4 +1,4 @@
--- The row of a number whose slot was found, and what becomes of the rows where it is changed or goes.
+-- The row of a number with a slot, and the rows after it was changed or removed.
 use Rattle.std.proofs.Common.{◌≡◌, ℕ, ◌-◌, List, get_or, set, Some, None, Option, vec_len, vec_capacity, sym, ap, subst, ◌∙◌}
 use Rattle.std.specs.Prelude.{IfSome, option_copied}
 use Rattle.std.specs.Borrow.{Bor}
@@ -39,21 +39,21 @@ module _ (a : Inside) (kept : IsKept a) (k i : ℕ) (place : IsPosition nat_cmp 
     seat_is : position_in (numbers a.slots.items) k ≡ seat a.slots.items i
     seat_is = place_is a.slots.items kept.order k i place (number_of s) r s is
 
-    -- the row is written over
+    -- The row is replaced.
     pub lent_items : (w : JobRow) → held (set a.slots.items i (Held (number_of s) w)) ≡ set (held a.slots.items) (position_in (numbers a.slots.items) k) w
     lent_items w = held_set (number_of s) r a.slots.items i s w place.in_range is ∙ ap (λ p. set (held a.slots.items) p w) (sym seat_is)
 
     pub lent_numbers : (w : JobRow) → numbers (set a.slots.items i (Held (number_of s) w)) ≡ numbers a.slots.items
     lent_numbers w = numbers_set (number_of s) r a.slots.items i s w place.in_range is
 
-    -- whatever is written over the row stands under the number
+    -- The row that is written there is under the number.
     pub lent_is : (w : JobRow) (v : Listed) → listed a ≡ v → record { numbers = numbers (set a.slots.items i (Held (number_of s) w)); items = held (set a.slots.items i (Held (number_of s) w)); room = vec_capacity a.slots - vec_len a.slots } ≡ with_row v k w
     lent_is w v seen =
         ap (λ (ns : List ℕ). shown ns (held (set a.slots.items i (Held (number_of s) w))) (vec_capacity a.slots - vec_len a.slots)) (lent_numbers w)
         ∙ ap (λ (rs : List JobRow). shown (numbers a.slots.items) rs (vec_capacity a.slots - vec_len a.slots)) (lent_items w)
         ∙ ap (λ (v : Listed). with_row v k w) seen
 
-    -- the number goes with its row
+    -- The number is removed with its row.
     pub gone_is : (ss : List Slot) (room : ℕ) → numbers ss ≡ numbers (set a.slots.items i (Gone (number_of s))) → held ss ≡ held (set a.slots.items i (Gone (number_of s))) → (v : Listed) → listed a ≡ v → shown (numbers ss) (held ss) room ≡ record (without_row v k) { room = room }
     gone_is ss room own rows v seen =
         ap (λ (ns : List ℕ). shown ns (held ss) room) (own ∙ numbers_gone (number_of s) r a.slots.items i s (number_of s) place.in_range is ∙ ap (λ p. remove (numbers a.slots.items) p) (sym seat_is))

@@ -1,4 +1,4 @@
--- What slots hold: where a number stands among those that have a row, and what a change of a slot does to them.
+-- The contents of slots: the position of a number among those with a row, and the effect of changing a slot.
 use Rattle.std.proofs.Common.{◌≡◌, ℕ, zero, suc, ◌+◌, ◌-◌, ◌<◌, ◌≤◌, ◌==◌, true, false, cond, IsTrue, List, [], ◌∷◌, length, get_or, set, map, Some, None, Option, IsSome, inl, inr, true≢false, length-set, refl, sym, ap, subst, ◌∙◌, arith}
 use Rattle.std.specs.Prelude.{IfNone, ◌↔◌, option_copied}
 use Rattle.std.specs.Borrow.{Bor}
@@ -54,19 +54,19 @@ le_of_lt x y lt = omega arith
 
 -- ## The count
 
--- what is not gone is held
+-- A slot that is not gone has a row.
 pub length_held : (ss : List Slot) → length (held ss) + gone_count ss ≡ length ss
 length_held [] = refl
 length_held (Held n r ∷ ss) = let rest = length_held ss in omega arith
 length_held (Gone n ∷ ss) = let rest = length_held ss in omega arith
 
--- each row has its number
+-- Each row has its number.
 pub length_numbers : (ss : List Slot) → length (numbers ss) ≡ length (held ss)
 length_numbers [] = refl
 length_numbers (Held n r ∷ ss) = ap suc (length_numbers ss)
 length_numbers (Gone n ∷ ss) = length_numbers ss
 
--- ## The seat of a slot: how many rows stand before it
+-- ## The seat of a slot: the number of rows before it
 
 abbrev pub seat : List Slot → ℕ → ℕ
 seat [] i = 0
@@ -81,7 +81,7 @@ seat_within (Held n r ∷ ss) (suc i) = let rest = seat_within ss i in omega ari
 seat_within (Gone n ∷ ss) (suc i) = seat_within ss i
 
 module _ (n : ℕ) (r : JobRow) where
-  -- a slot that holds a row has a seat of its own
+  -- The seat of a slot with a row is a position among the rows.
   pub seat_below : (ss : List Slot) (i : ℕ) (d : Slot) → i < length ss → get_or ss i d ≡ Held n r → seat ss i < length (numbers ss)
   seat_below [] i d lt is = absurd (omega arith)
   seat_below (Held m q ∷ ss) zero d lt is = omega arith
@@ -89,7 +89,7 @@ module _ (n : ℕ) (r : JobRow) where
   seat_below (Held m q ∷ ss) (suc i) d lt is = let rest = seat_below ss i d (omega arith) is in omega arith
   seat_below (Gone m ∷ ss) (suc i) d lt is = seat_below ss i d (omega arith) is
 
-  -- there the row stands, and its number
+  -- The row and its number are at that position.
   pub held_at : (ss : List Slot) (i : ℕ) (d : Slot) (e : JobRow) → i < length ss → get_or ss i d ≡ Held n r → get_or (held ss) (seat ss i) e ≡ r
   held_at [] i d e lt is = absurd (omega arith)
   held_at (Held m q ∷ ss) zero d e lt is = cc
@@ -104,7 +104,7 @@ module _ (n : ℕ) (r : JobRow) where
   number_at (Held m q ∷ ss) (suc i) d e lt is = number_at ss i d e (omega arith) is
   number_at (Gone m ∷ ss) (suc i) d e lt is = number_at ss i d e (omega arith) is
 
-  -- a row that is written over
+  -- A row is replaced.
   pub held_set : (ss : List Slot) (i : ℕ) (d : Slot) (w : JobRow) → i < length ss → get_or ss i d ≡ Held n r → held (set ss i (Held n w)) ≡ set (held ss) (seat ss i) w
   held_set [] i d w lt is = absurd (omega arith)
   held_set (Held m q ∷ ss) zero d w lt is = refl
@@ -126,7 +126,7 @@ module _ (n : ℕ) (r : JobRow) where
   count_set (Held m q ∷ ss) (suc i) d w lt is = count_set ss i d w (omega arith) is
   count_set (Gone m ∷ ss) (suc i) d w lt is = ap (λ k. k + 1) (count_set ss i d w (omega arith) is)
 
-  -- a row that goes
+  -- A row is removed.
   pub held_gone : (ss : List Slot) (i : ℕ) (d : Slot) (k : ℕ) → i < length ss → get_or ss i d ≡ Held n r → held (set ss i (Gone k)) ≡ remove (held ss) (seat ss i)
   held_gone [] i d k lt is = absurd (omega arith)
   held_gone (Held m q ∷ ss) zero d k lt is = refl
@@ -148,7 +148,7 @@ module _ (n : ℕ) (r : JobRow) where
   count_gone (Held m q ∷ ss) (suc i) d k lt is = count_gone ss i d k (omega arith) is
   count_gone (Gone m ∷ ss) (suc i) d k lt is = ap (λ c. c + 1) (count_gone ss i d k (omega arith) is)
 
-  -- the slot of a number that is the first of its number gives the number's place
+  -- The seat of the first slot of a number is the position of the number.
   pub place_seat : (ss : List Slot) (i : ℕ) (d : Slot) → i < length ss → get_or ss i d ≡ Held n r → ((j : ℕ) (e : Slot) → j < i → number_of (get_or ss j e) < n) → position_in (numbers ss) n ≡ seat ss i
   place_seat [] i d lt is before = absurd (omega arith)
   place_seat (Held m q ∷ ss) zero d lt is before = let same : n ≡ m = cc in subst (λ k. cond (m == k) 0 (suc (position_in (numbers ss) k)) ≡ 0) (sym same) (ap (λ b. cond b 0 (suc (position_in (numbers ss) m))) (eq_yes m m refl))
@@ -159,7 +159,7 @@ module _ (n : ℕ) (r : JobRow) where
       ∙ ap suc (place_seat ss i d (omega arith) is (λ j e l. before (suc j) e (omega arith)))
   place_seat (Gone m ∷ ss) (suc i) d lt is before = place_seat ss i d (omega arith) is (λ j e l. before (suc j) e (omega arith))
 
--- ## What is so of numbers before a seat, and of those from it on
+-- ## Properties of the numbers before a seat, and from it on
 
 module _ (P : ℕ → Type 0) where
   pub each_number : (ss : List Slot) → ((j : ℕ) (d : Slot) (n : ℕ) (r : JobRow) → j < length ss → get_or ss j d ≡ Held n r → P n) → (j : ℕ) (e : ℕ) → j < length (numbers ss) → P (get_or (numbers ss) j e)
@@ -182,12 +182,12 @@ module _ (P : ℕ → Type 0) where
   each_behind (Held m q ∷ ss) (suc i) each (suc j) e le lt = each_behind ss i (λ k d n r l h is. each (suc k) d n r (omega arith) (omega arith) is) j e (omega arith) (omega arith)
   each_behind (Gone m ∷ ss) (suc i) each j e le lt = each_behind ss i (λ k d n r l h is. each (suc k) d n r (omega arith) (omega arith) is) j e le lt
 
--- ## The place of a number, and the gap for one
+-- ## The position of a number, and the gap for one
 
 held_not_gone : (n : ℕ) (r : JobRow) (m : ℕ) → Held n r ≡ Gone m → ⊥
 held_not_gone n r m e = cc
 
--- a number that has a gap has no place
+-- A number with a gap has no position.
 no_place : (ns : List ℕ) (k : ℕ) → ((j d : ℕ) → j < length ns → ¬ (get_or ns j d ≡ k)) → position_in ns k ≡ length ns
 no_place [] k apart = refl
 no_place (n ∷ ns) k apart = ap (λ b. cond b 0 (suc (position_in ns k))) (eq_no n k (apart 0 n (omega arith))) ∙ ap suc (no_place ns k (λ j d lt. apart (suc j) d (omega arith)))
@@ -207,7 +207,7 @@ lacking ns k lacks there =
     differs_above x y lt same = omega arith
 
 module _ (ss : List Slot) (sorted : IsTrue (is_sorted nat_cmp (map slot_entry ss))) (k i : ℕ) where
-  -- no slot of the number
+  -- No slot has the number.
   pub row_gap : IsGap nat_cmp number_of ss k i → LacksNumber (numbers ss) k
   row_gap gap = (
     seat ss i,
@@ -225,7 +225,7 @@ module _ (ss : List Slot) (sorted : IsTrue (is_sorted nat_cmp (map slot_entry ss
     higher : (j : ℕ) (e : Slot) → i < j → j < length ss → k < number_of (get_or ss j e)
     higher j e lt in_range = subst (λ n. n < number_of (get_or ss j e)) (is_equal _ _ (at.same e)) (is_less _ _ (rise nat_cmp nat_cmp_total number_of (λ s. s) ss (t_from _ sorted) i j e lt in_range))
 
-    -- a slot of the number that is gone
+    -- The slot of the number is gone.
     pub gone_gap : (m : ℕ) (d : Slot) → get_or ss i d ≡ Gone m → LacksNumber (numbers ss) k
     gone_gap m d is = (
       seat ss i,
@@ -242,7 +242,7 @@ module _ (ss : List Slot) (sorted : IsTrue (is_sorted nat_cmp (map slot_entry ss
           | inr ge ↦ let same : j ≡ i = omega arith in absurd (held_not_gone n r m (sym here ∙ ap (λ p. get_or ss p e) same ∙ get_or_default ss i e d at.in_range ∙ is))
         ]
 
-    -- a slot of the number that holds a row
+    -- The slot of the number has a row.
     module _ (n : ℕ) (r : JobRow) (d : Slot) (is : get_or ss i d ≡ Held n r) where
       pub own_number : n ≡ k
       own_number = ap number_of (sym is) ∙ is_equal _ _ (at.same d)
@@ -262,9 +262,9 @@ module _ (ss : List Slot) (sorted : IsTrue (is_sorted nat_cmp (map slot_entry ss
       pub row_place : (e : JobRow) → get_or (held ss) (position_in (numbers ss) k) e ≡ r
       row_place e = ap (λ p. get_or (held ss) p e) place_is ∙ held_at n r ss i d e at.in_range is
 
--- ## What a slot of a number that is there holds
+-- ## The slot of an existing number
 
--- a slot that was read, and that holds the row
+-- The slot that was read has the row.
 pub slot_is : (ss : List Slot) (i : ℕ) (s : Slot) (r : JobRow) → s ≡ get_or ss i s → row_of s ≡ Some r → get_or ss i s ≡ Held (number_of s) r
 slot_is ss i (Held n q) r read row = sym read ∙ ap (λ w. Held n w) (let same : q ≡ r = cc in same)
 slot_is ss i (Gone n) r read row = absurd (cc)
@@ -277,9 +277,9 @@ module _ (ss : List Slot) (sorted : IsTrue (is_sorted nat_cmp (map slot_entry ss
   has_row there (Held n r) is at = refl
   has_row there (Gone n) is at = absurd (lacking (numbers ss) k (gone_gap ss sorted k i at n (Gone n) (sym is)) there)
 
--- ## A slot that is written over
+-- ## A slot is replaced
 
--- the last slot holds a row still
+-- The last slot still has a row.
 pub ends_set : (ss : List Slot) (i n : ℕ) (w : JobRow) → i < length ss → EndsHeld ss → EndsHeld (set ss i (Held n w))
 ends_set ss i n w lt ends = λ some.
     let long = length-set ss i (Held n w) in
@@ -292,13 +292,13 @@ ends_set ss i n w lt ends = λ some.
       | inr other ↦ subst (λ s. IsSome (row_of s)) (sym (get_or-set_other ss i last (Held n w) (Held n w) other)) (subst IsSome (get_or-map row_of ss last (Held n w) None (omega arith)) (ends (omega arith)))
     ]))
 
--- a slot of the same number keeps the order
+-- A slot of the same number keeps the order.
 pub order_set : (ss : List Slot) → IsTrue (is_sorted nat_cmp (map slot_entry ss)) → (k i : ℕ) (d s : Slot) → IsPosition nat_cmp number_of ss k i → number_of (get_or ss i d) ≡ number_of s → IsTrue (is_sorted nat_cmp (map slot_entry (set ss i s)))
 order_set ss sorted k i d s at same = sorted_set nat_cmp nat_cmp_total number_of (λ s. s) ss sorted s k i d at same
 
 -- ## Numbers up to a given one
 
--- the numbers don't fall
+-- The numbers do not decrease.
 pub rising : (ss : List Slot) → IsTrue (is_sorted nat_cmp (map slot_entry ss)) → IsNonDecreasingBy number_of ss
 rising ss sorted i j d le lt = elim (cases_lt i j) [
   | inl below ↦ le_of_lt (number_of (get_or ss i d)) (number_of (get_or ss j d)) (is_less _ _ (rise nat_cmp nat_cmp_total number_of (λ s. s) ss (t_from _ sorted) i j d below lt))
@@ -315,7 +315,7 @@ parted_point ss number at in_range low high = record {
   behind = λ j d le lt. leb-false _ _ (high j d le lt);
 }
 
--- ## What a look at the slot of a number finds
+-- ## The result of reading the slot of a number
 
 module _ (ss : List Slot) (sorted : IsTrue (is_sorted nat_cmp (map slot_entry ss))) (k i : ℕ) where
   pub looked_there : (s : Slot) → s ≡ get_or ss i s → IsPosition nat_cmp number_of ss k i → (o : Option (Bor JobRow)) → option_copied o ≡ row_of s → IsSome o ↔ HasNumber (numbers ss) k
@@ -329,6 +329,6 @@ module _ (ss : List Slot) (sorted : IsTrue (is_sorted nat_cmp (map slot_entry ss
   looked_absent (Gone n) is at None read = gone_gap ss sorted k i at n (Gone n) (sym is)
   looked_absent s is at (Some b) read = tt
 
--- no row is there where the number is lacking
+-- A number that does not occur has no row.
 pub lacks_there : (ns : List ℕ) (k : ℕ) → LacksNumber ns k → IsSome {T = Bor JobRow} None ↔ HasNumber ns k
 lacks_there ns k lacks = (λ some. absurd (true≢false (sym some)), λ there. absurd (lacking ns k lacks there))

@@ -1,4 +1,4 @@
--- What slots hold. No clause of another crate cites this module.
+-- The contents of slots. No clause of another crate uses this module.
 use Rattle.std.specs.Prelude.{ℕ, ◌+◌, ◌-◌, ◌<◌, ◌≤◌, List, [], ◌∷◌, length, map, Option, Some, None, IsSome, slice_index_or}
 use Rattle.spool_types.specs.declared.rows.JobRow.{JobRow}
 use Rattle.job_rows.specs.declared.slot.Slot.{Slot}
@@ -15,13 +15,13 @@ abbrev pub row_of : Slot → Option JobRow
 row_of (Held n r) = Some r
 row_of (Gone n) = None
 
--- the rows, in order
+-- The rows, in order.
 abbrev pub held : List Slot → List JobRow
 held [] = []
 held (Held n r ∷ slots) = r ∷ held slots
 held (Gone n ∷ slots) = held slots
 
--- their numbers
+-- The numbers of the rows.
 abbrev pub numbers : List Slot → List ℕ
 numbers [] = []
 numbers (Held n r ∷ slots) = n ∷ numbers slots
@@ -37,11 +37,11 @@ gone_count [] = 0
 gone_count (Held n r ∷ slots) = gone_count slots
 gone_count (Gone n ∷ slots) = gone_count slots + 1
 
--- the last slot, if there is one, is held
+-- The last slot, if any, has a row.
 abbrev pub EndsHeld : List Slot → Type 0
 EndsHeld slots = 0 < length slots → IsSome (slice_index_or (map row_of slots) (length slots - 1) None)
 
--- the numbers before this place are at most the number, and those from it on are above it
+-- The numbers before this position are at most the number, and those from it on are above it.
 pub record IsParted (slots : List Slot) (number at : ℕ) : Type 0 where
   pub in_range : at ≤ length slots
   pub before : (j : ℕ) (d : Slot) → j < at → number_of (slice_index_or slots j d) ≤ number

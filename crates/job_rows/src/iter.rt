@@ -1,11 +1,11 @@
-//! One row after another.
+//! Iteration over the rows.
 ghost use Rattle.std.specs.Iterator.{YieldsFirstRef, item_count};
 
 use crate::slot::Slot;
 use spool_types::JobRow;
 use std::marker::Model;
 
-/// The rows that are left, in ascending order of number.
+/// The remaining rows, in ascending order of number.
 #[derive(Drop)]
 pub struct Iter<'a> {
     pub(crate) slots: &'a [Slot],

@@ -1,41 +1,51 @@
 //! The rows of jobs, each under its number, in ascending order of number.
 //!
-//! [`Rows`] keeps the rows of a table's jobs. A new row goes last. A row is found, changed and taken away by its number, and
-//! no other row moves for it. Callers see two lists, the numbers and the rows under them, and beside these how many more rows
-//! fit with no further memory (`Listed`).
+//! [`Rows`] stores the rows of a table's jobs. A new row is appended. A row is found, changed and removed by its
+//! number, and no other row moves. Callers see the list of numbers, the list of the rows under them, and the number of
+//! rows that can be added without allocating (`Listed`).
 //!
 //! # Promises
 //!
-//! - [`Rows::push`] adds a row and its number at the end. [`Rows::get`] finds the row under a number (`HasRow`), and none
-//!   exactly where there is no such number (`HasNumber`). [`Rows::row_mut`] lends it, and what is left there stands under the
-//!   number (`LendsRow`). [`Rows::remove`] takes the row and its number away, and nothing else (`without_row`).
-//! - The numbers ascend, each once ([`Rows::len`] tells it).
-//! - [`Rows::iter`] gives all rows in order. [`Rows::first`] names the least number, and [`Rows::next_above`] the least one above
-//!   a given one (`first_above`). So a caller goes from row to row, and changes them or takes them away on its way.
-//! - *NoHiddenAllocation*: only [`Rows::reserve`] takes memory, and only where room is missing. A removal leaves no less room
-//!   than there was.
+//! - The numbers are in ascending order, without duplicates (`ascending` of [`Rows::len`]). [`Rows::len`] is the number
+//!   of rows (`numbers`, `items`), [`Rows::is_empty`] whether it is 0. [`Rows::new`] has no rows.
+//! - [`Rows::push`] appends a row and its number (`numbers`, `items`).
+//! - [`Rows::get`] finds the row under a number (`found`, by `HasRow`), and returns None exactly if the number does not
+//!   occur (`there`, by `HasNumber`; `absent`).
+//! - [`Rows::row_mut`] returns a `&mut` to the row under a number. The row that is written there stays under that
+//!   number, and no other row changes (`lends`, by `LendsRow`).
+//! - [`Rows::remove`] removes the row and its number, and nothing else (`rows`, by `without_row`).
+//! - [`Rows::iter`] yields all rows in order (`rows`), and there are fewer than 2^64 (`fits`). [`Rows::first`] returns
+//!   the least number, [`Rows::last`] the row of the greatest, and [`Rows::next_above`] the least number above a given
+//!   one (`value`, by `first_above`; `behind`, `above`, `there`). So a caller can visit all rows while it changes or
+//!   removes them.
+//! - *NoHiddenAllocation*: only [`Rows::reserve`] allocates, and only if room is missing (`ready`). A removal leaves at
+//!   least as much room (`room`).
 //!
-//! # What rows keep
+//! # Not proved
 //!
-//! A row that is taken away leaves its slot behind, which keeps the number and is gone.
+//! - What removing a row costs.
 //!
-//! 1. The slots are in ascending order of number, each number once, the gone ones among them. So a number is found by binary
-//!    search.
-//! 2. The last slot holds a row. So a number that is above all rows' is above all slots'.
-//! 3. The gone slots are counted, and they are at most half of all.
+//! # Invariants
 //!
-//! A row stands under the number that it was pushed with. Whoever changes it keeps its own number the same.
+//! A removed row leaves its slot, which keeps the number and is marked as gone.
+//!
+//! 1. The slots, including the gone ones, are in ascending order of number, without duplicates. So a number is found by
+//!    binary search.
+//! 2. The last slot has a row. So a number above those of all rows is above those of all slots.
+//! 3. The number of gone slots is stored. It is at most half of all slots.
+//!
+//! A row is stored under the number that it had in `push`. A caller that changes the row must keep its number.
+//!
+//! # Errors
+//!
+//! [`Rows::reserve`] fails if memory runs out, and leaves the rows unchanged. Nothing else fails.
 //!
 //! # Cost
 //!
-//! n rows have at most 2n slots. A removal marks one slot, and lets go of the gone ones at the end. Once more than half are
-//! gone, one pass lets go of them all and moves each row at most once; so many removals went before it that each costs a
-//! search and a few moves on average. [`Rows::next_above`] passes the gone slots up to the next row, so a walk over all rows
-//! passes each slot once.
-//!
-//! # Faults
-//!
-//! [`Rows::reserve`] may find no memory, and leaves the rows as they were. Nothing else fails.
+//! n rows have at most 2n slots. A removal marks one slot, and deletes the gone slots at the end. When more than half
+//! of the slots are gone, one pass deletes them all and moves each row at most once. So a removal costs a search and a
+//! few moves on average. [`Rows::next_above`] skips the gone slots before the next row, so visiting all rows reads each
+//! slot once.
 #![tactic(auto)]
 
 mod iter;

@@ -1,4 +1,4 @@
-//! The rows themselves.
+//! The list of rows.
 ghost use Rattle.std.specs.Prelude.{◌≡◌, ◌↔◌, ℕ, ◌+◌, ◌-◌, ◌^◌, ◌<◌, ◌≤◌, ◌++◌, ◌∷◌, [], length, nat_eq, All, Some, IsSome, IsOk, OnOk, OnErr, IfSome, IfNone, option_copied, slice_get};
 ghost use Rattle.std.specs.Borrow.{sem};
 ghost use Rattle.std.specs.List.Sorted.{IsStrictlyIncreasing};
@@ -12,12 +12,11 @@ use spool_types::{JobId, JobRow};
 use std::alloc::{AllocError, Global};
 use std::marker::Model;
 
-/// The rows of jobs, each under its number.
 #[derive(Drop)]
 pub struct Rows {
-    // In ascending order of number, each number once. The last one is held.
+    // In ascending order of number, without duplicates. The last slot is not gone.
     slots: Vec<Slot>,
-    // So many of them are gone: at most half.
+    // The number of gone slots: at most half of all slots.
     gone: usize,
 }
 
@@ -34,7 +33,7 @@ impl Model for Rows {
 }
 
 impl Rows {
-    /// No rows. It takes no memory.
+    /// Returns a list without rows. Does not allocate.
     pub fn new(alloc: Global) -> Rows
         ensures numbers { result.numbers ≡ [] }
         ensures items { result.items ≡ [] }
@@ -46,7 +45,7 @@ impl Rows {
         }
     }
 
-    /// How many there are.
+    /// Returns the number of rows.
     pub fn len(&self) -> usize
         ensures numbers { result ≡ length self.now.numbers }
         ensures items { result ≡ length self.now.items }
@@ -55,27 +54,27 @@ impl Rows {
         self.slots.len() - self.gone
     }
 
-    /// Whether there is none.
+    /// Returns whether the list is empty.
     pub fn is_empty(&self) -> bool
         ensures { result ≡ nat_eq (length self.now.numbers) 0 }
     {
         self.len() == 0
     }
 
-    /// Makes room for one row more. What grows is at least doubled. A fault changes nothing.
+    /// Reserves room for one more row. A list that grows at least doubles. An error changes nothing.
     pub fn reserve(&mut self) -> Result<(), AllocError>
         ensures room { OnOk result (0 < self.new.room) }
         ensures kept { self.old.room ≤ self.new.room }
         ensures rows { self.new ≡ record self.old { room = self.new.room } }
         ensures same { OnErr result (self.new ≡ self.old) }
 
-        // Memory is asked for only where the room is missing.
+        // Allocates only if room is missing.
         ensures ready { 0 < self.old.room → IsOk result }
     {
         self.slots.reserve(1)
     }
 
-    /// Adds a row under its number, which goes last. It takes no memory.
+    /// Appends a row under its number. Does not allocate.
     pub fn push(&mut self, row: JobRow)
         requires room { 0 < self.old.room }
         requires above { All (λ n. n < row.job.id) self.old.numbers }
@@ -86,7 +85,7 @@ impl Rows {
         self.slots.push_reserved(Slot::of_row(row));
     }
 
-    /// The row under this number, if there is one. It is found by binary search.
+    /// Finds the row under this number by binary search.
     pub fn get(&self, id: JobId) -> Option<&JobRow>
         ensures there { IsSome result ↔ HasNumber self.now.numbers id }
         ensures found { IfSome result (λ row. HasRow self.now id row.now) }
@@ -98,8 +97,8 @@ impl Rows {
         }
     }
 
-    /// The row under a number that is there, for a change. Whoever changes it keeps the row's own number, so that it stays
-    /// the one that it stands under.
+    /// Returns the row under an existing number for a change. The caller must not change the number in the row, so that
+    /// the row stays under its own number.
     pub fn row_mut(&mut self, id: JobId) -> &mut JobRow
         requires { HasNumber self.old.numbers id }
         ensures* lends { sem 𝓛 (LendsRow self.entry id result) }
@@ -111,8 +110,8 @@ impl Rows {
         self.slots[at].row_mut()
     }
 
-    /// Takes away the row under a number that is there. No other row moves, but for one pass once more than half of the
-    /// slots are gone. It takes no memory.
+    /// Removes and returns the row under an existing number. No other row moves, except in the pass that follows when
+    /// more than half of the slots are gone. Does not allocate.
     pub fn remove(&mut self, id: JobId) -> JobRow
         requires { HasNumber self.old.numbers id }
         ensures found { HasRow self.old id result }
@@ -127,21 +126,21 @@ impl Rows {
         row
     }
 
-    /// The row of the greatest number, if there is one.
+    /// Returns the row of the greatest number.
     pub fn last(&self) -> Option<&JobRow>
         ensures { option_copied result ≡ slice_get self.now.items (length self.now.items - 1) }
     {
         self.slots.last()?.row()
     }
 
-    /// The least number, if there is any.
+    /// Returns the least number.
     pub fn first(&self) -> Option<JobId>
         ensures { result ≡ slice_get self.now.numbers 0 }
     {
         first_number(&self.slots)
     }
 
-    /// The rows, in ascending order of number.
+    /// Returns the rows, in ascending order of number.
     pub fn iter(&self) -> Iter<'_>
         ensures rows { result ≡ self.now.items }
         ensures fits { length result < 2 ^ 64 }
@@ -151,11 +150,11 @@ impl Rows {
         }
     }
 
-    /// The least number that is above this one, if there is any. So a caller goes from row to row while it changes them.
+    /// Returns the least number above this one. A caller can use it to visit all rows while it changes them.
     pub fn next_above(&self, number: u32) -> Option<JobId>
         ensures value { result ≡ first_above number self.now.numbers }
 
-        // Above a number that is there it is the one behind it.
+        // For an existing number the result is the next number.
         ensures behind { (at : ℕ) → slice_get self.now.numbers at ≡ Some number → result ≡ slice_get self.now.numbers (at + 1) }
         ensures above { IfSome result (λ id. number < id) }
         ensures there { IfSome result (HasNumber self.now.numbers) }
@@ -165,7 +164,7 @@ impl Rows {
     }
 }
 
-// The number of the first one that holds a row.
+// Returns the number of the first slot with a row.
 fn first_number(slots: &[Slot]) -> Option<JobId>
     ensures { result ≡ first_number slots.now }
 {

@@ -1,4 +1,4 @@
-//! Slots, and what is done to a list of them.
+//! Slots, and operations on a list of them.
 ghost use Rattle.std.specs.Prelude.{◌≡◌, ◌+◌, ◌≤◌, length, map, IsSome, Some, IsTrue, IfOk, IfErr, is_some, option_copied, vec_len, vec_capacity};
 ghost use Rattle.std.specs.Borrow.{Lends, sem};
 ghost use Rattle.std.specs.FinMap as finite;
@@ -9,7 +9,7 @@ ghost use Rattle.job_rows.specs.RowSlots.{IsParted, number_of, row_of, slot_entr
 use spool_types::{JobId, JobRow};
 use std::mem;
 
-/// A number with its row, or one whose row was taken away.
+/// A number with its row, or a number whose row was removed.
 #[derive(Drop)]
 pub(crate) enum Slot {
     Held(JobId, JobRow),
@@ -20,7 +20,7 @@ impl Slot {
     ghost use Rattle.job_rows.specs.contracts.slot.Slot.{the_row};
     ghost use Rattle.spool_types.specs.contracts.rows.JobRow.{the_row as row_type};
 
-    // The row under its number.
+    // Returns a slot with the row under its number.
     pub(crate) fn of_row(row: JobRow) -> Slot
         ensures { result ≡ Slot.Held row.job.id row }
     {
@@ -56,7 +56,7 @@ impl Slot {
         }
     }
 
-    // Takes the row out, and keeps its number.
+    // Removes the row from the slot, and marks the slot as gone.
     pub(crate) fn take(&mut self) -> JobRow
         requires { IsSome (row_of self.old) }
         ensures row { row_of self.old ≡ Some result }
@@ -82,7 +82,7 @@ fn own_number(row: &JobRow) -> JobId
     row.job.id
 }
 
-// Where the slot of this number stands, or would go.
+// Returns the position of the slot of this number, or as an error the position at which it would be inserted.
 pub(crate) fn position_of(slots: &[Slot], id: JobId) -> Result<usize, usize>
     requires { IsTrue (finite.is_sorted nat_cmp (map slot_entry slots.now)) }
     ensures found { IfOk result (IsPosition nat_cmp number_of slots.now id) }
@@ -91,7 +91,7 @@ pub(crate) fn position_of(slots: &[Slot], id: JobId) -> Result<usize, usize>
     slots.binary_search_by_key(&id, |slot| slot.number())
 }
 
-// How many slots have a number that isn't above this one.
+// Returns the number of slots whose number is at most this one.
 pub(crate) fn count_up_to(slots: &[Slot], number: u32) -> usize
     requires { IsTrue (finite.is_sorted nat_cmp (map slot_entry slots.now)) }
     ensures { IsParted slots.now number result }
@@ -99,7 +99,8 @@ pub(crate) fn count_up_to(slots: &[Slot], number: u32) -> usize
     slots.partition_point(|slot| slot.number().get() <= number)
 }
 
-// Lets go of the gone slots at the end, and of all once more than half are gone. Answers how many are left.
+// Deletes the gone slots at the end. Deletes all gone slots if more than half are gone. Returns the number of gone
+// slots that are left.
 pub(crate) fn let_go(slots: &mut Vec<Slot>, gone: usize) -> usize
     requires order { IsTrue (finite.is_sorted nat_cmp (map slot_entry slots.old.items)) }
     requires count { gone ≡ gone_count slots.old.items }
@@ -120,7 +121,7 @@ pub(crate) fn let_go(slots: &mut Vec<Slot>, gone: usize) -> usize
     0
 }
 
-// Lets go of the gone slots at the end, and answers how many.
+// Deletes the gone slots at the end, and returns their number.
 fn trim(slots: &mut Vec<Slot>) -> usize
     requires { IsTrue (finite.is_sorted nat_cmp (map slot_entry slots.old.items)) }
     ensures rows { held slots.new.items ≡ held slots.old.items }
@@ -138,7 +139,7 @@ fn trim(slots: &mut Vec<Slot>) -> usize
     before - slots.len()
 }
 
-// Lets go of all gone slots, in one pass.
+// Deletes all gone slots in one pass.
 fn sweep(slots: &mut Vec<Slot>)
     requires { IsTrue (finite.is_sorted nat_cmp (map slot_entry slots.old.items)) }
     ensures rows { held slots.new.items ≡ held slots.old.items }

@@ -1,4 +1,4 @@
--- Rows whose key is above all others go last.
+-- A row whose key is above all others is the last row.
 use Rattle.std.proofs.Common.{◌≡◌, ℕ, zero, suc, ◌-◌, ◌<◌, ◌≤◌, Bool, true, false, cond, IsTrue, Option, None, Some, List, [], ◌∷◌, ◌++◌, length, get_or, map, refl, sym, ap, ◌∙◌, arith}
 use Rattle.std.specs.Prelude.{T}
 use Rattle.std.specs.declared.cmp.Ordering.{Ordering}
@@ -31,7 +31,7 @@ module _ {K X : Type 0} (R : K → K → Ordering) (o : IsTotalOrder R) where
   entries_above m k v above = finite.entries-insert o m k v ∙ put_above k v (finite.entries m) above
 
 module _ {K Y X : Type 0} (R : K → K → Ordering) (o : IsTotalOrder R) (key : Y → K) (value : Y → X) where
-  -- what is above the last row is above all
+  -- A key above the last key is above all keys.
   above_last : (k : K) (ys : List Y) → T (is_sorted R (map (λ y. (key y, value y)) ys)) → (n : ℕ) (d : Y) → suc n ≡ length ys → R (key (get_or ys n d)) k ≡ Less → IsAbove R k (map key ys)
   above_last k [] sorted n d is less = tt
   above_last k (y ∷ []) sorted zero d is less = (less, tt)
@@ -52,7 +52,7 @@ module _ {K Y X : Type 0} (R : K → K → Ordering) (o : IsTotalOrder R) (key :
   pub last_gap : (k : K) (ys : List Y) → IsAbove R k (map key ys) → IsGap R key ys k (length ys)
   last_gap k ys above = record { in_range = omega arith; before = λ j d lt. above_each k ys above j d lt; behind = λ j d le lt. absurd (omega arith) }
 
-  -- what a look at the last row says
+  -- A test of the last row decides whether a key is above all keys.
   pub above_yes : (k : K) (ys : List Y) → IsTrue (is_sorted R (map (λ y. (key y, value y)) ys)) → (y : Y) → 0 < length ys → y ≡ get_or ys (length ys - 1) y → is_lt (R (key y) k) ≡ true → IsAbove R k (map key ys)
   above_yes k ys sorted y some is lt = above_all k ys sorted (length ys - 1) y (omega arith) (ap (λ z. R (key z) k) (sym is) ∙ less_from _ (t_from _ lt))
 
@@ -70,7 +70,7 @@ either_more true first rest more found is later = is
 either_more false first rest more found is later = later is
 
 module _ {K X : Type 0} (R : K → K → Ordering) (o : IsTotalOrder R) where
-  -- an entry is above those before it
+  -- An entry is above the entries before it.
   below_there : (k : K) (front : List (K × X)) (e : K × X) (back : List (K × X)) → T (below_all R k (front ++ e ∷ back)) → R k e.0 ≡ Less
   below_there k [] e back below = less_from _ (first_of _ _ below)
   below_there k (f ∷ front) e back below = below_there k front e back (second_of _ _ below)

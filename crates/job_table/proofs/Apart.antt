@@ -1,4 +1,4 @@
--- What a table has of a queue comes of the queue's own events alone.
+-- A queue's part of a table depends only on the queue's own events.
 use Rattle.std.proofs.Common.{◌≡◌, ℕ, Bool, true, false, cond, ◌==◌, List, [], ◌∷◌, ◌++◌, Some, None, Option, refl, sym, ap, subst, ◌∙◌, arith}
 use Rattle.std.specs.Prelude.{filter, is_none}
 use Rattle.std.specs.Cmp.Lexicographic.{slice_cmp, bytes_decides}
@@ -44,7 +44,7 @@ skipped (e ∷ es) s = skipped_next e es s (skipped es (after_one s e))
 -- ## Documents
 
 module _ (name : List ℕ) (js : List ℕ) (j : ℕ) (given : is_in j js ≡ true) where
-  -- what isn't the queue's own sends nothing to a job of it
+  -- An event that is not the queue's own sends nothing to its jobs.
   none_sent : (e : Event) → is_about name js e ≡ false → sent_to j (sent_by e) ≡ []
   none_sent (Send k bytes) other = either (k == j) refl
     where
@@ -62,7 +62,7 @@ module _ (name : List ℕ) (js : List ℕ) (j : ℕ) (given : is_in j js ≡ tru
       by_own e es true own rest = ap (λ l. sent_to j (sent_by e) ++ l) rest
       by_own e es false other rest = ap (λ l. l ++ sent es j) (none_sent e other) ∙ rest
 
--- ## A purge of a job that isn't there
+-- ## A purge of a job that does not exist
 
 abbrev absent_refusal : Version → Refusal
 absent_refusal One = NeedsCheckpoint
@@ -77,7 +77,7 @@ purge_absent s j own none = ap (λ o. first_cause ((lacks_purge s.version, Needs
 
 -- ## The part of a table
 
--- what the queue's jobs are of the queue's jobs
+-- Selecting the queue's jobs twice selects the same jobs.
 own_twice : (name : List ℕ) (o : Option Job) → own_of name (own_of name o) ≡ own_of name o
 own_twice name None = refl
 own_twice name (Some r) = either (is_of name r) refl
@@ -92,7 +92,7 @@ same_rows name s t part =
     let queue : queue_at s name ≡ queue_at t name = sym part.queue in
     λ i. record { queue = queue i; jobs = λ j. jobs j i }
 
--- ## Events in turn
+-- ## Lists of events
 
 begins : (name : List ℕ) (v : Version) → IsPart name (nothing_in v) (nothing_in v)
 begins name v = record {
@@ -105,7 +105,7 @@ begins name v = record {
 }
 
 module _ (law : (effects : List Effect) → KeepsOrder effects) (name : List ℕ) where
-  -- the part stays the part, as what follows leaves it so
+  -- The part stays the part after the events.
   abbrev StaysPart : List Event → Type 0
   StaysPart es = (s t : State) → IsLegal s → IsLegal t → IsPart name s t → IsPart name (after_all s (accepted s es)) (after_all t (own_events s name (accepted s es)))
 
@@ -150,11 +150,11 @@ module _ (law : (effects : List Effect) → KeepsOrder effects) (name : List ℕ
     pub rows_apart : rows_of whole name ≡ rows_of own name
     rows_apart = same_rows name whole own parts
 
-    -- what was sent to the queue's jobs
+    -- The bytes that were sent to the queue's jobs.
     pub documents_apart : (j : ℕ) (r : Job) → job_at whole j ≡ Some r → r.queue ≡ name → sent (accepted (nothing_in v) es) j ≡ sent (events_of name (accepted (nothing_in v) es)) j
     documents_apart j r there of = sent_kept name (numbers_of name (accepted (nothing_in v) es)) j (own_number law name v es legal_whole j r there ∙ (bytes_decides r.queue name).1 of) (accepted (nothing_in v) es)
 
-    -- the event is answered alike, and leaves the same of the queue
+    -- The event gets the same answer in both tables, and has the same effect on the queue.
     abbrev IsAlike : Event → Type 0
     IsAlike e = (answer_to whole e ≡ answer_to own e) × (rows_of (after_one whole e) name ≡ rows_of (after_one own e) name)
 
@@ -170,7 +170,7 @@ module _ (law : (effects : List Effect) → KeepsOrder effects) (name : List ℕ
       ap (λ (u : State). rows_of u name) (ap (unless_refused whole e) first) ∙ rows_apart ∙ sym (ap (λ (u : State). rows_of u name) (ap (unless_refused own e) second)),
     )
 
-    -- of a number that was given to a job of the queue
+    -- For an event about a number that was assigned to a job of the queue.
     of_number : (e : Event) (j : ℕ) → IsAbout e → is_own whole name e ≡ is_own_job name (job_at whole j) → subject e ≡ Some j → is_in j (numbers_of name (accepted (nothing_in v) es)) ≡ true → IsAlike e
     of_number e j about reads names given = by_job (job_at whole j) refl
       where
@@ -178,7 +178,7 @@ module _ (law : (effects : List Effect) → KeepsOrder effects) (name : List ℕ
         by_job None none = alike_refused e NoJob (refused_as_absent whole j legal_whole none e names) (refused_as_absent own j legal_own (parts.jobs j ∙ ap (own_of name) none) e names)
         by_job (Some r) there = alike_own e about (reads ∙ ap (is_own_job name) there ∙ sym (own_number law name v es legal_whole j r there) ∙ given)
 
-    -- of a purge of such a number
+    -- For a purge of such a number.
     of_purge : (e : Event) (j : ℕ) → change_by e ≡ WithoutJob j → is_in j (numbers_of name (accepted (nothing_in v) es)) ≡ true → IsAlike e
     of_purge e j is given = by_job (job_at whole j) refl
       where
@@ -204,7 +204,7 @@ module _ (law : (effects : List Effect) → KeepsOrder effects) (name : List ℕ
     pub answers_apart : (e : Event) → IsAbout e → is_own_event v es name e ≡ true → IsAlike e
     answers_apart e about is = alike_by e (change_by e) refl about is
 
-    -- an event that isn't the queue's own changes nothing of it
+    -- An event that is not the queue's own changes nothing of the queue.
     pub others_apart : (e : Event) → is_own_event v es name e ≡ false → rows_of (after_one whole e) name ≡ rows_of whole name
     others_apart e other = by_refusal (refusal_of whole e) refl
       where

@@ -1,4 +1,4 @@
--- Keys ascend where each is below the next one.
+-- Keys are in ascending order if each key is below the next one.
 use Rattle.std.proofs.Common.{◌≡◌, ℕ, zero, suc, ◌+◌, ◌<◌, Bool, true, false, List, [], ◌∷◌, length, get_or, refl, sym, ap, subst, arith}
 use Rattle.std.specs.List.{list_all, IsAllAdjacentAnswer}
 use Rattle.std.specs.Ordering.{nat_cmp, is_lt}
@@ -41,7 +41,7 @@ module _ {Y : Type 0} (key : Y → List ℕ) where
       (and_parts (is_lower y z) (list_all (λ w. is_lower y w) ys) (and_parts (list_all (λ w. is_lower y w) (z ∷ ys)) (is_ascending key (z ∷ ys)) up).0).0
   to_adjacent (y ∷ z ∷ ys) up (suc k) d lt = to_adjacent (z ∷ ys) (and_parts (list_all (λ w. is_lower y w) (z ∷ ys)) (is_ascending key (z ∷ ys)) up).1 k d (omega arith)
 
-  -- what a look at each two neighbours says
+  -- A test of all neighbours decides whether the keys are in ascending order.
   pub ascends_as : (ys : List Y) (r : Bool) → IsAllAdjacentAnswer (λ x y b. b ≡ is_lower x y) ys r → r ≡ is_ascending key ys
   ascends_as ys true answer = sym (from_adjacent ys (λ k d lt. sym (subst (λ n. true ≡ is_lower (get_or ys k d) (get_or ys n d)) (next k) (answer k d (omega arith)))))
   ascends_as [] false answer = absurd (omega (arith, answer.1))

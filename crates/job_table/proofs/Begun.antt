@@ -1,4 +1,4 @@
--- The jobs are put into the drafts one after another, in ascending order of number.
+-- The jobs are added to the drafts in ascending order of number.
 use Rattle.std.proofs.Common.{◌≡◌, ℕ, ◌+◌, ◌<◌, ◌≤◌, inl, inr, true, false, cond, List, [], length, get_or, set, map, Option, Some, None, IsTrue, refl, sym, ap, subst, ◌∙◌, arith}
 use Rattle.std.specs.Prelude.{nat_lt, T}
 use Rattle.std.specs.declared.cmp.Ordering.TheVariants.{Less}
@@ -29,7 +29,7 @@ use Rattle.job_table.proofs.Tables.{map-same, needed_and_not}
 
 -- ## The jobs below a number
 
--- they stand where they stand, and all others as ones that aren't there
+-- Jobs below the number have their lane states, and all others count as jobs that do not exist.
 pub below : ℕ → (ℕ → LaneState) → ℕ → LaneState
 below n seats j = cond (nat_lt j n) (seats j) Ended
 
@@ -48,19 +48,19 @@ module _ (n : ℕ) (seats : ℕ → LaneState) (j : ℕ) where
   unfolding below
   below_ended le = ap (λ b. cond b (seats j) Ended) (not_below j n le)
 
--- a draft that has the jobs below a number, of which there are so many at most
+-- A draft that has the jobs below a number, which are at most `count`.
 pub record IsBegun (s : State) (number count : ℕ) (name : List ℕ) (d : Draft) : Type 0 where
   pub draft : IsDraft (below number (seat s name)) d
   pub few : d.live ≤ count
 
--- each draft has the jobs before this place
+-- Each draft has the jobs before this position.
 pub record AreBegun (s : State) (at : ℕ) (drafts : List Draft) : Type 0 where
   pub number : ℕ
   pub before : (i : ℕ) (r : Job) → i < at → i < length (finite.values s.jobs) → (get_or (finite.values s.jobs) i r).id < number
   pub behind : (i : ℕ) (r : Job) → at ≤ i → i < length (finite.values s.jobs) → number ≤ (get_or (finite.values s.jobs) i r).id
   pub each : AreBeside (IsBegun s number at) (finite.keys s.queues) drafts
 
--- this job stands at this place
+-- This job is at this position.
 pub record StandsAt (s : State) (at : ℕ) (r : Job) : Type 0 where
   pub within : at < length (finite.values s.jobs)
   pub here : get_or (finite.values s.jobs) at r ≡ r
@@ -91,7 +91,7 @@ module _ (s : State) (legal : IsLegal s) where
   abbrev entries : List (ℕ × Job)
   entries = finite.entries s.jobs
 
-  -- a job's key is its number
+  -- The key of a job is its number.
   entry_number : (i : ℕ) (d : ℕ × Job) → i < length entries → (get_or entries i d).1.id ≡ (get_or entries i d).0
   entry_number i d lt =
       let e = get_or entries i d in
@@ -101,7 +101,7 @@ module _ (s : State) (legal : IsLegal s) where
       (rows.find_place nat_cmp nat_cmp_total (λ (x : ℕ × Job). x.0) (λ (x : ℕ × Job). x.1) entries (subst (λ fs. IsTrue (finite.is_sorted nat_cmp fs)) (sym (map-same entries)) (rows.true_from _ (finite.entries_sorted s.jobs))) e.0 i d place) in
       (legal.jobs e.0 e.1 (finite.get-entries s.jobs e.0 ∙ found)).id
 
-  -- the numbers rise
+  -- The numbers are in ascending order.
   entries_rise : (i j : ℕ) (d : ℕ × Job) → i < j → j < length entries → (get_or entries i d).0 < (get_or entries j d).0
   entries_rise i j d lt within =
       let less : nat_cmp (get_or entries i d).0 (get_or entries j d).0 ≡ Less =
@@ -119,16 +119,16 @@ module _ (s : State) (legal : IsLegal s) where
       let rise = entries_rise i j (0, r) lt (subst (λ n. j < n) (length-map entries (λ (e : ℕ × Job). e.1)) within) in
       omega (arith, rise, job_number i r (omega (arith, lt, within)), job_number j r within)
 
-  -- a job stands at a place, and has its own number
+  -- A job of the table is at a position, and has its own number.
   stands_at : (j : ℕ) (q : Job) → job_at s j ≡ Some q → (i : ℕ) × (i < length jobs) × (get_or jobs i q ≡ q) × (q.id ≡ j)
   stands_at j q there = (let found = value_there s j q there in (found.0, found.1, found.2, (legal.jobs j q there).id))
 
-  -- each job's queue is there
+  -- The queue of each job exists.
   pub this_queue : (at : ℕ) (r : Job) → StandsAt s at r → queue_at s r.queue ≡ None → ⊥
   this_queue at r stands absent = needed_and_not (queue_at s r.queue) (queue_at s r.queue) (legal.jobs r.id r (there_value s legal r (at, stands.within, stands.here))).queue absent refl
 
   module _ (at : ℕ) (drafts : List Draft) (begun : AreBegun s at drafts) where
-    -- at the end all are below the number
+    -- At the end all jobs are below the number.
     none_left_out : length jobs ≤ at → (j : ℕ) → begun.number ≤ j → (o : Option Job) → job_at s j ≡ o → o ≡ None
     none_left_out ends j le None there = refl
     none_left_out ends j le (Some q) there =
@@ -151,14 +151,14 @@ module _ (s : State) (legal : IsLegal s) where
       there : job_at s r.id ≡ Some r
       there = there_value s legal r (at, this.within, this.here)
 
-      -- whatever the default is
+      -- The same is true for every default value.
       own_number : (q : Job) → (get_or jobs at q).id ≡ r.id
       own_number q = ap (λ (x : Job). x.id) (get_or_default jobs at q r this.within ∙ this.here)
 
       pub this_above : begun.number ≤ r.id
       this_above = omega (arith, begun.behind at r (omega arith) this.within, own_number r)
 
-      -- no other job has a number from there to this one's
+      -- No other job has a number between the bound and this job's number.
       none_between : (j : ℕ) → begun.number ≤ j → j < r.id + 1 → (j ≡ r.id → ⊥) → (o : Option Job) → job_at s j ≡ o → o ≡ None
       none_between j le lt other None at_j = refl
       none_between j le lt other (Some q) at_j =
@@ -176,7 +176,7 @@ module _ (s : State) (legal : IsLegal s) where
             ]
           ]
 
-      -- all others stand as before
+      -- All others have the same lane states as before.
       others_stand : (name : List ℕ) (j : ℕ) → (j ≡ r.id → ⊥) → below (r.id + 1) (seat s name) j ≡ below begun.number (seat s name) j
       others_stand name j other = elim (cases_lt j begun.number) [
         | inl low ↦ below_there (r.id + 1) (seat s name) j (omega (arith, low, this_above)) ∙ sym (below_there begun.number (seat s name) j low)
@@ -186,7 +186,7 @@ module _ (s : State) (legal : IsLegal s) where
         ]
       ]
 
-      -- in another queue this one stands as before, too
+      -- In another queue this job has the same lane state as before, too.
       elsewhere : (name : List ℕ) → (r.queue ≡ name → ⊥) → (j : ℕ) → below (r.id + 1) (seat s name) j ≡ below begun.number (seat s name) j
       elsewhere name apart j = elim (cases_eq j r.id) [
         | inl same ↦
@@ -211,7 +211,7 @@ module _ (s : State) (legal : IsLegal s) where
         pub own_draft : IsBegun s begun.number at r.queue (get_or drafts place d)
         own_draft = subst (λ name. IsBegun s begun.number at name (get_or drafts place d)) of.own (begun.each.each place [] d position_in)
 
-        -- no job of its queue is processing, where it is
+        -- If the job is processing, its queue's draft has no processing job.
         pub this_alone : lane_state_of r ≡ Processing → (get_or drafts place d).processing ≡ None
         this_alone busy = none_left (get_or drafts place d).processing (λ k at_k.
             let stands : below begun.number (seat s r.queue) k ≡ Processing = own_draft.draft.lane.processing k at_k in
@@ -223,7 +223,7 @@ module _ (s : State) (legal : IsLegal s) where
               | inr high ↦ (let no : Ended ≡ Processing = sym (below_ended begun.number (seat s r.queue) k high) ∙ stands in absurd (cc))
             ])
 
-        -- with this job in the draft of its queue
+        -- The drafts after the job was added to its queue's draft.
         pub begun_more : (new : Draft) → ((before after : ℕ → LaneState) → IsDraft before (get_or drafts place d) → before r.id ≡ Ended → IsReseated before after r.id (lane_state_of r) → IsDraft after new)
             → new.live ≤ (get_or drafts place d).live + 1 → AreBegun s (at + 1) (set drafts place new)
         begun_more new put count = record {

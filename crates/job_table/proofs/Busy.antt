@@ -1,4 +1,4 @@
--- What the lanes tell of the processing jobs.
+-- The lanes and the processing jobs.
 use Rattle.std.proofs.Common.{◌≡◌, ℕ, ◌<◌, Bool, true, false, ◌&&◌, List, [], ◌∷◌, length, get_or, Option, Some, None, refl, sym, ap, subst, ◌∙◌, arith}
 use Rattle.std.specs.Option.{is_some, option_map}
 use Rattle.std.specs.List.{Contains, find, list_any}
@@ -26,7 +26,7 @@ module _ (s : State) (legal : IsLegal s) (name : List ℕ) where
   abbrev jobs : List Job
   jobs = finite.values s.jobs
 
-  -- a queue's processing job is the one that its lane has
+  -- The processing job of a queue is the one in its lane.
   module _ (lane : Lane) (is : IsLane (seat s name) lane) where
     pub lane_found : (r : Job) → Contains jobs r → is_busy_of name r ≡ true → lane.processing ≡ Some r.id
     lane_found r there busy =
@@ -54,7 +54,7 @@ module _ (s : State) (legal : IsLegal s) (name : List ℕ) where
             let own = found (is_busy_of name) jobs r some in
             lane_found r own.0 own.1
 
-  -- a queue that isn't there has none
+  -- A queue that does not exist has none.
   pub none_busy : queue_at s name ≡ None → None ≡ busy_of s name
   none_busy absent = by_found (find (is_busy_of name) jobs) refl
     where
@@ -71,7 +71,7 @@ some_lane : (lanes : List Lane) (i : ℕ) → i < length lanes → Lane
 some_lane [] i lt = absurd (omega (arith, lt))
 some_lane (l ∷ lanes) i lt = l
 
--- whether a job is processing, by a test of all lanes
+-- A test of all lanes shows whether a job is processing.
 module _ (s : State) (legal : IsLegal s) (v : ℕ) (lanes : List Lane) (are : AreLanes s v lanes) where
   abbrev is_taken : Lane → Bool
   is_taken lane = is_some lane.processing

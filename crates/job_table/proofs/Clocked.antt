@@ -1,4 +1,4 @@
--- What a change of every job makes of a table, and what the clock makes of one.
+-- The effects of a change of every job and of the clock.
 use Rattle.std.proofs.Common.{◌≡◌, ℕ, ◌<◌, Bool, true, false, cond, ◌&&◌, List, [], ◌∷◌, map, Option, Some, None, refl, sym, ap, subst, ◌∙◌, arith}
 use Rattle.std.proofs.lemmas.Bool.{and_parts, and_from}
 use Rattle.std.proofs.lemmas.Bool.Decides.{nat_tests}
@@ -18,7 +18,7 @@ use Rattle.job_table.proofs.Changes.{same_number}
 
 -- ## A change of every job
 
--- tables with the same jobs are the same
+-- Tables with the same jobs are equal.
 same_jobs : (a b : Jobs) → ((j : ℕ) → finite.get a j ≡ finite.get b j) → a ≡ b
 same_jobs a b same = finite.same_map nat_cmp_total finite.nat_cmp-IsAntisymmetric a b same
 
@@ -46,7 +46,7 @@ module _ (f : Job → Job) where
     entries_changed : finite.entries (change_jobs f jobs) ≡ changed (finite.entries jobs)
     entries_changed = finite.entries-from_sorted nat_cmp (changed (finite.entries jobs)) (subst T (sym (sorted_kept (finite.entries jobs))) (finite.entries_sorted jobs))
 
-    -- each number has the changed job
+    -- Each number has the changed job.
     job_changed : (j : ℕ) → finite.get (change_jobs f jobs) j ≡ option_map f (finite.get jobs j)
     job_changed j =
         finite.get-entries (change_jobs f jobs) j
@@ -54,7 +54,7 @@ module _ (f : Job → Job) where
         ∙ find_changed j (finite.entries jobs)
         ∙ ap (option_map f) (sym (finite.get-entries jobs j))
 
-    -- a job that is there was there before, and was changed
+    -- Each job that is found existed before, and was changed.
     changed_from : (j : ℕ) (x : Job) → finite.get (change_jobs f jobs) j ≡ Some x → (r : Job) × (finite.get jobs j ≡ Some r) × (f r ≡ x)
     changed_from j x there = by_job (finite.get jobs j) refl (sym (job_changed j) ∙ there)
       where
@@ -62,7 +62,7 @@ module _ (f : Job → Job) where
         by_job None at is = absurd (cc)
         by_job (Some r) at is = (r, at, cc)
 
-    -- where no job is changed the table stays
+    -- If no job changes, the table does not change.
     none_changed : ((j : ℕ) (r : Job) → finite.get jobs j ≡ Some r → f r ≡ r) → change_jobs f jobs ≡ jobs
     none_changed same = same_jobs (change_jobs f jobs) jobs (λ j. job_changed j ∙ by_job j (finite.get jobs j) refl)
       where
@@ -70,7 +70,7 @@ module _ (f : Job → Job) where
         by_job j None at = refl
         by_job j (Some r) at = ap Some (same j r at)
 
-  -- what is put in is changed, and all others are
+  -- The inserted job is changed like all others.
   changed_insert : (jobs : Jobs) (j : ℕ) (x : Job) → change_jobs f (finite.insert jobs j x) ≡ finite.insert (change_jobs f jobs) j (f x)
   changed_insert jobs j x = same_jobs _ _ (λ k.
       job_changed (finite.insert jobs j x) k
@@ -82,7 +82,7 @@ module _ (f : Job → Job) where
       either k true = refl
       either k false = sym (job_changed jobs k)
 
--- what is changed to no end is there already
+-- Inserting a job that is already in the table changes nothing.
 insert_same : (jobs : Jobs) (j : ℕ) (x : Job) → finite.get jobs j ≡ Some x → finite.insert jobs j x ≡ jobs
 insert_same jobs j x there = same_jobs _ _ (λ k. finite.get-insert nat_cmp_total jobs j x k ∙ either k (eq_by_cmp nat_cmp k j) refl)
   where
@@ -90,9 +90,9 @@ insert_same jobs j x there = same_jobs _ _ (λ k. finite.get-insert nat_cmp_tota
     either k true same = sym (ap (finite.get jobs) (same_number j k same) ∙ there)
     either k false other = refl
 
--- ## What a moment makes of a job
+-- ## The effect of a moment on a job
 
--- a job is as it was, or it was late and is canceled
+-- A job is unchanged, or it was late and is canceled.
 pub at_either : (P : Job → Type 0) (now : ℕ) (r : Job) → P r → (is_late now r ≡ true → P (ended Canceled r)) → P (at_moment now r)
 at_either P now r kept late = either (is_late now r) refl
   where
@@ -100,14 +100,14 @@ at_either P now r kept late = either (is_late now r) refl
     either true is = late is
     either false is = kept
 
--- what a cancel leaves of a job the moment leaves too
+-- Every part of a job that a cancel leaves unchanged is also unchanged by the clock.
 at_same : {X : Type 0} (g : Job → X) → ((r : Job) → g (ended Canceled r) ≡ g r) → (now : ℕ) (r : Job) → g (at_moment now r) ≡ g r
 at_same g same now r = at_either (λ x. g x ≡ g r) now r refl (λ late. same r)
 
 pub at_queue : (now : ℕ) (r : Job) → (at_moment now r).queue ≡ r.queue
 at_queue = at_same (λ r. r.queue) (λ r. refl)
 
--- only a job that waits is canceled
+-- Only a waiting job is canceled.
 late_waits : (now : ℕ) (r : Job) → is_late now r ≡ true → is_waiting r.phase ≡ true
 late_waits now r late = (and_parts (is_waiting r.phase) (is_passed now r.by) late).0
 
@@ -139,32 +139,32 @@ waiting_idle (Aborted reason) waits = refl
 pub at_ended : (now : ℕ) (r : Job) → has_ended r.phase ≡ true → at_moment now r ≡ r
 at_ended now r over = at_not_waiting now r (ended_waits_not r.phase over)
 
--- it processes as before
+-- The job is processing if it was before.
 at_processing : (now : ℕ) (r : Job) → is_processing (at_moment now r).phase ≡ is_processing r.phase
 at_processing now r = at_either (λ x. is_processing x.phase ≡ is_processing r.phase) now r refl (λ late. sym (waiting_idle r.phase (late_waits now r late)))
 
--- a legal job is legal
+-- A legal job stays legal.
 legal_at : (queues : Queues) (j now : ℕ) (r : Job) → IsLegalJob queues j r → IsLegalJob queues j (at_moment now r)
 legal_at queues j now r fine = at_either (IsLegalJob queues j) now r fine (λ late. record { id = fine.id; queue = fine.queue; phase = tt; size = fine.size })
 
--- ## What a moment makes of a table
+-- ## The effect of a moment on a table
 
--- a table in which no job is late stays
+-- A table without late jobs does not change.
 pub none_late : (now : ℕ) (jobs : Jobs) → ((j : ℕ) (r : Job) → finite.get jobs j ≡ Some r → is_late now r ≡ false) → change_jobs (at_moment now) jobs ≡ jobs
 none_late now jobs timely = none_changed (at_moment now) jobs (λ j r there. at_kept now r (timely j r there))
 
--- a late job that is canceled already makes no difference
+-- Canceling a late job first does not change the result.
 pub late_canceled : (now : ℕ) (s : State) (j : ℕ) (r : Job) → job_at s j ≡ Some r → is_late now r ≡ true → change_jobs (at_moment now) (change_job s j (ended Canceled)).jobs ≡ change_jobs (at_moment now) s.jobs
 late_canceled now s j r there late =
     ap (λ o. change_jobs (at_moment now) (change_found s j (ended Canceled) o).jobs) there
     ∙ changed_insert (at_moment now) s.jobs j (ended Canceled r)
     ∙ insert_same (change_jobs (at_moment now) s.jobs) j (ended Canceled r) (job_changed (at_moment now) s.jobs j ∙ ap (option_map (at_moment now)) there ∙ ap Some (at_late now r late))
 
--- what is there at a moment
+-- The job after the clock event.
 pub clock_job : (s : State) (now j : ℕ) (o : Option Job) → job_at s j ≡ o → job_at (at_clock now s) j ≡ option_map (at_moment now) o
 clock_job s now j o there = job_changed (at_moment now) s.jobs j ∙ ap (option_map (at_moment now)) there
 
--- a legal table is legal once the moment was told to its jobs
+-- A legal table is legal after all its jobs were changed for the moment.
 pub legal_moment : (s : State) (now then : ℕ) → IsLegal s → IsLegal (record s { jobs = change_jobs (at_moment now) s.jobs; moment = then })
 legal_moment s now then legal = record {
   few_queues = legal.few_queues;
@@ -183,7 +183,7 @@ legal_moment s now then legal = record {
       (sym (at_processing now q.0) ∙ ap (λ (z : Job). is_processing z.phase) q.2 ∙ busy_too);
 }
 
--- what is late, by its phase and its moment
+-- A job is late by its phase and its moment.
 pub late_from : (now by : ℕ) (r : Job) → is_waiting r.phase ≡ true → r.by ≡ Some by → by < now → is_late now r ≡ true
 late_from now by r waits is lt = and_from (is_waiting r.phase) (is_passed now r.by) waits (ap (is_passed now) is ∙ passed by now lt)
   where

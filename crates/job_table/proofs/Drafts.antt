@@ -1,4 +1,4 @@
--- The draft of a lane once a job is put in, and the lane that it becomes.
+-- The draft of a lane after a job was added, and the lane that results from it.
 use Rattle.std.proofs.Common.{◌≡◌, ◌↔◌, ℕ, ◌+◌, ◌<◌, ◌≤◌, ◌⊎◌, inl, inr, List, [], ◌∷◌, ◌++◌, length, get_or, Some, None, Vec, Global, refl, sym, ap, subst, ◌∙◌, arith}
 use Rattle.std.specs.List.{All, Contains}
 use Rattle.std.specs.FinMap as finite
@@ -29,9 +29,9 @@ blank vs none = record {
   none = refl;
 }
 
--- ## A job is put in
+-- ## A job is added
 
--- what is in the list, and the one that is put behind it
+-- The elements of the list, and the appended one.
 pushed : (es : List Entry) (e f : Entry) → Contains (es ++ e ∷ []) f ↔ (Contains es f ⊎ (f ≡ e))
 pushed es e f = (
   λ there. elim (Contains-push_cases es e f there) [ inl before ↦ inl before | inr own ↦ inr (sym own) ],
@@ -42,7 +42,7 @@ pushed es e f = (
 )
 
 module _ (old new : ℕ → LaneState) (j : ℕ) (d : Draft) (is : IsDraft old d) (was : old j ≡ Ended) (to : LaneState) (seated : IsReseated old new j to) where
-  -- with room for one job more
+  -- The lane with room for one more job.
   abbrev roomy : Lane
   roomy = record (drafted d) { index = record { items = d.waiting.items; moment = 0; room = d.live + 1 }; reserved = d.live + 1 }
 
@@ -67,11 +67,11 @@ module _ (old new : ℕ → LaneState) (j : ℕ) (d : Draft) (is : IsDraft old d
         (λ k f lt same. lacks old (drafted d) j is.lane was (get_or d.waiting.items k f) (Contains-get_or d.waiting.items k f lt) (same ∙ own)));
   }
 
--- the draft goes by where the jobs stand
+-- A draft depends only on the lane states of the jobs.
 pub draft_as : (old new : ℕ → LaneState) (d : Draft) → ((k : ℕ) → new k ≡ old k) → IsDraft old d → IsDraft new d
 draft_as old new d same is = record { lane = lane_as old new (drafted d) same is.lane; once = is.once }
 
--- ## The lane that it becomes
+-- ## The resulting lane
 
 pub sorted_lane : (d : Draft) (w : Waits) → ((e : Entry) → Contains w.items e ↔ Contains d.waiting.items e) → d.live ≤ w.room → (now : ℕ) → w.moment ≡ now
     → IsAdvanced now (drafted d) (record { index = w; processing = d.processing; live = d.live; reserved = d.live })
@@ -90,7 +90,7 @@ sorted_lane d w items room now moment = record {
   reserved = refl;
 }
 
--- ## Lists beside one another
+-- ## Pairs of lists
 
 module _ {K X Y : Type 0} (P : K → X → Type 0) (Q : X → Y → Type 0) (R : K → Y → Type 0) (step : (k : K) (x : X) (y : Y) → P k x → Q x y → R k y) where
   pub beside_then : (ks : List K) (xs : List X) (ys : List Y) → AreBeside P ks xs → AreBeside Q xs ys → AreBeside R ks ys
@@ -102,7 +102,7 @@ module _ {K X Y : Type 0} (P : K → X → Type 0) (Q : X → Y → Type 0) (R :
         step (get_or ks i k) (get_or (x ∷ xs) i x) (get_or ys i y) (first.each i k x within) (second.each i x y lt);
   }
 
--- one more behind each
+-- One more element at the end of each.
 pub beside_push : {K Y : Type 0} (P : K → Y → Type 0) (ks : List K) (ys : List Y) (k : K) (y : Y) → AreBeside P ks ys → P k y → AreBeside P (ks ++ k ∷ []) (ys ++ y ∷ [])
 beside_push P ks ys k y are own = record {
   count = length-append ys (y ∷ []) ∙ ap (λ n. n + 1) are.count ∙ sym (length-append ks (k ∷ []));
@@ -122,7 +122,7 @@ beside_push P ks ys k y are own = record {
 pub waiting_once : (s : State) (drafts : List Draft) → AreDrafts s drafts → All (λ d. HasEachOnce d.waiting.items) drafts
 waiting_once s drafts are i d lt = (are.each i [] d lt).once
 
--- the lane of each draft
+-- The lanes that result from the drafts.
 pub lanes_become : (s : State) (drafts : List Draft) (lanes : List Lane) → AreDrafts s drafts → AreBeside (λ d lane. IsAdvanced s.moment (drafted d) lane) drafts lanes → AreLanes s 0 lanes
 lanes_become s drafts lanes are become =
     beside_then (λ name d. IsDraft (seat s name) d) (λ d lane. IsAdvanced s.moment (drafted d) lane) (IsLaneOf s 0) (λ name d lane is new.

@@ -1,4 +1,4 @@
--- What an event may make of a job.
+-- The possible effects of an event on a job.
 use Rattle.std.proofs.Common.{◌≡◌, ◌⊎◌, inl, inr, ℕ, ◌<◌, List, Some, None, Option, IsTrue, refl, arith}
 use Rattle.job_table.specs.Attempts.{next_stage, ruled}
 use Rattle.job_table.specs.EventChanges.{closed}
@@ -12,19 +12,19 @@ use Rattle.spool_types.specs.State.{Job}
 use Rattle.backend_codes.specs.declared.verdicts.Verdict.{Verdict}
 use Rattle.backend_codes.specs.declared.verdicts.Verdict.TheVariants as verdicts
 
--- the job keeps its number, its queue, and the moment by which it is to start
+-- The job keeps its number, its queue, and the moment by which it must start.
 pub record IsSameJob (r q : Job) : Type 0 where
   pub id : q.id ≡ r.id
   pub queue : q.queue ≡ r.queue
   pub by : q.by ≡ r.by
 
--- ## What follows a row
+-- ## Rows that follow a row
 
--- where the second is processing, the first is in the same stage or a lower one
+-- If the second is processing, the first is in the same stage or a lower one.
 abbrev pub Goes : Phase → Phase → Type 0
 Goes p x = (stage : ℕ) → IsUpTo stage x → IsUpTo stage p
 
--- a job with so many attempts in this phase may become this one
+-- A job with this number of attempts, in this phase, may turn into this job.
 abbrev pub Follows : ℕ → Phase → Job → Type 0
 Follows attempts p x = IsTrue (has_ended x.phase) ⊎ ((attempts < x.attempts) ⊎ ((x.attempts ≡ attempts) × Goes p x.phase))
 

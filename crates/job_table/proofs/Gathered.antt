@@ -1,4 +1,4 @@
--- The timetable that is gathered from all jobs of a table.
+-- The timetable that is collected from all jobs of a table.
 use Rattle.std.proofs.Common.{◌≡◌, ℕ, zero, suc, ◌+◌, ◌<◌, ◌≤◌, ◌⊎◌, inl, inr, Bool, true, false, cond, List, [], ◌∷◌, length, get_or, map, Option, Some, None, refl, sym, ap, subst, ◌∙◌, arith}
 use Rattle.std.specs.Prelude.{count_by, is_some}
 use Rattle.std.specs.List.{AllPairs, Contains, cons_option, filter_map}
@@ -20,7 +20,7 @@ use Rattle.job_table.proofs.Choice.{there_value, value_there}
 use Rattle.job_table.proofs.Lanes.{none_pass, one_more}
 use Rattle.job_table.proofs.Timely.{deadline_own, deadline_timed}
 
--- ## What a list has
+-- ## Elements of a list
 
 module _ {X : Type 0} where
   first_here : (x : X) (xs : List X) → Contains (x ∷ xs) x
@@ -33,7 +33,7 @@ module _ {X : Type 0} where
   first_or_rest x xs y (zero, within, here) = inl here
   first_or_rest x xs y (suc k, within, here) = inr (k, omega (arith, within), here)
 
-  -- one differs from all later ones
+  -- An element differs from all later ones.
   pairs_more : (R : X → X → Type 0) (x : X) (xs : List X) → ((y : X) → Contains xs y → R x y) → AllPairs R xs → AllPairs R (x ∷ xs)
   pairs_more R x xs first rest zero zero d lt within = absurd (omega (arith, lt))
   pairs_more R x xs first rest zero (suc k) d lt within = first (get_or xs k d) (Contains-get_or xs k d (omega (arith, within)))
@@ -59,7 +59,7 @@ one_if b = cond b 1 0
 count_more : {X : Type 0} (p : X → Bool) (x : X) (xs : List X) → count_by p (x ∷ xs) ≡ one_if (p x) + count_by p xs
 count_more p x xs = sum_by-cons (λ y. one_if (p y)) x xs
 
--- ## What is gathered from a list
+-- ## Collecting from a list
 
 module _ {X Y : Type 0} (h : X → Option Y) where
   abbrev IsGiven : List X → Y → Type 0
@@ -75,7 +75,7 @@ module _ {X Y : Type 0} (h : X → Option Y) where
     | inr rest ↦ given_later x xs y (later rest)
   ]
 
-  -- what is gathered is given by one of them
+  -- Each collected item comes from an element.
   given_by : (xs : List X) (y : Y) → Contains (filter_map h xs) y → IsGiven xs y
   given_by [] y there = absurd (omega (arith, there.1))
   given_by (x ∷ xs) y there = given_first x xs y (h x) refl (given_by xs y) there
@@ -84,7 +84,7 @@ module _ {X Y : Type 0} (h : X → Option Y) where
   kept_first ys y None later = later
   kept_first ys y (Some z) later = rest_here z ys y later
 
-  -- what one of them gives is gathered
+  -- The item of each element is collected.
   given : (xs : List X) (x : X) (y : Y) → Contains xs x → h x ≡ Some y → Contains (filter_map h xs) y
   given [] x y there is = absurd (omega (arith, there.1))
   given (z ∷ xs) x y there is = elim (first_or_rest z xs x there) [
@@ -99,7 +99,7 @@ module _ {X Y : Type 0} (h : X → Option Y) where
         let found = given_by xs w there in
         step x found.0 y w (first found.0 found.1) is found.2) rest
 
-    -- what two of them give differs where they do
+    -- Different elements have different items.
     given_apart : (xs : List X) → AllPairs R xs → AllPairs Q (filter_map h xs)
     given_apart [] pairs = λ i k d lt within. absurd (omega (arith, within))
     given_apart (x ∷ xs) pairs = apart_first x xs (h x) refl (pairs_first R x xs pairs) (given_apart xs (pairs_rest R x xs pairs))
@@ -109,14 +109,14 @@ module _ {X Y : Type 0} (h : X → Option Y) where
     few_first x xs None is rest = omega (arith, rest, count_more p x xs)
     few_first x xs (Some y) is rest = omega (arith, rest, count_more p x xs, ap one_if (passes x y is))
 
-    -- no more are gathered than pass
+    -- At most as many items are collected as elements pass.
     given_few : (xs : List X) → length (filter_map h xs) ≤ count_by p xs
     given_few [] = omega arith
     given_few (x ∷ xs) = few_first x xs (h x) refl (given_few xs)
 
--- ## How many numbers pass
+-- ## The number of numbers that pass
 
--- those that pass, but for one number
+-- The numbers that pass, except one number.
 but : (ℕ → Bool) → ℕ → ℕ → Bool
 but p n j = elim (cases_eq j n) [ inl own ↦ false | inr other ↦ p j ]
 
@@ -137,7 +137,7 @@ but_pass p n j is = by_case (cases_eq j n) is
     by_case (inr other) passes = (other, passes)
 
 module _ {X : Type 0} (id : X → ℕ) (t : X → Bool) where
-  -- the number of an item that passes
+  -- The number of an element that passes.
   abbrev IsNumber : List X → ℕ → Type 0
   IsNumber xs j = (x : X) × Contains xs x × (id x ≡ j) × (t x ≡ true)
 
@@ -171,7 +171,7 @@ module _ {X : Type 0} (id : X → ℕ) (t : X → Bool) where
   none_of p each j true is = (let found = each j is in absurd (omega (arith, found.1.1)))
   none_of p each j false is = refl
 
-  -- no more numbers pass than items do, where each that passes is such an item's
+  -- If each number that passes belongs to an element that passes, at most as many numbers pass as elements.
   few_numbers : (xs : List X) (p : ℕ → Bool) → ((j : ℕ) → p j ≡ true → IsNumber xs j) → AtMost p (count_by t xs)
   few_numbers [] p each = none_pass p (λ j. none_of p each j (p j) refl)
   few_numbers (x ∷ xs) p each = number_first x xs p each (t x) refl (few_numbers xs)
@@ -212,7 +212,7 @@ module _ (s : State) (legal : IsLegal s) (rows : List JobRow) (same : map job_of
   pub gathered_few : length (filter_map row_deadline rows) ≤ count_by is_timed rows
   gathered_few = given_few row_deadline is_timed (λ row d is. deadline_timed (Some row.job) d is) rows
 
-  -- a job that has a deadline gives it
+  -- The deadline of a job is in the list.
   listed_by : (j : ℕ) (d : Deadline) (o : Option Job) → job_at s j ≡ o → deadline_found o ≡ Some d → (d.id ≡ j) × Contains (filter_map row_deadline rows) d
   listed_by j d None there is = absurd (cc)
   listed_by j d (Some r) there is =
@@ -221,7 +221,7 @@ module _ (s : State) (legal : IsLegal s) (rows : List JobRow) (same : map job_of
         given row_deadline rows found.0 d found.1 (ap deadline_of found.2 ∙ is),
       )
 
-  -- a job that is to start by a moment is counted
+  -- A job that must start by a moment is counted.
   timed_by : (j : ℕ) (o : Option Job) → job_at s j ≡ o → has_by o ≡ true → IsNumber (λ (row : JobRow). row.job.id) is_timed rows j
   timed_by j None there is = absurd (cc)
   timed_by j (Some r) there is =

@@ -1,4 +1,4 @@
--- A table over its rows and its lanes.
+-- The invariant of a table, with its rows and its lanes.
 use Rattle.std.proofs.Common.{◌≡◌, ℕ, ◌<◌, [], true, Option, None, Some, Result, Ok, refl, sym, ap, subst, ◌∙◌, arith}
 use Rattle.std.specs.FinMap as finite
 use Rattle.std.specs.Ordering.{nat_cmp}
@@ -32,7 +32,7 @@ module _ {X Y : Type 0} where
   pub ok_same : (x z : X) (r : Result X Y) → r ≡ Ok x → r ≡ Ok z → x ≡ z
   ok_same x z r first second = cc
 
--- the step of an event that isn't refused
+-- The step of an event that is not refused.
 pub stepped : (s : State) (e : Event) (t : State) (r : Reply) → refusal_of s e ≡ None → step s e ≡ Ok (t, r) → (t ≡ after s e) × (r ≡ reply_to s e)
 stepped s e t r none is =
     let both = ok_same (t, r) (after s e, reply_to s e) (step s e) is (ap (answered s e) none) in
@@ -40,7 +40,7 @@ stepped s e t r none is =
 
 -- ## No jobs
 
--- no lanes beside no queues
+-- No queues have no lanes.
 pub no_lanes : (v : ℕ) → AreLanes nothing v []
 no_lanes v = record {
   count = sym (length-map (finite.entries nothing.queues) (λ e. e.0) ∙ sym (finite.len-entries nothing.queues) ∙ finite.len-empty (slice_cmp nat_cmp) QueueRow);
@@ -50,9 +50,10 @@ no_lanes v = record {
 pub no_jobs : (j : ℕ) → job_at nothing j ≡ None
 no_jobs j = finite.get-empty nat_cmp j
 
--- ## The jobs stay
+-- ## Unchanged jobs
 
--- lanes and timetable are those of rows that say the same of each job, and of the moment
+-- If the rows of two tables agree on each job and on the moment, the lanes and the timetable of the one are those of
+-- the other.
 pub held_stays : (a : Inside) (store : Contents) → Stays a.store.state store.state → IsLegal store.state → IsInLanes a → IsInLanes (record a { store = store })
 held_stays a store stays legal is = record {
   legal = legal;
@@ -70,11 +71,11 @@ held_same a store same is = held_stays a store
     })
     (subst IsLegal (sym same) is.legal) is
 
--- a moment changes no row
+-- A new moment changes no row.
 pub legal_then : (s : State) (then : ℕ) → IsLegal s → IsLegal (record s { moment = then })
 legal_then s then legal = record { few_queues = legal.few_queues; names = legal.names; in_order = legal.in_order; numbers = legal.numbers; jobs = legal.jobs; one_processing = legal.one_processing }
 
--- an event about a queue that is there leaves the jobs
+-- An event about an existing queue leaves the jobs unchanged.
 stays_by : (s : State) (change : Change) → IsOfOne change → WritesRows change → subject_of change ≡ None → Stays s (made s change)
 stays_by s (OfQueue name f) about writes none = stays_queue s name f
 stays_by s (NewQueueRow q) about writes none = absurd about
@@ -88,9 +89,9 @@ stays_by s (OfBoth j effects verdict) about writes none = absurd (cc)
 pub stays_about : (s : State) (e : Event) → IsAbout e → IsOfRows e → subject e ≡ None → Stays s (after s e)
 stays_about s e about writes none = stays_by s (change_by e) about writes none
 
--- ## A job comes
+-- ## A new job
 
--- a new job is none that was there
+-- A new job did not exist before.
 pub created : (s : State) → IsLegal s → (n : NewJob) (by : Option ℕ) → refusal_of s (creation n by) ≡ None → Gains s (after s (creation n by)) n.job (new_job n by)
 created s legal n by accepted = subst (λ t. Gains s t n.job (new_job n by)) (sym (after_creation s n by)) (record {
   names = refl;
@@ -100,14 +101,14 @@ created s legal n by accepted = subst (λ t. Gains s t n.job (new_job n by)) (sy
   there = put_own s n.job (new_job n by);
 })
 
--- there is room for it
+-- There is room for it.
 pub creation_room : (room : Room) (n : NewJob) (by : Option ℕ) → HasRoom room (creation n by) → 0 < room.jobs
 creation_room room n None has = has
 creation_room room n (Some by) has = has
 
--- ## A job goes
+-- ## A removed job
 
--- a purge takes away a job that has ended
+-- A purge removes a job that has ended.
 pub purged : (s t : State) (j : ℕ) (r : Job) → job_at s j ≡ Some r → has_ended r.phase ≡ true → t ≡ after s (Purge j) → Leaves s t j r
 purged s t j r there ended same = record {
   names = ap (λ (u : State). finite.keys u.queues) same;

@@ -1,4 +1,4 @@
--- A lane's index is that of its queue's waiting jobs, and so its choice is the queue's.
+-- A lane's index is that of its queue's waiting jobs, so the choice of the lane is that of the queue.
 use Rattle.std.proofs.Common.{◌≡◌, ℕ, Bool, true, false, not, ◌&&◌, List, Option, Some, None, IsTrue, refl, sym, ap, subst, ◌∙◌}
 use Rattle.std.specs.List.{Contains}
 use Rattle.std.specs.Cmp.Lexicographic.{bytes_decides}
@@ -73,7 +73,7 @@ module _ (s : State) (legal : IsLegal s) (name : List ℕ) (lane : Lane) (is : I
             never true = refl
             never false = refl
 
--- of a queue that is stopped no job is eligible
+-- No job of a stopped queue is eligible.
 pub stopped_none : (s : State) (name : List ℕ) (q : QueueRow) → queue_at s name ≡ Some q → q.stopped ≡ true
     → (p : QueueRow) → queue_at s name ≡ Some p → (j : ℕ) (r : Job) → job_at s j ≡ Some r → is_eligible (finite.values s.jobs) name p.stopped s.moment r ≡ false
 stopped_none s name q there stopped p at j r own =

@@ -1,4 +1,4 @@
--- What a lane has when a job leaves it, or is put in.
+-- The contents of a lane after a job leaves it or is added.
 use Rattle.std.proofs.Common.{◌≡◌, ℕ, suc, ◌+◌, ◌<◌, ◌≤◌, ◌⊎◌, inl, inr, Bool, true, false, List, [], ◌∷◌, length, get_or, set, map, Option, Some, None, IsTrue, refl, sym, ap, subst, ◌∙◌, arith, rules}
 use Rattle.std.specs.Prelude.{◌↔◌}
 use Rattle.std.specs.List.{Contains, AllPairs, AllByRecursion}
@@ -38,7 +38,7 @@ module _ {X : Type 0} where
   all_numbers id [] P all = tt
   all_numbers id (x ∷ xs) P all = (all.0, all_numbers id xs P all.1)
 
-  -- of items in their order, each told by its number, no two have the same number
+  -- In a sorted list of items that are determined by their numbers, no two have the same number.
   pub apart_in_order : (id : X → ℕ) (before : X → X → Bool) → ((x : X) → before x x ≡ false) → (P : X → Type 0) → ((x y : X) → P x → P y → id x ≡ id y → x ≡ y)
       → (xs : List X) → AllPairs (λ x y. IsTrue (before x y)) xs → ((x : X) → Contains xs x → P x) → AllPairs (λ x y. ¬ (id y ≡ id x)) xs
   apart_in_order id before itself P told xs order each i k d lt within same =
@@ -46,7 +46,7 @@ module _ {X : Type 0} where
       let one : x ≡ get_or xs k d = told x (get_or xs k d) (each x (Contains-get_or xs i d (omega (arith, lt, within)))) (each (get_or xs k d) (Contains-get_or xs k d within)) (sym same) in
       both_ways (before x x) (itself x) (subst (λ y. before x y ≡ true) (sym one) (order i k d lt within))
 
--- all but one of them
+-- All elements except one.
 record Removed (P : ℕ → Type 0) (j : ℕ) (xs : List ℕ) : Type 0 where
   kept : List ℕ
   differ : AllDiffer kept
@@ -72,9 +72,9 @@ removed P j (x ∷ xs) differ all = elim (cases_eq x j) [
       })
 ]
 
--- ## How many numbers pass
+-- ## The number of numbers that pass
 
--- no more than before where each that passes has passed before
+-- At most n numbers pass, if each of them passed before.
 pub no_more : (p q : ℕ → Bool) (n : ℕ) → AtMost p n → ((k : ℕ) → q k ≡ true → p k ≡ true) → AtMost q n
 no_more p q n most before js differ all = most js differ (all_weaker (λ k. q k ≡ true) (λ k. p k ≡ true) before js all)
 
@@ -86,7 +86,7 @@ module _ (p q : ℕ → Bool) (j n : ℕ) (most : AtMost p n) (others : (k : ℕ
   pub one_passes : p j ≡ true → 1 ≤ n
   one_passes is = most (j ∷ []) (tt, tt) (is, tt)
 
-  -- it passes no more
+  -- The number no longer passes.
   pub one_less : q j ≡ false → p j ≡ true → (m : ℕ) → m + 1 ≡ n → AtMost q m
   one_less not_now was m is = λ js differ all.
       let apart : AllByRecursion (λ k. ¬ (k ≡ j)) js = all_weaker (λ k. q k ≡ true) (λ k. ¬ (k ≡ j)) (λ k passes same. both_ways (q k) (ap q same ∙ not_now) passes) js all in
@@ -95,7 +95,7 @@ module _ (p q : ℕ → Bool) (j n : ℕ) (most : AtMost p n) (others : (k : ℕ
       let bound : suc (length js) ≤ n = most (j ∷ js) (apart, differ) (was, were) in
       omega (arith, bound, is)
 
-  -- it may pass now
+  -- The number may pass now.
   pub one_more : AtMost q (n + 1)
   one_more = λ js differ all.
       let rest = removed (λ k. q k ≡ true) j js differ all in
@@ -103,14 +103,14 @@ module _ (p q : ℕ → Bool) (j n : ℕ) (most : AtMost p n) (others : (k : ℕ
       most rest.kept rest.differ (all_weaker _ (λ k. p k ≡ true) (λ k has. sym (others k has.0) ∙ has.1) rest.kept rest.all) in
       omega (arith, bound, rest.count)
 
-  -- as many as before where it doesn't pass
+  -- The bound stays the same if the number does not pass.
   pub as_many : q j ≡ false → AtMost q n
   as_many not_now = no_more p q n most (λ k passes. elim (cases_eq k j) [
     | inl same ↦ absurd (both_ways (q k) (ap q same ∙ not_now) passes)
     | inr other ↦ sym (others k other) ∙ passes
   ])
 
--- ## How many jobs haven't ended
+-- ## The number of jobs that have not ended
 
 live_waiting : (to : LaneState) (e : Entry) → to ≡ Waiting e → is_live to ≡ true
 live_waiting to e is = ap is_live is
@@ -128,17 +128,17 @@ module _ (old new : ℕ → LaneState) (j : ℕ) (n : ℕ) (most : AtMostLive ol
   pub one_live : is_live (old j) ≡ true → 1 ≤ n
   one_live = one_passes (Live old) (Live old) j n most (λ k other. refl)
 
-  -- a job that hasn't ended goes
+  -- A job that has not ended leaves.
   pub one_live_less : IsReseated old new j Ended → is_live (old j) ≡ true → (m : ℕ) → m + 1 ≡ n → AtMostLive new m
   one_live_less seated = one_less (Live old) (Live new) j n most (live_others Ended seated) (ap is_live seated.own)
 
-  -- a job is put in
+  -- A job is added.
   pub one_live_more : (to : LaneState) → IsReseated old new j to → AtMostLive new (n + 1)
   one_live_more to seated = one_more (Live old) (Live new) j n most (live_others to seated)
 
--- ## How many stand in a list
+-- ## The length of a list
 
--- those that are told apart by their numbers have different ones
+-- Items that are distinguished by their numbers have different numbers.
 pub differ_numbers : {X : Type 0} (id : X → ℕ) (xs : List X) → AllPairs (λ x y. ¬ (id y ≡ id x)) xs → AllDiffer (map id xs)
 differ_numbers id [] apart = tt
 differ_numbers id (x ∷ xs) apart = (
@@ -164,10 +164,10 @@ module _ (seats : ℕ → LaneState) where
       (is.live (map (λ e. e.id) items) (differ_numbers (λ (e : Entry). e.id) items apart)
       (all_numbers (λ (e : Entry). e.id) items (λ k. is_live (seats k) ≡ true) (all_from (λ e. is_live (seats e.id) ≡ true) items (λ e there. live_waiting (seats e.id) e (is.waiting e there)))))
 
--- ## A job leaves, or is put in
+-- ## A job leaves or is added
 
 module _ (old new : ℕ → LaneState) (j : ℕ) (lane : Lane) (is : IsLane old lane) where
-  -- a job that waits is none that is processing, or the other way round
+  -- A waiting job is not processing, and a processing job is not waiting.
   apart_waiting : (k : ℕ) (e : Entry) → old k ≡ Waiting e → old k ≡ Processing → ⊥
   apart_waiting k e p q = (let no : Waiting e ≡ Processing = sym p ∙ q in absurd (cc))
 
@@ -185,7 +185,7 @@ module _ (old new : ℕ → LaneState) (j : ℕ) (lane : Lane) (is : IsLane old 
           reserved = is.reserved;
         }
 
-    -- what stands elsewhere than the job that left
+    -- Each job with a lane state is not the job that left.
     stood : (k : ℕ) (x : LaneState) → new k ≡ x → is_live x ≡ true → (¬ (k ≡ j)) × (old k ≡ x)
     stood k x at alive = elim (cases_eq k j) [
       | inl own ↦ absurd (ended_and_live x (sym at ∙ ap new own ∙ seated.own) alive)
@@ -237,7 +237,7 @@ module _ (old new : ℕ → LaneState) (j : ℕ) (lane : Lane) (is : IsLane old 
     }
 
   module _ (to : LaneState) (seated : IsReseated old new j to) (was : old j ≡ Ended) where
-    -- all that stood before stand as they did
+    -- Each job that had a lane state before still has it.
     stands : (k : ℕ) (x : LaneState) → old k ≡ x → is_live x ≡ true → new k ≡ x
     stands k x at alive = seated.others k (λ own. ended_and_live x (sym at ∙ ap old own ∙ was) alive) ∙ at
 
@@ -294,7 +294,7 @@ module _ (old new : ℕ → LaneState) (j : ℕ) (lane : Lane) (is : IsLane old 
       reserved = rw room is.reserved;
     }
 
-  -- a job waits otherwise than before
+  -- A waiting job gets another entry.
   module _ (e f : Entry) (was : old j ≡ Waiting e) (seated : IsReseated old new j (Waiting f)) where
     as_live : (k : ℕ) → is_live (new k) ≡ true → is_live (old k) ≡ true
     as_live k alive = elim (cases_eq k j) [
@@ -321,11 +321,11 @@ module _ (old new : ℕ → LaneState) (j : ℕ) (lane : Lane) (is : IsLane old 
       reserved = rw room is.reserved;
     }
 
--- the index has no job that stands elsewhere
+-- The index does not have a job with another lane state.
 pub lacks : (seats : ℕ → LaneState) (lane : Lane) (j : ℕ) → IsLane seats lane → seats j ≡ Ended → LacksJob lane.index.items j
 lacks seats lane j is ended = λ e there same. (let no : Waiting e ≡ Ended = sym (is.waiting e there) ∙ ap seats same ∙ ended in absurd (cc))
 
--- ## A lane by itself
+-- ## A single lane
 
 pub empty_lane : (w : Waits) → w.items ≡ [] → (seats : ℕ → LaneState) → ((j : ℕ) → seats j ≡ Ended) → IsLane seats (record { index = w; processing = None; live = 0; reserved = 0 })
 empty_lane w none seats ended = record {
@@ -341,7 +341,7 @@ empty_lane w none seats ended = record {
     nothing : (e : Entry) → Contains [] e → ⊥
     nothing e there = omega (arith, there.1)
 
--- the same entries, and no less room
+-- The same entries, and at least as much room.
 pub lane_with : (lane : Lane) (w : Waits) → w.items ≡ lane.index.items → (n : ℕ) → lane.live ≤ n → n ≤ w.room → (seats : ℕ → LaneState) → IsLane seats lane → IsLane seats (record lane { index = w; reserved = n })
 lane_with lane w items n live room seats is = record {
   waiting = λ e there. is.waiting e (subst (λ es. Contains es e) items there);
@@ -353,7 +353,7 @@ lane_with lane w items n live room seats is = record {
   reserved = room;
 }
 
--- the jobs without one, which may then be put in elsewhere
+-- The jobs without one. It may then be added again with another lane state.
 pub taken : (ℕ → LaneState) → ℕ → ℕ → LaneState
 taken seats j k = elim (cases_eq k j) [ inl same ↦ Ended | inr other ↦ seats k ]
 
@@ -372,7 +372,7 @@ taken_own seats j = record { own = own (cases_eq j j); others = λ k other. othe
 pub put_back : (old new : ℕ → LaneState) (j : ℕ) (to : LaneState) → IsReseated old new j to → IsReseated (taken old j) new j to
 put_back old new j to seated = record { own = seated.own; others = λ k other. seated.others k other ∙ sym ((taken_own old j).others k other) }
 
--- ## A list whose elements change one after another
+-- ## A list with elements that change in order
 
 module _ {Y : Type 0} (R : Y → Y → Type 0) (first now : List Y) (at : ℕ) (new : Y) (within : at < length now) where
   pub set_done : ((i : ℕ) (d : Y) → i < at → R (get_or first i d) (get_or now i d)) → ((d : Y) → R (get_or first at d) new)

@@ -1,4 +1,4 @@
--- A moment cancels the late jobs one after another, each once.
+-- A clock event cancels the late jobs in order, each once.
 use Rattle.std.proofs.Common.{◌≡◌, ℕ, zero, suc, ◌+◌, ◌<◌, ◌≤◌, inl, inr, Bool, true, false, cond, [], ◌∷◌, Option, Some, None, refl, sym, ap, subst, ◌∙◌, arith}
 use Rattle.std.specs.Prelude.{is_none}
 use Rattle.std.specs.FinMap as finite
@@ -22,12 +22,12 @@ use Rattle.job_table.proofs.Clocked.{ended_waits_not, late_canceled, late_from, 
 use Rattle.job_table.proofs.Moves.{put_other, put_own}
 use Rattle.job_table.proofs.Timely.{deadline_made, deadline_own}
 
--- ## How many jobs wait
+-- ## The number of waiting jobs
 
 abbrev pub count_of : Bool → ℕ
 count_of b = cond b 1 0
 
--- how many numbers below this one pass
+-- The number of numbers below n that pass.
 abbrev pub passing : (ℕ → Bool) → ℕ → ℕ
 passing p zero = 0
 passing p (suc n) = count_of (p n) + passing p n
@@ -36,7 +36,7 @@ passing_same : (p q : ℕ → Bool) (n : ℕ) → ((k : ℕ) → k < n → q k �
 passing_same p q zero same = refl
 passing_same p q (suc n) same = λ i. count_of (same n (omega arith) i) + passing_same p q n (λ k lt. same k (omega (arith, lt))) i
 
--- one passes no more, and all others as before
+-- One number no longer passes, and all others are as before.
 passing_less : (p q : ℕ → Bool) (j : ℕ) → ((k : ℕ) → ¬ (k ≡ j) → q k ≡ p k) → p j ≡ true → q j ≡ false → (n : ℕ) → j < n → passing q n < passing p n
 passing_less p q j others was not_now zero lt = absurd (omega (arith, lt))
 passing_less p q j others was not_now (suc n) lt = elim (cases_eq n j) [
@@ -55,14 +55,14 @@ abbrev waits_found : Option Job → Bool
 waits_found None = false
 waits_found (Some r) = is_waiting r.phase
 
--- how many jobs of a table wait
+-- The number of waiting jobs of a table.
 abbrev pub waiting_count : State → ℕ
 waiting_count s = passing (λ j. waits_found (job_at s j)) (s.highest + 1)
 
--- ## What the timetable tells of late jobs
+-- ## The timetable and the late jobs
 
 module _ (now : ℕ) (s : State) (t : Timetable) (timely : IsTimely (job_at s) t) where
-  -- a deadline that is over is that of a late job
+  -- A deadline that has passed belongs to a late job.
   pub late_listed : (j : ℕ) → (d : Deadline) × Contains t.deadlines.items d × (d.id ≡ j) × (d.by < now) → (r : Job) × (job_at s j ≡ Some r) × (is_late now r ≡ true)
   late_listed j found = by_job (job_at s j) refl (sym (ap (λ k. deadline_found (job_at s k)) found.2) ∙ timely.only found.0 found.1)
     where
@@ -72,7 +72,7 @@ module _ (now : ℕ) (s : State) (t : Timetable) (timely : IsTimely (job_at s) t
           let own = deadline_own r found.0 (sym (ap deadline_found at) ∙ is) in
           (r, at, late_from now found.0.by r own.0 own.1.0 found.3)
 
-  -- where no deadline is over, no job is late
+  -- If no deadline has passed, no job is late.
   pub none_listed : ((d : Deadline) → Contains t.deadlines.items d → now ≤ d.by) → change_jobs (at_moment now) s.jobs ≡ s.jobs
   none_listed later = none_late now s.jobs (λ j r there. either r j there (is_late now r) refl)
     where
@@ -106,11 +106,11 @@ module _ (now : ℕ) (s : State) (legal : IsLegal s) (j : ℕ) (r : Job) (there 
     canceled : t ≡ record s { jobs = finite.insert s.jobs j (ended Canceled r) }
     canceled = after_it ∙ ap (change_found s j (ended Canceled)) there
 
-    -- the others are canceled as before
+    -- The others are canceled as before.
     pub cancel_rest : change_jobs (at_moment now) t.jobs ≡ change_jobs (at_moment now) s.jobs
     cancel_rest = ap (λ (u : State). change_jobs (at_moment now) u.jobs) after_it ∙ late_canceled now s j r there late
 
-    -- nothing but jobs has changed
+    -- Only the jobs have changed.
     pub cancel_others : t ≡ record s { jobs = t.jobs }
     cancel_others = canceled ∙ ap (λ (u : State). record s { jobs = u.jobs }) (sym canceled)
 
@@ -123,14 +123,14 @@ module _ (now : ℕ) (s : State) (legal : IsLegal s) (j : ℕ) (r : Job) (there 
     same_highest : t.highest ≡ s.highest
     same_highest = ap (λ (u : State). u.highest) canceled
 
-    -- what isn't over wasn't over
+    -- A number that is not over was not over before.
     pub cancel_alive : (k : ℕ) → is_over t k ≡ false → is_over s k ≡ false
     cancel_alive k lasts = elim (cases_eq k j) [
       | inl own ↦ absurd (both_ways (is_over t k) lasts (ap (is_over t) own ∙ ap (is_over_by t.highest j) own_job))
       | inr other ↦ ap (λ n. is_over_by n k (job_at s k)) (sym same_highest) ∙ ap (is_over_by t.highest k) (sym (other_job k other)) ∙ lasts
     ]
 
-    -- one waits no more
+    -- The number of waiting jobs decreases.
     pub cancel_less : waiting_count t < waiting_count s
     cancel_less =
         subst (λ n. passing (λ k. waits_found (job_at t k)) (n + 1) < waiting_count s) (sym same_highest)

@@ -1,4 +1,4 @@
--- What the rows of a listing lead to: the table is legal, and the job that is still to come into it may do so.
+-- The progress after rows of a listing: the table is legal, and the incomplete job may be added to it.
 use Rattle.std.proofs.Common.{◌≡◌, ℕ, ◌+◌, ◌-◌, ◌*◌, ◌<◌, Bool, true, false, cond, ◌==◌, List, length, min, Some, None, Option, refl, sym, ap, subst, ◌∙◌, arith, rules}
 use Rattle.std.specs.Option.{option_map}
 use Rattle.std.specs.FinMap as finite
@@ -47,7 +47,7 @@ reading_queue p q next reading = record {
   partial = subst (IsPartialIn (with_queue p.state q)) (sym next.whole) tt;
 }
 
--- a job whose document is whole is put in
+-- A job with a complete document is added.
 pub legal_new_job : (s : State) (r : Job) → IsLegal s → IsNewJob s r → IsLegal (with_job s r)
 legal_new_job s r legal new = legal_put s r.id s.highest r (λ k q at_k same busy busy_too. absurd (apart (is_busy (finite.values s.jobs) r.queue) (busy_found s k q r.queue at_k same busy_too) (new.alone busy))) legal (omega arith) new.given (record {
   id = refl;
@@ -59,7 +59,7 @@ legal_new_job s r legal new = legal_put s r.id s.highest r (λ k q at_k same bus
 pub same_nat : (m n : ℕ) → (m == n) ≡ true → m ≡ n
 same_nat m n e = grind (arith, rules)
 
--- the last job, with so many bytes of its document
+-- The last job, with the bytes of its document that were read.
 pub reading_last : (p : Progress) (x : Part) → p.begun ≡ true → IsLegal p.state → IsNewJob p.state x.row → ((x.read == document_len x.row) ≡ false → IsPartial p.state x) → IsReading (with_last p x)
 reading_last p x begun legal new short = either (x.read == document_len x.row) refl
   where
@@ -67,7 +67,7 @@ reading_last p x begun legal new short = either (x.read == document_len x.row) r
     either true e = record { legal = legal_new_job p.state x.row legal new; fresh = λ f. absurd (apart p.begun begun f); partial = tt }
     either false e = record { legal = legal; fresh = λ f. absurd (apart p.begun begun f); partial = short e }
 
--- a listed job has no bytes yet
+-- A listed job has no bytes yet.
 pub listed_short : (s : State) (r : Job) → IsNewJob s r → (0 == document_len r) ≡ false → IsPartial s (begun_part r)
 listed_short s r new short = either (has_ended r.phase) refl short
   where
@@ -75,7 +75,7 @@ listed_short s r new short = either (has_ended r.phase) refl short
     either true e short = absurd (cc)
     either false e short = record { new = new; goes_on = e; short = grind (arith, rules); pieces = (0, omega arith) }
 
--- one more whole piece, or the end of the document
+-- One more full piece, or the end of the document.
 one_piece_more : (old more size n : ℕ) → old ≡ n * longest_send → more ≡ min (size - old) longest_send → old < size → ¬ (old + more ≡ size) → (old + more < size) × (old + more ≡ (n + 1) * longest_send)
 one_piece_more old more size n is piece lt other = (omega arith, omega arith)
 
@@ -88,7 +88,7 @@ piece_short s x j bytes next part other =
     let more = one_piece_more x.read (length bytes) x.row.size part.pieces.0 part.pieces.1 next.full part.short apart_from in
     record { new = part.new; goes_on = part.goes_on; short = more.0; pieces = (part.pieces.0 + 1, more.1) }
 
--- a job is partial only behind the head
+-- A job can be incomplete only after the head.
 pub begun_with : (p : Progress) (r : Part) → p.partial ≡ Some r → (p.begun ≡ false → IsFresh p) → p.begun ≡ true
 begun_with p r is fresh = either p.begun refl
   where
@@ -109,14 +109,14 @@ reading_loaded p (Queue q) placed reading = reading_queue p q placed reading
 reading_loaded p (JobRow r) placed reading = reading_last p (begun_part r) placed.begun reading.legal placed.new (listed_short p.state r placed.new)
 reading_loaded p (Piece j bytes) placed reading = reading_piece p p.partial refl j bytes placed reading
 
--- what is there after a row is seen by its parts
+-- The parts of a progress determine it.
 pub progress_is : (q : Progress) (p : Progress) → p.state ≡ q.state → p.begun ≡ q.begun → p.partial ≡ q.partial → p ≡ q
 progress_is q p state begun partial = λ i. record { state = state i; begun = begun i; partial = partial i }
 
 pub read_on : (p q : Progress) (row : Row) → IsPlaced p row → IsReading p → q ≡ loaded p row → IsReading q
 read_on p q row placed reading is = subst IsReading (sym is) (reading_loaded p row placed reading)
 
--- what is there once the last job was settled
+-- The progress after the last job was settled.
 settled_by : (p : Progress) (x : Part) (s : State) (o : Option Part) (b : Bool) → s ≡ cond b (with_job p.state x.row) p.state → o ≡ cond b None (Some x) → record { state = s; begun = p.begun; partial = o } ≡ cond b (record p { state = with_job p.state x.row; partial = None }) (record p { partial = Some x })
 settled_by p x s o true state rest = progress_is _ _ state refl rest
 settled_by p x s o false state rest = progress_is _ _ state refl rest
@@ -131,7 +131,7 @@ module _ (p : Progress) (t : State) (x : Part) (s : State) (rest : Option Part) 
   settled_piece bytes None is = absurd (cc)
   settled_piece bytes (Some y) is = settled (with_piece bytes y) (some_same x (with_piece bytes y) is)
 
--- the last job with a piece more
+-- The last job with one more piece.
 pub grown_parts : (at : ℕ) (bytes : List ℕ) (old new : Option Partial) → IsGrown at (length bytes) old new → option_map part_of new ≡ option_map (with_piece bytes) (option_map part_of old)
 grown_parts at bytes None new is = ap (option_map part_of) is
 grown_parts at bytes (Some p) None is = absurd is

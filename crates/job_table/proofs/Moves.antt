@@ -1,4 +1,4 @@
--- What an event about one job leaves as it was.
+-- The parts of a table that an event about one job leaves unchanged.
 use Rattle.std.proofs.Common.{◌≡◌, ℕ, Bool, true, false, cond, List, Some, None, Option, refl, sym, ap, subst, ◌∙◌}
 use Rattle.std.specs.Ordering.{nat_cmp, eq_by_cmp}
 use Rattle.std.specs.Cmp.{nat_cmp_total}
@@ -23,14 +23,14 @@ use Rattle.job_table.proofs.Keys.{keys_insert}
 use Rattle.job_table.proofs.Legal.{KeepsBy, Keeps, IsSound, sound, legal_effects}
 use Rattle.job_table.proofs.Follows.{IsSameJob}
 
--- no job, no queue's name and no moment changes, but for the job of this number
+-- No job, no name of a queue and no moment changes, except the job of this number.
 pub record Moves (s t : State) (j : ℕ) : Type 0 where
   pub names : finite.keys t.queues ≡ finite.keys s.queues
   pub moment : t.moment ≡ s.moment
   pub others : (k : ℕ) → ¬ (k ≡ j) → job_at t k ≡ job_at s k
   pub own : (r : Job) → job_at s j ≡ Some r → (q : Job) × (job_at t j ≡ Some q) × IsSameJob r q
 
--- nor that one
+-- That job does not change either.
 pub record Stays (s t : State) : Type 0 where
   pub names : finite.keys t.queues ≡ finite.keys s.queues
   pub moment : t.moment ≡ s.moment
@@ -45,7 +45,7 @@ stays_same s = record { names = refl; moment = refl; jobs = λ k. refl }
 moves_same : (s : State) (j : ℕ) → Moves s s j
 moves_same s j = record { names = refl; moment = refl; others = λ k apart. refl; own = λ r there. (r, there, same_job r) }
 
--- one change after another
+-- Two changes in order.
 moves_then : (s t u : State) (j : ℕ) → Moves s t j → Moves t u j → Moves s u j
 moves_then s t u j first second = record {
   names = second.names ∙ first.names;
@@ -65,7 +65,7 @@ moves_stays s t j same = record {
   own = λ r there. (r, same.jobs j ∙ there, same_job r);
 }
 
--- another number isn't found where one is put in
+-- Inserting a job leaves the other numbers unchanged.
 pub put_other : (s : State) (j : ℕ) (x : Job) (k : ℕ) → ¬ (k ≡ j) → finite.get (finite.insert s.jobs j x) k ≡ job_at s k
 put_other s j x k apart = finite.get-insert nat_cmp_total s.jobs j x k ∙ either (eq_by_cmp nat_cmp k j) refl
   where
@@ -76,7 +76,7 @@ put_other s j x k apart = finite.get-insert nat_cmp_total s.jobs j x k ∙ eithe
 pub put_own : (s : State) (j : ℕ) (x : Job) → finite.get (finite.insert s.jobs j x) j ≡ Some x
 put_own s j x = finite.get-insert nat_cmp_total s.jobs j x j ∙ ap (λ b. cond b (Some x) (finite.get s.jobs j)) (same_itself j)
 
--- a job that is there is changed
+-- An existing job is changed.
 moves_found : (s : State) (j : ℕ) (f : Job → Job) → ((r : Job) → IsSameJob r (f r)) → (o : Option Job) → job_at s j ≡ o → Moves s (change_found s j f o) j
 moves_found s j f keeps None is = moves_same s j
 moves_found s j f keeps (Some x) is = record {
@@ -91,7 +91,7 @@ moves_found s j f keeps (Some x) is = record {
 moves_change : (s : State) (j : ℕ) (f : Job → Job) → ((r : Job) → IsSameJob r (f r)) → Moves s (change_job s j f) j
 moves_change s j f keeps = moves_found s j f keeps (job_at s j) refl
 
--- a queue that is there is changed
+-- An existing queue is changed.
 stays_found : (s : State) (name : List ℕ) (f : QueueRow → QueueRow) (o : Option QueueRow) → queue_at s name ≡ o → Stays s (change_found_queue s name f o)
 stays_found s name f None is = stays_same s
 stays_found s name f (Some q) is = record { names = keys_insert (slice_cmp nat_cmp) nat_list_cmp_total s.queues name (f q) q is; moment = refl; jobs = λ k. refl }
@@ -103,7 +103,7 @@ stays_own : (s : State) (f : QueueRow → QueueRow) (o : Option Job) → Stays s
 stays_own s f None = stays_same s
 stays_own s f (Some r) = stays_queue s r.queue f
 
--- a verdict keeps a job's number, its queue and its moment
+-- A job keeps its number, its queue and its moment after a verdict.
 ruled_same : (now interval : ℕ) (v : Verdict) (r : Job) → IsSameJob r (ruled now interval v r)
 ruled_same now interval verdicts.NextStage r = record { id = refl; queue = refl; by = refl }
 ruled_same now interval verdicts.Completed r = record { id = refl; queue = refl; by = refl }
@@ -144,7 +144,7 @@ moves_effects s j effects = moves_then s (change_job s j (with_pages effects)) (
     (moves_change s j (with_pages effects) (λ r. record { id = refl; queue = refl; by = refl }))
     (moves_stays _ _ j (stays_own (change_job s j (with_pages effects)) (queue_after effects) (job_at (change_job s j (with_pages effects)) j)))
 
--- an event about a job moves no other
+-- An event about a job changes no other job.
 module _ (s : State) (legal : IsLegal s) (j : ℕ) where
   at_number : (t : State) (k : ℕ) → Some k ≡ Some j → Moves s t k → Moves s t j
   at_number t k is all = subst (Moves s t) (number_of j k is) all

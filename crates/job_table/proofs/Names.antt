@@ -1,4 +1,4 @@
--- The places of queues among the names, and of jobs among the numbers.
+-- The positions of queues among the names, and of jobs among the numbers.
 use Rattle.std.proofs.Common.{◌≡◌, ℕ, zero, suc, ◌<◌, ◌≤◌, IsTrue, List, [], ◌∷◌, length, get_or, map, Result, Ok, Err, IfOk, IfErr, true, refl, sym, ap, subst, ◌∙◌, inl, inr, arith}
 use Rattle.std.specs.declared.cmp.Ordering.TheVariants.{Less, Equal}
 use Rattle.std.specs.List.{Contains, insert}
@@ -47,7 +47,7 @@ module _ (ys : List QueueRow) (h : IsTrue (finite.is_sorted (slice_cmp nat_cmp) 
   get_name : (i : ℕ) (d : QueueRow) → i < length ys → get_or names i [] ≡ (get_or ys i d).name
   get_name i d lt = ap (λ ks. get_or ks i []) (keys_queues ys h) ∙ get_or-map (λ (r : QueueRow). r.name) ys i d [] lt
 
-  -- no name stands before or behind itself
+  -- A name occurs only once.
   apart : (i j : ℕ) (d : QueueRow) → i < j → j < length ys → (get_or ys i d).name ≡ (get_or ys j d).name → ⊥
   apart i j d lt within same =
       let less : slice_cmp nat_cmp (get_or ys i d).name (get_or ys j d).name ≡ Less = rows.rise (slice_cmp nat_cmp) nat_list_cmp_total (λ r. r.name) (λ r. r) ys (rows.t_from _ h) i j d lt within in
@@ -86,7 +86,7 @@ module _ (ys : List QueueRow) (h : IsTrue (finite.is_sorted (slice_cmp nat_cmp) 
         ∙ ap (λ ns. insert ns i q.name) (sym (keys_queues ys h)));
   }
 
--- ## The names of the queues that are there
+-- ## The names of the existing queues
 
 pub name_there : (s : State) (name : List ℕ) → is_some (queue_at s name) ≡ true → Contains (finite.keys s.queues) name
 name_there s name there =

@@ -1,4 +1,4 @@
--- One extent more among new places, and those of a job given away.
+-- Noting one more extent, and taking the extents of a job.
 use Rattle.std.proofs.Common.{◌≡◌, ℕ, ◌-◌, ◌==◌, if◌then◌else◌, Bool, true, false, cond, IsTrue, IsSome, List, [], ◌∷◌, ◌++◌, get_or, set, map, Option, Some, None, unwrap_or, refl, sym, ap, subst, ◌∙◌}
 use Rattle.std.specs.Ordering.{nat_cmp, eq_by_cmp}
 use Rattle.std.specs.Cmp.{nat_cmp_total}
@@ -27,7 +27,7 @@ module _ (ds : List NewDocument) (sorted : IsTrue (finite.is_sorted nat_cmp (map
   sorted_spare : IsTrue (finite.is_sorted nat_cmp (map spare_entry ds))
   sorted_spare = rows.sorted_alike nat_cmp (λ (d : NewDocument). d.job) new_spare (λ (d : NewDocument). d.extents.items) ds ∙ sorted
 
-  -- what has no place isn't there
+  -- A job without a position is not in the list.
   pub none_there : (j at : ℕ) → IsGap nat_cmp (λ (d : NewDocument). d.job) ds j at → finite.find nat_cmp j (map new_entry ds) ≡ None
   none_there j at gap = rows.find_gap nat_cmp nat_cmp_total (λ (d : NewDocument). d.job) (λ (d : NewDocument). d.extents.items) ds j at gap
 
@@ -45,7 +45,7 @@ module _ (ds : List NewDocument) (sorted : IsTrue (finite.is_sorted nat_cmp (map
         ap (λ o. unwrap_or o 0) (rows.find_place nat_cmp nat_cmp_total (λ (d : NewDocument). d.job) new_spare ds sorted_spare j at old place)
         ∙ ap new_spare (sym is_old)
 
-    -- a document that is written over another of the same job
+    -- A document is replaced by another one of the same job.
     module _ (new : NewDocument) (same : new.job ≡ old.job) where
       same_job : (get_or ds at old).job ≡ new.job
       same_job = ap (λ (d : NewDocument). d.job) (sym is_old) ∙ sym same

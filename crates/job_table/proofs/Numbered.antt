@@ -1,4 +1,4 @@
--- Rows under their own numbers: where one stands, and what a change of the rows does to the numbers.
+-- Rows under their own numbers: the position of a row, and the effect of a change of the rows on the numbers.
 use Rattle.std.proofs.Common.{◌≡◌, ℕ, zero, suc, ◌+◌, ◌-◌, ◌<◌, ◌≤◌, ◌==◌, Bool, true, false, cond, IsTrue, List, [], ◌∷◌, ◌++◌, length, get_or, set, map, Option, None, Some, IsSome, refl, sym, ap, subst, ◌∙◌, arith, rules}
 use Rattle.std.specs.Prelude.{IfSome, IfNone, All, slice_get}
 use Rattle.std.specs.Borrow.{Bor}
@@ -24,11 +24,11 @@ use Rattle.job_table.proofs.Tables.{IsJobPlace, IsJobGap, get_job, get_no_job, f
 abbrev pub numbers_of : List JobRow → List ℕ
 numbers_of rs = map (λ (r : JobRow). r.job.id) rs
 
--- the rows with this one at the place
+-- The rows with this one at the position.
 abbrev pub with_at : Listed → ℕ → JobRow → Listed
 with_at rows at row = record rows { items = set rows.items at row }
 
--- ## What a change does to the numbers
+-- ## The effect of a change on the numbers
 
 pub numbers_set : (rs : List JobRow) (at : ℕ) (row d : JobRow) → (get_or rs at d).job.id ≡ row.job.id → numbers_of (set rs at row) ≡ numbers_of rs
 numbers_set rs at row d same = map-set_same (λ (r : JobRow). r.job.id) rs at row d (sym same)
@@ -42,7 +42,7 @@ numbers_remove [] (suc at) = refl
 numbers_remove (r ∷ rs) zero = refl
 numbers_remove (r ∷ rs) (suc at) = ap (λ ns. r.job.id ∷ ns) (numbers_remove rs at)
 
--- the rows with one more at the end
+-- The rows with one more at the end.
 pub numbers_pushed : (old new : Listed) (row : JobRow) → old.numbers ≡ numbers_of old.items → new.numbers ≡ old.numbers ++ row.job.id ∷ [] → new.items ≡ old.items ++ row ∷ [] → new.numbers ≡ numbers_of new.items
 numbers_pushed old new row own numbers items =
     numbers
@@ -50,7 +50,7 @@ numbers_pushed old new row own numbers items =
     ∙ sym (numbers_push old.items row)
     ∙ ap (λ rs. numbers_of rs) (sym items)
 
--- and with one less
+-- The rows with one less.
 pub numbers_removed : (old new : Listed) (at : ℕ) → old.numbers ≡ numbers_of old.items → new.numbers ≡ remove old.numbers at → new.items ≡ remove old.items at → new.numbers ≡ numbers_of new.items
 numbers_removed old new at own numbers items =
     numbers
@@ -58,16 +58,16 @@ numbers_removed old new at own numbers items =
     ∙ sym (numbers_remove old.items at)
     ∙ ap (λ rs. numbers_of rs) (sym items)
 
--- ## The place of a number is that of its row
+-- ## The position of a number is that of its row
 
--- each row stands at the place of its number
+-- Each row is at the position of its number.
 pub own_place : (rs : List JobRow) (i : ℕ) (d : JobRow) → i < length rs → IsJobPlace rs (get_or rs i d).job.id i
 own_place rs i d lt = record {
   in_range = lt;
   same = λ e. ap (λ (r : JobRow). nat_cmp r.job.id (get_or rs i d).job.id) (get_or_default rs i e d lt) ∙ tied_itself nat_cmp_total (get_or rs i d).job.id;
 }
 
--- a number above those of all rows goes last
+-- A row with a number above all others is appended.
 pub end_gap : (rs : List JobRow) (k : ℕ) → ((i : ℕ) (d : JobRow) → i < length rs → (get_or rs i d).job.id < k) → IsJobGap rs k (length rs)
 end_gap rs k below = record {
   in_range = omega arith;
@@ -110,7 +110,7 @@ module _ (rows : Listed) (own : rows.numbers ≡ numbers_of rows.items) (sorted 
   pub as_many : length rows.numbers ≡ length rows.items
   as_many = ap length own ∙ length-map rows.items (λ (r : JobRow). r.job.id)
 
-  -- a job that is there has its number
+  -- An existing job has its number.
   pub has_number : (j : ℕ) (r : Job) → finite.get (jobs_of rows.items) j ≡ Some r → HasNumber rows.numbers j
   has_number j r there = subst (λ ns. HasNumber ns j) (sym own) (found_numbered rows.items j r (find_job rows.items sorted j ∙ there))
 
@@ -124,7 +124,7 @@ module _ (rows : Listed) (own : rows.numbers ≡ numbers_of rows.items) (sorted 
   number_at : (at : ℕ) (d : JobRow) → at < length rows.items → get_or rows.numbers at 0 ≡ (get_or rows.items at d).job.id
   number_at at d lt = ap (λ ns. get_or ns at 0) own ∙ get_or-map (λ (r : JobRow). r.job.id) rows.items at d 0 lt
 
-  -- the row that was found stands at the place of its number
+  -- The row that was found is at the position of its number.
   pub row_place : (j : ℕ) (row : JobRow) → HasRow rows j row → IsJobPlace rows.items j (position_in rows.numbers j)
   row_place j row found =
       let within : position_in rows.numbers j < length rows.items = subst (λ n. position_in rows.numbers j < n) as_many found.place.in_range in
@@ -136,7 +136,7 @@ module _ (rows : Listed) (own : rows.numbers ≡ numbers_of rows.items) (sorted 
   pub row_there : (j : ℕ) (row : JobRow) → HasRow rows j row → finite.get (jobs_of rows.items) j ≡ Some (job_of row)
   row_there j row found = get_job rows.items sorted j (position_in rows.numbers j) row (row_place j row found) ∙ ap (λ r. Some (job_of r)) found.is
 
-  -- where the number is lacking there is no job
+  -- If the number is missing, there is no job.
   pub no_row : (j : ℕ) → LacksNumber rows.numbers j → finite.get (jobs_of rows.items) j ≡ None
   no_row j lacks = get_no_job rows.items sorted j lacks.0 (record {
     in_range = subst (λ n. lacks.0 ≤ n) as_many lacks.1.in_range;
@@ -144,14 +144,14 @@ module _ (rows : Listed) (own : rows.numbers ≡ numbers_of rows.items) (sorted 
     behind = λ i d le lt. ap (λ n. nat_cmp n j) (sym (number_at i d lt)) ∙ lacks.1.behind i 0 le (omega (arith, lt, as_many));
   })
 
-  -- what a look under the number finds
+  -- The result of a lookup under the number.
   pub looked_at : (j : ℕ) (o : Option (Bor JobRow)) → IfSome o (λ row. HasRow rows j row.now) → IfNone o (LacksNumber rows.numbers j) → option_map job_of (option_copied o) ≡ finite.get (jobs_of rows.items) j
   looked_at j None found lacks = sym (no_row j lacks)
   looked_at j (Some row) found lacks = sym (row_there j row.now found)
 
--- ## From number to number
+-- ## From one number to the next
 
--- no more numbers than these are left from this one on
+-- The greatest number of iterations left, from this number on.
 abbrev pub numbers_left : Option ℕ → ℕ
 numbers_left None = 0
 numbers_left (Some n) = greatest_number + 2 - n
@@ -166,11 +166,11 @@ place_is (r ∷ rs) sorted (suc at) n is =
     ap (λ b. cond b 0 (suc (position_in (numbers_of rs) n))) (lower_no r.job.id n (subst (λ k. nat_cmp r.job.id k ≡ Less) own less))
     ∙ ap suc (place_is rs (true_from _ (second_of _ _ (t_from _ sorted))) at n is)
 
--- the place of a number that was reached
+-- The position of the current number.
 pub place_reached : (rows : Listed) → rows.numbers ≡ numbers_of rows.items → IsTrue (finite.is_sorted nat_cmp (map job_entry rows.items)) → (at n : ℕ) → slice_get rows.numbers at ≡ Some n → position_in rows.numbers n ≡ at
 place_reached rows own sorted at n is = ap (λ ns. position_in ns n) own ∙ place_is rows.items sorted at n (ap (λ ns. slice_get ns at) (sym own) ∙ is)
 
--- the rows that were reached: they have the numbers of the first ones, and some of them were written anew
+-- The rows during the loop: they have the numbers of the original rows, and some of them have been replaced.
 module _ (first : Listed) (own : first.numbers ≡ numbers_of first.items) (sorted : IsTrue (finite.is_sorted nat_cmp (map job_entry first.items))) where
   pub within_reach : (at n : ℕ) → slice_get first.numbers at ≡ Some n → HasNumber first.numbers n
   within_reach at n is = subst (λ p. p < length first.numbers) (sym (place_reached first own sorted at n is)) (slice_get_within first.numbers at n is)
@@ -189,7 +189,7 @@ module _ (first : Listed) (own : first.numbers ≡ numbers_of first.items) (sort
         is = ap (λ p. get_or rows.items p row) (sym place) ∙ found.is;
       }
 
--- no number is left where none was reached
+-- If no number is left, all positions were visited.
 pub none_reached : (ns : List ℕ) (at : ℕ) → slice_get ns at ≡ None → length ns ≤ at
 none_reached [] at none = omega arith
 none_reached (n ∷ ns) zero none = absurd (cc)

@@ -1,4 +1,4 @@
--- A number that is over stays so.
+-- A number that is over stays over.
 use Rattle.std.proofs.Common.{◌≡◌, ℕ, ◌≤◌, Bool, true, false, inl, inr, cond, List, [], ◌∷◌, Some, None, Option, IsSome, refl, sym, ap, subst, ◌∙◌, arith}
 use Rattle.std.specs.Prelude.{nat_le, is_none}
 use Rattle.std.specs.FinMap as finite
@@ -39,11 +39,11 @@ over_absent s t j still given = subst (λ (o : Option Job). is_over_by t.highest
 over_there : (t : State) (j : ℕ) (r : Job) → job_at t j ≡ Some r → has_ended r.phase ≡ true → IsOver t j
 over_there t j r there over = subst (λ (o : Option Job). is_over_by t.highest j o ≡ true) (sym there) over
 
--- the number of a job that goes is over
+-- The number of a removed job is over.
 pub over_without : (s : State) (j : ℕ) → j ≤ s.highest → IsOver (record s { jobs = finite.remove s.jobs j }) j
 over_without s j within = subst (λ (o : Option Job). is_over_by s.highest j o ≡ true) (sym (without_own s j)) (is_within j s.highest within)
 
--- the causes of an event about a job begin with the one that there is none
+-- The causes of an event about a job begin with NoJob.
 absent_first : (o : Option Job) (rest : List (Bool × Refusal)) → o ≡ None → first_cause ((is_none o, NoJob) ∷ rest) ≡ Some NoJob
 absent_first o rest none = ap (λ p. first_cause ((is_none p, NoJob) ∷ rest)) none
 
@@ -95,13 +95,13 @@ module _ (s : State) (j : ℕ) (legal : IsLegal s) where
   pub number_not_again : (n : NewJob) (by : Option ℕ) → n.job ≡ j → IsOver s j → IsSome (refusal_of s (creation n by))
   number_not_again n by same over = not_again n by same (job_at s j) refl over
 
--- after all events it is over, and the table is legal
+-- After all events the number is over, and the table is legal.
 pub over_after_all : ((effects : List Effect) → KeepsOrder effects) → (es : List Event) (s : State) (j : ℕ) → IsLegal s → IsOver s j → IsLegal (after_all s es) × IsOver (after_all s es) j
 over_after_all law [] s j legal over = (legal, over)
 over_after_all law (e ∷ es) s j legal over =
     over_after_all law es (after_one s e) j (legal_after_one s e (keeps_each law e) legal) (over_unless s j legal e _ (keeps_each law e) refl over)
 
--- a number that isn't over once an attempt was lost wasn't over before
+-- A number that is not over after the loss of an attempt was not over before.
 module _ (s : State) (n j : ℕ) (legal : IsLegal s) where
   lose_absent : job_at s j ≡ None → (b : Bool) → IsStillAbsent s (cond b (rule_found s lost_by (job_at s n)) s) j
   lose_absent none true = absent_ruled s j none legal n lost_by _ refl

@@ -1,5 +1,5 @@
--- A job is of the queue that its making named, as long as it is there; so a queue's own events are those that name it, or a
--- number that was given to a job of it.
+-- A job belongs to the queue that its creation named, for as long as the job exists. So a queue's own events are the
+-- events that name it or a number assigned to a job of it.
 use Rattle.std.proofs.Common.{◌≡◌, inl, inr, ℕ, ◌<◌, ◌≤◌, ◌==◌, Bool, true, false, cond, max, ◌&&◌, ◌||◌, ◌⊎◌, List, [], ◌∷◌, ◌++◌, Some, None, Option, refl, sym, ap, subst, ◌∙◌, arith, append_assoc, append-nil}
 use Rattle.std.specs.Prelude.{nat_eq, filter}
 use Rattle.std.specs.Option.{option_map}
@@ -34,7 +34,7 @@ use Rattle.job_table.proofs.Reopened.{reopened_onward, reopened_counts}
 use Rattle.job_table.proofs.Rules.{ruled_queue}
 use Rattle.job_table.proofs.Stages.{queue_counts, own_counts}
 
--- the queue of a job, if it is there
+-- The queue of a job, if the job exists.
 abbrev owner : State → ℕ → Option (List ℕ)
 owner s j = option_map (λ (r : Job). r.queue) (job_at s j)
 
@@ -98,7 +98,7 @@ clock_owner s now j = ap (option_map (λ (r : Job). r.queue)) (clock_job s now j
 queue_owner : (s : State) (name : List ℕ) (f : QueueRow → QueueRow) (j : ℕ) → owner (change_found_queue s name f (queue_at s name)) j ≡ owner s j
 queue_owner s name f j = ap (option_map (λ (r : Job). r.queue)) (change_queue_other s name f j (queue_at s name))
 
--- an event that isn't refused leaves each job that stays its queue, and adds one at most
+-- An accepted event leaves each remaining job in its queue, and adds at most one job.
 owner_made : (s : State) → IsLegal s → (change : Change) → KeepsBy change → IsSound s change → (j : ℕ) (q : List ℕ) → owner (made s change) j ≡ Some q → owner_by (job_made change) j (owner s j) ≡ Some q
 owner_made s legal (NewQueueRow x) keeps fine j q at = at
 owner_made s legal (OfQueue name f) keeps fine j q at = sym (queue_owner s name f j) ∙ at
@@ -124,7 +124,7 @@ owner_made s legal OfAll keeps fine j q at = sym (reopened_owner s legal j) ∙ 
 owner_after : (s : State) → IsLegal s → (e : Event) → Keeps e → refusal_of s e ≡ None → (j : ℕ) (q : List ℕ) → owner (after s e) j ≡ Some q → owner_by (job_made (change_by e)) j (owner s j) ≡ Some q
 owner_after s legal e keeps taken j q at = owner_made s legal (change_by e) keeps (sound s e taken) j q at
 
--- the highest number given doesn't fall
+-- The highest number does not decrease.
 same_most : (m n : ℕ) → m ≡ n → m ≤ n
 same_most m n is = omega (arith, is)
 
@@ -156,7 +156,7 @@ grows_by s OfAll own taken = same_most _ _ (sym (reopened_counts s).0)
 grows : (s : State) (e : Event) → refusal_of s e ≡ None → s.highest ≤ (after s e).highest
 grows s e taken = grows_by s (change_by e) ((row e).own s) taken
 
--- a number that is given is a new one
+-- An assigned number is a new one.
 new_number : (s : State) (e : Event) → refusal_of s e ≡ None → (r : Job) → job_made (change_by e) ≡ Some r → (s.highest < r.id) × (r.id ≤ (after s e).highest)
 new_number s e taken r is = by_change (change_by e) ((row e).own s) taken is
   where
@@ -170,7 +170,7 @@ new_number s e taken r is = by_change (change_by e) ((row e).own s) taken is
         (omega (arith, above, same), omega (arith, same))
     by_change change own taken is = absurd (cc)
 
--- ## Events in turn
+-- ## Lists of events
 
 not_equal : (h j n : ℕ) → j ≤ h → h < n → (n == j) ≡ false
 not_equal h j n low high = grind (arith, nat_tests)
@@ -211,7 +211,7 @@ same_equal : (n j : ℕ) → (n == j) ≡ true → n ≡ j
 same_equal n j e = grind (arith, nat_tests)
 
 module _ (law : (effects : List Effect) → KeepsOrder effects) (name : List ℕ) where
-  -- what comes later gives no number that was given
+  -- Later events assign no number again.
   abbrev GivesNew : List Event → Type 0
   GivesNew es = (s : State) (j : ℕ) → j ≤ s.highest → is_in j (numbers_of name (accepted s es)) ≡ false
 
@@ -239,12 +239,12 @@ module _ (law : (effects : List Effect) → KeepsOrder effects) (name : List ℕ
   gives_new [] = λ s j low. refl
   gives_new (e ∷ es) = gives_next e es (gives_new es)
 
-  -- the numbers that were given to the queue's jobs
+  -- The numbers that were assigned to the queue's jobs.
   record IsGiven (old : List ℕ) (s : State) : Type 0 where
     owners : (j : ℕ) (q : List ℕ) → owner s j ≡ Some q → is_in j old ≡ pointwise nat_eq q name
     up : (j : ℕ) → is_in j old ≡ true → j ≤ s.highest
 
-  -- an accepted event about a job is the queue's where its number was given to a job of it
+  -- An accepted event about a job is the queue's own if the number was assigned to a job of it.
   module _ (s : State) (legal : IsLegal s) (old new : List ℕ) (given : IsGiven old s) (fresh : (j : ℕ) → j ≤ s.highest → is_in j new ≡ false) where
     job_own : (j : ℕ) (r : Job) → job_at s j ≡ Some r → is_own_job name (job_at s j) ≡ is_in j (old ++ new)
     job_own j r there =
@@ -263,7 +263,7 @@ module _ (law : (effects : List Effect) → KeepsOrder effects) (name : List ℕ
     same_own : (e : Event) → refusal_of s e ≡ None → is_own s name e ≡ is_about name (old ++ new) e
     same_own e taken = same_by (change_by e) ((row e).own s) taken
 
-  -- the numbers once an event has come
+  -- The numbers after one event.
   in_new : (p : Bool) (n j : ℕ) → is_in j (cond p (n ∷ []) []) ≡ (p && (n == j))
   in_new true n j = or_false (n == j)
   in_new false n j = refl
@@ -403,11 +403,11 @@ module _ (law : (effects : List Effect) → KeepsOrder effects) (name : List ℕ
     given_all : IsGiven numbers (whole_table v es)
     given_all = ends es (nothing_in v) [] (legal_nothing v) (none_given v)
 
-    -- a job that is there is the queue's where its number was given to a job of it
+    -- An existing job belongs to the queue if its number was assigned to a job of it.
     pub own_number : (j : ℕ) (r : Job) → job_at (whole_table v es) j ≡ Some r → is_in j numbers ≡ is_of name r
     own_number j r there = given_all.owners j r.queue (ap (option_map (λ (r : Job). r.queue)) there)
 
-    -- an event that is accepted is the queue's in both ways
+    -- For an accepted event both definitions of an own event agree.
     pub own_event : (e : Event) → refusal_of (whole_table v es) e ≡ None → is_own (whole_table v es) name e ≡ is_own_event v es name e
     own_event e taken =
         same_own (whole_table v es) legal numbers [] given_all (λ j low. refl) e taken ∙ ap (λ js. is_about name js e) (append-nil numbers)

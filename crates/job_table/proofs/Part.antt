@@ -1,4 +1,5 @@
--- A queue's part of a table: what is put into both, or into the table alone, leaves it the part.
+-- A queue's part of a table stays its part after the same change of both, and after a change of other queues in the
+-- table.
 use Rattle.std.proofs.Common.{◌≡◌, ℕ, ◌≤◌, Bool, true, false, cond, List, Some, None, Option, IsSome, refl, sym, ap, subst, ◌∙◌}
 use Rattle.std.specs.Prelude.{nat_eq}
 use Rattle.std.specs.Option.{option_map}
@@ -17,7 +18,7 @@ use Rattle.job_table.specs.EventChanges.{at_moment, at_clock, change_found, chan
 use Rattle.job_table.proofs.Changes.{same_number}
 use Rattle.job_table.proofs.Clocked.{at_queue, clock_job}
 
--- what is so of two values is so of two that equal them
+-- A relation between two values is also true for equal values.
 pub of_both : {X : Type 0} (P : X → X → Type 0) (a b c d : X) → a ≡ c → b ≡ d → P c d → P a b
 of_both P a b c d first second holds = subst (λ x. P x b) (sym first) (subst (λ y. P c y) (sym second) holds)
 
@@ -38,7 +39,7 @@ module _ (name : List ℕ) where
   pub own_queue : (r x : Job) → x.queue ≡ r.queue → (b : Bool) → is_of name r ≡ b → is_of name x ≡ b
   own_queue r x same b is = ap (λ (n : List ℕ). pointwise nat_eq n name) same ∙ is
 
-  -- a job that the event names, and that is the queue's
+  -- A job that the event names and that belongs to the queue.
   pub own_job : (o : Option Job) → is_own_job name o ≡ true → (r : Job) × (o ≡ Some r) × (is_of name r ≡ true)
   own_job None own = absurd (cc)
   own_job (Some r) own = (r, refl, own)

@@ -1,5 +1,5 @@
--- A queue's part of a table loses the attempts of the queue's jobs as the table does: by the end of a stage, by the loss of
--- an attempt, and by a reopening.
+-- A queue's part of a table loses the attempts of the queue's jobs like the table: by the end of a stage, by the loss
+-- of an attempt, and by a reopening.
 use Rattle.std.proofs.Common.{◌≡◌, inl, inr, ℕ, Bool, true, false, cond, List, Some, None, Option, IsSome, refl, sym, ap, subst, ◌∙◌, arith}
 use Rattle.std.specs.Prelude.{nat_eq}
 use Rattle.std.specs.Ordering.{nat_cmp, eq_by_cmp}
@@ -25,7 +25,7 @@ use Rattle.job_table.proofs.PartNext.{of_part}
 use Rattle.job_table.proofs.Reopened.{NoneStops, reopened_onward, reopened_lost, reopened_others, reopened_counts}
 use Rattle.job_table.proofs.Rules.{ruled_queue}
 
--- a job of the queue is there
+-- A job of the queue exists.
 abbrev pub HasOwn : List ℕ → State → ℕ → Type 0
 HasOwn name s j = (x : Job) × (job_at s j ≡ Some x) × (is_of name x ≡ true)
 
@@ -133,22 +133,22 @@ module _ (name : List ℕ) where
 
 -- ## A reopening
 
--- rows that may have been stopped, and are stopped alike
+-- Two rows that may have been stopped are equal if both or neither are stopped.
 same_but_stopped : (q x y : QueueRow) → IsSameButStopped q x → IsSameButStopped q y → y.stopped ≡ x.stopped → y ≡ x
 same_but_stopped q x y first second alike =
     ap (λ (p : QueueRow). record p { stopped = y.stopped }) second.same
     ∙ ap (λ b. record q { stopped = b }) alike
     ∙ sym (ap (λ (p : QueueRow). record p { stopped = x.stopped }) first.same)
 
--- the row of a queue once the spool is opened again
+-- The row of a queue after a reopening.
 module _ (s : State) (legal : IsLegal s) (name : List ℕ) (q p : QueueRow) (before : queue_at s name ≡ Some q) (after : queue_at (reopened s) name ≡ Some p) where
-  -- where it isn't stopped no policy stops it
+  -- If the queue is not stopped, no policy stops it.
   none_stops : p.stopped ≡ false → NoneStops s name q
   none_stops runs j r there of busy = false_from_ne_true (stops_queue (lost_by r q)) (λ stops.
       let lost = reopened_lost s legal j r q (record { there = there; queue = ap (queue_at s) of ∙ before; processing = busy }) in
       both_ways _ runs (lost.queue stops p (ap (queue_at (reopened s)) of ∙ after)))
 
-  -- and where none stops it, it is as it was
+  -- If no policy stops it, the row is unchanged.
   row_kept : NoneStops s name q → q.stopped ≡ p.stopped
   row_kept none = ap (λ (x : QueueRow). x.stopped) (some_same q p (sym ((reopened_onward s legal).unstopped name q before none) ∙ after))
 

@@ -1,5 +1,5 @@
--- One event: where it is a queue's own, the queue's part of the table is refused it, or goes on by it, as the table is; where
--- it isn't, the table goes on and the part stays.
+-- One event. If it is the queue's own, the part refuses it or accepts it like the table. If it is not, the table may
+-- change and the part does not.
 use Rattle.std.proofs.Common.{◌≡◌, ℕ, ◌+◌, ◌≤◌, Bool, true, false, not, List, [], ◌∷◌, length, max, Some, None, Option, IsSome, Ok, refl, sym, ap, subst, ◌∙◌, arith}
 use Rattle.std.specs.Prelude.{nat_le, nat_lt, is_none, is_some}
 use Rattle.std.specs.Cmp.Lexicographic.{slice_cmp, nat_list_cmp_total}
@@ -34,7 +34,7 @@ use Rattle.job_table.proofs.Part.{of_both, own_job, own_queue, same_name, part_t
 use Rattle.job_table.proofs.PartLoss.{HasOwn, part_rule, part_rule_other, rule_own, effects_own, part_effects, part_effects_other, part_reopened}
 use Rattle.job_table.proofs.PartNext.{same_next}
 
--- a cause that doesn't hold, and those that follow
+-- A cause that does not apply, followed by the others.
 further : (b : Bool) (r : Refusal) (cs : List (Bool × Refusal)) → b ≡ false → first_cause cs ≡ None → first_cause ((b, r) ∷ cs) ≡ None
 further true r cs is rest = absurd (cc)
 further false r cs is rest = rest
@@ -45,9 +45,9 @@ below_too m a b most e = grind (arith, nat_tests)
 same_job : (name : List ℕ) (s t : State) → IsPart name s t → (j : ℕ) → is_own_job name (job_at s j) ≡ true → job_at t j ≡ job_at s j
 same_job name s t part j own = let found = own_job name (job_at s j) own in part_there name s t part j found.0 found.1 found.2 ∙ sym found.1
 
--- ## What is an event's own
+-- ## The causes and the reply of an event
 
--- the further causes of its refusal are alike, and so is its reply, where the job that it is about is the same after it
+-- The event's own causes agree, and so does its reply if the job that it is about is the same afterwards.
 record IsAlike (s t : State) (e : Event) : Type 0 where
   own : (row e).own t ≡ (row e).own s
   reply : (u v : State) → ((j : ℕ) → subject e ≡ Some j → job_at v j ≡ job_at u j) → (row e).reply t v ≡ (row e).reply s u
@@ -96,7 +96,7 @@ alike name s t part legal legal_part (Purge j) own = record {
 alike name s t part legal legal_part e own = record { own = refl; reply = λ u v same. refl }
 
 module _ (name : List ℕ) (s t : State) (part : IsPart name s t) (legal : IsLegal s) (legal_part : IsLegal t) where
-  -- the job is the queue's
+  -- The job belongs to the queue.
   abbrev its : ℕ → Bool
   its j = is_own_job name (job_at s j)
 
@@ -118,7 +118,7 @@ module _ (name : List ℕ) (s t : State) (part : IsPart name s t) (legal : IsLeg
   pub same_refusal : (e : Event) → IsAbout e → is_own s name e ≡ true → refusal_of t e ≡ refusal_of s e
   same_refusal e about own = ap first_cause (same_causes (change_by e) ((row e).own t) ((row e).own s) about own (alike name s t part legal legal_part e own).own)
 
-  -- a queue that the table may take is the first of its part
+  -- A queue that the table may add is the first one of its part.
   no_queues : queue_at t name ≡ None → finite.len t.queues ≡ 0
   no_queues none = ap finite.len (finite.same_map nat_list_cmp_total exact_bytes t.queues finite.empty (λ k. absent k (queue_at t k) refl ∙ sym (finite.get-empty (slice_cmp nat_cmp) k))) ∙ finite.len-empty (slice_cmp nat_cmp) QueueRow
     where
@@ -126,7 +126,7 @@ module _ (name : List ℕ) (s t : State) (part : IsPart name s t) (legal : IsLeg
       absent k None at = at
       absent k (Some q) at = absurd (not_both (queue_at t name) q none (ap (queue_at t) (sym (part.only k (subst IsSome (sym at) refl))) ∙ at))
 
-  -- what is accepted of the table is of its part
+  -- An event that the table accepts is accepted by its part.
   accepted_by : (change : Change) (a b : List (Bool × Refusal)) → names_it name its change ≡ true → a ≡ b → first_cause (causes_of s change b) ≡ None → first_cause (causes_of t change a) ≡ None
   accepted_by (NewQueueRow q) a b own same accepted =
       let one = none_first (is_some (queue_at s q.name)) QueueExists ((nat_le most_queues (finite.len s.queues), TooManyQueues) ∷ b) accepted in
@@ -158,7 +158,7 @@ module _ (name : List ℕ) (s t : State) (part : IsPart name s t) (legal : IsLeg
   pub accepted_too : (e : Event) → is_own s name e ≡ true → refusal_of s e ≡ None → refusal_of t e ≡ None
   accepted_too e own accepted = accepted_by (change_by e) ((row e).own t) ((row e).own s) own (alike name s t part legal legal_part e own).own accepted
 
-  -- ## The tables after it
+  -- ## The tables after the event
 
   change_both : (j : ℕ) (f : Job → Job) → ((r : Job) → (f r).queue ≡ r.queue) → its j ≡ true → IsPart name (change_job s j f) (change_job t j f)
   change_both j f keeps own = let found = own_job name (job_at s j) own in part_change name s t part j f found.0 found.1 found.2 (keeps found.0)
@@ -180,9 +180,9 @@ module _ (name : List ℕ) (s t : State) (part : IsPart name s t) (legal : IsLeg
   part_after : (e : Event) → Keeps e → is_own s name e ≡ true → refusal_of s e ≡ None → IsPart name (after s e) (after t e)
   part_after e keeps own accepted = part_by (change_by e) keeps (sound s e accepted) own
 
-  -- ## The reply to it
+  -- ## The reply to the event
 
-  -- the job that it names is there after it
+  -- The job of the event exists afterwards.
   own_by : (change : Change) (j : ℕ) → KeepsBy change → IsSound s change → names_it name its change ≡ true → subject_of change ≡ Some j → HasOwn name (made s change) j
   own_by (NewQueueRow q) j keeps fine own is = absurd (cc)
   own_by (OfQueue k f) j keeps fine own is = absurd (cc)
@@ -214,7 +214,7 @@ module _ (name : List ℕ) (s t : State) (part : IsPart name s t) (legal : IsLeg
       by_refusal None accepted = ap Ok (sym (same_reply e keeps own accepted))
       by_refusal (Some x) refused = refl
 
-  -- ## The tables, whether it is refused or not
+  -- ## The tables after an accepted or refused event
 
   pub part_after_one : (e : Event) → Keeps e → is_own s name e ≡ true → refusal_of s e ≡ None → IsPart name (after_one s e) (after_one t e)
   part_after_one e keeps own accepted = of_both (IsPart name) _ _ (after s e) (after t e) (ap (unless_refused s e) accepted) (ap (unless_refused t e) (accepted_too e own accepted)) (part_after e keeps own accepted)

@@ -23,7 +23,7 @@ drop_front zero xs ys le = refl
 drop_front (suc n) [] ys le = absurd (omega arith)
 drop_front (suc n) (x ∷ xs) ys le = drop_front n xs ys (omega arith)
 
--- a part more, behind whole parts
+-- One more part, after full parts.
 parts_more : (longest n : ℕ) (xs bytes : List ℕ) → length xs ≡ n * longest → length bytes ≤ longest → parts longest (suc n) (xs ++ bytes) ≡ parts longest n xs ++ bytes ∷ []
 parts_more longest zero xs bytes len le =
     ap (λ ys. take longest (ys ++ bytes) ∷ []) (nothing_of xs (omega (arith, len))) ∙ ap (λ ys. ys ∷ []) (take_all longest bytes le)
@@ -48,7 +48,7 @@ pieces_more xs bytes n len some le =
     ∙ parts_more longest_send n xs bytes len le
     ∙ ap (λ m. parts longest_send m xs ++ bytes ∷ []) (sym (whole_count (length xs) n len))
 
--- one row more behind a job's rows
+-- One more row, after the rows of a job.
 pub job_rows_more : (r : Job) (document bytes : List ℕ) (n : ℕ) → length document ≡ n * longest_send → 1 ≤ length bytes → length bytes ≤ longest_send → job_rows r (document ++ bytes) ≡ job_rows r document ++ Piece r.id bytes ∷ []
 job_rows_more r document bytes n len some le =
     let piece : List ℕ → Row = λ part. Piece r.id part in

@@ -1,4 +1,4 @@
--- A job that has ended is there as it was after all events, or was purged.
+-- After any events a job that has ended is unchanged, or was purged.
 use Rattle.std.proofs.Common.{◌≡◌, inl, inr, ℕ, suc, ◌≤◌, List, [], ◌∷◌, Some, None, Option, refl, sym, ap, subst, ◌∙◌, arith}
 use Rattle.std.specs.List.{Contains}
 use Rattle.spool_types.specs.declared.effect.Effect.{Effect}
@@ -16,7 +16,7 @@ use Rattle.job_table.proofs.Ended.{unchanged, gone_by_purge}
 use Rattle.job_table.proofs.Legal.{KeepsOrder, keeps_each, legal_after_one}
 use Rattle.job_table.proofs.Stages.{IsStillAbsent, stays_absent}
 
--- an event that isn't the first of a list
+-- An event after the first of a list.
 later : {X : Type 0} (x y : X) (xs : List X) → Contains xs x → Contains (y ∷ xs) x
 later x y xs there = let within = there.1 in (suc there.0, omega (arith, within), there.2)
 
@@ -25,7 +25,7 @@ later_if e x xs None there = later x e xs there
 later_if e x xs (Some r) there = there
 
 module _ (law : (effects : List Effect) → KeepsOrder effects) where
-  -- a number that was given and has no job has none after all events
+  -- A number that was assigned and has no job still has none after all events.
   absent_unless : (s : State) (j : ℕ) → job_at s j ≡ None → j ≤ s.highest → IsLegal s → (e : Event) (o : Option Refusal) → refusal_of s e ≡ o → IsStillAbsent s (unless_refused s e o) j
   absent_unless s j none given legal e None taken = stays_absent s j none given legal e (keeps_each law e) taken
   absent_unless s j none given legal e (Some x) refused = record { highest = omega arith; absent = none }
@@ -49,7 +49,7 @@ module _ (law : (effects : List Effect) → KeepsOrder effects) where
       legal : IsLegal next
       legal = legal_after_one s e (keeps_each law e) job.legal
 
-      -- what becomes of it later becomes of it
+      -- The result after the remaining events is the result after all events.
       kept_then : IsKeptOrPurged next es (after_all next es) j r → IsKeptOrPurged s (e ∷ es) (after_all next es) j r
       kept_then (inl there) = inl there
       kept_then (inr was) = inr (record { gone = was.gone; purge = later_if e (Purge j) (accepted next es) (refusal_of s e) was.purge })
@@ -80,7 +80,7 @@ module _ (law : (effects : List Effect) → KeepsOrder effects) where
   kept_all [] = λ s j r job. inl job.there
   kept_all (e ∷ es) = kept_next e es (kept_all es)
 
--- no event but its purge changes it
+-- No event except its purge changes the job.
 pub unchanged_but : (s : State) (j : ℕ) (r : Job) → HasEndedJob s j r → (e : Event) → ((effects : List Effect) → KeepsOrder effects) → refusal_of s e ≡ None → ¬ (e ≡ Purge j) → job_at (after s e) j ≡ Some r
 unchanged_but s j r job e law taken other = elim (unchanged s j r job e (keeps_each law e) taken) [
   | inl same ↦ same

@@ -1,4 +1,4 @@
--- What a row that goes last does to the state that the rows mean.
+-- The effect of an appended row on the state of the rows.
 use Rattle.std.proofs.Common.{◌≡◌, ℕ, ◌<◌, get_or, Bool, true, false, cond, List, [], ◌∷◌, ◌++◌, length, map, unwrap_or, Option, Some, refl, sym, ap, subst, ◌∙◌, Vec, Global}
 use Rattle.std.specs.Prelude.{All}
 use Rattle.std.specs.List.{insert}
@@ -35,7 +35,7 @@ last_false false true z y all first is rest = rest
 last_false false false z y all first is rest = rest
 last_false true own z y all first is rest = absurd (cc)
 
--- the places of a row that goes last are found as if it were the first
+-- The places of an appended row are found as if it were the first.
 found_step : (z y : JobRow) (zs : List JobRow) (j : ℕ) → nat_cmp z.job.id y.job.id ≡ Less → places_of (map place_entry (zs ++ y ∷ [])) j ≡ places_of (place_entry y ∷ map place_entry zs) j
     → (b : Bool) → is_eq (nat_cmp j z.job.id) ≡ b → places_of (map place_entry (z ∷ (zs ++ y ∷ []))) j ≡ places_of (place_entry y ∷ place_entry z ∷ map place_entry zs) j
 found_step z y zs j less rest true here =
@@ -100,6 +100,6 @@ module _ (a : Inside) (ordered : IsOrdered a) where
     push_job_places j = ap (λ ys. places_of (map place_entry ys) j) items
         ∙ found_last a.jobs.items row (subst (IsAbove nat_cmp row.job.id) (keys_jobs a.jobs.items ordered.jobs) above) j
 
-  -- a number above all has no places
+  -- A number above all others has no places.
   pub above_places : (k : ℕ) → IsAbove nat_cmp k (finite.keys (contents_of a).state.jobs) → places_at (contents_of a) k ≡ []
   above_places k above = ap (λ o. unwrap_or o []) (absent_above nat_cmp nat_cmp_total (map place_entry a.jobs.items) k (above_entries k a.jobs.items (subst (IsAbove nat_cmp k) (keys_jobs a.jobs.items ordered.jobs) above)))

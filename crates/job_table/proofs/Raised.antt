@@ -1,4 +1,4 @@
--- A table of any version is, but for its version, the one that the same events lead to in the newest.
+-- A table of any version equals, except for its version, the table after the same events in the newest version.
 use Rattle.std.proofs.Common.{◌≡◌, ℕ, Bool, true, false, cond, not, List, [], ◌∷◌, Some, None, Option, refl, sym, ap, subst, ◌∙◌}
 use Rattle.std.specs.Prelude.{nat_le, is_none}
 use Rattle.std.specs.FinMap as finite
@@ -23,7 +23,7 @@ use Rattle.job_table.specs.TableVersions.{raised}
 use Rattle.job_table.proofs.Accepted.{none_first}
 use Rattle.job_table.proofs.Reopened.{reopened_counts}
 
--- ## What a change makes
+-- ## The effect of a change
 
 queue_raised : (s : State) (name : List ℕ) (f : QueueRow → QueueRow) (o : Option QueueRow) → change_found_queue (raised s) name f o ≡ raised (change_found_queue s name f o)
 queue_raised s name f None = refl
@@ -81,9 +81,9 @@ made_raised s OfAll = reopened_raised s
 pub after_raised : (s : State) (e : Event) → after (raised s) e ≡ raised (after s e)
 after_raised s e = made_raised s (change_by e)
 
--- ## What is accepted, and the reply
+-- ## Acceptance and reply
 
--- what is an event's own doesn't ask for the version
+-- The event's own causes do not depend on the version.
 record AsksNone (s : State) (e : Event) : Type 0 where
   own : (row e).own (raised s) ≡ (row e).own s
   reply : (t : State) → (row e).reply (raised s) (raised t) ≡ (row e).reply s t
@@ -92,12 +92,12 @@ asks_none : (s : State) (e : Event) → AsksNone s e
 asks_none s Reopen = record { own = refl; reply = λ t. refl }
 asks_none s e = record { own = refl; reply = λ t. refl }
 
--- in the newest version each job may be told a moment
+-- In the newest version every job may have a moment by which it must start.
 lacks_none : (by : Option ℕ) → lacks_by Two by ≡ false
 lacks_none None = refl
 lacks_none (Some by) = refl
 
--- the causes behind that one
+-- The causes after that one.
 abbrev new_causes : State → Job → List (Bool × Refusal) → List (Bool × Refusal)
 new_causes s r own = about_queue s r.queue (
     where_it (queue_at s r.queue) (λ q. not q.accepting) NotAccepting
@@ -125,7 +125,7 @@ accepted_raised s e accepted =
 pub reply_raised : (s : State) (e : Event) → reply_to (raised s) e ≡ reply_to s e
 reply_raised s e = ap ((row e).reply (raised s)) (after_raised s e) ∙ (asks_none s e).reply (after s e)
 
--- ## Events in turn
+-- ## Lists of events
 
 after_one_taken : (s : State) (e : Event) → refusal_of s e ≡ None → after_one s e ≡ after s e
 after_one_taken s e taken = ap (unless_refused s e) taken
@@ -144,7 +144,7 @@ all_raised (e ∷ es) s taken =
 pub legal_raised : (s : State) → IsLegal s → IsLegal (raised s)
 legal_raised s legal = record { few_queues = legal.few_queues; names = legal.names; in_order = legal.in_order; numbers = legal.numbers; jobs = legal.jobs; one_processing = legal.one_processing }
 
--- ## The version stays
+-- ## The version does not change
 
 queue_version : (s : State) (name : List ℕ) (f : QueueRow → QueueRow) (o : Option QueueRow) → (change_found_queue s name f o).version ≡ s.version
 queue_version s name f None = refl

@@ -1,4 +1,4 @@
--- The listing of a legal table is taken row by row, and makes the table again.
+-- The listing of a legal table is accepted row by row, and loads the same table.
 use Rattle.std.proofs.Common.{◌≡◌, ℕ, zero, suc, ◌+◌, ◌-◌, ◌*◌, ◌/◌, ◌<◌, ◌≤◌, Bool, true, false, cond, ◌&&◌, ◌==◌, ◌%◌, List, [], ◌∷◌, ◌++◌, length, take, drop, map, min, Some, None, refl, sym, ap, subst, ◌∙◌, arith, rules, append_assoc, length-append, length-drop}
 use Rattle.std.specs.Prelude.{T}
 use Rattle.std.proofs.lemmas.List.{take-append-drop, length-take}
@@ -30,9 +30,9 @@ use Rattle.job_table.proofs.Taken.{append_none, entries_none, values_none}
 use Rattle.job_table.proofs.Pieces.{take_all}
 use Rattle.job_table.proofs.Changes.{not_both, at_most_highest}
 
--- ## Rows in turn
+-- ## Lists of rows
 
--- the rows lead from one progress to another
+-- The rows turn one progress into another.
 record Leads (p : Progress) (rows : List Row) (q : Progress) : Type 0 where
   placed : ArePlaced p rows
   is : loaded_all p rows ≡ q
@@ -54,11 +54,11 @@ leads_then p (row ∷ front) back q s first second =
 abbrev whole_at : State → Progress
 whole_at t = record { state = t; begun = true; partial = None }
 
--- the job with the first bytes of its document
+-- The job with the first bytes of its document.
 abbrev with_first : Job → List ℕ → Part
 with_first r front = record { row = r; read = length front }
 
--- and some bytes more
+-- The job with further bytes.
 first_more : (r : Job) (front bytes : List ℕ) → with_piece bytes (with_first r front) ≡ with_first r (front ++ bytes)
 first_more r front bytes = ap (λ n. record { row = r; read = n }) (sym (length-append front bytes))
 
@@ -68,7 +68,7 @@ same_true m n e = grind (arith, rules)
 less_false : (m n : ℕ) → m < n → (m == n) ≡ false
 less_false m n lt = grind (arith, rules)
 
--- the last job is put in, or stays
+-- The last job is added, or remains incomplete.
 put_whole : (p : Progress) (x : Part) → x.read ≡ document_len x.row → with_last p x ≡ record p { state = with_job p.state x.row; partial = None }
 put_whole p x e = ap (λ b. cond b (record p { state = with_job p.state x.row; partial = None }) (record p { partial = Some x })) (same_true _ _ e)
 
@@ -78,7 +78,7 @@ stay_short p x lt = ap (λ b. cond b (record p { state = with_job p.state x.row;
 part_len : (done left size longest : ℕ) → done + left ≡ size → min longest left ≡ min (size - done) longest
 part_len done left size longest is = omega arith
 
--- The pieces of what is left: so many as it needs, n and one.
+-- The pieces of the rest of the document: n full pieces and one more.
 module _ (t : State) (r : Job) (document : List ℕ) (due : length document ≡ document_len r) (lives : has_ended r.phase ≡ false) where
   size_is : length document ≡ r.size
   size_is = due ∙ ap (λ b. cond b 0 r.size) lives
@@ -109,7 +109,7 @@ module _ (t : State) (r : Job) (document : List ℕ) (due : length document ≡ 
       (subst (λ p. Leads p (map (λ bytes. Piece r.id bytes) (parts longest_send (suc n) (drop longest_send left))) (whole_at (with_job t r))) (sym goes_on)
       (pieces_lead n (done ++ take longest_send left) (drop longest_send left) again (omega (arith, rest, more)) (omega (arith, rest, few))))
 
--- how many pieces there are of some bytes
+-- The number of pieces of a document.
 piece_count : (len : ℕ) → 1 ≤ len → (n : ℕ) × ((len + 65535) / 65536 ≡ suc n) × (n * 65536 < len) × (len ≤ (n + 1) * 65536)
 piece_count len some =
     let split : (len - 1) / 65536 * 65536 + (len - 1) % 65536 ≡ len - 1 = div-add-mod' (len - 1) 65536 in
@@ -124,7 +124,7 @@ alive_with r some = either (has_ended r.phase) refl some
     either true e some = absurd (omega arith)
     either false e some = refl
 
--- a job and its pieces
+-- A job and its pieces.
 job_leads : (t : State) (r : Job) (document : List ℕ) → IsNewJob t r → length document ≡ document_len r → (doc : List ℕ) → doc ≡ document → Leads (whole_at t) (job_rows r doc) (whole_at (with_job t r))
 job_leads t r document new due [] is = leads_one (whole_at t) (JobRow r) [] (whole_at (with_job t r)) (record { begun = refl; whole = refl; new = new }) (record {
   placed = tt;
@@ -145,7 +145,7 @@ module _ (s : State) (legal : IsLegal s) (documents : ℕ → List ℕ) (fit : A
   abbrev without : Jobs → State
   without jobs = record s { jobs = jobs }
 
-  -- a job of the table may come behind those before it
+  -- A job of the table may follow the jobs before it.
   module _ (m : Jobs) (e : ℕ × Job) (todo : List (ℕ × Job)) (split : finite.entries m ++ e ∷ todo ≡ finite.entries s.jobs) where
     above_jobs : IsAbove nat_cmp e.0 (finite.keys m)
     above_jobs = above_front nat_cmp nat_cmp_total (finite.entries m) e todo (subst (λ es. T (is_sorted nat_cmp es)) (sym split) (finite.entries_sorted s.jobs))
@@ -237,7 +237,7 @@ module _ (s : State) (legal : IsLegal s) (documents : ℕ → List ℕ) (fit : A
       (queues_lead (finite.entries s.queues) finite.empty (ap (λ es. es ++ finite.entries s.queues) (entries_none (slice_cmp nat_cmp))))
       (jobs_lead (finite.entries s.jobs) finite.empty (ap (λ es. es ++ finite.entries s.jobs) (entries_none nat_cmp))))
 
--- the listing of a legal table makes that table
+-- The listing of a legal table loads that table.
 pub listed_again : (s : State) (documents : ℕ → List ℕ) → IsLegal s → s.highest ≤ greatest_number → AreDocuments s documents → ArePlaced (begin_loading s.version) (listing s documents) × IsWhole (loaded_all (begin_loading s.version) (listing s documents)) × ((loaded_all (begin_loading s.version) (listing s documents)).state ≡ s)
 listed_again s documents legal within fit =
     let leads = listing_leads s legal documents fit within in

@@ -67,7 +67,7 @@ module _ (noted : Noted) where
       let own = beside_first (IsMoved noted) x xs y ys are in
       λ i. ((own.row i).id, own.row i) ∷ moved_entries xs ys (beside_rest (IsMoved noted) x xs y ys are) i
 
-  -- new places of the document's length
+  -- New places of the document's length.
   abbrev pub HasWhole : JobRow → Type 0
   HasWhole r = has_ended r.job.phase ≡ false → size_of (places_of noted.places r.job.id) ≡ r.job.size
 
@@ -92,7 +92,7 @@ module _ (noted : Noted) where
     moved_hold xs ys (beside_rest (IsMoved noted) x xs y ys are) (λ i d lt. whole (suc i) d (omega arith)) holds.1,
   )
 
-  -- what is found at a number, where its job hasn't ended
+  -- The value that is found for a job that has not ended.
   found_here : {X : Type 0} (none value wanted : X) (b : Bool) (y : JobRow) (r : Job) (found : Option Job) (rest : Option X) → (b ≡ true → has_ended y.job.phase ≡ false → value ≡ wanted) → cond b (Some (job_of y)) found ≡ Some r → has_ended r.phase ≡ false → (found ≡ Some r → unwrap_or rest none ≡ wanted) → unwrap_or (cond b (Some value) rest) none ≡ wanted
   found_here none value wanted true y r found rest own is lives later = own refl (ap (λ (x : Job). has_ended x.phase) (some_same (job_of y) r is) ∙ lives)
   found_here none value wanted false y r found rest own is lives later = later is
@@ -121,7 +121,7 @@ module _ (noted : Noted) where
       there lives
       (λ later. moved_rooms xs ys (beside_rest (IsMoved noted) x xs y ys are) j r later lives)
 
--- the same places for this job, and the same room
+-- The same places for this job, and the same room.
 pub moved_as : (from to : Noted) (x y : JobRow) → finite.find nat_cmp x.job.id from.places ≡ finite.find nat_cmp x.job.id to.places → move_room from x.job.id ≡ move_room to x.job.id → IsMoved from x y → IsMoved to x y
 moved_as from to x y same room moved = record {
   row = moved.row;
@@ -133,7 +133,7 @@ moved_as from to x y same room moved = record {
 less_and_equal : (o : Ordering) → o ≡ Less → o ≡ Equal → ⊥
 less_and_equal o less equal = cc
 
--- no two rows have one number
+-- No two rows have the same number.
 pub ids_apart : (ys : List JobRow) → IsTrue (finite.is_sorted nat_cmp (map job_entry ys)) → (i j : ℕ) (d e : JobRow) → i < j → j < length ys → ¬ ((get_or ys j d).job.id ≡ (get_or ys i e).job.id)
 ids_apart ys sorted i j d e lt within same =
     let less = rows.rise nat_cmp nat_cmp_total (λ (r : JobRow). r.job.id) job_of ys (rows.t_from _ sorted) i j d lt within in
@@ -144,7 +144,7 @@ blank_here : (b : Bool) (x r : Job) (found : Option Job) (rest : Option (List Ex
 blank_here true x r found rest is later = refl
 blank_here false x r found rest is later = later is
 
--- nothing is noted for a job of the rows
+-- No extent is noted for a job of the rows.
 pub blank_found : (rs : List JobRow) (j : ℕ) (r : Job) → finite.find nat_cmp j (map job_entry rs) ≡ Some r → finite.find nat_cmp j (map blank_entry rs) ≡ Some []
 blank_found [] j r there = absurd (cc)
 blank_found (x ∷ rs) j r there =
@@ -204,6 +204,6 @@ module _ (a : Inside) (ordered : IsOrdered a) (noted : Noted) (has : HasMoves (c
         ap (λ ys. unwrap_or (finite.find nat_cmp j (map document_entry ys)) 0) items
         ∙ moved_rooms noted a.jobs.items new beside j r (subst (λ ys. finite.find nat_cmp j (map job_entry ys) ≡ Some r) items (find_job vs.items sorted_moved j ∙ there)) lives
 
--- the rows' entries are those of the table
+-- The entries of the rows are those of the table.
 pub entry_found : (s : State) (rs : List JobRow) → map job_entry rs ≡ finite.entries s.jobs → (j : ℕ) (r : Job) → job_at s j ≡ Some r → finite.find nat_cmp j (map job_entry rs) ≡ Some r
 entry_found s rs are j r there = ap (finite.find nat_cmp j) are ∙ sym (finite.get-entries s.jobs j) ∙ there

@@ -1,4 +1,4 @@
--- What an event makes of the deadlines of a table's jobs.
+-- The effect of an event on the deadlines of a table's jobs.
 use Rattle.std.proofs.Common.{◌≡◌, ℕ, inl, inr, Bool, true, false, cond, [], ◌∷◌, Option, Some, None, refl, sym, ap, ◌∙◌, arith}
 use Rattle.std.specs.Prelude.{is_some}
 use Rattle.std.specs.Option.{option_map}
@@ -15,14 +15,14 @@ use Rattle.job_table.proofs.Moves.{Moves}
 use Rattle.job_table.proofs.Seats.{Gains, Leaves}
 use Rattle.job_table.proofs.Timely.{deadline_own}
 
--- deadlines of one moment and one number are the same
+-- Deadlines with the same moment and the same number are equal.
 same_parts : (d e : Deadline) → d.by ≡ e.by → d.id ≡ e.id → d ≡ e
 same_parts d e by id = λ i. record { by = by i; id = id i }
 
 some_moment : (a b : ℕ) → Some a ≡ Some b → a ≡ b
 some_moment a b is = cc
 
--- ## A job moves
+-- ## A job changes
 
 module _ (s t : State) (legal : IsLegal t) (j : ℕ) (moves : Moves s t j) (r : Job) (there : job_at s j ≡ Some r) where
   abbrev moved : Job
@@ -34,7 +34,7 @@ module _ (s t : State) (legal : IsLegal t) (j : ℕ) (moves : Moves s t j) (r : 
   moved_by : moved.by ≡ r.by
   moved_by = (moves.own r there).2.by
 
-  -- no other job's deadline changes, and each is to start by a moment as before
+  -- No other deadline changes, and each job must start by a moment as before.
   pub moved_retimed : IsRetimed (job_at s) (job_at t) j (deadline_found (job_at t j))
   moved_retimed = record {
     own = refl;
@@ -55,7 +55,7 @@ module _ (s t : State) (legal : IsLegal t) (j : ℕ) (moves : Moves s t j) (r : 
       let own = deadline_own moved d (sym (ap deadline_found moved_there) ∙ is) in
       (own.1.0, sym (legal.jobs j moved moved_there).id ∙ own.1.1)
 
-  -- it has the number of the job, and one that stays is the same
+  -- The new deadline has the number of the job, and a deadline that remains does not change.
   pub moved_may : IsLegal s → (timetable : Timetable) → IsTimely (job_at s) timetable → MayRetime timetable j (deadline_found (job_at s j)) (deadline_found (job_at t j))
   moved_may was_legal timetable timely = record {
     jobs = job_at s;
@@ -68,7 +68,7 @@ module _ (s t : State) (legal : IsLegal t) (j : ℕ) (moves : Moves s t j) (r : 
         same_parts d e (some_moment d.by e.by (sym was.1.0 ∙ sym moved_by ∙ now.0)) (sym was.1.1 ∙ (was_legal.jobs j r there).id ∙ now.1);
   }
 
--- ## A job comes
+-- ## A new job
 
 pub gained_admitted : (s t : State) (j : ℕ) (q : Job) → Gains s t j q → is_waiting q.phase ≡ false → IsAdmitted (job_at s) (job_at t) j (is_some q.by)
 gained_admitted s t j q gains idle = record {
@@ -78,7 +78,7 @@ gained_admitted s t j q gains idle = record {
   others = gains.others;
 }
 
--- ## A job goes
+-- ## A removed job
 
 ended_waits : (p : Phase) → has_ended p ≡ true → is_waiting p ≡ false
 ended_waits (Incoming hold) over = refl
@@ -98,6 +98,6 @@ left_dismissed s t j r leaves = record {
   others = leaves.others;
 }
 
--- one that was to start by a moment was counted
+-- A job that had to start by a moment was counted.
 pub may_dismiss : (jobs : ℕ → Option Job) (t : Timetable) → IsTimely jobs t → (j : ℕ) (timed : Bool) → has_by (jobs j) ≡ timed → MayDismiss t timed
 may_dismiss jobs t is j timed same = λ was. let one = is.few (j ∷ []) (tt, tt) (same ∙ was, tt) in omega (arith, one)

@@ -1,4 +1,4 @@
--- The room beside the rows, where rows are put in or written over.
+-- The room next to the rows, when rows are inserted or replaced.
 use Rattle.std.proofs.Common.{◌≡◌, ℕ, zero, suc, ◌+◌, ◌++◌, ◌-◌, ◌<◌, ◌≤◌, Bool, true, false, cond, IsTrue, List, [], ◌∷◌, length, get_or, set, map, Option, Some, None, unwrap_or, refl, sym, ap, subst, ◌∙◌, arith, Vec, Global}
 use Rattle.std.specs.List.{insert, remove}
 use Rattle.std.specs.Vec.{vec_len, vec_capacity}
@@ -24,7 +24,7 @@ same_room n = omega arith
 pub fits : {X : Type 0} (v : Vec X Global) → 0 < vec_capacity v - vec_len v → vec_len v < vec_capacity v
 fits v room = omega arith
 
--- one change after another
+-- Two changes in order.
 pub no_more_then : (a b c : Room) → HasNoMore a b → HasNoMore b c → HasNoMore a c
 no_more_then a b c first second = record {
   queues = omega (arith, first.queues, second.queues);
@@ -34,11 +34,11 @@ no_more_then a b c first second = record {
   attributes = omega (arith, first.attributes, second.attributes);
 }
 
--- a room as it is seen
+-- Rooms of equal contents.
 pub room_seen : {a b : Contents} {r : Room} → a ≡ b → HasNoMore a.room r → HasNoMore b.room r
 room_seen {r = r} same more = subst (λ v. HasNoMore v.room r) same more
 
--- the room of a document among rows
+-- The room of a document among rows.
 abbrev pub room_among : List JobRow → ℕ → ℕ
 room_among ys j = unwrap_or (finite.find nat_cmp j (map document_entry ys)) 0
 
@@ -69,7 +69,7 @@ less_unless : (b : Bool) (o : Option ℕ) → unwrap_or (cond b None o) 0 ≤ un
 less_unless true o = omega arith
 less_unless false o = omega arith
 
--- what is found among rows once one is taken out
+-- The rooms and places after a row was removed.
 module _ (ys : List JobRow) (sorted : IsTrue (finite.is_sorted nat_cmp (map job_entry ys))) (j at : ℕ) (place : IsPosition nat_cmp (λ (r : JobRow). r.job.id) ys j at) where
   pub room_remove : (k : ℕ) → room_among (remove ys at) k ≤ room_among ys k
   room_remove k =
@@ -117,12 +117,12 @@ freed_here : (rest : Option Job) (room : Option ℕ) (z : JobRow) (r : Job) (b :
 freed_here rest room z r true freed over e later = nothing_left z (freed (ap (λ (x : Job). has_ended x.phase) (some_same (job_of z) r e) ∙ over))
 freed_here rest room z r false freed over e later = later e
 
--- a job that has ended has no room
+-- A job that has ended has no room.
 pub freed_room : (ys : List JobRow) → HoldDocuments ys → (j : ℕ) (r : Job) → finite.find nat_cmp j (map job_entry ys) ≡ Some r → has_ended r.phase ≡ true → room_among ys j ≡ 0
 freed_room [] freed j r there over = refl
 freed_room (z ∷ zs) freed j r there over = freed_here _ _ z r (is_eq (nat_cmp j z.job.id)) freed.0.freed over there (λ later. freed_room zs freed.1 j r later over)
 
--- ## Where documents lie, where rows are put in or written over
+-- ## The places of documents, when rows are inserted or replaced
 
 abbrev pub places_among : List JobRow → ℕ → List Extent
 places_among ys j = places_of (map place_entry ys) j
@@ -131,7 +131,7 @@ either_place : (b : Bool) (x y : List Extent) (o p : Option (List Extent)) → x
 either_place true x y o p same rest = same
 either_place false x y o p same rest = rest
 
--- a row with the same document
+-- A row with the same document.
 pub places_same : (ys : List JobRow) (i : ℕ) (y d : JobRow) → i < length ys → y.job.id ≡ (get_or ys i d).job.id → y.document.items ≡ (get_or ys i d).document.items → (j : ℕ) → places_among (set ys i y) j ≡ places_among ys j
 places_same [] i y d lt same document j = absurd (omega arith)
 places_same (z ∷ zs) zero y d lt same document j =
@@ -140,7 +140,7 @@ places_same (z ∷ zs) zero y d lt same document j =
 places_same (z ∷ zs) (suc i) y d lt same document j =
     either_place (is_eq (nat_cmp j z.job.id)) z.document.items z.document.items _ _ refl (places_same zs i y d (omega arith) same document j)
 
--- the job that is found, if any, has ended
+-- The job that is found, if any, has ended.
 abbrev pub ended_found : Option Job → Bool
 ended_found None = false
 ended_found (Some r) = has_ended r.phase
@@ -149,7 +149,7 @@ pub lasts_found : (highest j : ℕ) (o : Option Job) → is_over_by highest j o 
 lasts_found highest j None lives = refl
 lasts_found highest j (Some r) lives = lives
 
--- a row with the same document, unless its job has ended
+-- A row with the same document, unless its job has ended.
 kept_here : (b : Bool) (y : JobRow) (x : List Extent) (found : Option Job) (o p : Option (List Extent)) → (has_ended y.job.phase ≡ false → y.document.items ≡ x) → ended_found (cond b (Some (job_of y)) found) ≡ false → unwrap_or o [] ≡ unwrap_or p [] → unwrap_or (cond b (Some y.document.items) o) [] ≡ unwrap_or (cond b (Some x) p) []
 kept_here true y x found o p keeps lives rest = keeps lives
 kept_here false y x found o p keeps lives rest = rest
@@ -167,7 +167,7 @@ places_kept (z ∷ zs) (suc i) y d lt same keeps j lives =
     kept_later (is_eq (nat_cmp j z.job.id)) z.document.items (job_of z) (finite.find nat_cmp j (map job_entry (set zs i y))) (finite.find nat_cmp j (map place_entry (set zs i y))) (finite.find nat_cmp j (map place_entry zs)) lives
     (λ later. places_kept zs i y d (omega arith) same keeps j later)
 
--- another row is written over
+-- Another row is replaced.
 pub places_other : (ys : List JobRow) (i : ℕ) (y d : JobRow) → i < length ys → y.job.id ≡ (get_or ys i d).job.id → (j : ℕ) → is_eq (nat_cmp j y.job.id) ≡ false → places_among (set ys i y) j ≡ places_among ys j
 places_other [] i y d lt same j other = absurd (omega arith)
 places_other (z ∷ zs) zero y d lt same j other =
@@ -176,7 +176,7 @@ places_other (z ∷ zs) zero y d lt same j other =
 places_other (z ∷ zs) (suc i) y d lt same j other =
     either_place (is_eq (nat_cmp j z.job.id)) z.document.items z.document.items _ _ refl (places_other zs i y d (omega arith) same j other)
 
--- a job's extents have as many bytes as its document
+-- The total length of a job's extents is that of its document.
 sized_here : (b : Bool) (z : JobRow) (found : Option Job) (o : Option (List Extent)) (r : Job) → size_of z.document.items ≡ document_len (job_of z) → cond b (Some (job_of z)) found ≡ Some r
     → (found ≡ Some r → size_of (unwrap_or o []) ≡ document_len r) → size_of (unwrap_or (cond b (Some z.document.items) o) []) ≡ document_len r
 sized_here true z found o r sized e later = sized ∙ ap document_len (some_same (job_of z) r e)
@@ -186,7 +186,7 @@ pub sized_place : (ys : List JobRow) → HoldDocuments ys → (j : ℕ) (r : Job
 sized_place [] holds j r there = absurd (cc)
 sized_place (z ∷ zs) holds j r there = sized_here (is_eq (nat_cmp j z.job.id)) z _ _ r holds.0.sized there (λ later. sized_place zs holds.1 j r later)
 
--- a new row without a document
+-- A new row without a document.
 absent_here : (b : Bool) (x : Job) (o : Option Job) (Q : Type 0) → cond b (Some x) o ≡ None → (b ≡ false → o ≡ None → Q) → Q
 absent_here true x o Q none rest = absurd (cc)
 absent_here false x o Q none rest = rest refl none
@@ -208,12 +208,12 @@ places_insert (z ∷ zs) zero y le none absent j = new_place (is_eq (nat_cmp j y
 places_insert (z ∷ zs) (suc i) y le none absent j = absent_here (is_eq (nat_cmp y.job.id z.job.id)) (job_of z) _ _ absent
     (λ other rest. either_place (is_eq (nat_cmp j z.job.id)) z.document.items z.document.items _ _ refl (places_insert zs i y (omega arith) none rest j))
 
--- a row without a document that stands first
+-- A row without a document, at the start of the list.
 pub places_first : (places : List (ℕ × List Extent)) (y : JobRow) → y.document.items ≡ [] → places_of places y.job.id ≡ [] → (j : ℕ) → places_of (place_entry y ∷ places) j ≡ places_of places j
 places_first places y none absent j = new_place (is_eq (nat_cmp j y.job.id)) (finite.find nat_cmp j places) y.document.items none
     (λ e. subst (λ k. places_of places k ≡ []) (sym (same_number y.job.id j e)) absent)
 
--- one extent more has so many bytes more
+-- The length of one more extent is added.
 pub size_more : (xs : List Extent) (x : Extent) → size_of (xs ++ x ∷ []) ≡ size_of xs + x.len
 size_more [] x = omega arith
 size_more (y ∷ xs) x = let rest = size_more xs x in omega (arith, rest)

@@ -1,4 +1,4 @@
--- What an event changes in the row of its job.
+-- The changes of a job's row by an event.
 use Rattle.std.proofs.Common.{◌≡◌, ℕ, None, refl}
 use Rattle.spool_types.specs.State.{State, Job}
 use Rattle.spool_types.specs.declared.event.Event.{Event}
@@ -9,7 +9,7 @@ use Rattle.job_table.specs.declared.store.row_changes.RowChange.{RowChange}
 use Rattle.job_table.specs.declared.store.row_changes.RowChange.TheVariants.{Hold, End, Close}
 use Rattle.job_table.proofs.Follows.{closed_same}
 
--- it keeps the job's number
+-- The job keeps its number.
 pub meant_id : (change : RowChange) (x : Job) → (meant change x).id ≡ x.id
 meant_id (Hold hold) x = refl
 meant_id (End phase) x = refl

@@ -1,4 +1,4 @@
--- Where jobs stand in the lanes of their queues, and the lanes after a change.
+-- The lane states of jobs, and the lanes after a change.
 use Rattle.std.proofs.Common.{◌≡◌, ℕ, zero, suc, ◌+◌, ◌<◌, ◌≤◌, ◌⊎◌, inl, inr, Bool, true, false, cond, List, [], length, get_or, set, Option, Some, None, IsSome, refl, sym, ap, subst, ◌∙◌, arith}
 use Rattle.std.specs.List.{insert}
 use Rattle.std.specs.Cmp.Lexicographic.{bytes_decides}
@@ -34,7 +34,7 @@ use Rattle.job_table.proofs.Legal.{KeepsOrder, keeps_each, legal_after}
 use Rattle.job_table.proofs.Moves.{Moves, Stays, moves}
 use Rattle.job_table.proofs.Tables.{needed_and_not}
 
--- ## What a standing says of the phase
+-- ## The lane state and the phase
 
 pub waiting_phase : (r : Job) (p : Phase) (e : Entry) → lane_state_in r p ≡ Waiting e → (e ≡ entry_of r) × (is_waiting p ≡ true)
 waiting_phase r (phases.Incoming hold) e is = absurd (cc)
@@ -76,7 +76,7 @@ dead_phase r phases.Completed is = refl
 dead_phase r phases.Canceled is = refl
 dead_phase r (phases.Aborted reason) is = refl
 
--- ## Where a job stands
+-- ## The lane state of a job
 
 of_own : (name : List ℕ) (r : Job) → r.queue ≡ name → is_of name r ≡ true
 of_own name r own = (bytes_decides r.queue name).1 own
@@ -101,7 +101,7 @@ module _ (s : State) (name : List ℕ) (j : ℕ) where
   ended_dead : (x : LaneState) → Ended ≡ x → is_live x ≡ true → ⊥
   ended_dead x is live = (let no : false ≡ true = ap is_live is ∙ live in absurd (cc))
 
-  -- a job that hasn't ended, and stands in the queue, is one of the queue's
+  -- A job that is in the queue's lane and has not ended belongs to the queue.
   pub seat_found : (x : LaneState) → seat s name j ≡ x → is_live x ≡ true → (r : Job) × (job_at s j ≡ Some r) × (r.queue ≡ name) × (lane_state_of r ≡ x)
   seat_found x is live = by_job (job_at s j) refl
     where
@@ -121,7 +121,7 @@ ended_state r phases.Completed over = refl
 ended_state r phases.Canceled over = refl
 ended_state r (phases.Aborted reason) over = refl
 
--- a job of this row, which has ended, goes, and nothing else does
+-- The job of this row, which has ended, is removed, and nothing else changes.
 pub record Leaves (s t : State) (j : ℕ) (row : Job) : Type 0 where
   pub names : finite.keys t.queues ≡ finite.keys s.queues
   pub moment : t.moment ≡ s.moment
@@ -130,7 +130,7 @@ pub record Leaves (s t : State) (j : ℕ) (row : Job) : Type 0 where
   pub absent : job_at t j ≡ None
   pub others : (k : ℕ) → ¬ (k ≡ j) → job_at t k ≡ job_at s k
 
--- it stood in no lane
+-- The job was in no lane.
 seat_left : (s t : State) (j : ℕ) (r : Job) → Leaves s t j r → (name : List ℕ) (k : ℕ) → seat t name k ≡ seat s name k
 seat_left s t j r leaves name k = elim (cases_eq k j) [
   | inl own ↦ ap (seat t name) own ∙ seat_absent t name j leaves.absent ∙ sym (ap (seat s name) own ∙ ap (seat_of name) leaves.there ∙ either (is_of name r))
@@ -141,7 +141,7 @@ seat_left s t j r leaves name k = elim (cases_eq k j) [
     either true = ended_state r r.phase leaves.ended
     either false = refl
 
--- a lane goes by where the jobs stand
+-- A lane depends only on the lane states of the jobs.
 pub lane_as : (old new : ℕ → LaneState) (lane : Lane) → ((k : ℕ) → new k ≡ old k) → IsLane old lane → IsLane new lane
 lane_as old new lane same is = record {
   waiting = λ e there. same e.id ∙ is.waiting e there;
@@ -153,7 +153,7 @@ lane_as old new lane same is = record {
   reserved = is.reserved;
 }
 
--- ## Lists beside one another
+-- ## Pairs of lists
 
 module _ {K Y : Type 0} (P Q : K → Y → Type 0) where
   pub beside_each : (ks : List K) (ys zs : List Y) → AreBeside P ks ys → length zs ≡ length ys → ((i : ℕ) (k : K) (y : Y) → i < length zs → P (get_or ks i k) (get_or ys i y) → Q (get_or ks i k) (get_or zs i y)) → AreBeside Q ks zs
@@ -162,7 +162,7 @@ module _ {K Y : Type 0} (P Q : K → Y → Type 0) where
     each = λ i k y lt. step i k y lt (are.each i k y (subst (λ n. i < n) same lt));
   }
 
-  -- one is written over
+  -- One element is replaced.
   pub beside_set : (ks : List K) (ys : List Y) (at : ℕ) (y : Y) → AreBeside P ks ys → at < length ys
       → ((i : ℕ) (k : K) (d : Y) → i < length ys → (i ≡ at → ⊥) → P (get_or ks i k) (get_or ys i d) → Q (get_or ks i k) (get_or ys i d))
       → ((k : K) → Q (get_or ks at k) y)
@@ -177,7 +177,7 @@ module _ {K Y : Type 0} (P Q : K → Y → Type 0) where
         ];
   }
 
-  -- one is put in
+  -- One element is inserted.
   pub beside_insert : (ks : List K) (ys : List Y) (at : ℕ) (k : K) (y : Y) → AreBeside P ks ys → at ≤ length ks
       → ((l : K) (z : Y) → P l z → Q l z)
       → Q k y
@@ -223,7 +223,7 @@ module _ {K Y : Type 0} (P Q : K → Y → Type 0) where
       each : (i : ℕ) (l : K) (z : Y) → i < length (insert ys at y) → Q (get_or (insert ks at k) i l) (get_or (insert ys at y) i z)
       each i l z lt = by_place i l z lt (cases_eq i at)
 
--- ## A job goes elsewhere
+-- ## A job gets another lane state
 
 module _ (s t : State) (legal : IsLegal t) (j : ℕ) (moves : Moves s t j) (r : Job) (there : job_at s j ≡ Some r) where
   abbrev moved : Job
@@ -247,7 +247,7 @@ module _ (s t : State) (legal : IsLegal t) (j : ℕ) (moves : Moves s t j) (r : 
   pub moved_number : (e : Entry) → lane_state_of moved ≡ Waiting e → e.id ≡ j
   moved_number e is = ap (λ (f : Entry). f.id) (waiting_phase moved moved.phase e is).0 ∙ (legal.jobs j moved (moves.own r there).1).id
 
-  -- no other job of its queue is processing
+  -- No other job of its queue is processing.
   pub moved_alone : (lane : Lane) → IsLane (seat s r.queue) lane → lane_state_of moved ≡ Processing → (k : ℕ) → lane.processing ≡ Some k → k ≡ j
   moved_alone lane is busy k at = elim (cases_eq k j) [
     | inl same ↦ same
@@ -266,7 +266,7 @@ no_more_live from to old new v w count keeps spare = by_count (is_live from) (is
     by_count false true is is_to = absurd (keeps is_to is)
     by_count false false is is_to = (let same : new + 0 ≡ old + 0 = ap (λ x. new + cond x 1 0) (sym is) ∙ count ∙ ap (λ x. old + cond x 1 0) is_to in omega (arith, same, spare))
 
--- what a lane is once a job was put elsewhere in it
+-- The lane after a job got another lane state.
 pub record IsReseatedLane (j : ℕ) (from to : LaneState) (old new : Lane) : Type 0 where
   pub lane : (before after : ℕ → LaneState) → IsLane before old → before j ≡ from → IsReseated before after j to → IsLane after new
   pub live : new.live + live_count from ≡ old.live + live_count to
@@ -291,7 +291,7 @@ module _ (s t : State) (v : ℕ) (lanes : List Lane) (are : AreLanes s v lanes) 
   own_name : (name : List ℕ) (at : ℕ) → IsNameAt names name at → (k : List ℕ) → name ≡ get_or names at k
   own_name name at place k = sym place.own ∙ get_or_default names at [] k place.in_range
 
-  -- with a job elsewhere in its lane, where the other lanes have their jobs as before
+  -- The lanes after a job got another lane state in its lane, if the other lanes have their jobs as before.
   pub lanes_reseated : (w : ℕ) → w ≤ v → t.moment ≡ s.moment → (name : List ℕ) (at : ℕ) → IsNameAt names name at
       → ((other : List ℕ) → (other ≡ name → ⊥) → (k : ℕ) → seat t other k ≡ seat s other k)
       → (j : ℕ) (from to : LaneState) (new d : Lane) → IsReseatedLane j from to (get_or lanes at d) new
@@ -319,7 +319,7 @@ module _ (s t : State) (v : ℕ) (lanes : List Lane) (are : AreLanes s v lanes) 
         spare = is.spare;
       }))
 
-  -- without a job that had ended, and with no room for a new one
+  -- The lanes without a job that had ended, and without room for a new one.
   pub lanes_left : (j : ℕ) (r : Job) → Leaves s t j r → AreLanes t 0 lanes
   lanes_left j r leaves =
       subst (λ ns. AreBeside (IsLaneOf t 0) ns lanes) (sym leaves.names)
@@ -331,7 +331,7 @@ module _ (s t : State) (v : ℕ) (lanes : List Lane) (are : AreLanes s v lanes) 
         spare = omega (arith, fewer);
       }))
 
-  -- with a job that went elsewhere
+  -- The lanes after a job changed its lane state.
   pub lanes_moved : IsLegal t → (j : ℕ) (moves : Moves s t j) (r : Job) (there : job_at s j ≡ Some r) (at : ℕ) → IsNameAt names r.queue at
       → (q : Job) → job_at t j ≡ Some q → (is_live (lane_state_of q) ≡ true → is_live (lane_state_of r) ≡ false → ⊥)
       → (new d : Lane) → IsReseatedLane j (lane_state_of r) (lane_state_of q) (get_or lanes at d) new
@@ -345,9 +345,9 @@ module _ (s t : State) (v : ℕ) (lanes : List Lane) (are : AreLanes s v lanes) 
       (subst (λ x. IsReseated (seat s r.queue) (seat t r.queue) j (lane_state_of x)) same (moved_seat s t legal j moves r there))
       (no_more_live (lane_state_of r) (lane_state_of q) (get_or lanes at d).live new.live v new.reserved changed.live keeps (subst (λ n. (get_or lanes at d).live + v ≤ n) (sym changed.reserved) own.spare)))
 
--- ## A job comes
+-- ## A new job
 
--- a new job, and nothing else
+-- A new job, and nothing else.
 pub record Gains (s t : State) (j : ℕ) (q : Job) : Type 0 where
   pub names : finite.keys t.queues ≡ finite.keys s.queues
   pub moment : t.moment ≡ s.moment
@@ -398,10 +398,10 @@ module _ (s t : State) (legal : IsLegal t) (j : ℕ) (q : Job) (gains : Gains s 
           by_live true is = (let more : now + 0 ≡ old + 1 = count ∙ ap (λ x. old + cond x 1 0) is in omega (arith, more, same, spare, some))
           by_live false is = (let more : now + 0 ≡ old + 0 = count ∙ ap (λ x. old + cond x 1 0) is in omega (arith, more, same, spare, some))
 
--- ## A queue comes
+-- ## A new queue
 
 module _ (s t : State) (legal : IsLegal s) (name : List ℕ) (absent : queue_at s name ≡ None) (same : (k : ℕ) → job_at t k ≡ job_at s k) where
-  -- no job stands in its lane
+  -- Its lane has no jobs.
   none_stands : (k : ℕ) → seat t name k ≡ Ended
   none_stands k = ap (seat_of name) (same k) ∙ by_job (job_at s k) refl
     where
@@ -430,7 +430,7 @@ module _ (s t : State) (legal : IsLegal s) (name : List ℕ) (absent : queue_at 
 -- ## All lanes change
 
 module _ (s : State) (v : ℕ) (lanes news : List Lane) (are : AreLanes s v lanes) (count : length news ≡ length lanes) where
-  -- the moment comes
+  -- The lanes after a new moment.
   pub lanes_advanced : (t : State) → finite.keys t.queues ≡ finite.keys s.queues → ((k : ℕ) → job_at t k ≡ job_at s k)
       → ((i : ℕ) (d : Lane) → i < length news → IsAdvanced t.moment (get_or lanes i d) (get_or news i d)) → AreLanes t v news
   lanes_advanced t names same each =
@@ -443,7 +443,7 @@ module _ (s : State) (v : ℕ) (lanes news : List Lane) (are : AreLanes s v lane
         spare = omega (arith, is.spare, new.live, new.reserved);
       }))
 
-  -- room is made
+  -- The lanes after room was reserved.
   pub lanes_kept : (w : ℕ) → ((i : ℕ) (d : Lane) → i < length news → IsSameLane (get_or lanes i d) (get_or news i d))
       → ((i : ℕ) (d : Lane) → i < length news → (get_or news i d).live + w ≤ (get_or news i d).reserved) → AreLanes s w news
   lanes_kept w each spare =
@@ -456,7 +456,7 @@ module _ (s : State) (v : ℕ) (lanes news : List Lane) (are : AreLanes s v lane
 same_subject : (s : State) (j k : ℕ) → Some k ≡ Some j → (r : Job) × (job_at s k ≡ Some r) → (r : Job) × (job_at s j ≡ Some r)
 same_subject s j k is found = subst (λ n. (r : Job) × (job_at s n ≡ Some r)) (number_of j k is) found
 
--- an event about a job that isn't refused finds it
+-- The job of an accepted event exists.
 subject_by : (s : State) (j : ℕ) (change : Change) (own : List (Bool × Refusal)) → subject_of change ≡ Some j → first_cause (causes_of s change own) ≡ None → (r : Job) × (job_at s j ≡ Some r)
 subject_by s j (NewQueueRow q) own is accepted = absurd (cc)
 subject_by s j (OfQueue name f) own is accepted = absurd (cc)
@@ -470,13 +470,13 @@ subject_by s j OfAll own is accepted = absurd (cc)
 subject_there : (s : State) (j : ℕ) (e : Event) → subject e ≡ Some j → refusal_of s e ≡ None → (r : Job) × (job_at s j ≡ Some r)
 subject_there s j e is accepted = subject_by s j (change_by e) ((row e).own s) is accepted
 
--- and finds that it hasn't ended
+-- The job of an accepted event has not ended.
 subject_live : (s : State) → IsLegal s → (j : ℕ) (e : Event) → subject e ≡ Some j → refusal_of s e ≡ None → (r : Job) → job_at s j ≡ Some r → is_live (lane_state_of r) ≡ false → ⊥
 subject_live s legal j e is accepted r there dead =
     refused_and_not (refusal_of s e) JobEnded
     (refused_as_ended s j r (record { legal = legal; there = there; ended = dead_phase r r.phase dead }) e is) accepted
 
--- what an event about a job made of the table: the job may stand elsewhere in its queue, and nothing else does
+-- The table after an event about a job: the job's lane state may have changed, and nothing else.
 pub record Goes (s t : State) (j : ℕ) : Type 0 where
   pub moves : Moves s t j
   pub legal : IsLegal t
@@ -496,7 +496,7 @@ goes law s t legal j e is accepted after_it =
     }
 
 module _ (s t : State) (j : ℕ) (g : Goes s t j) where
-  -- the job after the event
+  -- The job after the event.
   abbrev pub gone : Job
   gone = moved s t g.legal j g.moves g.row g.there
 

@@ -1,4 +1,4 @@
--- Where the pieces of a listing lie, as its last job is settled.
+-- The places of the pieces of a listing, when the last job is settled.
 use Rattle.std.proofs.Common.{◌≡◌, ℕ, ◌+◌, ◌==◌, if◌then◌else◌, Bool, true, false, cond, List, [], ◌∷◌, ◌++◌, length, Option, Some, None, unwrap_or, refl, sym, ap, ◌∙◌}
 use Rattle.std.specs.Option.{option_map}
 use Rattle.std.specs.Ordering.{nat_cmp, is_eq}
@@ -16,7 +16,7 @@ use Rattle.job_table.proofs.Changes.{same_itself}
 use Rattle.job_table.proofs.Rooms.{size_more}
 use Rattle.job_table.proofs.Steps.{same_by, other_by}
 
--- no last job has no places
+-- If there is no last job, it has no places.
 pub last_none : (o : Option Partial) (places : List (ℕ × List Extent)) → option_map part_of o ≡ None → with_last_place o places ≡ places
 last_none None places e = refl
 last_none (Some p) places e = absurd (cc)
@@ -29,7 +29,7 @@ own_entry k id xs places e =
 other_entry : (k id : ℕ) (xs : List Extent) (places : List (ℕ × List Extent)) → is_eq (nat_cmp k id) ≡ false → places_of ((id, xs) ∷ places) k ≡ places_of places k
 other_entry k id xs places other = ap (λ b. unwrap_or (cond b (Some xs) (finite.find nat_cmp k places)) []) other
 
--- the last job has the places of a piece more, and the others lie where they lay
+-- The last job has the extent of one more piece, and no other document moves.
 pub grown_places : (at j : ℕ) (bytes : List ℕ) (o : Option Partial) (q : Partial) (places : List (ℕ × List Extent)) → IsPieceOf (option_map part_of o) j bytes → IsGrown at (length bytes) o (Some q) → (k : ℕ) → places_of (place_entry q.row ∷ places) k ≡ with_placed (places_of (with_last_place o places) k) at k (Some (j, bytes))
 grown_places at j bytes None q places next grown k = absurd next
 grown_places at j bytes (Some p) q places next grown k = either (j == k) refl
@@ -49,7 +49,7 @@ grown_places at j bytes (Some p) q places next grown k = either (j == k) refl
         other_entry k q.row.job.id q.row.document.items places (ap (λ n. is_eq (nat_cmp k n)) now_id ∙ other_by j k other)
         ∙ sym (other_entry k p.row.job.id p.row.document.items places (ap (λ n. is_eq (nat_cmp k n)) was_id ∙ other_by j k other))
 
--- and so many bytes more
+-- The number of bytes increases by the length of the piece.
 pub grown_measured : (at count : ℕ) (o : Option Partial) (q : Partial) → IsGrown at count o (Some q) → IsMeasured o → size_of q.row.document.items ≡ q.read
 grown_measured at count None q grown measured = absurd (cc)
 grown_measured at count (Some p) q grown measured =

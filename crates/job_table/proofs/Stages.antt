@@ -1,4 +1,4 @@
--- A stage that is spent stays spent, and one that is left is spent.
+-- A stage that is spent stays spent, and a stage that the job has left is spent.
 use Rattle.std.proofs.Common.{◌≡◌, ◌⊎◌, inl, inr, ℕ, ◌+◌, ◌≤◌, ◌==◌, Bool, true, false, cond, max, List, [], ◌∷◌, Some, None, Option, IsSome, refl, sym, ap, subst, ◌∙◌, arith}
 use Rattle.std.specs.Prelude.{nat_le}
 use Rattle.std.specs.Ordering.{nat_cmp, eq_by_cmp}
@@ -34,16 +34,16 @@ use Rattle.job_table.proofs.Follows.{Follows, in_place, ruled_follows}
 use Rattle.job_table.proofs.Legal.{IsSound, sound, KeepsOrder, KeepsBy, Keeps, keeps_each, legal_effects, legal_after, legal_after_one}
 use Rattle.job_table.proofs.Reopened.{reopened_onward, reopened_lost, reopened_others, reopened_counts}
 
--- ## What an event leaves of a job
+-- ## The effect of an event on a job
 
--- the job is there, and is one that follows this row
+-- The job exists, and follows this row.
 abbrev IsFollowed : ℕ → ℕ → Phase → State → Type 0
 IsFollowed j attempts p t = (x : Job) × (job_at t j ≡ Some x) × Follows attempts p x
 
 found_same : (s t : State) (j : ℕ) (r : Job) → job_at s j ≡ Some r → job_at t j ≡ job_at s j → IsFollowed j r.attempts r.phase t
 found_same s t j r there same = (r, same ∙ there, in_place r)
 
--- a row that is put in under a number: the job's own, or another's
+-- A row is inserted under a number: that of the job, or another one.
 module _ (s : State) (j : ℕ) (r : Job) (there : job_at s j ≡ Some r) (k : ℕ) (x y : Job) (at_k : job_at s k ≡ Some x) where
   old_or_new : (P : Job → Type 0) → P r → (x ≡ r → P y) → (b : Bool) → eq_by_cmp nat_cmp j k ≡ b → (z : Job) × (cond b (Some y) (finite.get s.jobs j) ≡ Some z) × P z
   old_or_new P old new true e = (y, refl, new (some_same x r (sym at_k ∙ ap (job_at s) (sym (same_number k j e)) ∙ there)))
@@ -54,7 +54,7 @@ module _ (s : State) (j : ℕ) (r : Job) (there : job_at s j ≡ Some r) (k : �
       let found = old_or_new P old new (eq_by_cmp nat_cmp j k) refl in
       (found.0, finite.get-insert nat_cmp_total s.jobs k y j ∙ found.1, found.2)
 
--- a change of a job, or of another one
+-- A change of the job, or of another one.
 changed : (s : State) (j : ℕ) (r : Job) → job_at s j ≡ Some r → (P : Job → Type 0) → P r → (k : ℕ) (f : Job → Job) → ((x : Job) → x ≡ r → P (f x)) → (o : Option Job) → job_at s k ≡ o
     → (z : Job) × (job_at (change_found s k f o) j ≡ Some z) × P z
 changed s j r there P old k f new None at_k = (r, there, old)
@@ -63,7 +63,7 @@ changed s j r there P old k f new (Some x) at_k = put s j r there k x (f x) at_k
 goes_by : (s : State) (j : ℕ) (r : Job) → job_at s j ≡ Some r → (k : ℕ) (f : Job → Job) → ((x : Job) → Follows x.attempts x.phase (f x)) → IsFollowed j r.attempts r.phase (change_job s k f)
 goes_by s j r there k f follows = changed s j r there (λ z. Follows r.attempts r.phase z) (in_place r) k f (λ x same. subst (λ (w : Job). Follows w.attempts w.phase (f x)) same (follows x)) _ refl
 
--- a verdict on a job, or on another one
+-- A verdict on the job, or on another one.
 verdict_on : (s : State) (j : ℕ) (r : Job) → job_at s j ≡ Some r → IsLegal s → (k : ℕ) (verdict : Job → QueueRow → Verdict) (o : Option Job) → job_at s k ≡ o → IsFollowed j r.attempts r.phase (rule_found s verdict o)
 verdict_on s j r there legal k verdict None at_k = found_same s s j r there refl
 verdict_on s j r there legal k verdict (Some x) at_k = by_queue (queue_at s x.queue)
@@ -75,7 +75,7 @@ verdict_on s j r there legal k verdict (Some x) at_k = by_queue (queue_at s x.qu
         put s j r there x.id x new (ap (job_at s) ((legal.jobs k x at_k).id) ∙ at_k) (λ z. Follows r.attempts r.phase z) (in_place r)
         (λ same. subst (λ (w : Job). Follows w.attempts w.phase new) same (ruled_follows s.moment q.interval (verdict x q) x))
 
--- the effects of a stage leave a job its attempts and its phase
+-- The effects of a stage do not change the attempts and the phase of a job.
 abbrev IsAlike : Job → Job → Type 0
 IsAlike r x = (x.attempts ≡ r.attempts) × (x.phase ≡ r.phase)
 
@@ -121,7 +121,7 @@ module _ (s : State) (j : ℕ) (r : Job) (there : job_at s j ≡ Some r) (legal 
   goes_on : (e : Event) → Keeps e → refusal_of s e ≡ None → IsFollowed j r.attempts r.phase (after s e)
   goes_on e keeps accepted = goes_on_by (change_by e) ((row e).own s) keeps (sound s e accepted) accepted
 
--- ## What an event leaves where there is no job
+-- ## The effect of an event on a number without a job
 
 pub queue_counts : (s : State) (name : List ℕ) (f : QueueRow → QueueRow) (o : Option QueueRow) → s.highest ≡ (change_found_queue s name f o).highest
 queue_counts s name f None = refl
@@ -138,7 +138,7 @@ pub record IsStillAbsent (s t : State) (j : ℕ) : Type 0 where
 absent_same : (s t : State) (j : ℕ) → job_at s j ≡ None → s.highest ≡ t.highest → job_at t j ≡ job_at s j → IsStillAbsent s t j
 absent_same s t j none same kept = record { highest = omega (arith, same); absent = kept ∙ none }
 
--- a row that is put in under the number of a job that is there
+-- A row is inserted under the number of an existing job.
 module _ (s : State) (j k : ℕ) (x y : Job) (none : job_at s j ≡ None) (at_k : job_at s k ≡ Some x) where
   put_elsewhere : (b : Bool) → eq_by_cmp nat_cmp j k ≡ b → cond b (Some y) (finite.get s.jobs j) ≡ None
   put_elsewhere true e = absurd (not_both (job_at s k) x (ap (job_at s) (sym (same_number k j e)) ∙ none) at_k)
@@ -197,7 +197,7 @@ module _ (s : State) (j : ℕ) (none : job_at s j ≡ None) (given : j ≤ s.hig
 
 -- ## Stages
 
--- a stage that is spent in a row that hasn't ended is spent in one that follows it
+-- A stage that is spent in a row that has not ended is spent in a row that follows it.
 spent_followed : (k : Key) (r x : Job) → has_ended r.phase ≡ false → Follows r.attempts r.phase x → IsSpentOf k r → IsSpentOf k x
 spent_followed k r x alive (inl over) spent = inl over
 spent_followed k r x alive (inr (inl more)) (inl over) = absurd (both_ways _ alive over)
@@ -210,15 +210,15 @@ spent_followed k r x alive (inr (inr goes)) (inr (inr left)) = inr (inr (goes.0 
 by_row : (k : Key) (t : State) (x : Job) → job_at t k.job ≡ Some x → IsSpentOf k x → IsSpent t k
 by_row k t x there spent = subst (IsSpentBy t.highest k) (sym there) spent
 
--- a stage of a job that goes is spent
+-- The stages of a removed job are spent.
 spent_without : (s : State) (k : Key) → k.job ≤ s.highest → IsSpent (record s { jobs = finite.remove s.jobs k.job }) k
 spent_without s k within = subst (IsSpentBy s.highest k) (sym (without_own s k.job)) within
 
--- a job that is processing has as many attempts as its phase says
+-- The attempts of a processing job agree with its phase.
 newest : (r : Job) (attempt stage stages : ℕ) (p : Phase) → p ≡ Processing attempt stage stages → Fits r p → attempt ≡ r.attempts
 newest r attempt stage stages p is fits = (subst (Fits r) is fits).newest
 
--- a row that follows one in this stage has left it, or is in it
+-- A row that follows one in this stage has left the stage, or is in it.
 module _ (k : Key) (t : State) (x : Job) (there : job_at t k.job ≡ Some x) (legal : IsLegal t) where
   in_or_spent : (p : Phase) → x.phase ≡ p → x.attempts ≡ k.attempt → ((stage : ℕ) → IsUpTo stage p → k.stage ≤ stage) → IsIn t k ⊎ IsSpent t k
   in_or_spent (Incoming hold) is same from = inr (by_row k t x there (inr (inr (same, λ up. subst (IsUpTo k.stage) is up))))
@@ -253,7 +253,7 @@ in_followed k s t now legal legal_then (x, there, follows) = by_follows follows
 alive_in : (s : State) (k : Key) (now : IsIn s k) → has_ended now.row.phase ≡ false
 alive_in s k now = ap has_ended now.phase
 
--- a stage that the table has the job in isn't spent
+-- The current stage of a job is not spent.
 pub in_unspent : (s : State) (k : Key) → IsLegal s → IsIn s k → IsSpent s k → ⊥
 in_unspent s k legal now spent = by_row_of (subst (IsSpentBy s.highest k) now.there spent)
   where
@@ -312,7 +312,7 @@ in_after_all law (e ∷ es) s k legal now = elim (in_after_one s e k (keeps_each
 
 -- ## The end of a stage
 
--- a verdict on a job in this stage leaves the stage
+-- A verdict on a job in this stage leaves the stage.
 ruled_leaves : (k : Key) (now interval : ℕ) (v : Verdict) (r : Job) (stages : ℕ) → r.phase ≡ Processing k.attempt k.stage stages → r.attempts ≡ k.attempt → IsSpentOf k (ruled now interval v r)
 ruled_leaves k now interval verdicts.NextStage r stages is same = inr (inr (same, λ up. further (subst (λ p. IsUpTo k.stage (next_stage p)) is up)))
   where
@@ -326,7 +326,7 @@ ruled_leaves k now interval verdicts.StopQueue r stages is same = inr (inr (same
 ruled_leaves k now interval verdicts.RetryAt r stages is same = inr (inr (same, λ up. absurd up))
 ruled_leaves k now interval verdicts.RetryFirst r stages is same = inr (inr (same, λ up. absurd up))
 
--- the stage that a processing job is in
+-- The current stage of a processing job.
 inside : (attempt stage : ℕ) (p : Phase) → is_in_stage attempt stage p ≡ true → (stages : ℕ) × (p ≡ Processing attempt stage stages)
 inside attempt stage (Incoming hold) is = absurd (cc)
 inside attempt stage (Waiting hold not_before first) is = absurd (cc)
@@ -360,7 +360,7 @@ module _ (s : State) (e : StageEnd) (keeps : Keeps (Stage e)) (legal : IsLegal s
       ∙ ap (λ b. cond b (Some new) (finite.get told.jobs e.job)) (ap (eq_by_cmp nat_cmp e.job) at_id ∙ same_itself e.job))
       (ruled_leaves key told.moment q.interval (stage_verdict e.exit x q) x stages is (sym (newest x e.attempt e.stage stages x.phase is (legal_told.jobs e.job x there).phase)))
 
-  -- the end of a stage that is accepted spends it
+  -- An accepted end of a stage spends the stage.
   pub spent_by_end : IsSpent (after s (Stage e)) (key_of e)
   spent_by_end =
       let old = job_there s (Stage e) e.job _ refl accepted in

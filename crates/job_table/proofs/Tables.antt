@@ -93,7 +93,7 @@ module _ (ys : List JobRow) (h : IsTrue (finite.is_sorted nat_cmp (map job_entry
   pub sorted_remove_job : (i : ℕ) → i < length ys → IsTrue (finite.is_sorted nat_cmp (map job_entry (remove ys i)))
   sorted_remove_job = rows.sorted_remove nat_cmp nat_cmp_total (λ r. r.job.id) job_of finite.nat_cmp-IsAntisymmetric ys h
 
-  -- what is found among the rows is what the map has
+  -- A lookup among the rows returns the same as the map.
   pub find_job : (k : ℕ) → finite.find nat_cmp k (map job_entry ys) ≡ finite.get (jobs_of ys) k
   find_job k = sym (finite.get-from_sorted nat_cmp (map job_entry ys) k (rows.t_from _ h))
 
@@ -111,11 +111,11 @@ pub map-same : {X : Type 0} (xs : List X) → map (λ x. x) xs ≡ xs
 map-same [] = refl
 map-same (x ∷ xs) = ap (λ ys. x ∷ ys) (map-same xs)
 
--- no key is there and not there
+-- A key cannot both exist and be missing.
 pub there_and_not : {X : Type 0} (o p : Option X) (x : X) → o ≡ Some x → p ≡ None → o ≡ p → ⊥
 there_and_not o p x there absent same = cc
 
--- nor is a key there that must be and isn't
+-- A key that must exist cannot be missing.
 pub needed_and_not : {X : Type 0} (o p : Option X) → IsSome p → o ≡ None → o ≡ p → ⊥
 needed_and_not o None needed absent same = absurd (cc)
 needed_and_not o (Some x) needed absent same = cc

@@ -1,4 +1,4 @@
--- The rows that were taken are the listing of what they made.
+-- Rows that were all accepted are the listing of the loaded table.
 use Rattle.std.proofs.Common.{◌≡◌, ◌≢◌, ℕ, ◌+◌, Bool, true, false, cond, ◌==◌, List, [], ◌∷◌, ◌++◌, length, map, Some, None, Option, refl, sym, ap, subst, ◌∙◌, arith, append_assoc, length-append}
 use Rattle.std.proofs.lemmas.List.{map-append}
 use Rattle.std.proofs.lemmas.Grind.{flat_map-append}
@@ -32,7 +32,7 @@ pub append_none : {X : Type 0} (xs : List X) → xs ++ [] ≡ xs
 append_none [] = refl
 append_none (x ∷ xs) = ap (λ ys. x ∷ ys) (append_none xs)
 
--- the values of maps that grow at their end
+-- The values of maps that grow at their end.
 pub entries_none : {K X : Type 0} (R : K → K → Ordering) → finite.entries (finite.empty {X = X} {R = R}) ≡ []
 entries_none R = ap (λ m. finite.entries m) (sym (map_none R)) ∙ finite.entries-from_sorted R [] tt
 
@@ -42,10 +42,10 @@ values_none R = ap (map (λ e. e.1)) (entries_none R)
 pub values_above : {K X : Type 0} (R : K → K → Ordering) (o : IsTotalOrder R) (m : finite.FinMap R X) (k : K) (v : X) → IsAbove R k (finite.keys m) → finite.values (finite.insert m k v) ≡ finite.values m ++ v ∷ []
 values_above R o m k v above = ap (map (λ e. e.1)) (entries_above R o m k v above) ∙ map-append (λ e. e.1) (finite.entries m) ((k, v) ∷ [])
 
--- ## The documents of a table, and of one job more
+-- ## The documents of a table with one more job
 
 module _ (s : State) (legal : IsLegal s) where
-  -- each entry is a job under its number
+  -- Each entry is a job under its number.
   numbered : (front todo : List (ℕ × Job)) → front ++ todo ≡ finite.entries s.jobs → AllByRecursion (λ (e : ℕ × Job). e.1.id ≡ e.0) todo
   numbered front [] split = tt
   numbered front (e ∷ todo) split =
@@ -53,7 +53,7 @@ module _ (s : State) (legal : IsLegal s) where
       let here : job_at s e.0 ≡ Some e.1 = finite.get-entries s.jobs e.0 ∙ ap (find nat_cmp e.0) (sym split) ∙ found_there nat_cmp nat_cmp_total front e todo above in
       ((legal.jobs e.0 e.1 here).id, numbered (front ++ e ∷ []) todo (append_assoc front (e ∷ []) todo ∙ split))
 
--- these documents, and that of one job more
+-- These documents, and that of one more job.
 abbrev with_document : (ℕ → List ℕ) → ℕ → List ℕ → ℕ → List ℕ
 with_document documents j bytes k = cond (eq_by_cmp nat_cmp k j) bytes (documents k)
 
@@ -63,7 +63,7 @@ less_apart j k less = ap is_eq less
 abbrev rows_with : (ℕ → List ℕ) → List Job → List Row
 rows_with documents jobs = flat_map (λ r. job_rows r (documents r.id)) jobs
 
--- the rows of the jobs below it stay
+-- The rows of the jobs below it do not change.
 rows_below : (documents : ℕ → List ℕ) (j : ℕ) (bytes : List ℕ) (es : List (ℕ × Job)) → AllByRecursion (λ (e : ℕ × Job). e.1.id ≡ e.0) es → IsAbove nat_cmp j (map (λ e. e.0) es) → rows_with (with_document documents j bytes) (map (λ e. e.1) es) ≡ rows_with documents (map (λ e. e.1) es)
 rows_below documents j bytes [] ids above = refl
 rows_below documents j bytes (e ∷ es) ids above =
@@ -74,7 +74,7 @@ rows_below documents j bytes (e ∷ es) ids above =
 abbrev head_row : State → Row
 head_row s = HeadRow (record { highest = s.highest; moment = s.moment })
 
--- a queue more, where no jobs are
+-- One more queue, in a table without jobs.
 queue_more : (s : State) (documents : ℕ → List ℕ) (q : QueueRow) → IsAbove (slice_cmp nat_cmp) q.name (finite.keys s.queues) → finite.values s.jobs ≡ [] → listing (with_queue s q) documents ≡ listing s documents ++ Queue q ∷ []
 queue_more s documents q above none =
     ap (λ js. head_row s ∷ (map (λ q. Queue q) (finite.values (finite.insert s.queues q.name q)) ++ rows_with documents js)) none
@@ -82,7 +82,7 @@ queue_more s documents q above none =
     ∙ ap (λ rows. head_row s ∷ rows) (append_none _ ∙ map-append (λ q. Queue q) (finite.values s.queues) (q ∷ []) ∙ ap (λ rows. rows ++ Queue q ∷ []) (sym (append_none (map (λ q. Queue q) (finite.values s.queues)))))
     ∙ ap (λ js. (head_row s ∷ (map (λ q. Queue q) (finite.values s.queues) ++ rows_with documents js)) ++ Queue q ∷ []) (sym none)
 
--- a job more
+-- One more job.
 job_more : (s : State) (documents : ℕ → List ℕ) (r : Job) (bytes : List ℕ) → IsLegal s → IsAbove nat_cmp r.id (finite.keys s.jobs) → listing (with_job s r) (with_document documents r.id bytes) ≡ listing s documents ++ job_rows r bytes
 job_more s documents r bytes legal above =
     let front : List Row = map (λ q. Queue q) (finite.values s.queues) in
@@ -101,7 +101,7 @@ fits_more s documents r bytes long fit j x there = either (eq_by_cmp nat_cmp j r
     either true is = long ∙ ap document_len (some_same r x is)
     either false is = fit j x is
 
--- ## The rows that were taken
+-- ## The accepted rows
 
 abbrev partial_rows : Option Part → List ℕ → List Row
 partial_rows None bytes = []
@@ -114,7 +114,8 @@ HasCome (Some x) bytes = length bytes ≡ x.read
 abbrev rows_of : Progress → (ℕ → List ℕ) → List ℕ → List Row
 rows_of p documents bytes = cond p.begun (listing p.state documents ++ partial_rows p.partial bytes) []
 
--- The rows are those of the table that they lead to, with some documents, and of the job whose document is short.
+-- The rows are the listing of the loaded table, with some documents, followed by those of the job with an incomplete
+-- document.
 record AreTaken (p : Progress) (rows : List Row) : Type 0 where
   documents : ℕ → List ℕ
   bytes : List ℕ
@@ -122,7 +123,7 @@ record AreTaken (p : Progress) (rows : List Row) : Type 0 where
   come : HasCome p.partial bytes
   are : rows ≡ rows_of p documents bytes
 
--- the last job, wherever it is
+-- The last job, whether complete or not.
 last_taken : (p : Progress) (x : Part) (documents : ℕ → List ℕ) (bytes : List ℕ) → p.begun ≡ true → IsLegal p.state → IsAbove nat_cmp x.row.id (finite.keys p.state.jobs) → AreDocuments p.state documents → length bytes ≡ x.read → (rows : List Row) → rows ≡ listing p.state documents ++ job_rows x.row bytes → AreTaken (with_last p x) rows
 last_taken p x documents bytes begun legal above fit come rows are = either (x.read == document_len x.row) refl
   where
@@ -205,7 +206,7 @@ some_begun p rows taken some = either p.begun refl
     either true e = refl
     either false e = absurd (some (taken.are ∙ ap (λ b. cond b (listing p.state taken.documents ++ partial_rows p.partial taken.bytes) []) e))
 
--- nothing else is taken
+-- Only listings are accepted.
 pub only_listings : (v : Version) (rows : List Row) → ArePlaced (begin_loading v) rows → IsWhole (loaded_all (begin_loading v) rows) → rows ≢ [] →
     IsLegal (loaded_all (begin_loading v) rows).state × ((documents : ℕ → List ℕ) × AreDocuments (loaded_all (begin_loading v) rows).state documents × (rows ≡ listing (loaded_all (begin_loading v) rows).state documents))
 only_listings v rows placed whole some =

@@ -1,4 +1,4 @@
--- The timetable of the jobs of a table, and what it is once a job has another deadline.
+-- The timetable of the jobs of a table, and the timetable after a job got another deadline.
 use Rattle.std.proofs.Common.{◌≡◌, ℕ, ◌+◌, ◌<◌, ◌≤◌, ◌⊎◌, inl, inr, Bool, true, false, cond, List, [], ◌∷◌, length, map, Option, Some, None, refl, sym, ap, subst, ◌∙◌, arith, rules}
 use Rattle.std.specs.Prelude.{◌↔◌, is_some}
 use Rattle.std.specs.Option.{option_map}
@@ -16,7 +16,7 @@ use Rattle.job_table.proofs.Lanes.{all_from, all_numbers, apart_in_order, as_man
 
 -- ## The deadline of a job
 
--- it is the job's, which waits and is to start by its moment
+-- The deadline belongs to the job, which is waiting and must start by its moment.
 pub deadline_own : (r : Job) (d : Deadline) → deadline_of r ≡ Some d → (is_waiting r.phase ≡ true) × ((r.by ≡ Some d.by) × (r.id ≡ d.id))
 deadline_own r d is = by_phase (is_waiting r.phase) r.by refl is
   where
@@ -49,17 +49,17 @@ same_deadline : (d e : Deadline) → Some d ≡ Some e → d ≡ e
 same_deadline d e is = cc
 
 module _ (jobs : ℕ → Option Job) (t : Timetable) (is : IsTimely jobs t) where
-  -- no two are one job's
+  -- No two deadlines belong to the same job.
   deadlines_apart : InTurn t.deadlines.items → AllPairs (λ d e. ¬ (e.id ≡ d.id)) t.deadlines.items
   deadlines_apart order =
       apart_in_order (λ (d : Deadline). d.id) comes_before before_itself (λ d. deadline_found (jobs d.id) ≡ Some d)
       (λ d e own own_too same. same_deadline d e (sym own ∙ ap (λ k. deadline_found (jobs k)) same ∙ own_too)) t.deadlines.items order is.only
 
-  -- none is that of a job that has none
+  -- A job without a deadline has none in the list.
   pub lacks_deadline : (j : ℕ) → deadline_found (jobs j) ≡ None → LacksDeadline t.deadlines.items j
   lacks_deadline j none d there same = (let no : Some d ≡ None = sym (is.only d there) ∙ ap (λ k. deadline_found (jobs k)) same ∙ none in absurd (cc))
 
-  -- a job that has none yet may have one
+  -- There is room for the deadline of a job that has none yet.
   pub room_for_one : InTurn t.deadlines.items → (j : ℕ) → deadline_found (jobs j) ≡ None → has_by (jobs j) ≡ true → length t.deadlines.items < t.timed
   room_for_one order j none timed =
       let items = t.deadlines.items in
@@ -71,14 +71,14 @@ module _ (jobs : ℕ → Option Job) (t : Timetable) (is : IsTimely jobs t) wher
       is.few (j ∷ map (λ d. d.id) items) (others, differ_numbers (λ (d : Deadline). d.id) items (deadlines_apart order)) (timed, all) in
       omega (arith, most, length-map items (λ d. d.id))
 
--- ## A job has another deadline
+-- ## A job gets another deadline
 
 module _ (old new : ℕ → Option Job) (j : ℕ) (t : Timetable) (is : IsTimely old t) where
   module _ (to : Option Deadline) (retimed : IsRetimed old new j to) where
     few_too : (k : ℕ) → has_by (new k) ≡ true → has_by (old k) ≡ true
     few_too k timed = sym (retimed.timed k) ∙ timed
 
-    -- another job's is as before
+    -- The deadlines of other jobs do not change.
     kept : (k : ℕ) (d : Deadline) → ¬ (k ≡ j) → deadline_found (new k) ≡ Some d → deadline_found (old k) ≡ Some d
     kept k d other at = sym (retimed.others k other) ∙ at
 
@@ -96,7 +96,7 @@ module _ (old new : ℕ → Option Job) (j : ℕ) (t : Timetable) (is : IsTimely
         | inr other ↦ retimed.others k other
       ]
 
-  -- it has none any more
+  -- The job no longer has a deadline.
   pub retimed_less : (d : Deadline) → deadline_found (old j) ≡ Some d → IsRetimed old new j None → (l : Limits) → ((e : Deadline) → Contains l.items e ↔ (Contains t.deadlines.items e × ¬ (e ≡ d))) → l.room ≡ t.deadlines.room
       → IsTimely new (record t { deadlines = l })
   retimed_less d was retimed l items room = record {
@@ -111,7 +111,7 @@ module _ (old new : ℕ → Option Job) (j : ℕ) (t : Timetable) (is : IsTimely
     room = rw room is.room;
   }
 
-  -- it has one now
+  -- The job has a deadline now.
   pub retimed_more : (d : Deadline) → d.id ≡ j → deadline_found (old j) ≡ None → IsRetimed old new j (Some d) → (l : Limits) → ((e : Deadline) → Contains l.items e ↔ (Contains t.deadlines.items e ⊎ (e ≡ d))) → l.room ≡ t.deadlines.room
       → IsTimely new (record t { deadlines = l })
   retimed_more d number was retimed l items room = record {
@@ -152,9 +152,9 @@ sorted_timely items timed l same room jobs is = record {
   room = room;
 }
 
--- ## A job comes in
+-- ## A new job
 
--- the timetable goes by the deadlines of the jobs
+-- A timetable depends only on the deadlines of the jobs.
 pub timely_as : (old new : ℕ → Option Job) (t : Timetable) → ((k : ℕ) → new k ≡ old k) → IsTimely old t → IsTimely new t
 timely_as old new t same is = record {
   only = λ d there. ap deadline_found (same d.id) ∙ is.only d there;
@@ -173,7 +173,7 @@ module _ (old new : ℕ → Option Job) (j : ℕ) (t : Timetable) (is : IsTimely
   others_timed : (k : ℕ) → ¬ (k ≡ j) → has_by (new k) ≡ has_by (old k)
   others_timed k other = ap has_by (admitted.others k other)
 
-  -- it is to start by no moment
+  -- The job need not start by any moment.
   pub admitted_free : timed ≡ false → IsTimely new t
   admitted_free free = record {
     only = λ d there. same_deadlines d.id ∙ is.only d there;
@@ -182,7 +182,7 @@ module _ (old new : ℕ → Option Job) (j : ℕ) (t : Timetable) (is : IsTimely
     room = is.room;
   }
 
-  -- it is one more that is to start by a moment
+  -- The job must start by a moment, so one more job is counted.
   pub admitted_timed : (n : ℕ) → n ≡ t.timed + 1 → t.timed < t.deadlines.room → IsTimely new (record t { timed = n })
   admitted_timed n more space = record {
     only = λ d there. same_deadlines d.id ∙ is.only d there;
@@ -191,7 +191,7 @@ module _ (old new : ℕ → Option Job) (j : ℕ) (t : Timetable) (is : IsTimely
     room = omega (arith, more, space);
   }
 
--- ## A job goes
+-- ## A removed job
 
 module _ (old new : ℕ → Option Job) (j : ℕ) (t : Timetable) (is : IsTimely old t) (timed : Bool) (dismissed : IsDismissed old new j timed) where
   kept_deadlines : (k : ℕ) → deadline_found (new k) ≡ deadline_found (old k)
@@ -203,7 +203,7 @@ module _ (old new : ℕ → Option Job) (j : ℕ) (t : Timetable) (is : IsTimely
   kept_timed : (k : ℕ) → ¬ (k ≡ j) → has_by (new k) ≡ has_by (old k)
   kept_timed k other = ap has_by (dismissed.others k other)
 
-  -- it was to start by no moment
+  -- The job did not have to start by any moment.
   pub dismissed_free : IsTimely new t
   dismissed_free = record {
     only = λ d there. kept_deadlines d.id ∙ is.only d there;
@@ -212,7 +212,7 @@ module _ (old new : ℕ → Option Job) (j : ℕ) (t : Timetable) (is : IsTimely
     room = is.room;
   }
 
-  -- it was one of those that were to start by a moment
+  -- The job had to start by a moment, and was counted.
   pub dismissed_timed : timed ≡ true → (n : ℕ) → n + 1 ≡ t.timed → IsTimely new (record t { timed = n })
   dismissed_timed was n less = record {
     only = λ d there. kept_deadlines d.id ∙ is.only d there;

@@ -1,12 +1,12 @@
--- How long the documents of a table are.
+-- The lengths of the documents of a table.
 use Rattle.std.specs.Prelude.{◌≡◌, ℕ, List, length, cond, Some}
 use Rattle.spool_types.specs.Phases.{has_ended}
 use Rattle.spool_types.specs.State.{State, Job, job_at}
 
--- how many bytes its document has: a job that has ended has none
+-- The length of a job's document in bytes, which is 0 for a job that has ended.
 abbrev pub document_len : Job → ℕ
 document_len r = cond (has_ended r.phase) 0 r.size
 
--- each job has a document of its length
+-- Each job has a document of its length.
 abbrev pub AreDocuments : State → (ℕ → List ℕ) → Type 0
 AreDocuments s documents = (j : ℕ) (r : Job) → job_at s j ≡ Some r → length (documents j) ≡ document_len r

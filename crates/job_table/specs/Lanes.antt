@@ -1,4 +1,4 @@
--- The lanes of a table, one for each queue: what stands in one.
+-- The lanes of a table, one for each queue, and their contents.
 use Rattle.std.specs.Prelude.{◌≡◌, ℕ, ◌+◌, ◌<◌, ◌≤◌, Bool, true, false, cond, List, [], ◌∷◌, length, slice_index_or, Option, None, Some}
 use Rattle.std.specs.List.{Contains, AllByRecursion}
 use Rattle.std.specs.FinMap as finite
@@ -12,7 +12,7 @@ use Rattle.job_table.specs.declared.lane.Lane.{Lane}
 use Rattle.job_table.specs.declared.lane.LaneState.{LaneState}
 use Rattle.job_table.specs.declared.lane.LaneState.TheVariants.{Ended, Incoming, Waiting, Processing}
 
--- ## Where a job stands
+-- ## The lane state of a job
 
 abbrev pub lane_state_in : Job → Phase → LaneState
 lane_state_in r (phases.Incoming hold) = Incoming
@@ -23,12 +23,12 @@ lane_state_in r phase = Ended
 abbrev pub lane_state_of : Job → LaneState
 lane_state_of r = lane_state_in r r.phase
 
--- a job that isn't in the queue stands there as one that has ended
+-- A job that is not in the queue counts as a job that has ended.
 abbrev pub seat_of : List ℕ → Option Job → LaneState
 seat_of name None = Ended
 seat_of name (Some r) = cond (is_of name r) (lane_state_of r) Ended
 
--- where the job of this number stands in the queue of this name
+-- The lane state of the job of this number, in the queue of this name.
 abbrev pub seat : State → List ℕ → ℕ → LaneState
 seat s name j = seat_of name (job_at s j)
 
@@ -39,22 +39,22 @@ is_live lane_state = true
 abbrev pub live_count : LaneState → ℕ
 live_count lane_state = cond (is_live lane_state) 1 0
 
--- ## What a lane has
+-- ## The contents of a lane
 
--- no number is there twice
+-- No number occurs twice.
 abbrev pub AllDiffer : List ℕ → Type 0
 AllDiffer [] = Unit {0}
 AllDiffer (j ∷ js) = AllByRecursion (λ k. ¬ (k ≡ j)) js × AllDiffer js
 
--- no more than so many numbers pass
+-- At most n numbers pass the test.
 abbrev pub AtMost : (ℕ → Bool) → ℕ → Type 0
 AtMost p n = (js : List ℕ) → AllDiffer js → AllByRecursion (λ j. p j ≡ true) js → length js ≤ n
 
--- no more than so many jobs haven't ended
+-- At most n jobs have not ended.
 abbrev pub AtMostLive : (ℕ → LaneState) → ℕ → Type 0
 AtMostLive seats n = AtMost (λ j. is_live (seats j)) n
 
--- the lane is that of the jobs that stand so
+-- The lane has the jobs with these lane states.
 pub record IsLane (seats : ℕ → LaneState) (lane : Lane) : Type 0 where
   pub waiting : (e : Entry) → Contains lane.index.items e → seats e.id ≡ Waiting e
   pub listed : (j : ℕ) (e : Entry) → seats j ≡ Waiting e → (e.id ≡ j) × Contains lane.index.items e
@@ -64,25 +64,25 @@ pub record IsLane (seats : ℕ → LaneState) (lane : Lane) : Type 0 where
   pub room : lane.live ≤ lane.reserved
   pub reserved : lane.reserved ≤ lane.index.room
 
--- one job stands elsewhere, and all others as before
+-- One job has this lane state, and all others are as before.
 pub record IsReseated (old new : ℕ → LaneState) (j : ℕ) (to : LaneState) : Type 0 where
   pub own : new j ≡ to
   pub others : (k : ℕ) → ¬ (k ≡ j) → new k ≡ old k
 
--- the lane has a job that stands so
+-- The lane has the job with this lane state.
 pub record HasSeat (owner : Lane) (j : ℕ) (lane_state : LaneState) : Type 0 where
   pub seats : ℕ → LaneState
   pub lane : IsLane seats owner
   pub own : seats j ≡ lane_state
 
--- the same jobs, and as much room at least
+-- The same jobs, and at least as much room.
 pub record IsSameLane (old new : Lane) : Type 0 where
   pub lane : (seats : ℕ → LaneState) → IsLane seats old → IsLane seats new
   pub live : new.live ≡ old.live
   pub moment : new.index.moment ≡ old.index.moment
   pub reserved : old.reserved ≤ new.reserved
 
--- the same jobs and as much room, at another moment
+-- The same jobs and the same room, at another moment.
 pub record IsAdvanced (now : ℕ) (old new : Lane) : Type 0 where
   pub lane : (seats : ℕ → LaneState) → IsLane seats old → IsLane seats new
   pub live : new.live ≡ old.live
@@ -91,12 +91,12 @@ pub record IsAdvanced (now : ℕ) (old new : Lane) : Type 0 where
 
 -- ## The lanes of all queues
 
--- each of the one list beside the one of the other that has its place
+-- Two lists of the same length. Each pair of elements at the same index satisfies the relation.
 pub record AreBeside {K Y : Type 0} (P : K → Y → Type 0) (ks : List K) (ys : List Y) : Type 0 where
   pub count : length ys ≡ length ks
   pub each : (i : ℕ) (k : K) (y : Y) → i < length ys → P (slice_index_or ks i k) (slice_index_or ys i y)
 
--- the lane of a queue, with room for so many new jobs
+-- The lane of a queue, with room for `vacant` new jobs.
 pub record IsLaneOf (s : State) (vacant : ℕ) (name : List ℕ) (owner : Lane) : Type 0 where
   pub lane : IsLane (seat s name) owner
   pub moment : owner.index.moment ≡ s.moment

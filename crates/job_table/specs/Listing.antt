@@ -1,4 +1,4 @@
--- The rows that a table is listed as.
+-- The rows that a checkpoint writes for a table.
 use Rattle.std.specs.Prelude.{ℕ, zero, suc, ◌+◌, ◌/◌, List, [], ◌∷◌, ◌++◌, length, take, drop, map}
 use Rattle.std.specs.List.{flat_map}
 use Rattle.std.specs.FinMap as finite
@@ -8,24 +8,24 @@ use Rattle.spool_types.specs.declared.listing.Head.{Head as HeadRow}
 use Rattle.spool_types.specs.declared.listing.Row.{Row}
 use Rattle.spool_types.specs.declared.listing.Row.TheVariants.{Head, Queue, Job as JobRow, Piece}
 
--- so many parts, of which each but the last has this length
+-- n parts of the bytes. Each part except the last has the length `longest`.
 abbrev pub parts : ℕ → ℕ → List ℕ → List (List ℕ)
 parts longest zero bytes = []
 parts longest (suc n) bytes = take longest bytes ∷ parts longest n (drop longest bytes)
 
--- as many parts of the greatest length as the bytes need
+-- The bytes in parts of the greatest length, followed by the rest.
 abbrev pub pieces : List ℕ → List (List ℕ)
 pieces bytes = parts longest_send ((length bytes + 65535) / longest_send) bytes
 
--- a job, and behind it the pieces of its document
+-- A job, followed by the pieces of its document.
 abbrev pub job_rows : Job → List ℕ → List Row
 job_rows r document = JobRow r ∷ map (λ bytes. Piece r.id bytes) (pieces document)
 
 abbrev pub head_of : State → HeadRow
 head_of s = record { highest = s.highest; moment = s.moment }
 
--- The head; the queues in ascending order of name; the jobs in ascending order of number, each followed by the pieces of
--- its document.
+-- The head, the queues in ascending order of name, and the jobs in ascending order of number, each followed by the
+-- pieces of its document.
 abbrev pub listing : State → (ℕ → List ℕ) → List Row
 listing s documents =
     Head (head_of s)

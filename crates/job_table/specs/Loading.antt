@@ -1,4 +1,4 @@
--- A listing that is read row by row: which row may come next, and what it adds.
+-- A listing that is read row by row: which row may come next, and the progress after it.
 use Rattle.std.specs.Prelude.{◌≡◌, ℕ, ◌+◌, ◌-◌, ◌==◌, ◌<◌, ◌≤◌, Bool, true, false, cond, List, [], ◌∷◌, length, min, Option, None, Some, IsSome}
 use Rattle.std.specs.declared.cmp.Ordering.{Ordering}
 use Rattle.std.specs.declared.cmp.Ordering.TheVariants.{Less}
@@ -20,19 +20,19 @@ use Rattle.row_effects.specs.EffectFold.{IsInOrder}
 use Rattle.job_table.specs.DocumentLengths.{document_len}
 use Rattle.job_table.specs.Legal.{Fits}
 
--- a job, and how many bytes of its document have come
+-- A job, and the number of bytes of its document that were read.
 pub record Part : Type 0 where
   pub row : Job
   pub read : ℕ
 
--- What the rows so far tell: the table of all that is whole, whether the head was among them, and the last job while its
--- document is short.
+-- The progress after the rows so far: the table of the queues and of the jobs whose documents are complete, whether the
+-- head was read, and the last job while its document is incomplete.
 pub record Progress : Type 0 where
   pub state : State
   pub begun : Bool
   pub partial : Option Part
 
--- A loading as its callers see it: what the rows so far tell, and where the pieces among them lie.
+-- A loading as its callers see it: the progress, and the places of the pieces.
 pub record Loaded : Type 0 where
   pub progress : Progress
   pub places : List (ℕ × List Extent)
@@ -40,13 +40,13 @@ pub record Loaded : Type 0 where
 abbrev pub begin_loading : Version → Progress
 begin_loading version = record { state = nothing_in version; begun = false; partial = None }
 
--- no document is short
+-- No document is incomplete.
 abbrev pub IsWhole : Progress → Type 0
 IsWhole p = p.partial ≡ None
 
--- ## What a row adds
+-- ## The effect of a row
 
--- its document is still to come
+-- No byte of the document was read yet.
 abbrev pub begun_part : Job → Part
 begun_part r = record { row = r; read = 0 }
 
@@ -62,7 +62,7 @@ with_job s r = record s { jobs = finite.insert s.jobs r.id r }
 abbrev pub with_piece : List ℕ → Part → Part
 with_piece bytes x = record x { read = x.read + length bytes }
 
--- the last job goes into the table once its document is whole
+-- The last job is added to the table when its document is complete.
 abbrev pub with_last : Progress → Part → Progress
 with_last p x = cond (x.read == document_len x.row) (record p { state = with_job p.state x.row; partial = None }) (record p { partial = Some x })
 
@@ -70,7 +70,7 @@ abbrev pub with_next_piece : Progress → List ℕ → Option Part → Progress
 with_next_piece p bytes None = p
 with_next_piece p bytes (Some x) = with_last p (with_piece bytes x)
 
--- the rows so far and this one, where it may come next
+-- The progress after this row, if it may come next.
 abbrev pub loaded : Progress → Row → Progress
 loaded p (HeadRow head) = record { state = headed p.state.version head; begun = true; partial = None }
 loaded p (Queue q) = record p { state = with_queue p.state q }
@@ -79,16 +79,16 @@ loaded p (Piece j bytes) = with_next_piece p bytes p.partial
 
 -- ## Which row may come next
 
--- above all of the keys
+-- The key is greater than all of the keys.
 abbrev pub IsAbove : {K : Type 0} → (K → K → Ordering) → K → List K → Type 0
 IsAbove R k keys = AllByRecursion (λ (x : _). R x k ≡ Less) keys
 
--- the head comes first
+-- The head comes first.
 pub record IsNextHead (p : Progress) (head : Head) : Type 0 where
   pub first : p.begun ≡ false
   pub highest : head.highest ≤ greatest_number
 
--- a queue above all queues of a table that has no jobs yet, with its reasons and its attributes in order
+-- A queue above all queues of a table without jobs, with its reasons and its attributes in order.
 pub record IsNewQueue (s : State) (q : QueueRow) : Type 0 where
   pub no_jobs : finite.values s.jobs ≡ []
   pub few : finite.len s.queues < most_queues
@@ -100,8 +100,8 @@ pub record IsNextQueue (p : Progress) (q : QueueRow) : Type 0 where
   pub whole : IsWhole p
   pub new : IsNewQueue p.state q
 
--- A job above all jobs of the table, of a number that was given and of a queue that is there. Its phase fits the rest of
--- its row, and it is the only processing job of its queue.
+-- A job above all jobs of the table. Its number is at most the highest assigned, its queue exists, its phase fits the
+-- rest of its row, and it is the only processing job of its queue.
 pub record IsNewJob (s : State) (r : Job) : Type 0 where
   pub above : IsAbove nat_cmp r.id (finite.keys s.jobs)
   pub given : r.id ≤ s.highest
@@ -110,13 +110,13 @@ pub record IsNewJob (s : State) (r : Job) : Type 0 where
   pub size : r.size ≤ longest_document
   pub alone : is_processing r.phase ≡ true → is_busy (finite.values s.jobs) r.queue ≡ false
 
--- a job comes once the documents before it are whole
+-- A job may come when the documents before it are complete.
 pub record IsNextJob (p : Progress) (r : Job) : Type 0 where
   pub begun : p.begun ≡ true
   pub whole : IsWhole p
   pub new : IsNewJob p.state r
 
--- a piece has the greatest length, or is the rest of the document
+-- A piece has the greatest length, or is the rest of the document.
 pub record IsNextPiece (x : Part) (j : ℕ) (bytes : List ℕ) : Type 0 where
   pub own : x.row.id ≡ j
   pub full : length bytes ≡ min (x.row.size - x.read) longest_send
@@ -125,16 +125,16 @@ abbrev pub IsPieceOf : Option Part → ℕ → List ℕ → Type 0
 IsPieceOf None j bytes = ⊥
 IsPieceOf (Some x) j bytes = IsNextPiece x j bytes
 
--- The row may come next: it is neither out of place nor against what is so of each table.
+-- The row may come next: it is in place, and the table with it is legal.
 abbrev pub IsPlaced : Progress → Row → Type 0
 IsPlaced p (HeadRow head) = IsNextHead p head
 IsPlaced p (Queue q) = IsNextQueue p q
 IsPlaced p (JobRow r) = IsNextJob p r
 IsPlaced p (Piece j bytes) = IsPieceOf p.partial j bytes
 
--- ## Rows in turn
+-- ## Many rows
 
--- each may come next in its turn
+-- Each row may come next after the rows before it.
 abbrev pub ArePlaced : Progress → List Row → Type 0
 ArePlaced p [] = Unit {0}
 ArePlaced p (row ∷ rows) = IsPlaced p row × ArePlaced (loaded p row) rows

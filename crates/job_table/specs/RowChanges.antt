@@ -1,4 +1,4 @@
--- What an event changes in the row of its job, where it changes nothing else.
+-- The change of an event that changes only the row of its job.
 use Rattle.std.specs.Prelude.{◌≡◌, ℕ, true, None}
 use Rattle.spool_types.specs.Phases.{has_ended}
 use Rattle.spool_types.specs.State.{State, Job}
@@ -9,24 +9,24 @@ use Rattle.job_table.specs.Step.{change_by, refusal_of}
 use Rattle.job_table.specs.declared.store.row_changes.RowChange.{RowChange}
 use Rattle.job_table.specs.declared.store.row_changes.RowChange.TheVariants.{Hold, End, Close}
 
--- what it makes of the job
+-- The job after the change.
 abbrev pub meant : RowChange → Job → Job
 meant (Hold hold) = held hold
 meant (End phase) = ended phase
 meant (Close closing) = closed closing
 
--- a job ends in a phase of an end
+-- A job that ends gets a phase of jobs that have ended.
 abbrev pub EndsInEnd : RowChange → Type 0
 EndsInEnd (End phase) = has_ended phase ≡ true
 EndsInEnd change = Unit {0}
 
--- an event that isn't refused makes this change
+-- An event that is not refused makes this change.
 pub record IsAsked (s : State) (j : ℕ) (change : RowChange) : Type 0 where
   pub event : Event
   pub accepted : refusal_of s event ≡ None
   pub changes : change_by event ≡ OfJob j (meant change)
 
--- it writes rows at once, and not one after another as the clock and a reopening do, and takes none away
+-- The change writes its rows at once, unlike a Clock or a Reopen, which are several events, and removes no row.
 abbrev pub WritesRows : Change → Type 0
 WritesRows (WithoutJob j) = ⊥
 WritesRows (OfClock m) = ⊥

@@ -1,4 +1,5 @@
--- Shapes of change: what an event changes, and the causes of refusal that go with it. A row an event is in `Step`.
+-- Shapes of change: the effect of an event, and the causes of refusal that all events of the shape share. `Step` has a
+-- row for each event.
 use Rattle.std.specs.Prelude.{ℕ, Bool, true, false, not, List, ◌∷◌, max, nat_le, Option, None, Some, is_none, is_some}
 use Rattle.std.specs.FinMap as map
 use Rattle.spool_types.specs.declared.effect.Effect.{Effect}
@@ -14,8 +15,8 @@ use Rattle.spool_types.specs.State.{State, Job, queue_at, job_at}
 use Rattle.job_table.specs.Attempts.{with_effects, rule_at, reopened}
 use Rattle.job_table.specs.EventChanges.{change_queue, change_job, at_clock}
 
--- a new queue, a change of a queue, a new job, a change of a job, a verdict on a job and its queue (behind the effects that
--- were told, if any), a job that goes, the moment, or the policy on every processing job
+-- A new queue, a change of a queue, a new job, a change of a job, a verdict on a job and its queue (after the effects
+-- of a stage, if any), the removal of a job, a new moment, or the policy on every processing job.
 pub data Change : Type 0 where
   NewQueueRow : QueueRow → Change
   OfQueue : List ℕ → (QueueRow → QueueRow) → Change
@@ -26,32 +27,32 @@ pub data Change : Type 0 where
   OfClock : ℕ → Change
   OfAll : Change
 
--- the table once the effects are told, if any are
+-- The table after the effects, if any.
 abbrev pub told : State → ℕ → Option (List Effect) → State
 told s j None = s
 told s j (Some effects) = with_effects s j effects
 
--- the table after the change
+-- The table after the change.
 abbrev pub made : State → Change → State
 made s (NewQueueRow q) = record s { queues = map.insert s.queues q.name q }
 made s (OfQueue name f) = change_queue s name f
 made s (NewJobRow r) = record s { jobs = map.insert s.jobs r.id r; highest = r.id }
 made s (OfJob j f) = change_job s j f
 made s (OfBoth j effects verdict) = rule_at (told s j effects) j verdict
--- its number stays the highest, if it is
+-- The highest number is unchanged.
 made s (WithoutJob j) = record s { jobs = map.remove s.jobs j }
 made s (OfClock m) = at_clock (max s.moment m) s
 made s OfAll = reopened s
 
--- ## What it is about
+-- ## The subject of a change
 
--- the job that it is about, where that has to be there and not to have ended
+-- The job of the change, if the event requires a job that exists and has not ended.
 abbrev pub subject_of : Change → Option ℕ
 subject_of (OfJob j f) = Some j
 subject_of (OfBoth j effects verdict) = Some j
 subject_of change = None
 
--- it is about a job or a queue that is there
+-- The change is about an existing job or queue.
 abbrev pub IsOfOne : Change → Type 0
 IsOfOne (OfQueue name f) = Unit {0}
 IsOfOne (OfJob j f) = Unit {0}
@@ -59,42 +60,42 @@ IsOfOne (OfBoth j effects verdict) = Unit {0}
 IsOfOne (WithoutJob j) = Unit {0}
 IsOfOne change = ⊥
 
--- ## Why it is refused
+-- ## Causes of refusal
 
--- whether there is a value, and it passes
+-- The value exists and passes the test.
 abbrev pub passes : {X : Type 0} → (X → Bool) → Option X → Bool
 passes p None = false
 passes p (Some x) = p x
 
--- a cause that holds where there is this row, and it passes
+-- A cause that applies if the row exists and passes the test.
 abbrev pub where_it : {X : Type 0} → Option X → (X → Bool) → Refusal → Bool × Refusal
 where_it found p refusal = (passes p found, refusal)
 
--- the refusals of a change of a queue, and those that follow
+-- The causes of refusal of a change of a queue, followed by further causes.
 abbrev pub about_queue : State → List ℕ → List (Bool × Refusal) → List (Bool × Refusal)
 about_queue s name more =
     (is_none (queue_at s name), NoQueue)
     ∷ more
 
--- the refusals of a change of a job, and those that follow
+-- The causes of refusal of a change of a job, followed by further causes.
 abbrev pub about_job : State → ℕ → List (Bool × Refusal) → List (Bool × Refusal)
 about_job s j more =
     (is_none (job_at s j), NoJob)
     ∷ where_it (job_at s j) (λ r. has_ended r.phase) JobEnded
     ∷ more
 
--- a job that is to start by a moment is none of the first version
+-- The first version has no jobs that must start by a moment.
 abbrev pub lacks_by : Version → Option ℕ → Bool
 lacks_by version None = false
 lacks_by One (Some by) = true
 lacks_by Two (Some by) = false
 
--- the first version has no bytes for a purge
+-- The first version has no encoding for a purge.
 abbrev pub lacks_purge : Version → Bool
 lacks_purge One = true
 lacks_purge Two = false
 
--- the causes of the shape, and then the event's own
+-- The causes of the shape, followed by the event's own.
 abbrev pub causes_of : State → Change → List (Bool × Refusal) → List (Bool × Refusal)
 causes_of s (NewQueueRow q) own =
     (is_some (queue_at s q.name), QueueExists)

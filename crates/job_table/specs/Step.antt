@@ -1,4 +1,4 @@
--- One event: why it is refused, or what it changes and answers. A table with one row for each event.
+-- One event: the refusal, or the new state and the reply. A table with one row for each event.
 use Rattle.std.specs.Prelude.{ℕ, ◌+◌, Bool, not, cond, List, [], ◌∷◌, length, nat_lt, Option, None, Some, Result, Ok, Err}
 use Rattle.spool_types.specs.declared.phase.Phase.{Phase}
 use Rattle.spool_types.specs.declared.phase.Phase.TheVariants.{Canceled}
@@ -17,26 +17,26 @@ use Rattle.job_table.specs.Attempts.{is_next, is_in_stage, started, stage_verdic
 use Rattle.job_table.specs.EventChanges.{new_queue, with_notes, with_accepting, with_stopped, new_job, with_bytes, ended, closed, held}
 use Rattle.job_table.specs.Shapes.{Change, NewQueueRow, OfQueue, NewJobRow, OfJob, OfBoth, WithoutJob, OfClock, OfAll, made, causes_of, where_it}
 
--- the refusal of the first cause that holds
+-- The refusal of the first cause that applies.
 abbrev pub first_cause : List (Bool × Refusal) → Option Refusal
 first_cause [] = None
 first_cause (c ∷ cs) = cond c.0 (Some c.1) (first_cause cs)
 
--- ## What the rows are written in
+-- ## Terms of the rows
 
 abbrev pub size_found : Option Job → ℕ
 size_found None = 0
 size_found (Some r) = r.size
 
--- the phase that a job has; there is one wherever this is told
+-- The phase of a job. Every use of it is about a job that exists.
 abbrev pub phase_found : Option Job → Phase
 phase_found None = Canceled
 phase_found (Some r) = r.phase
 
 -- ## The table of events
 
--- a row: the shape of the change, the causes of the event's own for which it is refused, in order, and the reply, which sees
--- the table before and the one after
+-- A row: the shape of the change, the event's own causes of refusal in order, and the reply, which depends on the
+-- tables before and after the event.
 pub record Row : Type 0 where
   pub change : Change
   pub own : State → List (Bool × Refusal)
@@ -45,7 +45,7 @@ pub record Row : Type 0 where
 abbrev pub no_own : State → List (Bool × Refusal)
 no_own s = []
 
--- the reply tells the phase that the job has then
+-- The reply is the new phase of the job.
 abbrev pub phase_then : ℕ → State → State → Reply
 phase_then j s t = PhaseNow (phase_found (job_at t j))
 
@@ -112,33 +112,33 @@ row (Purge j) = record {
   reply = λ s t. Done;
 }
 
--- the event that makes a job, which is to start by a moment if one is told
+-- The event that creates a job. The job must start by a moment, if one is given.
 abbrev pub creation : NewJob → Option ℕ → Event
 creation n None = Create n
 creation n (Some by) = CreateBy n by
 
--- ## What the table says
+-- ## The meaning of the table
 
--- the shape of an event's change
+-- The shape of an event's change.
 abbrev pub change_by : Event → Change
 change_by e = (row e).change
 
--- the causes for which an event is refused, in order
+-- The causes of refusal of an event, in order.
 abbrev pub causes : State → Event → List (Bool × Refusal)
 causes s e = causes_of s (row e).change ((row e).own s)
 
 abbrev pub refusal_of : State → Event → Option Refusal
 refusal_of s e = first_cause (causes s e)
 
--- the state after an event that isn't refused
+-- The state after an event that is not refused.
 abbrev pub after : State → Event → State
 after s e = made s (row e).change
 
--- what is answered to an event that isn't refused
+-- The reply to an event that is not refused.
 abbrev pub reply_to : State → Event → Reply
 reply_to s e = (row e).reply s (after s e)
 
--- Step: one refusal, the first whose cause holds, or the new state and the reply.
+-- Step: the refusal of the first cause that applies, or the new state and the reply.
 abbrev pub answered : State → Event → Option Refusal → Result (State × Reply) Refusal
 answered s e None = Ok (after s e, reply_to s e)
 answered s e (Some r) = Err r
@@ -146,13 +146,13 @@ answered s e (Some r) = Err r
 abbrev pub step : State → Event → Result (State × Reply) Refusal
 step s e = answered s e (refusal_of s e)
 
--- ## What is answered
+-- ## Answers
 
--- the reply of the step, or its refusal
+-- The reply of the step, or its refusal.
 abbrev pub unless_refused_reply : State → Event → Option Refusal → Result Reply Refusal
 unless_refused_reply s e None = Ok (reply_to s e)
 unless_refused_reply s e (Some r) = Err r
 
--- what an event is answered
+-- The answer to an event.
 abbrev pub answer_to : State → Event → Result Reply Refusal
 answer_to s e = unless_refused_reply s e (refusal_of s e)

@@ -1,4 +1,4 @@
--- What the fields of a table mean.
+-- The meaning of the fields of the rows.
 use Rattle.std.specs.Prelude.{◌≡◌, ◌-◌, ◌≤◌, map, vec_len, vec_capacity, IsTrue}
 use Rattle.std.specs.Ordering.{nat_cmp}
 use Rattle.std.specs.Cmp.Lexicographic.{slice_cmp}
@@ -28,7 +28,8 @@ contents_of a = record {
   moves = no_moves;
 }
 
--- the rows stand in ascending order, each key once and each job under its own, and mean a legal state; each job holds its document, and no memory once it has ended
+-- The rows are in ascending order, without duplicates, and each job is stored under its own number. Their state is
+-- legal. Each job has its document, and no memory for it after it has ended.
 pub record IsOrdered (a : Inside) : Type 0 where
   pub queues : IsTrue (finite.is_sorted (slice_cmp nat_cmp) (map queue_entry a.queues.items))
   pub jobs : IsTrue (finite.is_sorted nat_cmp (map job_entry a.jobs.items))

@@ -1,4 +1,4 @@
--- What the fields of a table mean.
+-- The meaning of a table's fields.
 use Rattle.std.specs.Prelude.{◌+◌, ◌-◌, ◌≤◌, min, vec_len, vec_capacity}
 use Rattle.job_table.specs.Contents.{Contents}
 use Rattle.job_table.specs.Lanes.{AreLanes}
@@ -18,8 +18,8 @@ table_of a = record {
   moves = a.new_places;
 }
 
--- each queue has its lane, which has room for all of the queue's jobs that haven't ended and for the new ones; the timetable is
--- that of the jobs, and has room for the new ones too
+-- Each queue has its lane, with room for all of the queue's jobs that have not ended and for the new jobs. The
+-- timetable is that of the jobs, and has room for the new jobs too.
 pub record IsInLanes (a : Inside) : Type 0 where
   pub legal : IsLegal a.store.state
   pub lanes : AreLanes a.store.state a.vacant a.lanes.items

@@ -17,7 +17,7 @@ queue_entry r = (r.name, r)
 abbrev pub job_entry : JobRow → ℕ × Job
 job_entry r = (r.job.id, r.job)
 
--- how many extents its document can take with no further memory
+-- The number of extents that the document can take without allocating.
 abbrev pub document_spare : JobRow → ℕ
 document_spare r = vec_capacity r.document - vec_len r.document
 
@@ -27,11 +27,11 @@ document_entry r = (r.job.id, document_spare r)
 abbrev pub place_entry : JobRow → ℕ × List Extent
 place_entry r = (r.job.id, r.document.items)
 
--- a job that has ended holds no memory for its document
+-- A job that has ended has no memory for its document.
 abbrev pub IsFreed : JobRow → Type 0
 IsFreed r = has_ended r.job.phase ≡ true → vec_capacity r.document ≡ 0
 
--- its extents have as many bytes as its document
+-- The total length of the extents is that of the document.
 pub record HoldsDocument (r : JobRow) : Type 0 where
   pub freed : IsFreed r
   pub sized : size_of r.document.items ≡ document_len r.job
@@ -40,21 +40,21 @@ abbrev pub HoldDocuments : List JobRow → Type 0
 HoldDocuments [] = Unit {0}
 HoldDocuments (r ∷ rs) = HoldsDocument r × HoldDocuments rs
 
--- a changed row has no more memory for its document
+-- The changed row has at most as much room for its document.
 pub record TakesNone (old new : JobRow) : Type 0 where
   pub spare : document_spare new ≤ document_spare old
   pub holds : HoldsDocument old → HoldsDocument new
 
--- the document lies where it lay, unless the job has ended
+-- The document does not move, unless the job has ended.
 abbrev pub KeepsDocument : JobRow → JobRow → Type 0
 KeepsDocument old new = has_ended new.job.phase ≡ false → new.document.items ≡ old.document.items
 
--- new places are there for its document, unless the job has ended
+-- New places are noted for the document, unless the job has ended.
 abbrev pub HasNew : List (ℕ × List Extent) → JobRow → Type 0
 HasNew places r = has_ended r.job.phase ≡ false → IsSome (find nat_cmp r.job.id places)
 
--- the document lies at the new places, with the room that is left there, unless the job has ended, and nothing else has
--- changed
+-- The document is at the new places, with the room left in their list, unless the job has ended. Nothing else has
+-- changed.
 pub record IsMoved (noted : Noted) (old new : JobRow) : Type 0 where
   pub row : new.job ≡ old.job
   pub lives : has_ended old.job.phase ≡ false → new.document.items ≡ places_of noted.places old.job.id

@@ -1,7 +1,7 @@
--- Versions of the area that a table is written in.
+-- Versions of a table's area.
 use Rattle.spool_types.specs.State.{State}
 use Rattle.spool_types.specs.declared.version.Version.TheVariants.{Two}
 
--- the same rows, in an area of the newest version: what a checkpoint leaves
+-- The same rows in an area of the newest version, as a checkpoint leaves them.
 abbrev pub raised : State → State
 raised s = record s { version = Two }

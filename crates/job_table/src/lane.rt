@@ -1,5 +1,4 @@
-//! The lane of a queue: its waiting jobs in the order of their turns, its processing job, and how many of its jobs haven't
-//! ended.
+//! The lane of a queue: its waiting jobs in order, its processing job, and the number of its jobs that have not ended.
 ghost use Rattle.std.specs.Prelude.{◌≡◌, ℕ, ◌+◌, ◌<◌, ◌≤◌, ◌↔◌, ◌⊎◌, true, false, List, length, slice_index_or, None, Some, IfSome, OnOk};
 ghost use Rattle.std.specs.Option.{IsNone};
 ghost use Rattle.std.specs.List.{Contains};
@@ -17,17 +16,16 @@ mod draft;
 
 pub(crate) use draft::Draft;
 
-/// Where a job stands in the lane of its queue.
+/// The state of a job in the lane of its queue.
 #[derive(Clone, Copy, Debug)]
 pub(crate) enum LaneState {
-    /// It has ended, or isn't there.
+    /// The job has ended or does not exist.
     Ended,
     Incoming,
     Waiting(Entry),
     Processing,
 }
 
-// Where the job stands in the lane of its queue.
 pub(crate) fn lane_state_of(job: &Job) -> LaneState
     ensures { result ≡ lane_state_of job.now }
 {
@@ -42,20 +40,18 @@ pub(crate) fn lane_state_of(job: &Job) -> LaneState
     }
 }
 
-/// The lane of a queue.
 #[derive(Drop)]
 pub(crate) struct Lane {
-    // The waiting jobs.
     pub index: Index,
     processing: Option<JobId>,
-    // How many jobs haven't ended. Each of them may come to wait.
+    // The number of jobs that have not ended. Each of them may become a waiting job.
     live: usize,
-    // For how many waiting jobs the index has room.
+    // The index has room for this number of waiting jobs.
     reserved: usize,
 }
 
 impl Lane {
-    /// The lane of a queue without jobs. It takes no memory.
+    /// Returns the lane of a queue without jobs. Does not allocate.
     pub(crate) fn new(alloc: Global, moment: Moment) -> Lane
         ensures lane { (seats : ℕ → LaneState) → ((j : ℕ) → seats j ≡ LaneState.Ended) → IsLane seats result }
         ensures moment { result.index.moment ≡ moment }
@@ -71,7 +67,7 @@ impl Lane {
         }
     }
 
-    /// Makes room for a job more.
+    /// Reserves room for one more job.
     pub(crate) fn reserve(&mut self) -> Result<(), AllocError>
         ensures room { OnOk result (self.old.live + 1 ≤ self.new.reserved) }
         ensures lane { (seats : ℕ → LaneState) → IsLane seats self.old → IsLane seats self.new }
@@ -85,7 +81,7 @@ impl Lane {
         Ok(())
     }
 
-    /// The job of the queue that is to be started next, where the queue isn't stopped.
+    /// Returns the job to start next, if the queue is not stopped.
     pub(crate) fn next(&self) -> Option<JobId>
         ensures chosen { IfSome result (λ j. (self.now.processing ≡ None) × ((e : Entry) × (e.id ≡ j) × IsFirstStartable self.now.index e)) }
         ensures none { IsNone result → (self.now.processing ≡ None) → NoneIsStartable self.now.index }
@@ -96,14 +92,14 @@ impl Lane {
         }
     }
 
-    /// The job that is processing, if one is.
+    /// Returns the job that is processing, if any.
     pub(crate) fn processing(&self) -> Option<JobId>
         ensures { result ≡ self.now.processing }
     {
         self.processing
     }
 
-    /// Brings a moment that isn't earlier.
+    /// Sets the current moment, which must not be earlier than the previous one.
     pub(crate) fn advance(&mut self, moment: Moment)
         requires { self.old.index.moment ≤ moment }
         ensures lane { (seats : ℕ → LaneState) → IsLane seats self.old → IsLane seats self.new }
@@ -114,7 +110,8 @@ impl Lane {
         self.index.advance(moment);
     }
 
-    /// Puts a job where it stands now. One that waits before and after keeps its place where its turn stays. It takes no memory.
+    /// Changes the lane state of a job. A waiting job that stays in the same order keeps its slot in the index. Does
+    /// not allocate.
     pub(crate) fn reseat(&mut self, job: JobId, from: LaneState, to: LaneState)
         requires there { HasSeat self.old job from }
         requires own { (e : Entry) → to ≡ LaneState.Waiting e → e.id ≡ job }
@@ -136,7 +133,7 @@ impl Lane {
         }
     }
 
-    // Takes a job away.
+    // Removes a job from the lane.
     fn leave(&mut self, _job: JobId, from: LaneState)
         requires { HasSeat self.old _job from }
         ensures lane { (old new : ℕ → LaneState) → IsLane old self.old → old _job ≡ from → IsReseated old new _job LaneState.Ended → IsLane new self.new }
@@ -159,7 +156,7 @@ impl Lane {
         }
     }
 
-    // Puts a job in that isn't there.
+    // Adds a job that is not in the lane.
     fn enter(&mut self, job: JobId, to: LaneState)
         requires there { HasSeat self.old job LaneState.Ended }
         requires own { (e : Entry) → to ≡ LaneState.Waiting e → e.id ≡ job }
@@ -184,7 +181,7 @@ impl Lane {
         }
     }
 
-    // Adds a waiting job to the index. A job that hasn't ended is one of those that the index has room for.
+    // Adds a waiting job to the index. The index has room for every job of the queue that has not ended.
     fn list(&mut self, entry: Entry)
         requires there { HasSeat self.old entry.id LaneState.Ended }
         requires room { self.old.live < self.old.reserved }
@@ -200,7 +197,7 @@ impl Lane {
     }
 }
 
-/// Makes room for a job more in each lane.
+/// Reserves room for one more job in each lane.
 pub(crate) fn reserve_each(lanes: &mut [Lane]) -> Result<(), AllocError>
     ensures count { length lanes.new ≡ length lanes.old }
     ensures each { (i : ℕ) (d : Lane) → i < length lanes.new → IsSameLane (slice_index_or lanes.old i d) (slice_index_or lanes.new i d) }
@@ -212,7 +209,7 @@ pub(crate) fn reserve_each(lanes: &mut [Lane]) -> Result<(), AllocError>
     Ok(())
 }
 
-/// Brings a moment that isn't earlier to each lane.
+/// Sets the current moment in each lane. It must not be earlier than the previous one.
 pub(crate) fn advance_each(lanes: &mut [Lane], moment: Moment)
     requires { (i : ℕ) (d : Lane) → i < length lanes.old → (slice_index_or lanes.old i d).index.moment ≤ moment }
     ensures count { length lanes.new ≡ length lanes.old }

@@ -1,4 +1,4 @@
-//! What a table is listed as, row by row, while its documents stay where they are.
+//! The listing of a table. Documents are not read.
 ghost use Rattle.std.specs.Prelude.{◌≡◌};
 ghost use Rattle.job_table.specs.Listing.{head_of};
 
@@ -6,8 +6,8 @@ use crate::table::Table;
 use spool_types::Head;
 
 impl Table {
-    /// What the listing begins with. The rows of [`Table::queues`] follow, and then the jobs of [`Table::jobs`], each
-    /// with the pieces of its document behind it.
+    /// Returns the head of the listing. It is followed by the rows of [`Table::queues`], then by the jobs of
+    /// [`Table::jobs`], each followed by the pieces of its document.
     pub fn head(&self) -> Head
         ensures { result ≡ head_of self.now.state }
     {

@@ -1,4 +1,4 @@
-//! A table that is loaded from the rows of a listing.
+//! Loading a table from the rows of a listing.
 ghost use Rattle.std.specs.Prelude.{◌≡◌, ℕ, map, ◌+◌, ◌^◌, ◌↔◌, ◌<◌, ◌≤◌, ◌&&◌, ◌==◌, [], false, not, cond, IsTrue, IfOk, IsErrOf, OnOk, OnErr, None, Some};
 ghost use Rattle.std.specs.Option.{option_map};
 ghost use Rattle.std.specs.FinMap as finite;
@@ -30,12 +30,12 @@ use spool_types::{
 use std::alloc::{AllocError, Global};
 use std::marker::Model;
 
-/// Why a row was not taken.
+/// The reason why a row was not accepted.
 #[derive(Clone, Copy, Debug, PartialEq, Eq)]
 pub enum LoadFault {
-    /// It may not come next in a listing.
+    /// The row may not come next in a listing.
     Misplaced,
-    /// It may come next, but the memory that it takes was not found.
+    /// The row may come next, but memory ran out.
     Memory,
 }
 
@@ -49,22 +49,22 @@ impl From<AllocError> for LoadFault {
     }
 }
 
-/// A job whose document is short.
+/// A job whose document is not complete yet.
 #[derive(Drop)]
 struct Partial {
     row: JobRow,
-    // How many bytes of its document have come.
+    // The number of bytes of the document that were loaded.
     read: usize,
 }
 
-/// A table while the rows of a listing come.
+/// A table that is being loaded from the rows of a listing.
 #[derive(Drop)]
 pub struct Loading {
-    // All that is whole.
+    // The queues, and the jobs whose documents are complete.
     store: Store,
-    // Whether the head has come.
+    // Whether the head was loaded.
     begun: bool,
-    // The last job while its document is short.
+    // The last job, while its document is not complete.
     partial: Option<Partial>,
     alloc: Global,
 }
@@ -86,7 +86,7 @@ impl Model for Loading {
 }
 
 impl Loading {
-    /// No rows yet, which stand for the empty table, in an area of this version. It takes no memory.
+    /// Returns a loading without rows, which represents the empty table in this version of the area. Does not allocate.
     pub fn new(alloc: Global, version: Version) -> Loading
         ensures progress { result.progress ≡ begin_loading version }
         ensures places { result.places ≡ [] }
@@ -99,8 +99,8 @@ impl Loading {
         }
     }
 
-    /// Adds the next row of a listing. A row that may not come next is Misplaced, and a fault changes nothing. `at` is
-    /// where the row's payload lies.
+    /// Adds the next row of a listing. If the row may not come next, fails with Misplaced. An error changes nothing.
+    /// `at` is the place of the row's payload.
     pub fn load(&mut self, row: Row, at: u64) -> Result<(), LoadFault>
         requires { HasPlace at (piece_of row) }
         ensures placed { OnOk result (IsPlaced self.old.progress row) }
@@ -108,7 +108,7 @@ impl Loading {
         ensures misplaced { IsErrOf result LoadFault.Misplaced ↔ (¬ (IsPlaced self.old.progress row)) }
         ensures same { OnErr result (self.new ≡ self.old) }
 
-        // A piece lies there, and all others lie where they lay.
+        // The extent of a piece is added to its document, and no other document moves.
         ensures places { OnOk result (AddsPiece at row self.old.places self.new.places) }
     {
         match row {
@@ -119,22 +119,22 @@ impl Loading {
         }
     }
 
-    /// The version of the area that the rows are of.
+    /// Returns the version of the area that the rows belong to.
     pub fn version(&self) -> Version
         ensures { result ≡ self.now.progress.state.version }
     {
         self.store.version()
     }
 
-    /// Whether no document is short, so that the rows are a whole listing.
+    /// Returns whether no document is incomplete, so that the rows are a complete listing.
     pub fn is_whole(&self) -> bool
         ensures { IsTrue result ↔ IsWhole self.now.progress }
     {
         self.partial.is_none()
     }
 
-    /// The table that the rows list. Only a whole listing gives one, which `is_whole` tells. The lanes of all queues are
-    /// built at once, which takes memory.
+    /// Turns a complete listing (see [`Loading::is_whole`]) into its table. Builds the lanes of all queues at once,
+    /// which allocates.
     pub fn into_table(self) -> Result<Table, AllocError>
         requires { IsWhole self.progress }
         ensures state { IfOk result (λ table. table.state ≡ self.progress.state) }
@@ -234,7 +234,7 @@ impl Loading {
     }
 }
 
-// A piece has 65,536 bytes, or is the rest of its job's document.
+// Returns whether the piece continues the document: it has 65,536 bytes, or it is the rest of the document.
 fn is_next_piece(last: &Partial, job: JobId, bytes: &[u8]) -> bool
     requires { last.now.read ≤ last.now.row.job.size }
     ensures yes { IsTrue result → IsNextPiece (part_of last.now) job bytes.now }
@@ -244,7 +244,7 @@ fn is_next_piece(last: &Partial, job: JobId, bytes: &[u8]) -> bool
     last.row.job.id == job && bytes.len() == short.min(LONGEST_SEND)
 }
 
-// Adds a piece of so many bytes, whose payload is at this place, to the last job's document.
+// Adds a piece of `count` bytes to the document of the last job. `at` is the place of its payload.
 fn append_piece(last: &mut Option<Partial>, count: usize, at: u64) -> Result<(), AllocError>
     requires at { at + bytes_behind < 2 ^ 64 }
     requires short { MayGrow count last.old }
@@ -258,7 +258,7 @@ fn append_piece(last: &mut Option<Partial>, count: usize, at: u64) -> Result<(),
     Ok(())
 }
 
-// Whether the queue may be added to the table: behind its queues, and before its jobs.
+// Returns whether the queue may be added to the table, after its queues and before any job.
 fn is_new_queue(store: &Store, queue: &QueueRow) -> bool
     ensures yes { IsTrue result → IsNewQueue store.now.state queue.now }
     ensures no { result ≡ false → ¬ (IsNewQueue store.now.state queue.now) }
@@ -276,7 +276,7 @@ fn has_no_jobs(store: &Store) -> bool
     store.jobs().is_empty()
 }
 
-// Whether the job may be added to the table, behind its jobs.
+// Returns whether the job may be added to the table, after its jobs.
 fn is_new_job(store: &Store, job: &Job) -> bool
     ensures yes { IsTrue result → IsNewJob store.now.state job.now }
     ensures absent { IsTrue result → places_at store.now job.now.id ≡ [] }
@@ -290,21 +290,22 @@ fn is_new_job(store: &Store, job: &Job) -> bool
         && is_alone(store, job)
 }
 
-// Whether no other job of its queue is processing, where it is. Only then the jobs are looked through.
+// Returns false if the job is processing and another job of its queue is processing too. Searches the jobs only if the
+// job is processing.
 fn is_alone(store: &Store, job: &Job) -> bool
     ensures { result ≡ not (is_processing job.now.phase && is_busy (finite.values store.now.state.jobs) job.now.queue) }
 {
     !(job.phase.is_processing() && is_busy(store.jobs(), &job.queue))
 }
 
-// Whether a job of the queue is processing.
+// Returns whether a job of the queue is processing.
 fn is_busy(rows: &Rows, queue: &QueueName) -> bool
     ensures { result ≡ is_busy (map job_of rows.now.items) queue.now }
 {
     rows.iter().any(|row| row.job.queue == *queue && row.job.phase.is_processing())
 }
 
-// Whether the phase fits the rest of the row.
+// Returns whether the phase fits the rest of the row.
 fn fits(job: &Job) -> bool
     ensures yes { IsTrue result → Fits job.now job.now.phase }
     ensures no { result ≡ false → ¬ (Fits job.now job.now.phase) }
@@ -347,7 +348,7 @@ fn is_started(job: &Job, attempt: u32, stage: u8, stages: u8) -> bool
         && usize::from(stages) == job.filters.as_slice().len() + 1
 }
 
-// Whether reasons and attributes ascend. Their types say that they are no more than are kept.
+// Returns whether the reasons and the attributes are in ascending order. Their types limit their number.
 fn is_in_order(queue: &QueueRow) -> bool
     ensures yes { IsTrue result → IsInOrder queue.now }
     ensures no { result ≡ false → ¬ (IsInOrder queue.now) }
@@ -367,7 +368,7 @@ fn names_ascend(attributes: &[Attribute]) -> bool
     attributes.is_sorted_by(|a, b| a.name < b.name)
 }
 
-// The row of a listed job, with memory for the extents of all pieces of its document.
+// Returns the row of a listed job, with memory for one extent for each piece of its document.
 fn unlisted_row(alloc: Global, job: Job) -> Result<JobRow, AllocError>
     ensures row { IfOk result (λ row. row.job ≡ job) }
     ensures freed { IfOk result IsFreed }
@@ -377,7 +378,7 @@ fn unlisted_row(alloc: Global, job: Job) -> Result<JobRow, AllocError>
     Ok(JobRow { job, document })
 }
 
-// The job goes into the table where its document is whole, and else is given back.
+// Adds the job to the table if its document is complete. Otherwise returns the job.
 fn settle(store: &mut Store, last: Partial) -> Option<Partial>
     requires room { 0 < store.old.room.jobs }
     requires legal { IsLegal store.old.state }

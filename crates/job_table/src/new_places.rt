@@ -1,4 +1,4 @@
-//! New places for documents: they are noted one after another, and then taken for all documents at once.
+//! New places of documents. They are noted one extent at a time, and taken for all documents at once.
 ghost use Rattle.std.specs.Prelude.{◌≡◌, ℕ, ◌-◌, ◌*◌, ◌==◌, ◌<◌, ◌≤◌, ◌++◌, ◌∷◌, [], Some, IsSome, IsTrue, IfOk, IfErr, map, vec_capacity, vec_len, if◌then◌else◌};
 ghost use Rattle.std.specs.Ordering.{nat_cmp};
 ghost use Rattle.std.specs.FinMap as finite;
@@ -24,10 +24,9 @@ struct NewDocument {
     extents: Vec<Extent>,
 }
 
-/// The new places of documents.
 #[derive(Drop)]
 pub(crate) struct NewPlaces {
-    // In ascending order of number, each number once.
+    // In ascending order of number, without duplicates.
     documents: Vec<NewDocument>,
 }
 
@@ -48,7 +47,7 @@ impl Model for NewPlaces {
 }
 
 impl NewPlaces {
-    /// None, of no job. It takes no memory.
+    /// Returns a list without jobs. Does not allocate.
     pub fn none(alloc: Global) -> NewPlaces
         ensures { result ≡ no_moves }
     {
@@ -57,7 +56,8 @@ impl NewPlaces {
         }
     }
 
-    /// No extents for the job of each row, with memory for as many as its document has pieces.
+    /// Returns a list with the job of each row and no extents, with memory for one extent for each piece of its
+    /// document.
     pub fn of_rows(alloc: Global, rows: &Rows) -> Result<NewPlaces, AllocError>
         requires { IsTrue (finite.is_sorted nat_cmp (map job_entry rows.now.items)) }
         ensures none { IfOk result (λ noted. noted.places ≡ map blank_entry rows.now.items) }
@@ -70,7 +70,7 @@ impl NewPlaces {
         Ok(NewPlaces { documents })
     }
 
-    /// Notes one extent more of a job's document. It takes no memory.
+    /// Notes one more extent of a job's document. Does not allocate.
     pub fn note(&mut self, job: JobId, extent: Extent)
         requires { 0 < move_room self.old job }
         ensures noted { (j : ℕ) → places_of self.new.places j ≡ (if job == j then places_of self.old.places j ++ extent ∷ [] else places_of self.old.places j) }
@@ -83,7 +83,7 @@ impl NewPlaces {
         }
     }
 
-    /// Gives the new extents of a job's document away.
+    /// Takes the new extents of a job's document out of the list.
     pub fn take(&mut self, job: JobId) -> Vec<Extent>
         requires { IsSome (finite.find nat_cmp job self.old.places) }
         ensures value { result.items ≡ places_of self.old.places job }
@@ -99,7 +99,7 @@ impl NewPlaces {
     }
 }
 
-// Where the job stands, or would go.
+// Returns the position of the job, or as an error the position at which it would be inserted.
 fn place(documents: &[NewDocument], job: JobId) -> Result<usize, usize>
     requires { IsTrue (finite.is_sorted nat_cmp (map new_entry documents.now)) }
     ensures found { IfOk result (IsPosition nat_cmp (λ d. d.job) documents.now job) }
@@ -108,7 +108,7 @@ fn place(documents: &[NewDocument], job: JobId) -> Result<usize, usize>
     documents.binary_search_by_key(&job, |document| document.job)
 }
 
-// No extents for this job, with memory for as many as its document has pieces.
+// Returns an entry for this job without extents, with memory for one extent for each piece of its document.
 fn new_document(alloc: Global, job: &Job) -> Result<NewDocument, AllocError>
     ensures { IfOk result (IsNewFor job.now) }
 {

@@ -1,4 +1,4 @@
-//! Where the bytes of sends and of pieces lie, and how many pieces a document has.
+//! The extents of sends and pieces, and the number of pieces of a document.
 ghost use Rattle.std.specs.Prelude.{◌≡◌, ◌+◌, ◌*◌, ◌<◌, ◌≤◌, ◌^◌};
 ghost use Rattle.spool_types.specs.Limits.{longest_send};
 ghost use Rattle.job_table.specs.DocumentLengths.{document_len};
@@ -6,10 +6,10 @@ ghost use Rattle.spool_types.specs.Sent.{bytes_behind, extent_behind};
 
 use spool_types::{Extent, Job, LONGEST_SEND};
 
-// Behind the kind of a payload, the job and the length.
+// The length of what precedes the bytes in a payload: the kind, the job and the length.
 const BYTES_BEHIND: u64 = 9;
 
-/// The extent of so many bytes of a send, or of a piece, whose payload is at this place.
+/// Returns the extent of the `count` bytes of a send or of a piece. `place` is the place of its payload.
 pub(crate) fn extent_behind(place: u64, count: usize) -> Extent
     requires { place + bytes_behind < 2 ^ 64 }
     ensures { result ≡ extent_behind place count }
@@ -20,7 +20,7 @@ pub(crate) fn extent_behind(place: u64, count: usize) -> Extent
     }
 }
 
-/// How many bytes the document of a job has: one that has ended has none.
+/// Returns the length of a job's document in bytes, which is 0 for a job that has ended.
 pub fn document_len(job: &Job) -> usize
     ensures { result ≡ document_len job.now }
 {
@@ -31,7 +31,7 @@ pub fn document_len(job: &Job) -> usize
     }
 }
 
-/// How many pieces a document of so many bytes has.
+/// Returns the number of pieces of a document of `len` bytes.
 pub(crate) fn piece_count(len: usize) -> usize
     ensures none { len ≡ 0 → result ≡ 0 }
     ensures enough { len ≤ result * longest_send }

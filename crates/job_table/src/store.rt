@@ -1,4 +1,4 @@
-//! The rows of a table, and what is read from them.
+//! The rows of a table and the functions that read them.
 ghost use Rattle.std.specs.Prelude.{◌≡◌, ◌≤◌, [], true, Some, IfSome, map};
 ghost use Rattle.std.specs.Option.{option_copied, option_map};
 ghost use Rattle.std.specs.List.{Contains};
@@ -30,17 +30,16 @@ mod row_changes;
 
 pub use attempts::is_in_stage;
 
-/// The rows of queues and jobs.
 #[derive(Drop)]
 pub(crate) struct Store {
-    // In ascending order of name, each name once.
+    // In ascending order of name, without duplicates.
     queues: Vec<QueueRow>,
     // Each under its own number.
     jobs: Rows,
     highest: u32,
     moment: Moment,
     version: Version,
-    // Set aside for the effects of a stage.
+    // Memory reserved for the effects of a stage.
     spare: Spare,
 }
 
@@ -61,7 +60,7 @@ impl Model for Store {
 }
 
 impl Store {
-    /// No queues and no jobs, at the moment 0, in an area of this version. It takes no memory.
+    /// Returns rows without queues and jobs, at the moment 0 and in this version of the area. Does not allocate.
     pub fn new(alloc: Global, version: Version) -> Store
         ensures state { result.state ≡ nothing_in version }
         ensures places { result.places ≡ [] }
@@ -77,21 +76,21 @@ impl Store {
         }
     }
 
-    /// The moment now: the greatest that a clock event has brought, or 0.
+    /// Returns the current moment in seconds: the greatest that a Clock event has set, or 0.
     pub fn now(&self) -> Moment
         ensures { result ≡ self.now.state.moment }
     {
         self.moment
     }
 
-    /// The version of the area that the rows are written in.
+    /// Returns the version of the rows' area.
     pub fn version(&self) -> Version
         ensures { result ≡ self.now.state.version }
     {
         self.version
     }
 
-    /// The same rows, in an area of the newest version.
+    /// Sets the version of the area to the newest one. The rows do not change.
     pub fn raise(&mut self)
         ensures state { self.new.state ≡ raised self.old.state }
         ensures places { self.new.places ≡ self.old.places }
@@ -100,7 +99,7 @@ impl Store {
         self.version = Version::Two;
     }
 
-    /// The highest number that a job was given, or 0.
+    /// Returns the highest number that was ever assigned to a job, or 0.
     pub fn highest(&self) -> u32
         ensures value { result ≡ self.now.state.highest }
         ensures at_most { result ≤ greatest_number }
@@ -108,7 +107,7 @@ impl Store {
         self.highest
     }
 
-    /// The queue of this name, if there is one. It is found by binary search.
+    /// Finds the queue of this name by binary search.
     pub fn queue(&self, name: &QueueName) -> Option<&QueueRow>
         ensures { option_copied result ≡ queue_at self.now.state name.now }
     {
@@ -118,7 +117,7 @@ impl Store {
         }
     }
 
-    /// The job of this number, if there is one. It is found by binary search.
+    /// Finds the job of this number by binary search.
     pub fn job(&self, id: JobId) -> Option<&JobRow>
         ensures row { option_map job_of (option_copied result) ≡ job_at self.now.state id }
         ensures places { IfSome result (λ r. r.now.document.items ≡ places_at self.now id) }
@@ -128,7 +127,7 @@ impl Store {
         self.jobs.get(id)
     }
 
-    /// All queues, in ascending order of name.
+    /// Returns all queues, in ascending order of name.
     pub fn queues(&self) -> &[QueueRow]
         ensures rows { result.now ≡ finite.values self.now.state.queues }
         ensures names { map (λ row. row.name) result.now ≡ finite.keys self.now.state.queues }
@@ -137,7 +136,7 @@ impl Store {
         &self.queues
     }
 
-    /// All jobs, in ascending order of number, each under its own.
+    /// Returns all jobs, in ascending order of number.
     pub fn jobs(&self) -> &Rows
         ensures rows { map job_of result.now.items ≡ finite.values self.now.state.jobs }
         ensures numbers { result.now.numbers ≡ finite.keys self.now.state.jobs }

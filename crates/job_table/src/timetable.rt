@@ -1,5 +1,5 @@
-//! The waiting jobs that are to start by a moment, of all queues: the clock cancels those whose moment is over, and looks at
-//! no other job.
+//! The deadlines of the waiting jobs of all queues. A clock event cancels the jobs whose deadline has passed, and
+//! inspects no other job.
 ghost use Rattle.std.specs.Prelude.{◌≡◌, ℕ, ◌+◌, ◌<◌, ◌≤◌, ◌↔◌, ◌⊎◌, Option, Some, IfSome, IfOk, OnOk, None, cond, length};
 ghost use Rattle.std.specs.Option.{IsNone};
 ghost use Rattle.std.specs.List.{Contains};
@@ -12,16 +12,16 @@ use queue_sched::{Deadline, Deadlines};
 use spool_types::{Job, JobId, Moment, Phase};
 use std::alloc::{AllocError, Global};
 
-/// The deadlines of the waiting jobs.
+/// The deadlines of the waiting jobs that must start by a moment.
 #[derive(Drop)]
 pub(crate) struct Timetable {
     deadlines: Deadlines,
-    // How many jobs are to start by a moment, whatever their phase. Each of them may come to wait.
+    // The number of jobs that must start by a moment, whatever their phase. Each of them may become a waiting job.
     timed: usize,
 }
 
 impl Timetable {
-    /// That of no jobs. It takes no memory.
+    /// Returns the timetable of no jobs. Does not allocate.
     pub(crate) fn new(alloc: Global) -> Timetable
         ensures timely { (jobs : ℕ → Option AnyJob) → ((j : ℕ) → jobs j ≡ None) → IsTimely jobs result }
         ensures timed { result.timed ≡ 0 }
@@ -32,7 +32,8 @@ impl Timetable {
         }
     }
 
-    /// That of jobs with these deadlines, of which so many are to start by a moment. The deadlines are sorted once.
+    /// Returns the timetable with these deadlines. `timed` is the number of jobs that must start by a moment. The
+    /// deadlines are sorted once.
     pub(crate) fn of_deadlines(
         mut deadlines: Vec<Deadline>,
         timed: usize,
@@ -48,7 +49,7 @@ impl Timetable {
         })
     }
 
-    /// Makes room for a job more.
+    /// Reserves room for one more job.
     pub(crate) fn reserve(&mut self) -> Result<(), AllocError>
         ensures room { OnOk result (self.old.timed + 1 ≤ self.new.deadlines.room) }
         ensures timely { (jobs : ℕ → Option AnyJob) → IsTimely jobs self.old → IsTimely jobs self.new }
@@ -58,7 +59,7 @@ impl Timetable {
         self.deadlines.reserve(count)
     }
 
-    /// The waiting job whose moment was over first, if that of one was over before this one. No other job is looked at.
+    /// Returns the waiting job with the earliest deadline, if that deadline is before `moment`. Inspects no other job.
     pub(crate) fn first_before(&self, moment: Moment) -> Option<JobId>
         ensures found { IfSome result (λ j. (d : AnyDeadline) × Contains self.now.deadlines.items d × (d.id ≡ j) × (d.by < moment)) }
         ensures none { IsNone result → (d : AnyDeadline) → Contains self.now.deadlines.items d → moment ≤ d.by }
@@ -66,7 +67,7 @@ impl Timetable {
         self.deadlines.first_before(moment)
     }
 
-    /// A new job comes in that doesn't wait yet. It is told whether it is to start by a moment. It takes no memory.
+    /// Counts a new job that is not waiting yet. `timed` says whether it must start by a moment. Does not allocate.
     pub(crate) fn admit(&mut self, timed: bool)
         requires room { self.old.timed < self.old.deadlines.room }
         ensures timely { (old new : ℕ → Option AnyJob) (j : ℕ) → IsTimely old self.old → IsAdmitted old new j timed → IsTimely new self.new }
@@ -80,7 +81,8 @@ impl Timetable {
         }
     }
 
-    /// A job goes that has no deadline any more. It is told whether it was to start by a moment. It takes no memory.
+    /// Removes a job without a deadline from the count. `timed` says whether it had to start by a moment. Does not
+    /// allocate.
     pub(crate) fn dismiss(&mut self, timed: bool)
         requires { MayDismiss self.old timed }
         ensures timely { (old new : ℕ → Option AnyJob) (j : ℕ) → IsTimely old self.old → IsDismissed old new j timed → IsTimely new self.new }
@@ -92,7 +94,7 @@ impl Timetable {
         }
     }
 
-    /// Gives a job the deadline that it has now. It takes no memory.
+    /// Replaces the deadline of a job. Does not allocate.
     pub(crate) fn change(&mut self, job: JobId, from: Option<Deadline>, to: Option<Deadline>)
         requires { MayRetime self.old job from to }
         ensures timely { (old new : ℕ → Option AnyJob) → IsTimely old self.old → deadline_found (old job) ≡ from → IsRetimed old new job to → IsTimely new self.new }
@@ -102,13 +104,13 @@ impl Timetable {
         match (from, to) {
             (Some(deadline), None) => self.deadlines.remove(deadline),
             (None, Some(deadline)) => self.list(deadline),
-            // It is the same one.
+            // Both are the same deadline.
             (Some(_), Some(_)) => {}
             (None, None) => {}
         }
     }
 
-    // Adds a deadline. A job that is to start by a moment is one of those that there is room for.
+    // Adds a deadline. There is room for every job that must start by a moment.
     fn list(&mut self, deadline: Deadline)
         requires { MayRetime self.old deadline.id None (Some deadline) }
         ensures items { (d : AnyDeadline) → Contains self.new.deadlines.items d ↔ (Contains self.old.deadlines.items d ⊎ (d ≡ deadline)) }
@@ -121,7 +123,7 @@ impl Timetable {
     }
 }
 
-/// The deadline of a job that waits and is to start by a moment.
+/// Returns the deadline of a job that is waiting and must start by a moment.
 pub(crate) fn deadline_of(job: &Job) -> Option<Deadline>
     ensures { result ≡ deadline_of job.now }
 {

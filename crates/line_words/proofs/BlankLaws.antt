@@ -5,7 +5,7 @@ use Rattle.std.proofs.lemmas.List.{append_assoc, append-nil, take_more, drop_mor
 use Rattle.std.proofs.lemmas.List.Folds.{list_all-append}
 use Rattle.line_words.specs.Blanks.{is_blank, word_here, behind_word, is_nothing, without_end}
 
--- one byte more at the end of a line
+-- One more byte at the end of a line.
 nothing_push : (xs : List ℕ) (b : ℕ) → is_nothing (xs ++ b ∷ []) ≡ (is_nothing xs && is_blank b)
 nothing_push [] b = grind arith
 nothing_push (x ∷ xs) b = list_all-append is_blank (x ∷ xs) (b ∷ []) ∙ and_same (is_nothing (x ∷ xs)) (is_blank b)
@@ -15,7 +15,7 @@ nothing_push (x ∷ xs) b = list_all-append is_blank (x ∷ xs) (b ∷ []) ∙ a
     and_same true false = refl
     and_same false q = refl
 
--- a blank at the end is dropped
+-- A blank at the end is dropped.
 pub blank_end : (xs : List ℕ) (b : ℕ) → is_blank b ≡ true → without_end (xs ++ b ∷ []) ≡ without_end xs
 blank_end [] b h = ap (λ v. cond (v && true) [] (b ∷ [])) h
 blank_end (x ∷ xs) b h =
@@ -26,14 +26,14 @@ blank_end (x ∷ xs) b h =
     and_true true = refl
     and_true false = refl
 
--- any other byte stays
+-- Any other byte remains.
 pub other_end : (xs : List ℕ) (b : ℕ) → is_blank b ≡ false → without_end (xs ++ b ∷ []) ≡ xs ++ b ∷ []
 other_end [] b h = ap (λ v. cond (v && true) [] (b ∷ [])) h
 other_end (x ∷ xs) b h =
     ap (λ v. cond v [] (x ∷ without_end (xs ++ b ∷ []))) (nothing_push (x ∷ xs) b ∙ and_right (is_nothing (x ∷ xs)) (is_blank b) h)
     ∙ ap (λ l. x ∷ l) (other_end xs b h)
 
--- a word that is read up to byte i
+-- A word that is read up to byte i.
 module _ (xs : List ℕ) (i : ℕ) (less : i < length xs) where
   pub word_ends : is_blank (get_or xs i 0) ≡ true → take i xs ++ word_here (drop i xs) ≡ word_here xs → take i xs ≡ word_here xs
   word_ends blank same =
@@ -60,7 +60,7 @@ word_whole xs i le same = sym (append-nil xs) ∙ ap (λ l. l ++ []) (sym (take_
 pub rest_empty : (xs : List ℕ) (i : ℕ) → length xs ≤ i → behind_word (drop i xs) ≡ behind_word xs → [] ≡ behind_word xs
 rest_empty xs i le same = ap behind_word (sym (drop_all i xs le)) ∙ same
 
--- what follows a word is no longer than the line
+-- The rest after a word is at most as long as the line.
 pub behind_short : (line : List ℕ) → length (behind_word line) ≤ length line
 behind_short [] = omega arith
 behind_short (b ∷ bs) =

@@ -1,4 +1,4 @@
--- A quoted text that is read from its front.
+-- A quoted text, read from its front.
 use Rattle.std.proofs.Common.{◌≡◌, ℕ, suc, ◌+◌, ◌<◌, ◌≤◌, Bool, true, false, cond, List, [], ◌∷◌, ◌++◌, length, get_or, drop, refl, ap, sym, ◌∙◌, arith, None, Some}
 use Rattle.std.proofs.lemmas.List.{drop_more, drop_all, append_assoc, append-nil}
 use Rattle.line_words.specs.Quotes.{is_quote, is_backslash, escape_of, QuotedFront, with_bytes, quoted}
@@ -18,21 +18,21 @@ quoted_nil : (escaped : Bool) → quoted escaped [] ≡ None
 quoted_nil true = refl
 quoted_nil false = refl
 
--- the line's end leaves the quotes open
+-- The line's end leaves the quotes open.
 pub quoted_end : (xs w : List ℕ) (i : ℕ) (escaped : Bool) (whole : QuotedFront) → length xs ≤ i → with_bytes w (quoted escaped (drop i xs)) ≡ whole → None ≡ whole
 quoted_end xs w i escaped whole le same =
     ap (with_bytes w) (sym (quoted_nil escaped)) ∙ ap (λ l. with_bytes w (quoted escaped l)) (sym (drop_all i xs le)) ∙ same
 
--- the same text and the same state
+-- The same text and the same state.
 pub quoted_same : (xs w v : List ℕ) (n : ℕ) (e d : Bool) (whole : QuotedFront) → v ≡ w → d ≡ e → with_bytes w (quoted e (drop n xs)) ≡ whole → with_bytes v (quoted d (drop n xs)) ≡ whole
 quoted_same xs w v n e d whole p q same = ap (λ l. with_bytes l (quoted d (drop n xs))) p ∙ ap (λ s. with_bytes w (quoted s (drop n xs))) q ∙ same
 
--- one byte more of a text, which is read already up to there
+-- One more byte of a text that has been read up to there.
 module _ (xs w : List ℕ) (i : ℕ) (less : i < length xs) (escaped : Bool) (whole : QuotedFront) (same : with_bytes w (quoted escaped (drop i xs)) ≡ whole) where
   from_here : (e : Bool) → escaped ≡ e → with_bytes w (quoted e (get_or xs i 0 ∷ drop (i + 1) xs)) ≡ whole
   from_here e is = ap (λ l. with_bytes w (quoted e l)) (sym (drop_more xs i 0 less)) ∙ ap (λ s. with_bytes w (quoted s (drop i xs))) (sym is) ∙ same
 
-  -- what a byte behind no backslash does, by what it is
+  -- The effect of a byte that is not escaped, by its kind.
   step : Bool → Bool → QuotedFront
   step quote backslash = cond quote (Some ([], drop (i + 1) xs)) (cond backslash (quoted true (drop (i + 1) xs)) (with_bytes (get_or xs i 0 ∷ []) (quoted false (drop (i + 1) xs))))
 
@@ -56,9 +56,9 @@ module _ (xs w : List ℕ) (i : ℕ) (less : i < length xs) (escaped : Bool) (wh
   unfolding step
   quoted_more is h k = with_bytes-append w (get_or xs i 0 ∷ []) (quoted false (drop (i + 1) xs)) ∙ by_case false false is h k
 
--- ## What follows a closing quote
+-- ## The rest after a closing quote
 
--- the rest is at most so long
+-- The rest has at most n bytes.
 abbrev pub IsRestWithin : QuotedFront → ℕ → Type 0
 IsRestWithin None n = Unit {0}
 IsRestWithin (Some (text, rest)) n = length rest ≤ n
@@ -71,7 +71,7 @@ within_bytes : (bytes : List ℕ) (front : QuotedFront) (n m : ℕ) → n ≤ m 
 within_bytes bytes None n m le h = tt
 within_bytes bytes (Some (text, rest)) n m le h = omega arith
 
--- it is no longer than what follows the opening quote
+-- It is at most as long as the bytes after the opening quote.
 pub quoted_within : (escaped : Bool) (line : List ℕ) → IsRestWithin (quoted escaped line) (length line)
 quoted_within true [] = tt
 quoted_within false [] = tt

@@ -3,12 +3,12 @@ use Rattle.std.specs.Prelude.{ℕ, ◌+◌, ◌-◌, ◌*◌, Bool, ◌&&◌, co
 use Rattle.std.specs.List.{list_all}
 use Rattle.std.specs.Char.{is_ascii_digit}
 
--- the number, where n stands for the digits before these
+-- The number, continued from n.
 abbrev pub read_on : ℕ → List ℕ → ℕ
 read_on n [] = n
 read_on n (b ∷ bs) = read_on (10 * n + (b - 48)) bs
 
--- one digit at least, as many as it likes, and a value of at most this
+-- One or more digits, with a value of at most the first argument.
 abbrev pub is_decimal : ℕ → List ℕ → Bool
 is_decimal most word = nat_le 1 (length word) && list_all is_ascii_digit word && nat_le (read_on 0 word) most
 

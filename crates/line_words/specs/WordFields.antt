@@ -1,4 +1,4 @@
--- What a word in memory stands for.
+-- The meaning of a word in memory.
 use Rattle.std.specs.Prelude.{ℕ, List}
 use Rattle.line_words.specs.declared.words.Word.{Word}
 use Rattle.line_words.specs.declared.words.Word.TheVariants.{Borrowed, Owned}

@@ -2,14 +2,14 @@
 ghost use Rattle.std.specs.Prelude.{◌≡◌, ◌≤◌, length};
 ghost use Rattle.line_words.specs.Blanks.{is_blank, after_blanks, word_here, behind_word, first_word, after_word, trimmed};
 
-/// Whether a byte is a space or a tab.
+/// Returns whether `b` is a space or a tab.
 pub fn is_blank(b: u8) -> bool
     ensures value { result ≡ is_blank b }
 {
     b == b' ' || b == b'\t'
 }
 
-/// A line without the blanks at its front.
+/// Returns the line without the blanks at its front.
 pub fn after_blanks(line: &[u8]) -> &[u8]
     ensures value { result.now ≡ after_blanks line.now }
     ensures bound { length result.now ≤ length line.now }
@@ -24,7 +24,7 @@ pub fn after_blanks(line: &[u8]) -> &[u8]
     rest
 }
 
-/// What stands before the first blank, and what begins with it.
+/// Splits the line at its first blank, which begins the second part.
 pub fn split_at_blank(line: &[u8]) -> (&[u8], &[u8])
     ensures word { result.0.now ≡ word_here line.now }
     ensures rest { result.1.now ≡ behind_word line.now }
@@ -37,7 +37,7 @@ pub fn split_at_blank(line: &[u8]) -> (&[u8], &[u8])
     (line, &[])
 }
 
-/// The first word of a line, empty where the line has none, and what follows it.
+/// Returns the first word of a line, empty if there is none, and the rest after it.
 pub fn first_word(line: &[u8]) -> (&[u8], &[u8])
     ensures word { result.0.now ≡ first_word line.now }
     ensures rest { result.1.now ≡ after_word line.now }
@@ -45,7 +45,7 @@ pub fn first_word(line: &[u8]) -> (&[u8], &[u8])
     split_at_blank(after_blanks(line))
 }
 
-/// The bytes without the blanks at both ends.
+/// Returns the bytes without the blanks at both ends.
 pub fn trim(bytes: &[u8]) -> &[u8]
     ensures value { result.now ≡ trimmed bytes.now }
 {

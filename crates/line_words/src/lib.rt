@@ -1,32 +1,37 @@
-//! The rules of words that every file and script of lines shares: what a blank is, where a word ends, what is in quotes, and
-//! what number decimal digits are.
+//! The rules for blanks, words, quoted texts and decimal numbers that all files and scripts of lines share.
 //!
-//! # What a word is
+//! # The rules
 //!
-//! A blank is a space or a tab. A word goes up to the first blank or to the line's end. A quoted text goes up to its
-//! closing quote, where `\"` and `\\` mean a quote and a backslash and any other backslash itself; every other
-//! byte is kept as it is. Whether a word may hold a quote, and what may follow a closing one, each caller says itself.
+//! A blank is a space or a tab. A word ends before the first blank or at the line's end. A quoted text ends with its closing quote. In it
+//! `\"` and `\\` represent a quote and a backslash, any other backslash represents itself, and every other byte is literal. Each caller
+//! specifies whether a word may contain a quote, and what may follow a closing quote.
 //!
 //! # Promises
 //!
-//! - [`is_blank`], [`is_quote`] and [`is_backslash`] tell what a byte is, and [`has_quote`] whether a quote is among
-//!   bytes (`value`).
-//! - [`after_blanks`] drops the blanks at a line's front, and [`trim`] those at both ends (`value`). What
-//!   [`after_blanks`] leaves is no longer than the line (`bound`).
-//! - [`split_at_blank`] gives what comes before the first blank (`word`), and what begins with it (`rest`).
-//!   [`first_word`] gives the same after the blanks at the front.
-//! - [`read_quoted`] gives the text after an opening quote and what follows its closing one, or `None` exactly where
-//!   nothing closes it (`value`). Where no backslash is in the line it can't fail (`lent`). [`push_escaped`] adds what a
-//!   backslash and the byte after it mean (`value`).
-//! - [`decimal`] is the number that a word of decimal digits is, where it is no greater than it may be (`value`, `bound`).
-//! - [`Quoting`] goes through a text whose words quotes and backslashes hold together: [`Quoting::next`] is where the next
-//!   character is, [`Quoting::keeps`] whether one belongs to what the text says, [`Quoting::is_cut`] whether it ends a word.
-//! - [`Word::bytes`] and [`Word::into_bytes`] give the bytes of a [`Word`] (`value`).
+//! *ExactWords*:
 //!
-//! # Cost and faults
+//! - [`is_blank`], [`is_quote`] and [`is_backslash`] test a byte, and [`has_quote`] returns whether bytes contain a quote (`value`).
+//! - [`after_blanks`] drops the blanks at a line's front, and [`trim`] the blanks at both ends (`value`). The result of [`after_blanks`]
+//!   is at most as long as the line (`bound`).
+//! - [`split_at_blank`] splits at the first blank (`word`), which begins the second part (`rest`). [`first_word`] does the same after the
+//!   blanks at the front.
+//! - [`read_quoted`] returns exactly the text after an opening quote and the bytes after its closing quote, or `None` if no quote closes
+//!   it (`value`, by `quoted`). It cannot fail if the line contains no backslash (`lent`). [`push_escaped`] appends the meaning of a
+//!   backslash and the byte after it (`value`, by `escape_of`).
+//! - [`decimal`] returns exactly the number of a word of decimal digits, at least one and any number of them, if it is at most the given
+//!   maximum (`value`, `bound`).
+//! - [`Quoting`] is a position in a text whose words may contain quotes and backslashes. [`Quoting::next`] is the position of the next
+//!   character, [`Quoting::keeps`] returns whether a character belongs to the text's value, and [`Quoting::is_cut`] whether it ends a
+//!   word.
+//! - [`Word::bytes`] and [`Word::into_bytes`] return the bytes of a [`Word`] (`value`).
 //!
-//! Each line is read once. A quoted text without a backslash is lent, and only one with a backslash takes memory. Out
-//! of memory is the one fault.
+//! # Errors
+//!
+//! The only error is out of memory.
+//!
+//! # Cost
+//!
+//! Each line is read once. A quoted text without a backslash is borrowed. Only one with a backslash is allocated.
 #![tactic(auto)]
 
 mod blanks;

@@ -2,7 +2,7 @@
 ghost use Rattle.std.specs.Prelude.{◌≡◌, ◌<◌, ◌≤◌, ◌^◌, IfSome};
 ghost use Rattle.line_words.specs.DecimalNumbers.{decimal};
 
-/// The number that a word is, if it is of decimal digits alone, of any count but none, and no greater than `most`.
+/// Returns the number of a word that consists of one or more decimal digits, if it is at most `most`.
 pub fn decimal(word: &[u8], most: u64) -> Option<u64>
     requires { most < 2 ^ 60 }
     ensures value { result ≡ decimal most word.now }

@@ -12,29 +12,29 @@ const QUOTE: u8 = b'"';
 
 const BACKSLASH: u8 = b'\\';
 
-/// Whether a byte is `"`.
+/// Returns whether a byte is `"`.
 pub fn is_quote(b: u8) -> bool
     ensures value { result ≡ is_quote b }
 {
     b == QUOTE
 }
 
-/// Whether a quote stands among the bytes.
+/// Returns whether the bytes contain a quote.
 pub fn has_quote(bytes: &[u8]) -> bool
     ensures value { result ≡ list_any is_quote bytes.now }
 {
     bytes.iter().any(|b| is_quote(*b))
 }
 
-/// Whether a byte is `\`.
+/// Returns whether a byte is `\`.
 pub fn is_backslash(b: u8) -> bool
     ensures value { result ≡ is_backslash b }
 {
     b == BACKSLASH
 }
 
-/// A text behind its opening quote, and what follows its closing one; `None` where nothing closes it. Only a text with a
-/// backslash takes memory.
+/// Reads a text after its opening quote. Returns it and the bytes after its closing quote, or `None` if no quote closes it. Only a text
+/// with a backslash is allocated.
 pub fn read_quoted<'a>(
     alloc: Global,
     line: &'a [u8],
@@ -53,7 +53,7 @@ pub fn read_quoted<'a>(
     Ok(None)
 }
 
-// The same text, of which these bytes are read.
+// Reads the rest of such a text, after the bytes `seen`.
 fn read_escaped<'a>(
     alloc: Global,
     seen: &[u8],
@@ -78,7 +78,7 @@ fn read_escaped<'a>(
     Ok(None)
 }
 
-/// Adds what a backslash and this byte stand for.
+/// Appends the meaning of a backslash and this byte.
 pub fn push_escaped(text: &mut Vec<u8>, b: u8) -> Result<(), AllocError>
     ensures value { OnOk result (text.new.items ≡ text.old.items ++ escape_of b) }
 {

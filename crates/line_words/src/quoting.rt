@@ -1,38 +1,38 @@
-//! Quotes and backslashes in a text whose words they hold together, as in a job's options (filter(7)).
+//! Quotes and backslashes in a text whose words may contain them, such as a job's options (filter(7)).
 ghost use Rattle.std.specs.Prelude.{◌≡◌};
 ghost use Rattle.line_words.specs.Quoting.{next, keeps, is_bare, is_cut};
 
 use crate::blanks::is_blank;
 
-/// Where a character of such a text is. Single and double quotes quote, and a backslash takes the next character as it is,
-/// between quotes too.
+/// The position of a character in such a text. Single and double quotes quote, and a backslash takes the next character literally, in
+/// quotes too.
 #[derive(Clone, Copy, Debug, PartialEq, Eq)]
 pub enum Quoting {
     Bare,
     Single,
     Double,
-    /// Right after a backslash.
+    /// Directly after a backslash.
     BareEscaped,
     SingleEscaped,
     DoubleEscaped,
 }
 
 impl Quoting {
-    /// Whether it is neither between quotes nor after a backslash.
+    /// Returns whether it is neither in quotes nor after a backslash.
     pub fn is_bare(self) -> bool
         ensures { result ≡ is_bare self }
     {
         matches!(self, Quoting::Bare)
     }
 
-    /// Whether a byte is a blank that ends a word.
+    /// Returns whether a byte is a blank that ends a word.
     pub fn is_cut(self, b: u8) -> bool
         ensures { result ≡ is_cut self b }
     {
         is_blank(b) && self.is_bare()
     }
 
-    /// Where the character after this one is.
+    /// Returns the position of the character after this one.
     pub fn next(self, c: char) -> Quoting
         ensures { result ≡ next self c }
     {
@@ -50,8 +50,7 @@ impl Quoting {
         }
     }
 
-    /// Whether the character belongs to what the text says: it is escaped, or neither a backslash nor a quote that opens or
-    /// closes.
+    /// Returns whether the character belongs to the text's value: it is escaped, or neither a backslash nor a quote that opens or closes.
     pub fn keeps(self, c: char) -> bool
         ensures { result ≡ keeps self c }
     {

@@ -7,14 +7,14 @@ use std::alloc::{AllocError, Global};
 /// A word of a line, without its quotes.
 #[derive(Drop)]
 pub enum Word<'a> {
-    /// A word as it stands in the line.
+    /// A word as it is in the line.
     Borrowed(&'a [u8]),
-    /// A word that has backslashes in the line.
+    /// A word that contains backslashes in the line.
     Owned(Vec<u8>),
 }
 
 impl<'a> Word<'a> {
-    /// The bytes of the word.
+    /// Returns the bytes of the word.
     pub fn bytes(&self) -> &[u8]
         ensures value { result.now ≡ bytes_of self.now }
     {
@@ -24,7 +24,7 @@ impl<'a> Word<'a> {
         }
     }
 
-    /// The same as bytes of their own: a borrowed word is copied.
+    /// Returns the bytes in memory of their own. A borrowed word is copied.
     pub fn into_bytes(self, alloc: Global) -> Result<Vec<u8>, AllocError>
         ensures value { IfOk result (λ bytes. bytes.items ≡ bytes_of self.entry) }
     {

@@ -11,15 +11,15 @@ use Rattle.mime_costs.specs.declared.conversion.Conversion.{Conversion}
 use Rattle.mime_costs.proofs.PlaceLaws.{same-eq, taken_matches}
 use Rattle.mime_costs.proofs.LeastLaws.{AtMost, least_of_one, least_of_most, least_most}
 
--- ## The first of a file that passes
+-- ## The first conversion of a file that passes
 
--- line numbers of a rising file are no less than the first
+-- The line numbers of an ascending file are at least the first.
 pub rises : (n : ℕ) (file : List Conversion) (c : Conversion) → Ascends n file → Contains file c → n ≤ c.line
 rises n [] c h (k, less, is) = absurd (omega arith)
 rises n (x ∷ file) c h (zero, less, is) = subst (λ y. n ≤ y.line) is h.0
 rises n (x ∷ file) c h (suc k, less, is) = let l : suc x.line ≤ c.line = rises (suc x.line) file c h.1 (k, omega arith, is) in let m : n ≤ x.line = h.0 in omega arith
 
--- the one that is found stands before all others that pass
+-- The conversion that is found precedes all others that pass.
 pub found_first : (p : Conversion → Bool) (n : ℕ) (file : List Conversion) (c v : Conversion) → Ascends n file → find p file ≡ Some c → Contains file v → p v ≡ true → (c ≡ v) ⊎ (c.line < v.line)
 found_first p n [] c v h e there passes = absurd (cc)
 found_first p n (x ∷ file) c v h e (k, less, is) passes =
@@ -38,7 +38,7 @@ found_first p n (x ∷ file) c v h e (k, less, is) passes =
     later rest zero less is f = absurd (both_ways (p v) (ap p (sym is) ∙ f) passes)
     later rest (suc k) less is f = rest (k, omega arith, is)
 
--- something is found where something passes
+-- A conversion is found if one passes.
 pub found_some : (p : Conversion → Bool) (file : List Conversion) (v : Conversion) → Contains file v → p v ≡ true → (c : Conversion) × (find p file ≡ Some c) × Contains file c × (p c ≡ true)
 found_some p [] v (k, less, is) passes = absurd (omega arith)
 found_some p (x ∷ file) v (k, less, is) passes =
@@ -63,7 +63,7 @@ is_at-some (Some n) m h = ap Some (eqb-true n m h)
 some-is_at : (cost : Option ℕ) (m : ℕ) → cost ≡ Some m → is_at cost m ≡ true
 some-is_at cost m h = ap (λ v. is_at v m) h ∙ eq-eqb m m refl
 
--- a conversion that is taken, at a cost
+-- A conversion that is taken, at a cost.
 pub taken_at : (v : Bool) (cost : Option ℕ) (m : ℕ) → is_at (cond v cost None) m ≡ true → (v ≡ true) × (cost ≡ Some m)
 taken_at true cost m h = (refl, is_at-some cost m h)
 taken_at false cost m h = absurd (false≢true h)
@@ -71,12 +71,12 @@ taken_at false cost m h = absurd (false≢true h)
 at_taken : (v : Bool) (cost : Option ℕ) (m : ℕ) → v ≡ true → cost ≡ Some m → is_at (cond v cost None) m ≡ true
 at_taken v cost m t is = ap (λ w. is_at (cond w cost None) m) t ∙ some-is_at cost m is
 
--- what is left of a cost behind a conversion
+-- The rest of a cost after a conversion.
 pub rest_cost : (c m : ℕ) (rest : Option ℕ) → plus c rest ≡ Some m → (rest ≡ Some (m - c)) × (c ≤ m)
 rest_cost c m None h = absurd (cc)
 rest_cost c m (Some n) h = let e : c + n ≡ m = cc in (ap Some (let f : n ≡ m - c = omega arith in f), omega arith)
 
--- how a walk of one line more begins
+-- The beginning of a walk of one more line.
 record Begun (file : List Conversion) (to : List ℕ) (k m : ℕ) (media : List ℕ) (c : Conversion) : Type 0 where
   found : find (begins file to k m (positions_in (sources_of file) media)) file ≡ Some c
   there : Contains file c
@@ -100,7 +100,7 @@ begun file to k m media h = from (least_of_one (λ c. matches c.source media) (�
     from : (c : Conversion) × Contains file c × (matches c.source media ≡ true) × (plus c.cost (least file to k c.destination) ≡ Some m) → (c : Conversion) × Begun file to k m media c
     from (c, there, takes, is) = made (found_some test file c there (at_taken (is_taken file (positions_in (sources_of file) media) c) _ m (taken_matches file media c there ∙ takes) is))
 
--- the first walk is a walk of that cost
+-- The first walk has that cost.
 pub record IsOf (file : List Conversion) (to : List ℕ) (k m : ℕ) (media : List ℕ) (walk : List Conversion) : Type 0 where
   pub leads : Leads file media walk to
   pub count : length walk ≡ k
@@ -122,7 +122,7 @@ best_is file to (suc k) m media h = step (λ c e. best_is file to k (m - c.cost)
         subst (λ o. IsOf file to (suc k) m media (elim o [ None ↦ [] | Some c ↦ c ∷ best file to k (m - c.cost) (positions_in (sources_of file) c.destination) ])) (sym b.found)
         (record { leads = (b.there, b.takes, rest.leads); count = ap suc rest.count; cost = (let e : cost_of (best file to k (m - c.cost) (positions_in (sources_of file) c.destination)) ≡ m - c.cost = rest.cost in let l : c.cost ≤ m = b.less in omega arith) })
 
--- and no walk of that cost and length has smaller line numbers
+-- No walk of that cost and length has smaller line numbers.
 pub best_first : (file : List Conversion) (n : ℕ) → Ascends n file → (to : List ℕ) (k m : ℕ) (media : List ℕ) → least file to k media ≡ Some m → (walk : List Conversion) → Leads file media walk to → length walk ≡ k → cost_of walk ≡ m
     → is_before (map line_of walk) (map line_of (best file to k m (positions_in (sources_of file) media))) ≡ false
 unfolding least best
@@ -137,7 +137,7 @@ best_first file n rising to (suc k) m media h (v ∷ walk) (there, takes, leads)
     lines_from : Conversion → List ℕ
     lines_from y = y.line ∷ map line_of (best file to k (m - y.cost) (positions_in (sources_of file) y.destination))
 
-    -- the walk's own rest is a cheapest one, or it would not cost so little
+    -- The rest of the walk is a cheapest one. Otherwise the walk would cost more.
     exact : (rest : Option ℕ) → AtMost rest (cost_of walk) → ((l : ℕ) → rest ≡ Some l → m ≤ v.cost + l) → plus v.cost rest ≡ Some m
     exact rest (l, is, le) no_less = let below = no_less l is in let e : v.cost + l ≡ m = omega arith in ap (plus v.cost) is ∙ ap Some e
 
@@ -173,7 +173,7 @@ best_first file n rising to (suc k) m media h (v ∷ walk) (there, takes, leads)
 
 -- ## The chain
 
--- what is no worse is not beaten
+-- A worth that is not worse is not beaten.
 pub not_better : (a b : Worth) → b.cost ≤ a.cost → (a.cost ≡ b.cost → length b.lines ≤ length a.lines) → (a.cost ≡ b.cost → length a.lines ≡ length b.lines → is_before a.lines b.lines ≡ false) → beats a b ≡ false
 not_better a b le few first =
     or_from (ltb a.cost b.cost) _ (le-ltb a.cost b.cost le)
@@ -186,7 +186,7 @@ not_better a b le few first =
       | inr n ↦ and_left (eqb a.cost b.cost) _ (ne_eqb a.cost b.cost n)
     ])
 
--- a size whose first walk no walk beats
+-- A size whose first walk no walk beats.
 pub record IsBest (file : List Conversion) (from to : List ℕ) (k m : ℕ) : Type 0 where
   pub short : k ≤ 15
   pub there : least file to k from ≡ Some m
@@ -224,7 +224,7 @@ apart file from to none walk is = no (least_most file to from walk is.leads)
     no : AtMost (least file to (length walk) from) (cost_of walk) → ⊥
     no (m, e, le) = let n : least file to (length walk) from ≡ None = none (length walk) is.short in cc
 
--- a walk of no line leads nowhere else
+-- A walk of no lines begins and ends at the same type.
 pub none_empty : (file : List Conversion) (from to : List ℕ) → (from ≡ to → ⊥) → least file to zero from ≡ None
 unfolding least
 none_empty file from to other = ap (λ v. cond v (Some 0) None) (false_from_ne_true (same from to) (λ h. other (same-eq from to h)))

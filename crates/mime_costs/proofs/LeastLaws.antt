@@ -9,7 +9,7 @@ use Rattle.mime_costs.specs.Walks.{Leads, cost_of}
 use Rattle.mime_costs.specs.declared.conversion.Conversion.{Conversion}
 use Rattle.mime_costs.proofs.PlaceLaws.{same-refl, taken_matches}
 
--- ## The lesser of two costs
+-- ## The lower of two costs
 
 pub lesser-none : (a : Option ℕ) → lesser a None ≡ a
 lesser-none None = refl
@@ -31,7 +31,7 @@ pub lesser_same : (a : Option ℕ) → lesser a a ≡ a
 lesser_same None = refl
 lesser_same (Some a) = let e : min a a ≡ a = omega arith in ap Some e
 
--- there is a cost, and it is no greater
+-- The cost exists and is at most n.
 abbrev pub AtMost : Option ℕ → ℕ → Type 0
 AtMost cost n = (m : ℕ) × (cost ≡ Some m) × (m ≤ n)
 
@@ -43,7 +43,7 @@ pub lesser_right : (a b : Option ℕ) (n : ℕ) → AtMost b n → AtMost (lesse
 lesser_right None b n h = h
 lesser_right (Some a) b n (m, is, le) = (min a m, ap (lesser (Some a)) is, omega arith)
 
--- the lesser of two is one of them
+-- The lower of two costs is one of them.
 pub lesser_one : (a b : Option ℕ) (m : ℕ) → lesser a b ≡ Some m → (a ≡ Some m) ⊎ (b ≡ Some m)
 lesser_one None b m h = inr h
 lesser_one (Some a) None m h = inl h
@@ -81,7 +81,7 @@ module _ (p : Conversion → Bool) (f : Conversion → Option ℕ) where
       one rest (inl e) = let h = first (p x) refl e in (x, (zero, omega arith, refl), h.0, h.1)
       one rest (inr e) = later (rest e)
 
--- a test that gives the same answers gives the same least
+-- Equal tests have the same least cost.
 pub least_in_same : (p q : Conversion → Bool) (file : List Conversion) (row : List (Option ℕ)) → ((c : Conversion) → Contains file c → p c ≡ q c) → least_in p file row ≡ least_in q file row
 least_in_same p q [] row h = refl
 least_in_same p q (x ∷ file) [] h = refl
@@ -89,12 +89,12 @@ least_in_same p q (x ∷ file) (r ∷ row) h =
     ap (λ v. lesser (cond v (plus x.cost r) None) (least_in p file row)) (h x (zero, omega arith, refl))
     ∙ ap (lesser (cond (q x) (plus x.cost r) None)) (least_in_same p q file row (λ c (k, less, is). h c (suc k, omega arith, is)))
 
--- a row of costs that a function gives
+-- A row of costs that a function computes.
 pub least_in_row : (p : Conversion → Bool) (h : Conversion → Option ℕ) (file : List Conversion) → least_in p file (map h file) ≡ least_of p (λ c. plus c.cost (h c)) file
 least_in_row p h [] = refl
 least_in_row p h (x ∷ file) = ap (lesser (cond (p x) (plus x.cost (h x)) None)) (least_in_row p h file)
 
--- the least from the places of a type
+-- The least cost from the positions of a type.
 pub least_from : (file : List Conversion) (to media : List ℕ) (k : ℕ) → least_in (is_taken file (positions_in (sources_of file) media)) file (row_of file to k) ≡ least file to (suc k) media
 unfolding least
 least_from file to media k =
@@ -106,7 +106,7 @@ least_from file to media k =
 plus_most : (c : ℕ) (cost : Option ℕ) (n : ℕ) → AtMost cost n → AtMost (plus c cost) (c + n)
 plus_most c cost n (m, is, le) = (c + m, ap (plus c) is, omega arith)
 
--- no walk of so many lines costs less
+-- No walk of this number of lines costs less.
 pub least_most : (file : List Conversion) (to from : List ℕ) (walk : List Conversion) → Leads file from walk to → AtMost (least file to (length walk) from) (cost_of walk)
 unfolding least
 least_most file to from [] h = (0, ap (λ t. cond (same t to) (Some 0) None) h ∙ ap (λ v. cond v (Some 0) None) (same-refl to), omega arith)
@@ -114,7 +114,7 @@ least_most file to from (c ∷ walk) (there, takes, leads) =
     least_of_most (λ c. matches c.source from) (λ c. plus c.cost (least file to (length walk) c.destination)) file c (c.cost + cost_of walk) there takes
     (plus_most c.cost (least file to (length walk) c.destination) (cost_of walk) (least_most file to c.destination walk leads))
 
--- a least cost is small
+-- A least cost is small.
 cheap_at : (file : List Conversion) → AreCheap file → (c : Conversion) → Contains file c → c.cost ≤ 10000
 cheap_at [] h c (k, less, is) = absurd (omega arith)
 cheap_at (x ∷ file) h c (zero, less, is) = subst (λ y. y.cost ≤ 10000) is h.0

@@ -1,4 +1,4 @@
--- The order of walks is strict, and tells any two of different worth apart.
+-- The order of walks is strict, and of any two of different worth one beats the other.
 use Rattle.std.proofs.Common.{◌≡◌, ℕ, ◌<◌, true, false, ◌&&◌, ◌||◌, List, [], ◌∷◌, length, eqb, ltb, refl, ap, sym, ◌∙◌, arith, ◌⊎◌, inl, inr, eq-eqb, lt-ltb}
 use Rattle.std.proofs.lemmas.Bool.{both_ways, false_from_ne_true, or_from, or_cases, or_left, or_right, and_from, and_parts, and_right, le-ltb, ltb-true, eqb-true, false≢true, cases_order}
 use Rattle.mime_costs.specs.Walks.{Worth, is_before, beats}
@@ -9,7 +9,7 @@ before-irreflexive : (xs : List ℕ) → is_before xs xs ≡ false
 before-irreflexive [] = refl
 before-irreflexive (x ∷ xs) = or_from (ltb x x) (eqb x x && is_before xs xs) (le-ltb x x (omega arith)) (and_right (eqb x x) (is_before xs xs) (before-irreflexive xs))
 
--- how one list comes before another
+-- How one list precedes another.
 how_before : (n m : ℕ) (xs ys : List ℕ) → is_before (n ∷ xs) (m ∷ ys) ≡ true → (n < m) ⊎ ((n ≡ m) × (is_before xs ys ≡ true))
 how_before n m xs ys h = parts (or_cases (ltb n m) (eqb n m && is_before xs ys) h)
   where
@@ -50,7 +50,7 @@ before-connected (x ∷ xs) (y ∷ ys) = at (cases_order x y) (before-connected 
 
 -- ## Walks
 
--- how one walk beats another
+-- How one walk beats another.
 abbrev pub Wins : Worth → Worth → Type 0
 Wins a b = (a.cost < b.cost) ⊎ ((a.cost ≡ b.cost) × ((length a.lines < length b.lines) ⊎ ((length a.lines ≡ length b.lines) × (is_before a.lines b.lines ≡ true))))
 
@@ -93,7 +93,7 @@ beats-transitive a b c h k = wins_beat a c (join (how_beats a b h) (how_beats b 
     join (inr (e, inr (r, p))) (inr (f, inl q)) = inr (e ∙ f, inl (omega arith))
     join (inr (e, inr (r, p))) (inr (f, inr (s, q))) = inr (e ∙ f, inr (r ∙ s, before-transitive a.lines b.lines c.lines p q))
 
--- two walks of one worth, or one of them beats the other
+-- Two walks have the same worth, or one of them beats the other.
 pub beats-cases : (a b : Worth) → (a ≡ b) ⊎ ((beats a b ≡ true) ⊎ (beats b a ≡ true))
 beats-cases a b = by_cost (cases_order a.cost b.cost)
   where
@@ -115,11 +115,11 @@ beats-cases a b = by_cost (cases_order a.cost b.cost)
 pub beats-connected : (a b : Worth) → (a ≡ b → ⊥) → (beats a b ≡ true) ⊎ (beats b a ≡ true)
 beats-connected a b other = elim (beats-cases a b) [ inl e ↦ absurd (other e) | inr h ↦ h ]
 
--- one that is beaten doesn't beat
+-- A walk that is beaten does not beat its winner.
 pub beats-asymmetric : (a b : Worth) → beats b a ≡ true → beats a b ≡ false
 beats-asymmetric a b h = false_from_ne_true (beats a b) (λ k. both_ways (beats a a) (beats-irreflexive a) (beats-transitive a b a k h))
 
--- what doesn't beat one that doesn't beat a third doesn't beat that third
+-- If a does not beat b and b does not beat c, a does not beat c.
 pub unbeaten-transitive : (a b c : Worth) → beats a b ≡ false → beats b c ≡ false → beats a c ≡ false
 unbeaten-transitive a b c h k = at (beats-cases a b)
   where

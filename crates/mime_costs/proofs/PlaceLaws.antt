@@ -1,4 +1,4 @@
--- Where the sources stand that take a type.
+-- The positions of the sources that accept a type.
 use Rattle.std.proofs.Common.{◌≡◌, ℕ, ◌<◌, ◌≤◌, Bool, true, false, ◌||◌, List, [], length, get_or, eqb, refl, ap, sym, ◌∙◌, arith, eq-eqb, ◌+◌, below_more, inl, inr}
 use Rattle.std.proofs.lemmas.Bool.{ne_eqb, both_ways, cases_lt}
 use Rattle.std.proofs.lemmas.List.{length-map, get_or-map}
@@ -16,7 +16,7 @@ same-refl text = (bytes_decides text text).1 refl
 pub same-eq : (text other : List ℕ) → same text other ≡ true → text ≡ other
 same-eq text other h = same_text text other (sym h)
 
--- a source that is there stands before the end
+-- A source that exists is before the end.
 inside : (sources : List (List ℕ)) (source : List ℕ) (k : ℕ) → k < length sources → get_or sources k source ≡ source → position_in sources source < length sources
 inside sources source k less is =
     elim (cases_lt (position_in sources source) (length sources)) [
@@ -26,11 +26,11 @@ inside sources source k less is =
           (ap (λ s. same s source) is ∙ same-refl source))
     ]
 
--- at its place stands the source
+-- The source is at its position.
 at_place : (sources : List (List ℕ)) (source d : List ℕ) → position_in sources source < length sources → get_or sources (position_in sources source) d ≡ source
 at_place sources source d less = same-eq _ source (passes_at_first (λ other. same other source) sources d less)
 
--- two sources stand at one place where they are the same
+-- Two sources have the same position exactly if they are equal.
 pub same_place : (sources : List (List ℕ)) (source other : List ℕ) → Contains sources source → eqb (position_in sources source) (position_in sources other) ≡ same source other
 same_place sources source other (k, less, is) =
     let here : position_in sources source < length sources = inside sources source k less is in
@@ -42,13 +42,13 @@ same_place sources source other (k, less, is) =
           (ap (λ s. same s other) (sym (at_place sources source [] here) ∙ ap (λ n. get_or sources n []) e ∙ at_place sources other [] there) ∙ same-refl other))
     ]) refl
 
--- a conversion's source is among the sources
+-- A conversion's source is among the sources.
 pub source_there : (file : List Conversion) (c : Conversion) → Contains file c → Contains (sources_of file) c.source
 source_there file c (k, less, is) =
     let short : k < length (sources_of file) = omega (arith, length-map file source_of) in
     (k, short, get_or-map source_of file k c c.source less ∙ ap source_of is)
 
--- the conversions at the places of a type are those that take it
+-- The conversions at the positions of a type are the conversions that accept it.
 pub taken_matches : (file : List Conversion) (media : List ℕ) (c : Conversion) → Contains file c → is_taken file (positions_in (sources_of file) media) c ≡ matches c.source media
 taken_matches file media c there =
     let sources = sources_of file in
@@ -58,7 +58,7 @@ taken_matches file media c there =
     three : {a b c x y z : Bool} → a ≡ x → b ≡ y → c ≡ z → (a || b || c) ≡ (x || y || z)
     three p q r = cc
 
--- a conversion's group is one of the file
+-- A conversion's group is a group of the file.
 pub source_place : (file : List Conversion) (i : ℕ) (d : Conversion) → i < length file → position_in (sources_of file) (get_or file i d).source < length file
 source_place file i d less =
     let short = length-map file source_of in
@@ -66,7 +66,7 @@ source_place file i d less =
     let p = inside (sources_of file) (get_or file i d).source i l (get_or-map source_of file i d (get_or file i d).source less) in
     omega arith
 
--- the loop that looks for a source
+-- The loop that searches for a source.
 module _ (file : List Conversion) (source : List ℕ) (i : ℕ) where
   pub place_found : (x : Conversion) → i < length file → x ≡ get_or file i x → same x.source source ≡ true → ((k : ℕ) → k < i → same (get_or (sources_of file) k []) source ≡ false) → i ≡ position_in (sources_of file) source
   place_found x less here is before =

@@ -34,9 +34,9 @@ module _ (n : ℕ) (line : List ℕ) (words : Words) (four : Some words ≡ four
       pub with_parts : (cost : ℕ) → Some cost ≡ cost_in words.cost → with_filter n source destination cost (text_in is_filter_name words.filter) ≡ of_words n (four_words line)
       with_parts cost e = ap (λ o. with_cost n source destination o words.filter) e ∙ behind_destination
 
--- ## What is so of the conversions of a file
+-- ## Laws of the conversions of a file
 
--- what a line of number n says has that number, and no great cost
+-- The conversion of line n has that number, and a cost within the range.
 abbrev pub Says : Result Conversion WarningKind → ℕ → Type 0
 Says (Ok c) n = (c.line ≡ n) × (c.cost ≤ 10000)
 Says (Err kind) n = Unit {0}
@@ -69,12 +69,12 @@ pub says : (n : ℕ) (words : Option Words) → Says (of_words n words) n
 says n None = tt
 says n (Some words) = says_source n (folded_in is_source words.source) words
 
--- the numbers of lines rise
+-- The numbers of lines ascend.
 abbrev pub LinesRise : ℕ → List Line → Type 0
 LinesRise n [] = Unit {0}
 LinesRise n (line ∷ lines) = (n ≤ line.number) × LinesRise (suc line.number) lines
 
--- a line that is open began at one of these numbers
+-- A line that is open began at one of these numbers.
 abbrev pub BeganIn : ℕ → ℕ → Option Line → Type 0
 BeganIn least n None = Unit {0}
 BeganIn least n (Some line) = (least ≤ line.number) × (line.number < n)

@@ -11,7 +11,7 @@ use Rattle.mime_costs.specs.declared.links.Link.{Link}
 use Rattle.mime_costs.proofs.PlaceLaws.{source_place}
 use Rattle.mime_costs.proofs.LeastLaws.{lesser-none, lesser_assoc, lesser_comm, lesser_same, lesser_one, least_from, least_small}
 
--- ## One conversion more
+-- ## One more conversion
 
 least_in_step : (p : Conversion → Bool) (file : List Conversion) (row : List (Option ℕ)) (i : ℕ) (d : Conversion) → i < length file → i < length row
     → least_in p (take (suc i) file) (take (suc i) row) ≡ lesser (least_in p (take i file) (take i row)) (cond (p (get_or file i d)) (plus (get_or file i d).cost (get_or row i None)) None)
@@ -36,7 +36,7 @@ module _ (p : Conversion → Bool) (file : List Conversion) (row : List (Option 
 
 -- ## The groups
 
--- the groups so far
+-- The groups so far.
 abbrev pub AreGroups : List Conversion → List (Option ℕ) → List (Option ℕ) → ℕ → Type 0
 AreGroups file row groups i = (g : ℕ) → get_or groups g None ≡ least_in (is_of_group file g) (take i file) (take i row)
 
@@ -57,7 +57,7 @@ groups_more file row groups i group d less there is inside so_far g = at (cases_
         get_or-set_other groups group g worth None n ∙ so_far g
         ∙ sym (least_in_left (is_of_group file g) file row i d less there (ne_eqb _ g (λ e. n (sym e ∙ sym is))))
 
--- three tests in one
+-- Three tests in one.
 least_in_or : (p q : Conversion → Bool) (file : List Conversion) (row : List (Option ℕ)) → least_in (λ c. p c || q c) file row ≡ lesser (least_in p file row) (least_in q file row)
 least_in_or p q [] row = refl
 least_in_or p q (x ∷ file) [] = refl
@@ -77,7 +77,7 @@ least_in_or p q (x ∷ file) (r ∷ row) =
     four false true a x y = ap (lesser a) (lesser_comm x y) ∙ sym (lesser_assoc a y x) ∙ lesser_comm (lesser a y) x
     four false false a x y = refl
 
--- the groups of three places, and the conversions that these take
+-- The groups at three positions, and the conversions that these accept.
 pub groups_taken : (file : List Conversion) (row groups : List (Option ℕ)) (positions : Positions) → ((g : ℕ) → get_or groups g None ≡ least_in (is_of_group file g) file row) → cost_in_groups groups positions ≡ least_in (is_taken file positions) file row
 groups_taken file row groups positions is =
     let a = is_of_group file positions.of_type in
@@ -90,7 +90,7 @@ groups_taken file row groups positions is =
     ∙ ap (λ o. lesser o (least_in c file row)) (sym (least_in_or a b file row))
     ∙ sym (least_in_or (λ x. a x || b x) c file row)
 
--- the row of one line more
+-- The row of one more line.
 pub next_is : (file : List Conversion) (to : List ℕ) (k : ℕ) (groups : List (Option ℕ)) → ((g : ℕ) → get_or groups g None ≡ least_in (is_of_group file g) file (row_of file to k)) → map (next_cost groups) (links_in file) ≡ row_of file to (k + 1)
 next_is file to k groups is = over file
   where
@@ -105,7 +105,7 @@ next_is file to k groups is = over file
 
 -- ## The first step
 
--- where there is a least cost, some conversion has it
+-- If a least cost exists, some conversion has it.
 pub some_step : (p : Conversion → Bool) (file : List Conversion) (row : List (Option ℕ)) (m : ℕ) → least_in p file row ≡ Some m → (j : ℕ) × (j < length file) × ((d : Conversion) → is_at (cond (p (get_or file j d)) (plus (get_or file j d).cost (get_or row j None)) None) m ≡ true)
 some_step p [] row m h = absurd (cc)
 some_step p (x ∷ file) [] m h = absurd (cc)
@@ -121,7 +121,7 @@ some_step p (x ∷ file) (r ∷ row) m h = pick (λ e. some_step p file row m e)
     pick rest (inl e) = (zero, omega arith, λ d. ap (λ o. is_at o m) e ∙ eq-eqb m m refl)
     pick rest (inr e) = later (rest e)
 
--- the link of a conversion
+-- The link of a conversion.
 pub link_at : (file : List Conversion) (links : List Link) (i : ℕ) (d : Conversion) (e : Link) → links ≡ links_in file → i < length file → get_or links i e ≡ link_of (sources_of file) (get_or file i d)
 link_at file links i d e is less = ap (λ l. get_or l i e) is ∙ get_or-map (link_of (sources_of file)) file i d e less
 
@@ -134,7 +134,7 @@ module _ (file : List Conversion) (links : List Link) (row : List (Option ℕ)) 
   pub group_inside : (get_or links i e).group < length file
   group_inside = subst (λ g. g < length file) (sym group_is) (source_place file i x less)
 
-  -- the cost of this conversion, if it is taken
+  -- The cost of this conversion, if it is taken.
   taken_is : (positions : Positions) → cond (takes positions (get_or links i e).group) (plus x.cost (get_or row i None)) None ≡ cond (is_taken file positions (get_or file i x)) (plus (get_or file i x).cost (get_or row i None)) None
   taken_is positions =
       ap (λ g. cond (takes positions g) (plus x.cost (get_or row i None)) None) group_is
@@ -163,7 +163,7 @@ module _ (file : List Conversion) (links : List Link) (row : List (Option ℕ)) 
       (sym (after ∙ ap (lesser (get_or groups (get_or links i e).group None)) (is ∙ ap (λ y. plus y.cost (get_or row i None)) here)))
       (groups_more file row groups i (get_or links i e).group x less (omega arith) group_is (let g = group_inside in omega arith) so_far)
 
--- no step at all contradicts a least cost
+-- A least cost without any step is a contradiction.
 pub no_step : (file : List Conversion) (row : List (Option ℕ)) (positions : Positions) (m : ℕ) (i : ℕ) → length file ≤ i → least_in (is_taken file positions) file row ≡ Some m → ((j : ℕ) (d : Conversion) → j < i → is_step file row positions m j d ≡ false) → ⊥
 no_step file row positions m i le h none = against (some_step (is_taken file positions) file row m h)
   where
@@ -174,7 +174,7 @@ no_step file row positions m i le h none = against (some_step (is_taken file pos
         first [] l is fails = omega arith
         first (c ∷ some) l is fails = both_ways (is_step file row positions m j c) (fails c (omega arith)) (is c)
 
--- rows are small
+-- The costs of rows are small.
 pub row_small : (file : List Conversion) → AreCheap file → (to : List ℕ) (k : ℕ) → k ≤ 15 → All IsSmall (row_of file to k)
 row_small file cheap to k le j d less =
     subst IsSmall (sym (get_or-map (λ c. least file to k c.destination) file j (dummy file j less) d (within j less))) (small (least file to k (get_or file j (dummy file j less)).destination) (λ m e. least_small file cheap to k _ m e))

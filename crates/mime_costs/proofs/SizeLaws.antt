@@ -15,7 +15,7 @@ use Rattle.mime_costs.proofs.LeastLaws.{least_from}
 use Rattle.mime_costs.proofs.RowLaws.{row_small}
 use Rattle.mime_costs.proofs.BestLaws.{IsBest, reached, none_beats, apart, none_empty}
 
--- ## One cost more
+-- ## One more cost
 
 module _ (costs : List (Option ℕ)) (cost : Option ℕ) where
   before : (k : ℕ) → k < length costs → get_or (costs ++ cost ∷ []) k None ≡ get_or costs k None
@@ -24,7 +24,7 @@ module _ (costs : List (Option ℕ)) (cost : Option ℕ) where
   here : get_or (costs ++ cost ∷ []) (length costs) None ≡ cost
   here = get_or_push costs cost None (length costs) refl
 
-  -- a cost that is there is one of those before, or the last
+  -- A cost that exists is one of the earlier ones, or the last.
   where_is : (k m : ℕ) → get_or (costs ++ cost ∷ []) k None ≡ Some m → ((k < length costs) × (get_or costs k None ≡ Some m)) ⊎ ((k ≡ length costs) × (cost ≡ Some m))
   where_is k m h =
       elim (cases_lt k (length costs)) [
@@ -35,7 +35,7 @@ module _ (costs : List (Option ℕ)) (cost : Option ℕ) where
         ]
       ]
 
-  -- no cost before, and none now
+  -- No earlier cost, and none now.
   still_none : cost ≡ None → ((k : ℕ) → get_or costs k None ≡ None) → (k : ℕ) → get_or (costs ++ cost ∷ []) k None ≡ None
   still_none none h k =
       elim (cases_lt k (length costs)) [
@@ -46,7 +46,7 @@ module _ (costs : List (Option ℕ)) (cost : Option ℕ) where
         ]
       ]
 
--- a cost that is there stands inside
+-- A cost that exists is within the list.
 within : (costs : List (Option ℕ)) (k m : ℕ) → get_or costs k None ≡ Some m → k < length costs
 within costs k m h =
     elim (cases_lt k (length costs)) [ inl l ↦ l | inr l ↦ (let p : get_or costs k None ≡ None = get_or_past costs k None l in absurd (cc)) ]
@@ -89,7 +89,7 @@ best_more costs (Some size) (Some cost) h =
         lower (inr l) = let e : size.cost ≡ m = l.0 in omega arith
     changes less k m (inr p) = (let e : Some cost ≡ Some m = p.1 in let f : k ≡ length costs = p.0 in inr ((let g : cost ≡ m = cc in g), omega arith))
 
--- one row more
+-- One more row.
 pub size_more : (file : List Conversion) (positions : Positions) (rows : List (Vec (Option ℕ) Global)) (i : ℕ) (row : Vec (Option ℕ) Global) → i < length rows → row ≡ get_or rows i row → (so_far next : Option Size) (cost : Option ℕ)
     → IsBestSize (costs_from file positions (take i rows)) so_far → cost ≡ least_in (is_taken file positions) file row.items → next ≡ better_size so_far cost i → IsBestSize (costs_from file positions (take (i + 1) rows)) next
 size_more file positions rows i row less here so_far next cost best is after =
@@ -121,7 +121,7 @@ module _ (file : List Conversion) (from to : List ℕ) (rows : List (Vec (Option
   abbrev pub costs : List (Option ℕ)
   costs = costs_from file (positions_in (sources_of file) from) rows
 
-  -- what the costs say of walks
+  -- The meaning of the costs for walks.
   cost_at : (k : ℕ) → k < 15 → get_or costs k None ≡ least file to (suc k) from
   cost_at k less =
       let count : length rows ≡ 15 = table.count in
@@ -158,7 +158,7 @@ module _ (file : List Conversion) (from to : List ℕ) (rows : List (Vec (Option
           raise (inl l) = inl l
           raise (inr p) = inr (p.0, (let l : size.rest ≤ j = p.1 in omega arith))
 
--- the chain of the size that was found
+-- The chain of the size that was found.
 pub some_chain : (file : List Conversion) → Ascends 1 file → (to : List ℕ) (rows : List (Vec (Option ℕ) Global)) (d : Vec (Option ℕ) Global) → IsTable file to 15 rows → (size : Size) (positions : Positions) → IsBestSize (costs_from file positions rows) (Some size) → (lines : List ℕ)
     → lines ≡ map line_of (best file to (size.rest + 1) size.cost positions) → (from : List ℕ) → positions ≡ positions_in (sources_of file) from → (from ≡ to → ⊥)
     → IsReached file from to (record { cost = size.cost; lines = lines }) × IsLeast file from to (record { cost = size.cost; lines = lines })

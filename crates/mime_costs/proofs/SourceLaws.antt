@@ -1,4 +1,4 @@
--- Where each source stands first, found from the last conversion to the first.
+-- The first position of each source, found from the last conversion to the first.
 use Rattle.std.proofs.Common.{◌≡◌, ℕ, suc, ◌+◌, Bool, true, false, not, cond, List, [], ◌∷◌, ap, ◌∙◌, arith, Option, Some, unwrap_or}
 use Rattle.std.proofs.lemmas.Map.Text.{hash_map_updates_str}
 use Rattle.std.specs.HashMap as hash
@@ -9,11 +9,11 @@ use Rattle.mime_costs.specs.Conversions.{same}
 use Rattle.mime_costs.specs.SourceIndex.{sources_of, position_in}
 use Rattle.mime_costs.specs.declared.conversion.Conversion.{Conversion}
 
--- in a map of n conversions the sources of these last ones stand where they do behind the first ones
+-- A map of n conversions contains the sources of these last ones, at their positions after the first ones.
 abbrev pub Known : {S : Type 0} → HashMap (Bor (List ℕ)) ℕ S → ℕ → ℕ → List Conversion → Type 0
 Known positions n at tail = (source : List ℕ) → unwrap_or (get_by (λ k. bytes_eq source k.now) positions) n ≡ at + position_in (sources_of tail) source
 
--- one more conversion in front
+-- One more conversion in front.
 pub one_known : {S : Type 0} (positions more : HashMap (Bor (List ℕ)) ℕ S) (n at : ℕ) (c : Conversion) (tail : List Conversion) → Known positions n (suc at) tail
     → hash.UpdatesBy (λ x y. bytes_eq x.now y.now) (λ k. bytes_eq c.source k.now) positions more (Some at) → Known more n at (c ∷ tail)
 one_known positions more n at c tail known updates = λ source.

@@ -1,4 +1,4 @@
--- The lines of a walk, found one after another.
+-- The lines of a walk, found in order.
 use Rattle.std.proofs.Common.{◌≡◌, ℕ, suc, zero, ◌-◌, ◌<◌, ◌≤◌, Bool, true, false, cond, List, [], ◌∷◌, ◌++◌, length, get_or, map, ap, sym, ◌∙◌, arith, subst, Option, None, Some}
 use Rattle.std.proofs.lemmas.List.{get_or-map, append_assoc, append-nil, length-map}
 use Rattle.std.specs.Prelude.{Result, Ok, Err, IfOk, IfSome}
@@ -16,7 +16,7 @@ use Rattle.mime_costs.specs.declared.links.Positions.{Positions}
 use Rattle.mime_costs.proofs.BestLaws.{rest_cost, taken_at, rises}
 use Rattle.mime_costs.proofs.LeastLaws.{least_from}
 
--- the first that passes is found
+-- The first conversion that passes is found.
 found_at : (p : Conversion → Bool) (file : List Conversion) (i : ℕ) (d : Conversion) → i < length file → p (get_or file i d) ≡ true → ((j : ℕ) → j < i → p (get_or file j d) ≡ false) → find p file ≡ Some (get_or file i d)
 found_at p [] i d less is before = absurd (omega arith)
 found_at p (x ∷ file) zero d less is before = ap (λ v. cond v (Some x) (find p file)) is
@@ -32,7 +32,7 @@ module _ (file : List Conversion) (to : List ℕ) (k m : ℕ) (positions : Posit
   parts : (is_taken file positions (get_or file i x) ≡ true) × (plus (get_or file i x).cost (get_or row i None) ≡ Some m)
   parts = taken_at (is_taken file positions (get_or file i x)) (plus (get_or file i x).cost (get_or row i None)) m (is x)
 
-  -- what the rest of the walk costs
+  -- The cost of the rest of the walk.
   behind : (least file to k x.destination ≡ Some (m - x.cost)) × (x.cost ≤ m)
   behind =
       rest_cost x.cost m (least file to k x.destination)
@@ -43,7 +43,7 @@ module _ (file : List Conversion) (to : List ℕ) (k m : ℕ) (positions : Posit
   pub cost_less : x.cost ≤ m
   cost_less = behind.1
 
-  -- the walk begins with this conversion
+  -- The walk begins with this conversion.
   pub best_begins : best file to (suc k) m positions ≡ x ∷ best file to k (m - x.cost) (positions_in (sources_of file) x.destination)
   unfolding best
   best_begins =
@@ -68,14 +68,14 @@ pub best_none : (file : List Conversion) (to : List ℕ) (m : ℕ) (positions : 
 unfolding best
 best_none file to m positions lines whole h = sym (append-nil lines) ∙ h
 
--- the lines of a walk are lines of the file
+-- The lines of a walk are lines of the file.
 pub lines_there : (file : List Conversion) (from : List ℕ) (walk : List Conversion) (to : List ℕ) → Leads file from walk to → All (Contains (map line_of file)) (map line_of walk)
 lines_there file from [] to h k d less = absurd (omega arith)
 lines_there file from (c ∷ walk) to ((n, less, is), takes, leads) zero d inside =
     (n, (let l = length-map file line_of in omega arith), get_or-map line_of file n c c.line less ∙ ap line_of is)
 lines_there file from (c ∷ walk) to (there, takes, leads) (suc k) d inside = lines_there file c.destination walk to leads k d (omega arith)
 
--- a line is of one conversion
+-- A line belongs to one conversion.
 pub same_line : (n : ℕ) (file : List Conversion) (c v : Conversion) → Ascends n file → Contains file c → Contains file v → c.line ≡ v.line → c ≡ v
 same_line n [] c v rising (k, less, is) there same = absurd (omega arith)
 same_line n (x ∷ file) c v rising (zero, less, is) (zero, below, at) same = sym is ∙ at
@@ -85,13 +85,13 @@ same_line n (x ∷ file) c v rising (suc k, less, is) (zero, below, at) same =
     let l : suc x.line ≤ c.line = rises (suc x.line) file c rising.1 (k, omega arith, is) in let e : x.line ≡ v.line = ap line_of at in absurd (omega arith)
 same_line n (x ∷ file) c v rising (suc k, less, is) (suc j, below, at) same = same_line (suc x.line) file c v rising.1 (k, omega arith, is) (j, omega arith, at) same
 
--- the lines of an answer are lines of the file
+-- The lines of a result are lines of the file.
 pub answer_lines : (file : List Conversion) (from to : List ℕ) (answer : Result (Option Chain) AllocError) → IfOk answer (IsAnswer file from to) → IfOk answer (λ found. IfSome found (λ chain. All (Contains (map line_of file)) chain.lines.items))
 answer_lines file from to (Err e) h = tt
 answer_lines file from to (Ok None) h = tt
 answer_lines file from to (Ok (Some chain)) ((walk, is, worth), least) = subst (All (Contains (map line_of file))) (ap (λ w. w.lines) worth) (lines_there file from walk to is.leads)
 
--- a row of a table
+-- A row of a table.
 pub row_there : {file : List Conversion} {to : List ℕ} (rows : List (Vec (Option ℕ) Global)) → IsTable file to 15 rows → Vec (Option ℕ) Global
 row_there [] table = (let e : 0 ≡ 15 = table.count in absurd (omega arith))
 row_there (row ∷ rows) table = row

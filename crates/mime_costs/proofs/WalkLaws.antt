@@ -1,4 +1,4 @@
--- Each walk is listed, and the least walk is one that none beats.
+-- Each walk is listed, and no walk beats the least walk.
 use Rattle.std.proofs.Common.{take, ◌≡◌, ℕ, suc, zero, ◌+◌, ◌<◌, ◌≤◌, Bool, true, false, cond, List, [], ◌∷◌, ◌++◌, length, get_or, map, refl, ap, sym, ◌∙◌, arith, subst, Option, None, Some, ◌⊎◌, inl, inr}
 use Rattle.std.proofs.lemmas.Bool.{both_ways, cases_eq}
 use Rattle.std.proofs.lemmas.List.{length-map, get_or-map, map-append}
@@ -17,7 +17,7 @@ use Rattle.mime_costs.proofs.PlaceLaws.{same-refl, same-eq}
 use Rattle.mime_costs.proofs.BestLaws.{not_better}
 use Rattle.mime_costs.proofs.OrderLaws.{beats-cases, beats-irreflexive, beats-asymmetric, unbeaten-transitive}
 
--- ## What stands in a list
+-- ## The members of a list
 
 first_there : {X : Type 0} (x : X) (xs : List X) → Contains (x ∷ xs) x
 first_there x xs = (zero, omega arith, refl)
@@ -88,7 +88,7 @@ joined_from f (z ∷ xs) a h = from (λ t. joined_from f xs a t) (Contains-appen
 
 -- ## All walks
 
--- a walk that is listed is one
+-- A listed walk is a walk.
 walks_lead : (file : List Conversion) (n : ℕ) (from to : List ℕ) (walk : List Conversion) → Contains (walks file n from to) walk → Leads file from walk to × (length walk ≡ n)
 unfolding walks
 walks_lead file zero from to walk h = empty (same from to) refl h
@@ -111,7 +111,7 @@ walks_lead file (suc n) from to walk h =
     first : ((c : Conversion) (rest : List Conversion) → Contains (walks file n c.destination to) rest → Leads file c.destination rest to × (length rest ≡ n)) → (c : Conversion) × Contains (that_take from file) c × Contains (map (λ walk. c ∷ walk) (walks file n c.destination to)) walk → Leads file from walk to × (length walk ≡ suc n)
     first below (c, taken, begun) = behind below c (kept_from (λ c. matches c.source from) file c taken) (mapped_from (λ walk. c ∷ walk) (walks file n c.destination to) walk begun)
 
--- and each walk is listed
+-- Each walk is listed.
 walks_all : (file : List Conversion) (from to : List ℕ) (walk : List Conversion) → Leads file from walk to → Contains (walks file (length walk) from to) walk
 unfolding walks
 walks_all file from to [] is = subst (λ v. Contains {X = List Conversion} (cond v ([] ∷ []) []) []) (sym (ap (same from) (sym is) ∙ same-refl from)) (first_there [] [])
@@ -120,7 +120,7 @@ walks_all file from to (c ∷ walk) (there, takes, leads) =
     (there_kept (λ c. matches c.source from) file c there takes)
     (there_mapped (λ walk. c ∷ walk) (walks file (length walk) c.destination to) walk (walks_all file c.destination to walk leads))
 
--- the same up to a length
+-- The same up to a length.
 within_lead : (file : List Conversion) (n : ℕ) (from to : List ℕ) (walk : List Conversion) → Contains (walks_within file n from to) walk → Leads file from walk to × (length walk ≤ n)
 unfolding walks_within
 within_lead file zero from to walk h = (let (leads, count) = walks_lead file zero from to walk h in (leads, omega arith))
@@ -145,7 +145,7 @@ record IsLeastOf (walks : List (List Conversion)) (walk : List Conversion) : Typ
   there : Contains walks walk
   least : (other : List Conversion) → Contains walks other → beats (worth_of other) (worth_of walk) ≡ false
 
--- the better walk of the two, and the least of it and the others
+-- The better of the two walks, and the least of it and the others.
 fold_least : (walk : List Conversion) (others : List (List Conversion)) → IsLeastOf (walk ∷ others) (fold better_walk walk others)
 fold_least walk [] = record {
   there = first_there walk [];
@@ -209,7 +209,7 @@ module _ (file : List Conversion) (from to : List ℕ) where
   unfolding least_walk
   none_is_apart h walk is = least_of-none (walks_within file most_lines from to) walk h (within_all file most_lines from to walk is.leads is.short)
 
--- what a search among all walks answers is of the least walk's worth
+-- The result of a search among all walks has the worth of the least walk.
 pub answer_worth : (file : List Conversion) (from to : List ℕ) (answer : Option Chain) → IsAnswer file from to answer → option_map worth_of_chain answer ≡ option_map worth_of (least_walk file from to)
 answer_worth file from to None apart = none (least_walk file from to) refl
   where
@@ -227,7 +227,7 @@ answer_worth file from to (Some chain) ((reached, is, worth), least) = some (lea
     some None e = absurd (none_is_apart file from to e reached is)
     some (Some walk) e = ap Some (equal walk e (beats-cases (worth_of_chain chain) (worth_of walk)))
 
--- the walk without a line is the least from a type to itself
+-- The walk of no lines is the least from a type to itself.
 pub empty_worth : (file : List Conversion) (from to : List ℕ) (chain : Chain) → from ≡ to → worth_of_chain chain ≡ worth_of [] → option_map worth_of_chain (Some chain) ≡ option_map worth_of (least_walk file from to)
 empty_worth file from to chain here worth =
     answer_worth file from to (Some chain) (
@@ -241,19 +241,19 @@ chain_worth file from to (Ok found) h = answer_worth file from to found h
 
 -- ## The conversions of the lines
 
--- a line of the file is found
+-- A line of the file is found.
 pub missed : (file : List Conversion) (line n : ℕ) → Contains (map line_of file) line → length file ≤ n → ((k : ℕ) (d : Conversion) → k < n → (get_or file k d).line ≡ line → ⊥) → ⊥
 missed file line n there all none = at (mapped_from line_of file line there)
   where
     at : (c : Conversion) × Contains file c × (c.line ≡ line) → ⊥
     at (c, (k, less, is), same) = none k c (omega arith) (ap line_of is ∙ same)
 
--- some conversion of a walk that has one
+-- Some conversion of a walk that is not empty.
 some_of : (walk : List Conversion) (i : ℕ) → i < length walk → Conversion
 some_of [] i less = absurd (omega arith)
 some_of (c ∷ walk) i less = c
 
--- the programs of one conversion more
+-- The programs of one more conversion.
 filters_further : (walk : List Conversion) (i : ℕ) (d : Conversion) → i < length walk → filters_of (take (i + 1) walk) ≡ filters_of (take i walk) ++ filters_of (get_or walk i d ∷ [])
 filters_further walk i d less = ap (map filter_of) (filter_more has_filter walk i d less) ∙ map-append filter_of (filter has_filter (take i walk)) (filter has_filter (get_or walk i d ∷ []))
 
@@ -275,19 +275,19 @@ module _ (file : List Conversion) (lines : List ℕ) (i : ℕ) (name : List ℕ)
       of_cond true = ap (λ n. n ∷ []) (sym name_is)
       of_cond false = refl
 
-  -- the programs of the lines so far, and of the next
+  -- The programs of the lines so far, and of the next.
   pub filters_more : (v : Bool) (names : List (List ℕ)) → not (same name no_filter) ≡ v → names ≡ filters_of (take i walk) → names ++ cond v (name ∷ []) [] ≡ filters_of (take (i + 1) walk)
   unfolding next
   filters_more v names is so_far =
       ap (λ l. l ++ cond v (name ∷ []) []) so_far ∙ ap (λ l. filters_of (take i walk) ++ l) (sym (next_filters v is)) ∙ sym (filters_further walk i (some_of walk i within) within)
 
--- the conversions of a walk are those of the file
+-- The conversions of a walk are conversions of the file.
 walk_there : (file : List Conversion) (from : List ℕ) (walk : List Conversion) (to : List ℕ) → Leads file from walk to → All (Contains file) walk
 walk_there file from [] to leads k d less = absurd (omega arith)
 walk_there file from (c ∷ walk) to (there, takes, leads) zero d less = there
 walk_there file from (c ∷ walk) to (there, takes, leads) (suc k) d less = walk_there file c.destination walk to leads k d (omega arith)
 
--- the programs of the least walk, by what is known of its lines
+-- The programs of the least walk, by its lines.
 pub filters_found : (file : List Conversion) (from to : List ℕ) (chain : Chain) (names : List (List ℕ)) → Some (worth_of_chain chain) ≡ option_map worth_of (least_walk file from to)
     → ((walk : List Conversion) → All (Contains file) walk → map line_of walk ≡ chain.lines.items → names ≡ filters_of walk) → Some names ≡ filters_between file from to
 filters_found file from to chain names is named = found (least_walk file from to) refl is

@@ -1,4 +1,4 @@
--- What the fields of a value stand for.
+-- The meanings of a value's fields.
 use Rattle.std.specs.Prelude.{◌≡◌, ℕ, List, Option, None, Some}
 use Rattle.mime_costs.specs.Walks.{Worth, IsReached, IsLeast, IsApart}
 use Rattle.mime_costs.specs.SourceIndex.{links_in, Ascends, AreCheap}
@@ -11,12 +11,12 @@ use Rattle.mime_costs.specs.declared.convs.Convs.TheInside.{Inside}
 abbrev pub worth_of_chain : Chain → Worth
 worth_of_chain chain = record { cost = chain.cost; lines = chain.lines.items }
 
--- the answer of a search among all walks
+-- The result of a search among all walks.
 abbrev pub IsAnswer : List Conversion → List ℕ → List ℕ → Option Chain → Type 0
 IsAnswer file from to None = IsApart file from to
 IsAnswer file from to (Some chain) = IsReached file from to (worth_of_chain chain) × IsLeast file from to (worth_of_chain chain)
 
--- the words of a line
+-- The words of a line.
 abbrev pub words_in : Found → Words
 words_in found = record { source = found.source.now; destination = found.destination.now; cost = found.cost.now; filter = found.filter.now }
 

@@ -1,4 +1,4 @@
--- The conversions that a file of mime.convs(5) names, and its faults.
+-- The conversions of a file of mime.convs(5), and its errors.
 use Rattle.std.specs.Prelude.{ℕ, Bool, ◌&&◌, not, cond, nat_le, ◌==◌, List, [], ◌∷◌, length, Option, None, Some, Result, Ok, Err}
 use Rattle.std.specs.List.{flat_map}
 use Rattle.line_words.specs.Blanks.{first_word, after_word}
@@ -11,11 +11,11 @@ use Rattle.spool_types.specs.declared.warning.WarningKind.TheVariants.{BadType, 
 use Rattle.mime_costs.specs.Conversions.{is_source}
 use Rattle.mime_costs.specs.declared.conversion.Conversion.{Conversion}
 
--- the greatest cost of a conversion
+-- The greatest cost of a conversion.
 abbrev pub greatest_cost : ℕ
 greatest_cost = 10000
 
--- a number that is no greater than a cost may be
+-- The number, if it is within the range of a cost.
 abbrev pub cheap : Option ℕ → Option ℕ
 cheap None = None
 cheap (Some n) = cond (nat_le n greatest_cost) (Some n) None
@@ -23,7 +23,7 @@ cheap (Some n) = cond (nat_le n greatest_cost) (Some n) None
 abbrev pub cost_in : List ℕ → Option ℕ
 cost_in word = cheap (number_of word)
 
--- the words of a line
+-- The words of a line.
 pub record Words : Type 0 where
   pub source : List ℕ
   pub destination : List ℕ
@@ -33,7 +33,7 @@ pub record Words : Type 0 where
 abbrev pub is_empty : List ℕ → Bool
 is_empty word = length word == 0
 
--- the four words of a line: there is a fourth, and no fifth
+-- The four words of a line, which has a fourth and no fifth.
 abbrev pub four_words : List ℕ → Option Words
 four_words line =
     let behind_source = after_word line in
@@ -42,7 +42,7 @@ four_words line =
     let words : Words = record { source = first_word line; destination = first_word behind_source; cost = first_word behind_destination; filter = first_word behind_cost } in
     cond (not (is_empty words.filter) && is_empty (first_word (after_word behind_cost))) (Some words) None
 
--- what a line says, part by part: a part that doesn't read is its fault
+-- The conversion of a line, part by part. An invalid part is its error.
 abbrev pub with_filter : ℕ → List ℕ → List ℕ → ℕ → Option (List ℕ) → Result Conversion WarningKind
 with_filter n source destination cost None = Err BadLine
 with_filter n source destination cost (Some filter) = Ok (record { line = n; source = source; destination = destination; cost = cost; filter = filter })
@@ -63,16 +63,16 @@ abbrev pub of_words : ℕ → Option Words → Result Conversion WarningKind
 of_words n None = Err BadLine
 of_words n (Some words) = with_source n (folded_in is_source words.source) words
 
--- the conversion of a line, or its first fault from left to right
+-- The conversion of a line, or its first error from left to right.
 abbrev pub conversion_of : Line → Result Conversion WarningKind
 conversion_of line = of_words line.number (four_words line.text)
 
--- the conversions of the lines that read, in order
+-- The conversions of the valid lines, in order.
 abbrev pub taken : Result Conversion WarningKind → List Conversion
 taken (Ok conversion) = conversion ∷ []
 taken (Err kind) = []
 
--- a warning for each line that doesn't read, in order
+-- A warning for each invalid line, in order.
 abbrev pub refused : ℕ → Result Conversion WarningKind → List Warning
 refused n (Ok conversion) = []
 refused n (Err kind) = record { line = n; kind = kind } ∷ []

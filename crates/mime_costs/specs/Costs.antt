@@ -1,4 +1,4 @@
--- The least costs of walks by their number of lines, and the first walk of such a cost. No caller needs this.
+-- The least costs of walks by their number of lines, and the first walk of such a cost. Internal: no caller needs this.
 use Rattle.std.specs.Prelude.{◌≡◌, ◌⊎◌, ℕ, zero, suc, ◌+◌, ◌-◌, ◌<◌, ◌≤◌, min, Bool, false, ◌==◌, cond, nat_le, List, [], ◌∷◌, Option, None, Some, IfSome, map, get_or, length}
 use Rattle.std.specs.List.{find, All}
 use Rattle.std.specs.declared.alloc.Global.{Global}
@@ -10,44 +10,44 @@ use Rattle.mime_costs.specs.declared.links.Positions.{Positions}
 use Rattle.mime_costs.specs.declared.links.Link.{Link}
 use Rattle.mime_costs.specs.declared.conversion.Conversion.{Conversion}
 
--- the lesser cost, if there is one
+-- The lower of the costs that exist.
 abbrev pub lesser : Option ℕ → Option ℕ → Option ℕ
 lesser None b = b
 lesser (Some a) None = Some a
 lesser (Some a) (Some b) = Some (min a b)
 
--- a cost more, if there is one
+-- The cost plus c, if it exists.
 abbrev pub plus : ℕ → Option ℕ → Option ℕ
 plus c None = None
 plus c (Some n) = Some (c + n)
 
--- there is this cost
+-- The cost exists and is m.
 abbrev pub is_at : Option ℕ → ℕ → Bool
 is_at None m = false
 is_at (Some n) m = n == m
 
--- the least over the conversions that pass
+-- The least over the conversions that pass.
 abbrev pub least_of : (Conversion → Bool) → (Conversion → Option ℕ) → List Conversion → Option ℕ
 least_of p f [] = None
 least_of p f (c ∷ file) = lesser (cond (p c) (f c) None) (least_of p f file)
 
--- the same, where the costs behind the conversions stand in a row
+-- The same, with a row that contains the cost after each conversion.
 abbrev pub least_in : (Conversion → Bool) → List Conversion → List (Option ℕ) → Option ℕ
 least_in p [] row = None
 least_in p (c ∷ file) [] = None
 least_in p (c ∷ file) (r ∷ row) = lesser (cond (p c) (plus c.cost r) None) (least_in p file row)
 
--- the least cost of a walk of so many lines from a type
+-- The least cost of a walk of this number of lines from a type.
 unfoldable pub least : List Conversion → List ℕ → ℕ → List ℕ → Option ℕ
 least file to zero media = cond (same media to) (Some 0) None
 least file to (suc k) media = least_of (λ c. matches c.source media) (λ c. plus c.cost (least file to k c.destination)) file
 
--- ## Rows: what the cheapest walk of so many lines behind each conversion costs
+-- ## Rows: the cost of the cheapest walk of n lines after each conversion
 
 abbrev pub row_of : List Conversion → List ℕ → ℕ → List (Option ℕ)
 row_of file to k = map (λ c. least file to k c.destination) file
 
--- far from any limit of a sum
+-- Far from any limit of a sum.
 abbrev pub IsSmall : Option ℕ → Type 0
 IsSmall cost = IfSome cost (λ n. n ≤ 150000)
 
@@ -57,49 +57,49 @@ cost_in_groups groups positions = lesser (get_or groups positions.of_type None) 
 abbrev pub next_cost : List (Option ℕ) → Link → Option ℕ
 next_cost groups link = cost_in_groups groups link.next
 
--- the conversion's source stands at this place
+-- The conversion's source is at this position.
 abbrev pub is_of_group : List Conversion → ℕ → Conversion → Bool
 is_of_group file g c = position_in (sources_of file) c.source == g
 
--- the conversion takes the type of these places
+-- The conversion accepts the type at these positions.
 abbrev pub is_taken : List Conversion → Positions → Conversion → Bool
 is_taken file positions c = takes positions (position_in (sources_of file) c.source)
 
 -- ## The choice of the walk
 
--- the conversion begins a walk of k lines more, at the cost m, from the type of these places
+-- The conversion begins a walk at the cost m from the type at these positions, with k more lines.
 abbrev pub begins : List Conversion → List ℕ → ℕ → ℕ → Positions → Conversion → Bool
 begins file to k m positions c = is_at (cond (is_taken file positions c) (plus c.cost (least file to k c.destination)) None) m
 
--- the first walk of k lines at the cost m
+-- The first walk of k lines at the cost m.
 unfoldable pub best : List Conversion → List ℕ → ℕ → ℕ → Positions → List Conversion
 best file to zero m positions = []
 best file to (suc k) m positions = elim (find (begins file to k m positions) file) [ None ↦ [] | Some c ↦ c ∷ best file to k (m - c.cost) (positions_in (sources_of file) c.destination) ]
 
--- the conversion at j begins a walk at the cost m, where the row says what the rest costs
+-- The conversion at j begins a walk at the cost m. The row has the cost of the rest.
 abbrev pub is_step : List Conversion → List (Option ℕ) → Positions → ℕ → ℕ → Conversion → Bool
 is_step file row positions m j d = is_at (cond (is_taken file positions (get_or file j d)) (plus (get_or file j d).cost (get_or row j None)) None) m
 
--- a row of n costs, none of which is near a limit
+-- A row of n costs that are far from any limit.
 abbrev pub IsRow : ℕ → Vec (Option ℕ) Global → Type 0
 IsRow n row = (length row.items ≡ n) × All IsSmall row.items
 
--- the rows of walks of fewer than n lines
+-- The rows of walks of fewer than n lines.
 pub record IsTable (file : List Conversion) (to : List ℕ) (n : ℕ) (table : List (Vec (Option ℕ) Global)) : Type 0 where
   pub count : length table ≡ n
   pub row : (k : ℕ) (d : Vec (Option ℕ) Global) → k < n → (get_or table k d).items ≡ row_of file to k
 
--- the costs of the cheapest walks from these places, by the number of lines behind the first
+-- The costs of the cheapest walks from these positions, by the number of lines after the first.
 abbrev pub costs_from : List Conversion → Positions → List (Vec (Option ℕ) Global) → List (Option ℕ)
 costs_from file positions rows = map (λ row. least_in (is_taken file positions) file row.items) rows
 
--- the better of the best so far and a walk of more lines
+-- The better of the best so far and a walk of more lines.
 abbrev pub better_size : Option Size → Option ℕ → ℕ → Option Size
 better_size best None rest = best
 better_size None (Some cost) rest = Some (record { cost = cost; rest = rest })
 better_size (Some best) (Some cost) rest = cond (nat_le best.cost cost) (Some best) (Some (record { cost = cost; rest = rest }))
 
--- the least of these costs, and the first place of it
+-- The least of these costs, and its first position.
 abbrev pub IsBestSize : List (Option ℕ) → Option Size → Type 0
 IsBestSize costs None = (k : ℕ) → get_or costs k None ≡ None
 IsBestSize costs (Some size) = (get_or costs size.rest None ≡ Some size.cost) × ((k m : ℕ) → get_or costs k None ≡ Some m → (size.cost < m) ⊎ ((size.cost ≡ m) × (size.rest ≤ k)))

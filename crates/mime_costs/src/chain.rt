@@ -15,21 +15,21 @@ use crate::links::{Link, Positions};
 use spool_types::MediaType;
 use std::alloc::{AllocError, Global};
 
-/// A walk: the numbers of its lines, and its cost.
+/// The line numbers of a walk, and its cost.
 #[derive(Drop)]
 pub struct Chain {
     pub lines: Vec<usize>,
     pub cost: u32,
 }
 
-// The cost of a walk, and how many lines follow its first.
+// The cost of a walk, and the number of its lines after the first.
 #[derive(Clone, Copy)]
 struct Size {
     cost: u32,
     rest: usize,
 }
 
-/// The best walk to a type from another, which these places take.
+/// Returns the best walk to `to` from the type at these positions, if any.
 pub fn find_chain(
     alloc: Global,
     conversions: &[Conversion],
@@ -55,7 +55,7 @@ pub fn find_chain(
     }
 }
 
-// The rows of walks of 0 to 14 lines.
+// Returns the rows of walks of 0 to 14 lines.
 fn cost_rows(
     alloc: Global,
     conversions: &[Conversion],
@@ -78,7 +78,7 @@ fn cost_rows(
     Ok(rows)
 }
 
-// The least cost of a walk, and the fewest lines at that cost.
+// Returns the least cost of a walk, and the smallest number of lines at that cost.
 fn best_size(
     conversions: &[Conversion],
     links: &[Link],
@@ -96,7 +96,7 @@ fn best_size(
     best
 }
 
-// The better of the best walk so far and one of more lines.
+// Returns the better of the best walk so far and one of more lines.
 fn better(best: Option<Size>, cost: Option<u32>, rest: usize) -> Option<Size>
     ensures { result ≡ better_size best cost rest }
 {
@@ -109,7 +109,7 @@ fn better(best: Option<Size>, cost: Option<u32>, rest: usize) -> Option<Size>
     }
 }
 
-// The lines of the first walk of this size.
+// Returns the lines of the first walk of this size.
 fn walk_lines(
     alloc: Global,
     conversions: &[Conversion],
@@ -140,7 +140,7 @@ fn walk_lines(
     Ok(lines)
 }
 
-// The first conversion that takes the type of these places and begins a walk of this cost.
+// Returns the first conversion that accepts the type at these positions and begins a walk of this cost.
 fn first_step(
     conversions: &[Conversion],
     links: &[Link],

@@ -1,4 +1,4 @@
-//! What a line of the file says.
+//! The conversion on a line of the file.
 ghost use Rattle.std.specs.Prelude.{◌≡◌};
 ghost use Rattle.std.specs.List.{list_all};
 ghost use Rattle.spool_types.specs.Values.{is_media_byte};
@@ -6,17 +6,17 @@ ghost use Rattle.mime_costs.specs.Conversions.{every_type, is_super_source, is_s
 
 use spool_types::{FilterName, MediaType, MediaTypeKind, Ranged, Text, TextKind};
 
-/// `*/*`, the source that takes every type.
+/// `*/*`, the source that accepts every type.
 pub const EVERY_TYPE: &str = "*/*";
 
-/// `-`, the filter that stands for no program.
+/// `-`, the filter that runs no program.
 pub const NO_FILTER: &str = "-";
 
 /// The kind of a source: a media type, a super type and `/*`, or `*/*`, in lower case.
 #[derive(Clone, Copy, Debug)]
 pub struct SourceKind;
 
-/// What a conversion takes.
+/// The source of a conversion.
 pub type Source = Text<SourceKind>;
 
 /// The cost of a conversion.
@@ -30,7 +30,7 @@ impl TextKind for SourceKind {
     }
 }
 
-// Whether a text is a super type and `/*`.
+// Returns whether a text is a super type and `/*`.
 fn is_super_source(text: &str) -> bool
     ensures { result ≡ is_super_source text.now }
 {
@@ -46,17 +46,17 @@ fn has_only_media_bytes(text: &str) -> bool
     text.as_bytes().iter().all(|b| is_media_byte(*b))
 }
 
-// A lower-case letter, a digit or one of `!#$&^_.+-`.
+// Returns whether `b` is a lower-case letter, a digit or one of `!#$&^_.+-`.
 fn is_media_byte(b: u8) -> bool
     ensures { result ≡ is_media_byte b }
 {
     matches!(b, b'a'..=b'z' | b'0'..=b'9' | b'!' | b'#' | b'$' | b'&' | b'^' | b'_' | b'.' | b'+' | b'-')
 }
 
-/// A conversion from types to a type.
+/// A conversion from a source to a type.
 #[derive(Drop)]
 pub struct Conversion {
-    /// The number of its line, from 1. A joined line has the number of its first.
+    /// The number of its line, from 1. Joined lines have the number of the first.
     pub line: usize,
     pub source: Source,
     pub destination: MediaType,

@@ -39,7 +39,7 @@ impl Model for Convs {
 }
 
 impl Convs {
-    /// Reads the text of a file. A line that doesn't read is skipped, with a warning.
+    /// Reads the text of a file. Each invalid line is skipped, with a warning.
     pub fn read(alloc: Global, text: &str) -> Result<(Convs, Vec<Warning>), AllocError>
         ensures conversions { IfOk result (λ r. r.0 ≡ conversions_of text.now) }
         ensures warnings { IfOk result (λ r. r.1.items ≡ warnings_of text.now) }
@@ -54,7 +54,7 @@ impl Convs {
         Ok((convs, warnings))
     }
 
-    /// The best walk from one type to another, if there is a walk.
+    /// Returns the best walk from one type to another, if any exists.
     pub fn chain(&self, from: &MediaType, to: &MediaType) -> Result<Option<Chain>, AllocError>
         ensures reached { IfOk result (λ answer. IfSome answer (λ chain. IsReached self.now from.now to.now (worth_of_chain chain))) }
         ensures least { IfOk result (λ answer. IfSome answer (λ chain. IsLeast self.now from.now to.now (worth_of_chain chain))) }
@@ -72,8 +72,8 @@ impl Convs {
         find_chain(self.alloc, &self.conversions, &self.links, positions, to)
     }
 
-    /// The programs of the best walk in the order in which they run, if there is a walk. A conversion whose filter is `-`
-    /// runs none.
+    /// Returns the programs of the best walk in the order that they run in, if a walk exists. A conversion whose filter is `-` runs no
+    /// program.
     pub fn filters(&self, from: &MediaType, to: &MediaType) -> Result<Option<Filters>, AllocError>
         ensures value { IfOk result (λ filters. filters ≡ filters_between self.now from.now to.now) }
     {
@@ -83,7 +83,7 @@ impl Convs {
         }
     }
 
-    // The programs of the conversions with these line numbers.
+    // Returns the programs of the conversions with these line numbers.
     fn filters_at(&self, lines: &[usize]) -> Result<Filters, AllocError>
         requires there { All (Contains (map line_of self.now)) lines.now }
         requires few { length lines.now ≤ most_lines }
@@ -102,7 +102,7 @@ impl Convs {
         }
     }
 
-    /// The filter of the conversion with this line number, `-` for none. Each line of a chain is one of a conversion.
+    /// Returns the filter of the conversion with this line number, `-` for none. Each line of a chain is the line of a conversion.
     pub fn filter(&self, line: usize) -> &str
         requires { Contains (map line_of self.now) line }
         ensures value { (c : Conversion) → Contains self.now c → c.line ≡ line → result.now ≡ c.filter }
@@ -110,7 +110,7 @@ impl Convs {
         self.filter_name(line).as_str()
     }
 
-    // The same as it is kept.
+    // The same, as stored.
     fn filter_name(&self, line: usize) -> &FilterName
         requires { Contains (map line_of self.now) line }
         ensures value { (c : Conversion) → Contains self.now c → c.line ≡ line → result.now ≡ c.filter }

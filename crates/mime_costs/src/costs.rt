@@ -1,6 +1,6 @@
 //! The least costs of walks, by their number of lines.
 //!
-//! A row says of each conversion what the cheapest walk of so many lines behind it costs, if there is one.
+//! A row contains for each conversion the cost of the cheapest walk of n lines after it, if one exists.
 ghost use Rattle.std.specs.Prelude.{◌≡◌, ◌≤◌, ℕ, IfOk, IfSome, map, length, ◌==◌, slice_index_or, cond, None};
 ghost use Rattle.std.specs.List.{All};
 ghost use Rattle.mime_costs.specs.SourceIndex.{takes, links_in};
@@ -11,10 +11,10 @@ use crate::links::{Link, Positions};
 use spool_types::MediaType;
 use std::alloc::{AllocError, Global};
 
-/// How many lines a walk may have.
+/// The maximum number of lines of a walk.
 pub const MOST_LINES: usize = 15;
 
-/// The lesser cost, if there is one.
+/// Returns the lower of the costs that exist.
 pub fn lesser(a: Option<u32>, b: Option<u32>) -> Option<u32>
     ensures { result ≡ lesser a b }
 {
@@ -25,7 +25,7 @@ pub fn lesser(a: Option<u32>, b: Option<u32>) -> Option<u32>
     }
 }
 
-/// The cost of a conversion and of what follows it, if there is such a walk.
+/// Returns the cost of a conversion and of the walk after it, if that walk exists.
 pub fn cost_with(conversion: &Conversion, rest: Option<u32>) -> Option<u32>
     requires { IsSmall rest }
     ensures { result ≡ plus conversion.now.cost rest }
@@ -36,7 +36,7 @@ pub fn cost_with(conversion: &Conversion, rest: Option<u32>) -> Option<u32>
     }
 }
 
-// The same, if the conversion takes the type of these places.
+// The same, if the conversion accepts the type at these positions.
 fn cost_if_taken(
     conversion: &Conversion,
     link: Link,
@@ -53,7 +53,7 @@ fn cost_if_taken(
     }
 }
 
-/// Whether a conversion takes the type of these places and begins a walk of this cost.
+/// Returns whether a conversion accepts the type at these positions and begins a walk of this cost.
 pub fn is_step(
     conversion: &Conversion,
     link: Link,
@@ -70,7 +70,7 @@ pub fn is_step(
     }
 }
 
-/// The row of walks without a line: those that are there already.
+/// Returns the row of walks of no lines, which exist for conversions to `to`.
 pub fn first_row(
     alloc: Global,
     conversions: &[Conversion],
@@ -89,7 +89,7 @@ pub fn first_row(
     Ok(row)
 }
 
-/// The row of walks of one line more.
+/// Returns the row of walks of one more line.
 pub fn next_row(
     alloc: Global,
     links: &[Link],
@@ -104,7 +104,7 @@ pub fn next_row(
     Ok(row)
 }
 
-// The least cost among the groups that take a type.
+// Returns the least cost among the groups that accept a type.
 fn cost_at(groups: &[Option<u32>], positions: Positions) -> Option<u32>
     ensures { result ≡ cost_in_groups groups.now positions }
 {
@@ -127,7 +127,7 @@ fn group_cost(groups: &[Option<u32>], group: usize) -> Option<u32>
     }
 }
 
-/// The least cost of a walk that begins with a conversion of each group, where the row says what the rest costs.
+/// Returns for each group the least cost of a walk that begins with a conversion of it. The row has the cost of the rest.
 pub fn group_costs(
     alloc: Global,
     conversions: &[Conversion],
@@ -147,7 +147,7 @@ pub fn group_costs(
     Ok(groups)
 }
 
-/// The least cost of a walk that begins with a conversion which takes the type of these places.
+/// Returns the least cost of a walk that begins with a conversion that accepts the type at these positions.
 pub fn cost_from(
     conversions: &[Conversion],
     links: &[Link],

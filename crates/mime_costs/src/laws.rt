@@ -1,4 +1,4 @@
-//! What is so of walks and of their order. The functions do nothing: their clauses are the laws.
+//! Laws of walks and of their order. The functions do nothing: their clauses are the laws.
 ghost use Rattle.std.specs.Prelude.{◌≡◌, ◌⊎◌, ℕ, false, IsTrue, List, None, Some};
 ghost use Rattle.mime_costs.specs.Walks.{Worth, beats, worth_of, IsWalk, IsLeast, IsApart};
 ghost use Rattle.mime_costs.specs.LeastWalk.{least_walk};
@@ -11,7 +11,7 @@ pub fn order_law()
     ensures connected { (a b : Worth) → ¬ (a ≡ b) → IsTrue (beats a b) ⊎ IsTrue (beats b a) }
 {}
 
-/// The least walk is a walk that none beats, and where there is no least walk there is none at all.
+/// No walk beats the least walk. If there is no least walk, no walk exists.
 pub fn least_law()
     ensures walk { (file : List Conversion) (from to : List ℕ) (walk : List Conversion) → least_walk file from to ≡ Some walk → IsWalk file from to walk }
     ensures least { (file : List Conversion) (from to : List ℕ) (walk : List Conversion) → least_walk file from to ≡ Some walk → IsLeast file from to (worth_of walk) }

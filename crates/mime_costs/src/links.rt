@@ -1,4 +1,4 @@
-//! Where the sources stand that take a type, found once when a file is read.
+//! The positions of the sources that accept a type, computed once when a file is read.
 ghost use Rattle.std.specs.Prelude.{◌≡◌, ℕ, List, IfOk};
 ghost use Rattle.std.specs.String.{string_bytes};
 ghost use Rattle.mime_costs.specs.Conversions.{super_source};
@@ -9,7 +9,8 @@ use spool_types::MediaType;
 use std::alloc::{AllocError, Global};
 use std::collections::HashMap;
 
-/// The first conversions with the sources that take a type. Where no conversion has such a source, it is the number of all.
+/// The positions of the first conversions with the three sources that accept a type. If no conversion has such a source, its position is
+/// the number of conversions.
 #[derive(Clone, Copy, Debug)]
 pub struct Positions {
     pub of_type: usize,
@@ -17,17 +18,17 @@ pub struct Positions {
     pub of_any: usize,
 }
 
-/// What a conversion is linked to.
+/// The links of a conversion.
 #[derive(Clone, Copy, Debug)]
 pub struct Link {
-    /// The first conversion of the same source.
+    /// The first conversion with the same source.
     pub group: usize,
-    /// The groups that take its destination.
+    /// The groups that accept its destination.
     pub next: Positions,
 }
 
 impl Positions {
-    /// Whether the conversions of this group take the type.
+    /// Returns whether the conversions of this group accept the type.
     pub fn takes(self, group: usize) -> bool
         ensures { result ≡ takes self group }
     {
@@ -35,7 +36,7 @@ impl Positions {
     }
 }
 
-/// The links of all conversions.
+/// Returns the links of all conversions.
 pub fn links_of(alloc: Global, conversions: &[Conversion]) -> Result<Vec<Link>, AllocError>
     ensures { IfOk result (λ links. links.items ≡ links_in conversions.now) }
 {
@@ -49,17 +50,17 @@ pub fn links_of(alloc: Global, conversions: &[Conversion]) -> Result<Vec<Link>, 
     Ok(links)
 }
 
-// The first conversion of each source, for the links of a whole file: there `positions_of`, which looks through all
-// conversions for one type, would take a time that grows with their square.
+// The first conversion of each source, for the links of a whole file. `positions_of` searches all conversions for one type, so its use
+// here would take quadratic time.
 #[derive(Drop)]
 struct Sources<'a> {
     positions: HashMap<&'a str, usize>,
-    // How many conversions there are.
+    // The number of conversions.
     count: usize,
 }
 
 impl<'a> Sources<'a> {
-    // From the last conversion to the first, so that of one source the first stays.
+    // Inserts from the last conversion to the first, so that the first of each source remains.
     fn of(alloc: Global, conversions: &'a [Conversion]) -> Result<Sources<'a>, AllocError>
         ensures { IfOk result (λ sources. AreSources sources (sources_of conversions.entry.now)) }
     {
@@ -75,14 +76,14 @@ impl<'a> Sources<'a> {
         })
     }
 
-    // The first conversion of a source, or the number of all.
+    // Returns the position of the first conversion with a source, or the number of conversions.
     fn position_of(&self, source: &str) -> usize
         ensures { (sources : List (List ℕ)) → AreSources self.now sources → result ≡ position_in sources source.now }
     {
         self.positions.get(&source).copied().unwrap_or(self.count)
     }
 
-    // The groups that take a type.
+    // Returns the groups that accept a type.
     fn positions_of(&self, alloc: Global, media: &str) -> Result<Positions, AllocError>
         ensures { (sources : List (List ℕ)) → AreSources self.now sources → IfOk result (λ positions. positions ≡ positions_in sources media.now) }
     {
@@ -95,7 +96,7 @@ impl<'a> Sources<'a> {
     }
 }
 
-/// The groups that take a type.
+/// Returns the groups that accept a type.
 pub fn positions_of(
     alloc: Global,
     conversions: &[Conversion],
@@ -111,7 +112,7 @@ pub fn positions_of(
     })
 }
 
-// The super type of a media type and `/*`.
+// Returns the super type of a media type and `/*`.
 fn super_source(alloc: Global, media: &str) -> Result<String, AllocError>
     ensures { IfOk result (λ source. string_bytes source ≡ super_source media.now) }
 {
@@ -124,7 +125,7 @@ fn super_source(alloc: Global, media: &str) -> Result<String, AllocError>
     Ok(source)
 }
 
-// The first conversion of a source, or the number of all.
+// Returns the position of the first conversion with a source, or the number of conversions.
 fn position_of(conversions: &[Conversion], source: &str) -> usize
     ensures { result ≡ position_in (sources_of conversions.now) source.now }
 {

@@ -19,7 +19,7 @@ struct Words<'a> {
     filter: &'a [u8],
 }
 
-/// The conversions of a text, and the warnings of the lines that don't read.
+/// Returns the conversions of a text, and the warnings of its invalid lines.
 pub fn read_lines(alloc: Global, text: &str) -> Result<(Vec<Conversion>, Vec<Warning>), AllocError>
     ensures conversions { IfOk result (λ r. r.0.items ≡ conversions_of text.now) }
     ensures warnings { IfOk result (λ r. r.1.items ≡ warnings_of text.now) }
@@ -38,7 +38,7 @@ pub fn read_lines(alloc: Global, text: &str) -> Result<(Vec<Conversion>, Vec<War
     Ok((conversions, warnings))
 }
 
-// What a line says, or its first fault.
+// Returns the conversion of a line, or the line's first error.
 fn read_line(
     alloc: Global,
     number: usize,
@@ -70,7 +70,7 @@ fn read_line(
     }))
 }
 
-// The words of a line that has four.
+// Returns the words of a line that has exactly four.
 fn four_words(line: &[u8]) -> Option<Words<'_>>
     ensures { option_map words_in result ≡ four_words line.now }
 {

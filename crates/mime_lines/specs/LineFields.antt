@@ -1,4 +1,4 @@
--- What a line in memory stands for.
+-- The meaning of a line in memory.
 use Rattle.std.specs.Prelude.{ℕ, List}
 use Rattle.mime_lines.specs.declared.lines.LineText.{LineText}
 use Rattle.mime_lines.specs.declared.lines.LineText.TheVariants.{Lent, Joined}

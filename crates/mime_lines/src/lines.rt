@@ -16,14 +16,14 @@ const BACKSLASH: u8 = b'\\';
 /// The text of a line, without its line feed.
 #[derive(Drop)]
 pub enum LineText<'a> {
-    /// A line as it stands in the file.
+    /// A line as it is in the file.
     Lent(&'a [u8]),
     /// A line to which others were joined.
     Joined(Vec<u8>),
 }
 
 impl<'a> LineText<'a> {
-    /// The bytes of the line.
+    /// Returns the bytes of the line.
     pub fn bytes(&self) -> &[u8]
         ensures value { result.now ≡ text_of self.now }
     {
@@ -34,7 +34,7 @@ impl<'a> LineText<'a> {
     }
 }
 
-/// A line with those that backslashes join to it.
+/// A line and the lines that backslashes join to it.
 #[derive(Drop)]
 pub struct JoinedLine<'a> {
     /// The number of its first line, from 1.
@@ -42,7 +42,7 @@ pub struct JoinedLine<'a> {
     pub text: LineText<'a>,
 }
 
-/// The lines of a file that say something: no blank lines, and no remarks.
+/// Returns the lines of a file without blank lines and comments.
 pub fn joined_lines<'a>(alloc: Global, text: &'a str) -> Result<Vec<JoinedLine<'a>>, AllocError>
     ensures value { IfOk result (λ lines. map line_of lines.items ≡ joined_lines text.now) }
 {
@@ -69,7 +69,7 @@ pub fn joined_lines<'a>(alloc: Global, text: &'a str) -> Result<Vec<JoinedLine<'
     Ok(lines)
 }
 
-// The first line, without a carriage return before its line feed, and what follows it.
+// Returns the first line, without a carriage return before its line feed, and the rest of the text.
 fn next_line(text: &[u8]) -> Option<(&[u8], &[u8])>
     ensures lines { MatchOption result (text.now ≡ []) (λ p. lines_of text.now ≡ p.0.now ∷ lines_of p.1.now) }
     ensures shorter { IfSome result (λ p. length p.1.now < length text.now) }
@@ -85,7 +85,7 @@ fn next_line(text: &[u8]) -> Option<(&[u8], &[u8])>
     Some((text, &[]))
 }
 
-// The bytes without a carriage return at their end.
+// Returns the bytes without a carriage return at their end.
 fn without_cr(line: &[u8]) -> &[u8]
     ensures { result.now ≡ without_cr line.now }
 {
@@ -95,7 +95,7 @@ fn without_cr(line: &[u8]) -> &[u8]
     }
 }
 
-// Whether a line holds nothing but blanks, or a remark.
+// Returns whether a line is blank or a comment.
 fn is_silent(line: &[u8]) -> bool
     ensures { result ≡ is_silent line.now }
 {
@@ -105,7 +105,7 @@ fn is_silent(line: &[u8]) -> bool
     }
 }
 
-// Whether a backslash at its end joins the next line.
+// Returns whether a backslash at the end of the line joins the next line.
 fn is_continued(line: &[u8]) -> bool
     ensures { result ≡ is_continued line.now }
 {
@@ -115,7 +115,7 @@ fn is_continued(line: &[u8]) -> bool
     }
 }
 
-// The line that this text makes, or the open one that it goes on with.
+// Returns this text as a line, or appends it to the open line.
 fn with_line<'a>(
     alloc: Global,
     begun: Option<JoinedLine<'a>>,
@@ -136,7 +136,7 @@ fn with_line<'a>(
     }
 }
 
-// The text, a blank and the next text.
+// Returns the text, a blank and the next text.
 fn join(alloc: Global, text: LineText<'_>, next: &[u8]) -> Result<Vec<u8>, AllocError>
     ensures { IfOk result (λ bytes. bytes.items ≡ text_of text.entry ++ 32 ∷ next.now) }
 {
@@ -149,7 +149,7 @@ fn join(alloc: Global, text: LineText<'_>, next: &[u8]) -> Result<Vec<u8>, Alloc
     Ok(joined)
 }
 
-// The line without its last byte.
+// Returns the line without its last byte.
 fn left_open<'a>(line: JoinedLine<'a>) -> JoinedLine<'a>
     ensures { line_of result ≡ left_open (line_of line.entry) }
 {
@@ -160,7 +160,7 @@ fn left_open<'a>(line: JoinedLine<'a>) -> JoinedLine<'a>
     }
 }
 
-// The text without its last byte.
+// Returns the text without its last byte.
 fn shortened<'a>(text: LineText<'a>) -> LineText<'a>
     ensures { text_of result ≡ without_last (text_of text.entry) }
 {
@@ -173,7 +173,7 @@ fn shortened<'a>(text: LineText<'a>) -> LineText<'a>
     }
 }
 
-// All bytes but the last.
+// Returns all bytes except the last.
 fn front(bytes: &[u8]) -> &[u8]
     ensures { result.now ≡ without_last bytes.now }
 {

@@ -1,13 +1,13 @@
-//! Numbers.
+//! The numbers in the rules.
 ghost use Rattle.std.specs.Prelude.{◌≡◌, ◌≤◌, true, min};
 ghost use Rattle.std.specs.List.{list_all};
 ghost use Rattle.std.specs.Option.{option_map};
 ghost use Rattle.mime_lines.specs.RuleNumbers.{number_of, in_base, is_digit_in, is_hex_digit, digit_value, behind_zero, read_on, told};
 
-// One more than the greatest number.
+// The greatest number plus one.
 const TOO_GREAT: u64 = 4_294_967_296;
 
-/// A number as it was written.
+/// The number in a word.
 #[derive(Clone, Copy, Debug, PartialEq, Eq)]
 pub enum Number {
     Fits(u32),
@@ -15,8 +15,8 @@ pub enum Number {
     TooGreat,
 }
 
-/// The number that a word is: decimal digits, `0x` and hexadecimal digits of either case, or `0` and octal digits. `None` where the
-/// word hasn't the form of a number.
+/// Returns the number of a word: decimal digits, `0x` and hexadecimal digits of either case, or `0` and octal digits. Returns `None` if
+/// the word does not have the form of a number.
 pub fn read_number(word: &[u8]) -> Option<Number>
     ensures value { result ≡ option_map told (number_of word.now) }
 {
@@ -28,7 +28,7 @@ pub fn read_number(word: &[u8]) -> Option<Number>
     }
 }
 
-// The number that a zero and these bytes are.
+// Returns the number of a zero and these bytes.
 fn behind_zero(bytes: &[u8]) -> Option<Number>
     ensures { result ≡ option_map told (behind_zero bytes.now) }
 {
@@ -44,7 +44,7 @@ fn behind_zero(bytes: &[u8]) -> Option<Number>
     }
 }
 
-// The number to this base, if all of these are digits of it.
+// Returns the number in this base, if all of these are digits of it.
 fn in_base(base: u8, digits: &[u8]) -> Option<Number>
     requires least { 1 ≤ base }
     requires most { base ≤ 16 }
@@ -72,7 +72,7 @@ fn is_digit_in(base: u8, b: u8) -> bool
     b.is_ascii_hexdigit() && digit_value(b) < base
 }
 
-// What a hexadecimal digit stands for.
+// Returns the value of a hexadecimal digit.
 fn digit_value(b: u8) -> u8
     requires { is_hex_digit b ≡ true }
     ensures { result ≡ digit_value b }
@@ -86,7 +86,7 @@ fn digit_value(b: u8) -> u8
     }
 }
 
-// The number that the digits spell, or one more than the greatest if it is above that.
+// Returns the number of the digits, or the greatest number plus one if it is above that.
 fn digits_value(base: u8, digits: &[u8]) -> u64
     requires least { 1 ≤ base }
     requires most { base ≤ 16 }

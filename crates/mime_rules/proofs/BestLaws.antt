@@ -1,10 +1,10 @@
--- The best alternative, from the last one on.
+-- The best alternative, computed from the last one on.
 use Rattle.std.proofs.Common.{◌≡◌, true, false, cond, List, [], ◌∷◌, ◌++◌, refl, ap, ◌∙◌, Option, None, Some}
 use Rattle.mime_rules.specs.Tests.{Subject}
 use Rattle.mime_rules.specs.RuleLines.{Alternative}
 use Rattle.mime_rules.specs.BestType.{best, better}
 
--- the best of these and of one that is found already
+-- The best of these and of one that was found already.
 abbrev pub best_onto : Subject → List Alternative → Option Alternative → Option Alternative
 best_onto s [] found = found
 best_onto s (a ∷ more) found = cond (a.rule s) (Some (better a (best_onto s more found))) (best_onto s more found)

@@ -1,4 +1,4 @@
--- A search of a text within others.
+-- The search for a text within another.
 use Rattle.std.proofs.Common.{◌≡◌, ℕ, zero, suc, ◌+◌, ◌≤◌, Bool, true, false, ◌||◌, ◌&&◌, List, [], ◌∷◌, length, take, drop, length-drop, length-take, refl, ap, sym, ◌∙◌, arith, Option, None, Some}
 use Rattle.std.specs.Prelude.{is_some, nat_le}
 use Rattle.std.proofs.lemmas.Slice.Eq.{bytes_eq-Decides}
@@ -28,7 +28,7 @@ not_true : (b : Bool) → (b ≡ true → ⊥) → b ≡ false
 not_true true h = absurd (h refl)
 not_true false h = refl
 
--- a text that stands at the front is no longer than the rest
+-- A text at the front of the rest is at most as long as the rest.
 stands_occurs : (hay needle : List ℕ) (k : ℕ) → k ≤ length hay → stands needle (drop k hay) ≡ true → OccursAt hay needle k
 stands_occurs hay needle k le h =
     let same : take (length needle) (drop k hay) ≡ needle = (bytes_eq-Decides (take (length needle) (drop k hay)) needle).0 h in

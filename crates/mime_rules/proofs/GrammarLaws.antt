@@ -1,4 +1,4 @@
--- The productions of the grammar, each as a law of what tokens are read as.
+-- The productions of the grammar, each as a law of the reading of tokens.
 use Rattle.std.proofs.Common.{◌≡◌, ℕ, zero, suc, ◌+◌, ◌*◌, ◌<◌, ◌≤◌, Bool, true, false, not, cond, ◌&&◌, List, [], ◌∷◌, ◌++◌, length, map, refl, ap, sym, subst, ◌∙◌, arith, Option, None, Some, Ok, Err}
 use Rattle.std.specs.Prelude.{Result}
 use Rattle.std.specs.Option.{option_to_list}
@@ -15,15 +15,15 @@ use Rattle.mime_rules.specs.Tokens.{Token, gap, comma, plus, bang, opening, clos
 use Rattle.mime_rules.specs.RuleGrammar.{after_separators, is_end, both_of, either_of, negated, behind_factor, fault_of, item_end, behind_item, list_here, factor_within, item_within, list_within, line_end, whole, most_depth, steps, list_of}
 use Rattle.mime_rules.specs.RuleFields.{token_of, Reads, Stopped, ListSays, ItemSays, FactorSays, GroupSays, with_bangs, negated_meaning, all_or_none, is_bang_next, behind_bang, is_plus_next, behind_plus}
 
--- the list, behind the separators at its front
+-- The list, after the separators at its front.
 abbrev pub HereSays : ℕ → List Token → Read Token (Subject → Bool) → Type 0
 HereSays groups ts r = (n : ℕ) → 3 * length ts + 2 ≤ n → list_here (λ here. on (behind_item (list_within n groups)) (item_within n groups here)) ts ≡ r
 
--- the rest of an item, behind a factor: nothing, or a plus and an item
+-- The rest of an item, after a factor: nothing, or a plus and an item.
 abbrev pub RestSays : ℕ → List Token → Read Token (Option (Subject → Bool)) → Type 0
 RestSays groups ts r = (n : ℕ) → 3 * length ts + 2 ≤ n → behind_factor (item_within n groups) None ts ≡ r
 
--- items in front of a list
+-- Items in front of a list.
 abbrev pub any_onto : List (Subject → Bool) → (Subject → Bool) → Subject → Bool
 any_onto [] k = k
 any_onto (m ∷ ms) k = either m (any_onto ms k)
@@ -31,7 +31,7 @@ any_onto (m ∷ ms) k = either m (any_onto ms k)
 abbrev pub any_before : List (Subject → Bool) → Read Token (Subject → Bool) → Read Token (Subject → Bool)
 any_before ms r = on (λ k. read (any_onto ms k)) r
 
--- factors in front of what follows them
+-- Factors in front of an item's rest.
 abbrev pub all_onto : List (Subject → Bool) → Option (Subject → Bool) → Option (Subject → Bool)
 all_onto [] k = k
 all_onto (m ∷ ms) k = both_of (Some m) (all_onto ms k)
@@ -59,7 +59,7 @@ pub more_bangs : (odd : Bool) (r : Read Token (Option (Subject → Bool))) → w
 more_bangs true r = negated_twice r
 more_bangs false r = refl
 
--- the factors
+-- The factors.
 pub bang_says : (groups : ℕ) (ts : List Token) (r : Read Token (Option (Subject → Bool))) → FactorSays groups ts r → FactorSays groups (bang ∷ ts) (negated r)
 unfolding factor_within
 bang_says groups ts r says zero le = absurd (omega arith)
@@ -102,7 +102,7 @@ nothing_says groups zero le = absurd (omega arith)
 nothing_says zero (suc n) le = refl
 nothing_says (suc groups) (suc n) le = refl
 
--- a token that begins no factor
+-- The token begins a factor.
 abbrev pub begins : Token → Bool
 begins bang = true
 begins opening = true
@@ -128,7 +128,7 @@ wrong_says groups opening ts h (suc n) le = cc
 wrong_says groups (test m) ts h (suc n) le = cc
 wrong_says groups (priority p) ts h (suc n) le = cc
 
--- an item: a factor, and what follows it
+-- An item: a factor, and the rest.
 both_none : (m : Option (Subject → Bool)) → both_of m None ≡ m
 both_none None = refl
 both_none (Some m) = refl
@@ -186,7 +186,7 @@ rest_ends groups (test t ∷ ts) h n le = refl
 rest_ends groups (priority p ∷ ts) h n le = refl
 rest_ends groups (fault kind ∷ ts) h n le = refl
 
--- a list
+-- A list.
 pub list_says : (groups : ℕ) (ts : List Token) (r : Read Token (Subject → Bool)) → length (after_separators ts) ≤ length ts → HereSays groups (after_separators ts) r → ListSays groups ts r
 unfolding list_within
 list_says groups ts r le says zero lt = absurd (omega arith)
@@ -213,7 +213,7 @@ here_says groups ts rest m r h item good less says n le =
     ∙ ap (on (λ _ _. on (λ k. read (either_of m k)) (list_within n groups rest))) good
     ∙ ap (on (λ k. read (either_of m k))) (says n (omega arith))
 
--- items and factors that are gathered
+-- Collected items and factors.
 pub any_before_push : (ms : List (Subject → Bool)) (m : Subject → Bool) (r : Read Token (Subject → Bool)) → any_before (ms ++ m ∷ []) r ≡ any_before ms (on (λ k. read (either m k)) r)
 any_before_push ms m (wrong kind) = refl
 any_before_push ms m (read k rest) = ap (λ v. read v rest) (go ms)
@@ -257,12 +257,12 @@ all_onto_none [] = refl
 all_onto_none (m ∷ []) = ap Some (both_always m)
 all_onto_none (m ∷ k ∷ ms) = ap (both_of (Some m)) (all_onto_none (k ∷ ms))
 
--- the list of a line
+-- The list of a line.
 pub whole_says : (ts : List Token) (r : Read Token (Subject → Bool)) → ListSays most_depth ts r → list_of ts ≡ on whole r
 unfolding list_of
 whole_says ts r says = ap (on whole) (says (steps ts) (omega arith))
 
--- items and factors that are gathered, if they mean something
+-- Collected items and factors, if they have a meaning.
 pub any_before_kept : (ms : List (Subject → Bool)) (m : Option (Subject → Bool)) (r : Read Token (Subject → Bool)) → any_before (ms ++ option_to_list m) r ≡ any_before ms (on (λ k. read (either_of m k)) r)
 any_before_kept ms None r = ap (λ v. any_before v r) (append-nil ms) ∙ sym (any_before_none ms r)
 any_before_kept ms (Some m) r = any_before_push ms m r
@@ -271,7 +271,7 @@ pub all_before_kept : (ms : List (Subject → Bool)) (m : Option (Subject → Bo
 all_before_kept ms None r = ap (λ v. all_before v r) (append-nil ms) ∙ sym (all_before_none ms r)
 all_before_kept ms (Some m) r = all_before_push ms m r
 
--- an item that goes on behind a plus, or ends
+-- An item that continues after a plus, or ends.
 pub item_goes_on : (groups : ℕ) (ts rest us : List Token) (ms kept : List (Subject → Bool)) (m : Option (Subject → Bool)) (r : Read Token (Option (Subject → Bool))) →
     FactorSays groups ts (read m rest) → length rest < length ts → kept ≡ ms ++ option_to_list m → is_plus_next rest ≡ true → us ≡ behind_plus rest → ItemSays groups us r →
     (entry : List Token) → ((q : Read Token (Option (Subject → Bool))) → ItemSays groups ts q → ItemSays groups entry (all_before ms q)) → ItemSays groups entry (all_before kept r)
@@ -290,7 +290,7 @@ pub item_stops : (groups : ℕ) (stop : Stop) (ts entry : List Token) (ms : List
 item_stops groups Memory ts entry ms h inv = tt
 item_stops groups (Fault kind) ts entry ms h inv = inv (wrong kind) (item_wrong groups ts kind h)
 
--- a list that goes on behind an item, or stops there
+-- A list that continues after an item, or stops there.
 pub list_goes_on : (groups : ℕ) (ts rest us : List Token) (ms kept : List (Subject → Bool)) (m : Option (Subject → Bool)) (r : Read Token (Subject → Bool)) →
     is_end ts ≡ false → ItemSays groups ts (read m rest) → length rest < length ts → kept ≡ ms ++ option_to_list m → item_end rest ≡ read true [] → us ≡ after_separators rest → length us ≤ length rest → HereSays groups us r →
     (entry : List Token) → ((q : Read Token (Subject → Bool)) → HereSays groups ts q → ListSays groups entry (any_before ms q)) → ListSays groups entry (any_before kept r)
@@ -310,7 +310,7 @@ list_breaks groups (Fault kind) ts rest entry ms m unclosed item h inv = inv (wr
 pub list_ends : (groups : ℕ) (ts entry : List Token) (ms : List (Subject → Bool)) → is_end ts ≡ true → ((q : Read Token (Subject → Bool)) → HereSays groups ts q → ListSays groups entry (any_before ms q)) → ListSays groups entry (read (any_of ms) ts)
 list_ends groups ts entry ms at_end inv n le = inv (read never ts) (here_ends groups ts at_end) n le ∙ any_before_end ms ts
 
--- a factor behind its `!`s
+-- A factor after its `!`s.
 pub factor_stops : (groups : ℕ) (stop : Stop) (odd : Bool) (ts entry : List Token) → Stopped stop (FactorSays groups ts) → ((q : ℕ) (r : Read Token (Option (Subject → Bool))) → FactorSays q ts r → FactorSays q entry (with_bangs odd r)) → Stopped stop (FactorSays groups entry)
 factor_stops groups Memory odd ts entry h turns = tt
 factor_stops groups (Fault kind) true ts entry h turns = turns groups (wrong kind) h
@@ -320,7 +320,7 @@ pub factor_with_bangs : (groups : ℕ) (odd : Bool) (ts rest entry : List Token)
 factor_with_bangs groups true ts rest entry m k h is turns n le = turns groups (read m rest) h n le ∙ ap (λ v. read v rest) (sym is)
 factor_with_bangs groups false ts rest entry m k h is turns n le = turns groups (read m rest) h n le ∙ ap (λ v. read v rest) (sym is)
 
--- a line that stops inside its list, or behind it
+-- A line with an error inside its list or after it.
 pub line_stops : (stop : Stop) (ts : List Token) → Stopped stop (ListSays most_depth ts) → Stopped stop (λ r. list_of ts ≡ r)
 line_stops Memory ts h = tt
 line_stops (Fault kind) ts h = whole_says ts (wrong kind) h
@@ -332,7 +332,7 @@ line_left (Fault kind) ts rest m says h = whole_says ts (read m rest) says ∙ a
 pub line_good : (ts rest : List Token) (m : Subject → Bool) → ListSays most_depth ts (read m rest) → line_end rest ≡ read true [] → list_of ts ≡ read m []
 line_good ts rest m says h = whole_says ts (read m rest) says ∙ ap (on (λ _ _. read m [])) h
 
--- the first items of a list
+-- The first items of a list.
 pub list_begins : (groups : ℕ) (ts us : List Token) (r : Read Token (Subject → Bool)) (ms : List (Subject → Bool)) → us ≡ after_separators ts → length us ≤ length ts → ms ≡ [] → HereSays groups us r → ListSays groups ts (any_before ms r)
 list_begins groups ts us r ms is le empty says n enough =
     list_says groups ts r (subst (λ v. length v ≤ length ts) is le) (subst (λ v. HereSays groups v r) is says) n enough ∙ sym (ap (λ v. any_before v r) empty ∙ on_read r)
@@ -341,7 +341,7 @@ pub behind_none : (ts : List Token) → is_plus_next ts ≡ false → ts ≡ beh
 behind_none [] h = refl
 behind_none (t ∷ ts) h = ap (λ v. cond v ts (t ∷ ts)) (sym h)
 
--- a factor that begins with this token
+-- A factor that begins with this token.
 pub factor_along : (groups : ℕ) (ts us : List Token) (r : Read Token (Option (Subject → Bool))) → ts ≡ us → FactorSays groups us r → FactorSays groups ts r
 factor_along groups ts us r is says = subst (λ v. FactorSays groups v r) (sym is) says
 
@@ -364,7 +364,7 @@ shorter_map xs ys h = omega (arith, length-map xs token_of, length-map ys token_
 pub no_longer_map : (xs ys : List MemoryToken) → length xs ≤ length ys → length (map token_of xs) ≤ length (map token_of ys)
 no_longer_map xs ys h = omega (arith, length-map xs token_of, length-map ys token_of)
 
--- a group, with its opening parenthesis
+-- A group, with its opening parenthesis.
 pub opened_reads : {V : Type 0} (result : Result V Stop) (seen : V → Read Token (Option (Subject → Bool))) (groups : ℕ) (all rest : List Token) → all ≡ opening ∷ rest → Reads result seen (GroupSays groups rest) → Reads result seen (FactorSays groups all)
 opened_reads (Ok v) seen groups all rest is h = factor_along groups all (opening ∷ rest) (seen v) is (group_says groups rest (seen v) h)
 opened_reads (Err Memory) seen groups all rest is h = tt

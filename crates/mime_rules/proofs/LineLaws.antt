@@ -1,4 +1,4 @@
--- The lines of a file, one after the other.
+-- The lines of a file, in order.
 use Rattle.std.proofs.Common.{◌≡◌, List, [], ◌∷◌, ◌++◌}
 use Rattle.std.proofs.lemmas.List.Elements.{filter_map-append}
 use Rattle.mime_lines.specs.JoinedLines.{Line}

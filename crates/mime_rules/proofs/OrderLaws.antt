@@ -17,7 +17,7 @@ use Rattle.mime_rules.specs.BestType.{beats, better, best, IsBest, NoneHolds}
 
 -- ## The order
 
--- which of two alternatives comes first: that of the higher priority, then that of the type that is alphabetically before
+-- The order of two alternatives: the higher priority comes first, then the type that is alphabetically first.
 abbrev rank : Alternative → Alternative → Ordering
 rank = then_cmp (flip_args (on (λ a. a.priority) nat_cmp)) (on (λ a. a.media) (slice_cmp nat_cmp))
 
@@ -56,11 +56,11 @@ beats-transitive a b c h k =
     beats_rank a c
     ∙ ap is_lt (rank-total.trans a b c (less (rank a b) (sym (beats_rank a b) ∙ h)) (less (rank b c) (sym (beats_rank b c) ∙ k)))
 
--- what beats is not beaten
+-- The order is asymmetric.
 beats-asymmetric : (a b : Alternative) → beats a b ≡ true → beats b a ≡ false
 beats-asymmetric a b h = beats_back a b ∙ ap is_gt (less (rank a b) (sym (beats_rank a b) ∙ h))
 
--- what one that doesn't beat a doesn't beat, doesn't beat a
+-- If b does not beat a and c does not beat b, c does not beat a.
 unbeaten_below : (a b c : Alternative) → beats b a ≡ false → beats c b ≡ false → beats c a ≡ false
 unbeaten_below a b c h k = beats_back a c ∙ upto rank-total a b c (sym (beats_back a b) ∙ h) (sym (beats_back b c) ∙ k)
 
@@ -87,7 +87,7 @@ beats-connected a b other = by_tests (beats a b) (beats b a) refl refl
 
 -- ## The best of a list
 
--- what an answer says of a list
+-- The meaning of a result for a list.
 abbrev Says : Subject → List Alternative → Option Alternative → Type 0
 Says s all None = NoneHolds s all
 Says s all (Some a) = IsBest s all a
@@ -98,7 +98,7 @@ here a more = (0, omega arith, refl)
 later : (a : Alternative) (more : List Alternative) (b : Alternative) → Contains more b → Contains (a ∷ more) b
 later a more b = Contains-append_right (a ∷ []) more b
 
--- a true alternative, before those of which the answer is known
+-- A true alternative, before a list with a known result.
 with_true : (s : Subject) (a : Alternative) (more : List Alternative) → a.rule s ≡ true → (found : Option Alternative) → Says s more found → IsBest s (a ∷ more) (better a found)
 with_true s a more h None rest = record {
   listed = here a more;
@@ -121,7 +121,7 @@ with_true s a more h (Some b) rest = by_test (beats b a) refl
           (All-weaker (λ c. c.rule s ≡ true → beats c b ≡ false) (λ c. c.rule s ≡ true → beats c a ≡ false) (λ c u t. unbeaten_below a b c k (u t)) more rest.unbeaten);
     }
 
--- a false one
+-- A false alternative.
 with_false : (s : Subject) (a : Alternative) (more : List Alternative) → a.rule s ≡ false → (found : Option Alternative) → Says s more found → Says s (a ∷ more) found
 with_false s a more h None rest = All-cons (λ b. b.rule s ≡ false) a more h rest
 with_false s a more h (Some b) rest = record {

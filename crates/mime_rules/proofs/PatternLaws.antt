@@ -1,4 +1,4 @@
--- Patterns: the first place at which the bytes between two runs stand is enough.
+-- Patterns: it suffices to try the first position where the bytes between two runs match.
 use Rattle.std.proofs.Common.{◌≡◌, ℕ, Bool, true, false, cond, ◌||◌, ◌&&◌, ◌++◌, List, [], ◌∷◌, length, refl, ap, sym, ◌∙◌, arith, Option, None, Some}
 use Rattle.std.specs.Prelude.{◌==◌, nat_le}
 use Rattle.std.proofs.lemmas.Bool.Decides.{nat_tests}
@@ -59,7 +59,7 @@ pub run_leads : (p : Piece) (ps : List Piece) (bs : List ℕ) → is_run p ≡ t
 run_leads run ps bs h e = end_twice (matching ps) bs e
 run_leads (one test) ps bs h e = cc
 
--- the first end that fits decides
+-- The first end that fits decides.
 pub first_value : (test : List ℕ → Bool) (bs : List ℕ) (r : Bool) → test bs ≡ r → (some_end test bs ≡ true → r ≡ true) → some_end test bs ≡ r
 first_value test bs r e leads = agree (some_end test bs) r (λ h. end_here test bs (e ∙ h)) leads
 
@@ -67,12 +67,12 @@ or_false : (a : Bool) → a ≡ (a || false)
 or_false true = refl
 or_false false = refl
 
--- whether a byte is a member, by what follows the first one
+-- Whether a byte is a member, by the bytes after the first member.
 abbrev pub member_of : Option (ℕ × List ℕ) → ℕ → List ℕ → ℕ → Bool
 member_of None a set x = x == a || is_in set x
 member_of (Some (c, set)) a bs x = (nat_le a x && nat_le x c) || is_in set x
 
--- a set by its first member
+-- A set, by its first member.
 pub member_first : (a : ℕ) (bs : List ℕ) (x : ℕ) → is_in (a ∷ bs) x ≡ member_of (range_behind bs) a bs x
 member_first a [] x = or_false (x == a)
 member_first a (b ∷ []) x = refl
@@ -80,7 +80,7 @@ member_first a (b ∷ c ∷ set) x =
     elim (b == 45) as (λ v. cond v ((nat_le a x && nat_le x c) || is_in set x) (x == a || is_in (b ∷ c ∷ set) x) ≡ member_of (cond v (Some (c, set)) None) a (b ∷ c ∷ set) x)
     [ true ↦ refl | false ↦ refl ]
 
--- pieces more in front
+-- More pieces in front.
 abbrev pub with_pieces : List Piece → Option (List Piece) → Option (List Piece)
 with_pieces [] rest = rest
 with_pieces (p ∷ ps) rest = with_piece p (with_pieces ps rest)
@@ -110,7 +110,7 @@ pub pattern_ends : (bs : List ℕ) → length bs ≡ 0 → pieces_in None bs ≡
 pattern_ends [] h = refl
 pattern_ends (b ∷ bs) h = absurd (omega arith)
 
--- a member of a set, by what stands behind the first one
+-- A member of a set, by the bytes after the first member.
 pub member_none : (a : ℕ) (bs : List ℕ) (x : ℕ) → None ≡ range_behind bs → (x ≡ a → ⊥) → is_in (a ∷ bs) x ≡ is_in bs x
 member_none a bs x none other = member_first a bs x ∙ ap (λ v. member_of v a bs x) (sym none) ∙ ap (λ v. v || is_in bs x) (test_false x a other)
 

@@ -1,4 +1,4 @@
--- No rule looks at a byte behind its reach.
+-- No rule examines a byte at or after its reach.
 use Rattle.std.proofs.Common.{◌≡◌, ◌≤◌, ◌+◌, ℕ, List, [], ◌∷◌, length, take, drop, map, max, min, refl, sym, ap, ◌∙◌, subst, cond, arith, Bool, true, false, Some}
 use Rattle.std.specs.Prelude.{◌&&◌, ◌||◌, not, nat_le, box_value}
 use Rattle.std.proofs.lemmas.Bool.{leb-true, leb-false}
@@ -20,7 +20,7 @@ use Rattle.mime_rules.specs.BestType.{best, better}
 use Rattle.mime_rules.specs.RuleFields.{meaning_of_test, rule_step, meaning_of, alternative_of}
 use Rattle.mime_rules.specs.Reach.{front, greatest, reach_of_test, reach_step, reach_of, reach_of_alternatives, reach, IsEnough}
 
--- a window that lies among the first n bytes is that of the whole
+-- A window within the first n bytes is the window of the whole document.
 window_of_front : (o k n : ℕ) (bytes : List ℕ) → o + k ≤ n → take k (drop o (take n bytes)) ≡ take k (drop o bytes)
 window_of_front o k n bytes within = sym (drop-take o k (take n bytes)) ∙ ap (drop o) (take-take (o + k) n bytes within) ∙ drop-take o k bytes
 
@@ -41,7 +41,7 @@ test_sees (Locale t) n s within = refl
 abbrev SeesFront : Rule → Type 0
 SeesFront r = (n : ℕ) (s : Subject) → reach_of r ≤ n → meaning_of r (front n s) ≡ meaning_of r s
 
--- the same of a layer, whose rules have their reach and their meaning already
+-- The same for a layer whose rules have their reach and their meaning already.
 abbrev LayerSees : Rule-F Rule → Type 0
 LayerSees x = (n : ℕ) (s : Subject) → reach_step (map-Rule Rule ℕ reach_of x) ≤ n
     → rule_step (map-Rule Rule (Subject → Bool) meaning_of x) (front n s) ≡ rule_step (map-Rule Rule (Subject → Bool) meaning_of x) s
@@ -86,7 +86,7 @@ best_sees n s (a ∷ all) within =
     ap (λ b. cond b (Some (better (alternative_of a) found)) found) (rule_sees a.rule n s (omega (arith, within)))
     ∙ ap (λ f. cond (meaning_of a.rule s) (Some (better (alternative_of a) f)) f) (best_sees n s all (omega (arith, within)))
 
--- a document is typed by as many of its first bytes as the rules look at
+-- The bytes that the rules examine determine the type of a document.
 pub is_enough : (types : TypesValue) (len n : ℕ) → n ≡ min len (reach types) → IsEnough types len n
 is_enough types len n is s long = by_order (nat_le (reach types) len) refl
   where

@@ -1,4 +1,4 @@
--- Reading: numbers, texts and values.
+-- The reading of numbers, texts and values.
 use Rattle.std.proofs.Common.{◌≡◌, ℕ, true, false, cond, List, [], ◌∷◌, ◌++◌, length, refl, ap, sym, ◌∙◌, arith, Option, None, Some, Ok, Err}
 use Rattle.std.specs.Prelude.{◌==◌, Result}
 use Rattle.std.proofs.lemmas.Bool.Decides.{nat_tests}
@@ -11,7 +11,7 @@ use Rattle.mime_rules.specs.RuleReading.{Read, read, wrong, on}
 use Rattle.mime_rules.specs.TestArguments.{with_byte, with_blank, text_from, bare, quoted, hex, pair_of, pair_at, pair_read, with_pair, is_quote, is_close, is_close_next, is_closing}
 use Rattle.mime_rules.specs.RuleFields.{Stopped, Grown, with_bytes}
 
--- texts
+-- Texts.
 pub with_bytes_append : (xs : List ℕ) (b : ℕ) (text : Read ℕ (List ℕ)) → with_bytes (xs ++ b ∷ []) text ≡ with_bytes xs (with_byte b text)
 with_bytes_append [] b text = refl
 with_bytes_append (x ∷ xs) b text = ap (with_byte x) (with_bytes_append xs b text)
@@ -67,7 +67,7 @@ pub hex_ends : (b : ℕ) (bs : List ℕ) → b ≡ 62 → text_from hex (b ∷ b
 hex_ends b [] h = ap (λ v. text_from hex (v ∷ [])) h
 hex_ends b (c ∷ bs) h = ap (λ v. text_from hex (v ∷ c ∷ bs)) h
 
--- what a pair in front of hexadecimal digits gives
+-- The text after a pair of hexadecimal digits.
 abbrev pub hex_rest : Read ℕ ℕ → Read ℕ (List ℕ)
 hex_rest pair = on (λ n rest. with_byte n (text_from hex rest)) pair
 
@@ -96,14 +96,14 @@ blanks_dropped (b ∷ bs) h =
       | false ↦ λ e. refl
     ]) refl
 
--- a run goes on from a longer text
+-- A run continues from a longer text.
 pub grown_from : {V : Type 0} (result : Result V Stop) (seen : V → Read ℕ (List ℕ)) (old mid longer : List ℕ) (all more : Read ℕ (List ℕ)) →
     with_bytes old all ≡ with_bytes mid more → Grown result seen mid longer more → Grown result seen old longer all
 grown_from (Ok v) seen old mid longer all more same h = same ∙ h
 grown_from (Err Memory) seen old mid longer all more same h = h
 grown_from (Err (Fault kind)) seen old mid longer all more same h = same ∙ h
 
--- no pair
+-- No pair.
 pub pair_fault : (stop : Stop) (pair : Read ℕ ℕ) (text old : List ℕ) (all : Read ℕ (List ℕ)) → Stopped stop (λ r. pair ≡ r) → with_bytes text (hex_rest pair) ≡ with_bytes old all → Stopped stop (λ r. with_bytes old all ≡ r)
 pair_fault Memory pair text old all h same = tt
 pair_fault (Fault kind) pair text old all h same = sym same ∙ ap (λ v. with_bytes text (hex_rest v)) h ∙ with_bytes_wrong text kind

@@ -1,4 +1,4 @@
--- The tokens of a line, one after the other.
+-- The tokens of a line, in order.
 use Rattle.std.proofs.Common.{◌≡◌, ℕ, zero, suc, ◌<◌, ◌≤◌, List, [], ◌∷◌, ◌++◌, length, map, refl, ap, sym, ◌∙◌, arith, Bool, true, false, append_assoc}
 use Rattle.std.specs.Prelude.{◌==◌, Result, Ok, Err, IfOk}
 use Rattle.std.proofs.lemmas.List.{map-append}
@@ -10,7 +10,7 @@ use Rattle.spool_types.specs.declared.warning.WarningKind.{WarningKind}
 use Rattle.mime_rules.specs.RuleReading.{read, wrong}
 use Rattle.mime_rules.specs.Tokens.{Token, fault, token_at, with_token, tokens_within, tokens_of}
 
--- these bytes have these tokens, with enough steps
+-- These bytes have these tokens, with enough steps.
 abbrev pub TokensSay : List ℕ → List Token → Type 0
 TokensSay bytes ts = (n : ℕ) → length bytes ≤ n → tokens_within n bytes ≡ ts
 

@@ -1,4 +1,4 @@
--- How much of a document the rules look at.
+-- How much of a document the rules examine.
 use Rattle.std.specs.Prelude.{◌≡◌, ℕ, ◌+◌, max, take, length, map, List, [], ◌∷◌, box_value}
 use Rattle.mime_rules.specs.declared.line.Alternative.{Alternative as MemoryAlternative}
 use Rattle.mime_rules.specs.declared.rule.Test.{Test}
@@ -11,16 +11,16 @@ use Rattle.mime_rules.specs.TypesValue.{TypesValue}
 use Rattle.mime_rules.specs.BestType.{type_of}
 use Rattle.mime_rules.specs.RuleFields.{types_of}
 
--- a document of which only the first n bytes are there
+-- The document, cut after its first n bytes.
 abbrev pub front : ℕ → Subject → Subject
 front n s = record s { bytes = take n s.bytes }
 
--- the greatest of these, or 0
+-- The greatest number of the list, or 0.
 abbrev pub greatest : List ℕ → ℕ
 greatest [] = 0
 greatest (n ∷ ns) = max n (greatest ns)
 
--- behind so many bytes a test looks at none
+-- A test examines no byte at or after this offset.
 abbrev pub reach_of_test : Test → ℕ
 reach_of_test (Suffix suffix) = 0
 reach_of_test (Match pattern) = 0
@@ -31,7 +31,7 @@ reach_of_test (FoldedText o t) = o + length t.items
 reach_of_test (Contains range t) = range.offset + range.count
 reach_of_test (Locale t) = 0
 
--- a rule, where the reach of each rule in it is known already
+-- The reach of a rule from the reach of each rule in it.
 abbrev pub reach_step : Rule-F ℕ → ℕ
 reach_step (Leaf t) = reach_of_test t
 reach_step (Not n) = box_value n
@@ -47,10 +47,10 @@ reach_of_all rules = greatest (map reach_of rules)
 abbrev pub reach_of_alternatives : List MemoryAlternative → ℕ
 reach_of_alternatives alternatives = greatest (map (λ a. reach_of a.rule) alternatives)
 
--- behind so many bytes no rule of the file looks at any
+-- No rule of the file examines a byte at or after this offset.
 abbrev pub reach : TypesValue → ℕ
 reach types = reach_of_alternatives types
 
--- the first n bytes are enough to type a document of this length
+-- The first n bytes of a document of this length determine its type.
 abbrev pub IsEnough : TypesValue → ℕ → ℕ → Type 0
 IsEnough types len n = (s : Subject) → length s.bytes ≡ len → type_of (front n s) (types_of types) ≡ type_of s (types_of types)

@@ -1,4 +1,4 @@
--- What the values in memory stand for.
+-- The meanings of the values in memory.
 use Rattle.std.specs.Prelude.{◌≡◌, ℕ, zero, suc, ◌+◌, ◌*◌, ◌≤◌, Bool, true, false, cond, ◌==◌, List, [], ◌∷◌, ◌++◌, length, map, Option, None, Some, Result, Ok, Err, ⊤, box_value}
 use Rattle.spool_types.specs.declared.warning.WarningKind.TheVariants.{BadType, BadRule}
 use Rattle.std.specs.Option.{option_map}
@@ -43,7 +43,7 @@ meaning_of_test (FoldedText o t) = istring_test o t.items
 meaning_of_test (Contains range t) = contains_test range.offset range.count t.items
 meaning_of_test (Locale t) = locale_test t.items
 
--- a rule, where each rule in it has its meaning already
+-- The meaning of a rule from the meanings of the rules in it.
 abbrev pub rule_step : Rule-F (Subject → Bool) → Subject → Bool
 rule_step (Leaf t) = meaning_of_test t
 rule_step (Not m) = negation (box_value m)
@@ -59,7 +59,7 @@ all_mean rules = all_of (map meaning_of rules)
 abbrev pub any_means : List Rule → Subject → Bool
 any_means rules = any_of (map meaning_of rules)
 
--- the piece is the byte's
+-- The piece matches the byte.
 abbrev pub passes_piece : Piece → ℕ → Bool
 passes_piece run b = true
 passes_piece (one passes) b = passes b
@@ -68,17 +68,17 @@ abbrev pub is_run : Piece → Bool
 is_run run = true
 is_run (one passes) = false
 
--- what is left of a pattern that begins with a run, or is at its end
+-- The rest of a pattern, which is empty or begins with a run, matches.
 abbrev pub rest_matches : List Piece → List ℕ → Bool
 rest_matches [] bytes = true
 rest_matches (piece ∷ pieces) bytes = some_end (matching pieces) bytes
 
--- more than what is found measures, or nothing
+-- One more than the measure of the value, or 0 if there is none.
 abbrev pub size_of : {A : Type 0} → (A → ℕ) → Option A → ℕ
 size_of measure None = zero
 size_of measure (Some a) = suc (measure a)
 
--- what an attempt answers: a value that stands for what was read, or the fault; nothing is said where memory is wanting
+-- The result of an attempt to read: a value that represents the input, or its error. Nothing is stated if memory ran out.
 abbrev pub Stopped : {X A : Type 0} → Stop → (Read X A → Type 0) → Type 0
 Stopped Memory Says = ⊤
 Stopped (Fault kind) Says = Says (wrong kind)
@@ -87,16 +87,16 @@ abbrev pub Reads : {V X A : Type 0} → Result V Stop → (V → Read X A) → (
 Reads (Ok v) seen Says = Says (seen v)
 Reads (Err stop) seen Says = Stopped stop Says
 
--- the same, where what is to be read is known
+-- The same, if the input has one reading.
 abbrev pub ReadsExactly : {V X A : Type 0} → Result V Stop → (V → Read X A) → Read X A → Type 0
 ReadsExactly result seen all = Reads result seen (λ r. all ≡ r)
 
--- bytes in front of a text
+-- Bytes in front of a text.
 abbrev pub with_bytes : List ℕ → Read ℕ (List ℕ) → Read ℕ (List ℕ)
 with_bytes [] text = text
 with_bytes (b ∷ bs) text = with_byte b (with_bytes bs text)
 
--- the run at hand was read into a text that was old and is longer now
+-- The current run was appended to the old text, which is longer now.
 abbrev pub Grown : {V : Type 0} → Result V Stop → (V → Read ℕ (List ℕ)) → List ℕ → List ℕ → Read ℕ (List ℕ) → Type 0
 Grown result seen old longer all = Reads result (λ v. with_bytes longer (seen v)) (λ r. with_bytes old all ≡ r)
 
@@ -111,7 +111,7 @@ token_of (TestToken t) = test (meaning_of_test t)
 token_of (PriorityToken n) = priority n
 token_of (FaultToken kind) = fault kind
 
--- what these tokens are read as, with enough steps
+-- The reading of these tokens, with enough steps.
 abbrev pub ListSays : ℕ → List Token → Read Token (Subject → Bool) → Type 0
 ListSays groups ts r = (n : ℕ) → 3 * length ts + 3 ≤ n → list_within n groups ts ≡ r
 
@@ -121,7 +121,7 @@ ItemSays groups ts r = (n : ℕ) → 3 * length ts + 2 ≤ n → item_within n g
 abbrev pub FactorSays : ℕ → List Token → Read Token (Option (Subject → Bool)) → Type 0
 FactorSays groups ts r = (n : ℕ) → 3 * length ts + 1 ≤ n → factor_within n groups ts ≡ r
 
--- the same of a group, behind its opening parenthesis
+-- The same for a group, after its opening parenthesis.
 abbrev pub group_within : ℕ → ℕ → List Token → Read Token (Option (Subject → Bool))
 group_within n zero ts = wrong BadRule
 group_within n (suc groups) ts = on group_end (list_within n groups ts)
@@ -129,7 +129,7 @@ group_within n (suc groups) ts = on group_end (list_within n groups ts)
 abbrev pub GroupSays : ℕ → List Token → Read Token (Option (Subject → Bool)) → Type 0
 GroupSays groups ts r = (n : ℕ) → 3 * length ts + 3 ≤ n → group_within n groups ts ≡ r
 
--- a group that is closed, or isn't
+-- A group that is closed, or is not.
 abbrev pub ended : Bool → (Subject → Bool) → List Token → Read Token (Option (Subject → Bool))
 ended true m ts = read (Some m) ts
 ended false m ts = wrong BadRule
@@ -158,12 +158,12 @@ abbrev pub behind_bang : List Token → List Token
 behind_bang [] = []
 behind_bang (t ∷ ts) = cond (is_bang t) ts (t ∷ ts)
 
--- what the factors mean: nothing where there is none
+-- The meaning of all factors together. None for an empty list.
 abbrev pub all_or_none : List (Subject → Bool) → Option (Subject → Bool)
 all_or_none [] = None
 all_or_none (m ∷ ms) = Some (all_of (m ∷ ms))
 
--- an odd number of `!` negates
+-- An odd number of `!` negates.
 abbrev pub negated_meaning : Bool → Option (Subject → Bool) → Option (Subject → Bool)
 negated_meaning false m = m
 negated_meaning true m = option_map negation m
@@ -178,19 +178,19 @@ alternative_of a = record { media = a.media_type; priority = a.priority; rule = 
 abbrev pub types_of : TypesValue → List Alternative
 types_of types = map alternative_of types
 
--- what a line answers
+-- The result of a line.
 abbrev pub LineTold : Result MemoryAlternative Stop → Outcome → Type 0
 LineTold (Ok a) outcome = outcome ≡ good (alternative_of a)
 LineTold (Err Memory) outcome = ⊤
 LineTold (Err (Fault kind)) outcome = outcome ≡ bad kind
 
--- a media type, or that a line has none
+-- The media type of a line, or that it has none.
 abbrev pub MediaTold : Result (List ℕ) Stop → Option (List ℕ) → Type 0
 MediaTold (Ok media) all = all ≡ Some media
 MediaTold (Err Memory) all = ⊤
 MediaTold (Err (Fault kind)) all = (all ≡ None) × (kind ≡ BadType)
 
--- what is read as a pattern, or its first piece; a set that isn't closed is no part of a list of rules
+-- The pieces of a pattern, or its first piece. A set that is not closed makes the list of rules invalid.
 abbrev pub PatternSays : List ℕ → Read ℕ (List Piece) → Type 0
 PatternSays bytes (read pieces rest) = pattern_of bytes ≡ Some pieces
 PatternSays bytes (wrong kind) = (pattern_of bytes ≡ None) × (kind ≡ BadRule)
@@ -199,7 +199,7 @@ abbrev pub PieceSays : List ℕ → Read ℕ Piece → Type 0
 PieceSays bytes (read piece rest) = pieces_in None bytes ≡ with_piece piece (pieces_in None rest)
 PieceSays bytes (wrong kind) = (pieces_in None bytes ≡ None) × (kind ≡ BadRule)
 
--- the tokens of a line end by its fault
+-- The error is the last token of a line.
 abbrev pub EndsBy : Stop → List Token → List Token → Type 0
 EndsBy Memory old all = ⊥
 EndsBy (Fault kind) old all = all ≡ old ++ fault kind ∷ []

@@ -7,7 +7,7 @@ use Rattle.mime_rules.specs.RuleReading.{Read, read, wrong, on}
 use Rattle.mime_rules.specs.Tests.{Subject, never, negation, both, either}
 use Rattle.mime_rules.specs.Tokens.{Token, gap, comma, plus, bang, opening, closing, test, priority, fault}
 
--- how deep groups nest
+-- The maximum nesting depth of groups.
 abbrev pub most_depth : ℕ
 most_depth = 16
 
@@ -24,12 +24,12 @@ abbrev pub is_end : List Token → Bool
 is_end [] = true
 is_end (t ∷ ts) = closes t
 
--- items are separated by blanks and commas, any number of them
+-- Items are separated by any number of blanks and commas.
 abbrev pub after_separators : List Token → List Token
 after_separators [] = []
 after_separators (t ∷ ts) = cond (separates t) (after_separators ts) (t ∷ ts)
 
--- a factor or an item means nothing where only priorities stand in it; nothing is left out of what it stands in
+-- A factor or an item of priorities only has no meaning, and is left out of the item or list that contains it.
 abbrev pub both_of : Option (Subject → Bool) → Option (Subject → Bool) → Option (Subject → Bool)
 both_of None k = k
 both_of (Some m) None = Some m
@@ -39,11 +39,11 @@ abbrev pub either_of : Option (Subject → Bool) → (Subject → Bool) → Subj
 either_of None k = k
 either_of (Some m) k = either m k
 
--- a factor is negated
+-- A factor is negated.
 abbrev pub negated : Read Token (Option (Subject → Bool)) → Read Token (Option (Subject → Bool))
 negated factor = on (λ m. read (option_map negation m)) factor
 
--- a group ends with its closing parenthesis
+-- A group ends with its closing parenthesis.
 abbrev pub group_end : (Subject → Bool) → List Token → Read Token (Option (Subject → Bool))
 group_end m (closing ∷ ts) = read (Some m) ts
 group_end m _ = wrong BadRule
@@ -51,7 +51,7 @@ group_end m _ = wrong BadRule
 abbrev pub in_group : Read Token (Subject → Bool) → Read Token (Option (Subject → Bool))
 in_group inner = on group_end inner
 
--- a factor: `!` and a factor, a list in parentheses, a test or a priority; inner reads the list, next the factor behind `!`
+-- A factor: `!` and a factor, a list in parentheses, a test or a priority. inner reads the list, next the factor after `!`.
 abbrev pub factor_at : (List Token → Read Token (Subject → Bool)) → (List Token → Read Token (Option (Subject → Bool))) → List Token → Read Token (Option (Subject → Bool))
 factor_at inner next [] = wrong BadRule
 factor_at inner next (test m ∷ ts) = read (Some m) ts
@@ -64,18 +64,18 @@ factor_at inner next (comma ∷ ts) = wrong BadRule
 factor_at inner next (plus ∷ ts) = wrong BadRule
 factor_at inner next (closing ∷ ts) = wrong BadRule
 
--- an item goes on behind a plus
+-- After a plus the item continues.
 abbrev pub behind_factor : (List Token → Read Token (Option (Subject → Bool))) → Option (Subject → Bool) → List Token → Read Token (Option (Subject → Bool))
 behind_factor more m [] = read m []
 behind_factor more m (plus ∷ ts) = on (λ k. read (both_of m k)) (more ts)
 behind_factor more m (t ∷ ts) = read m (t ∷ ts)
 
--- the fault of a token that stands at a wrong place
+-- The error for an unexpected token.
 abbrev pub fault_of : Token → WarningKind
 fault_of (fault kind) = kind
 fault_of _ = BadRule
 
--- behind an item a separator must stand, or the end of the list
+-- An item must be followed by a separator or the end of the list.
 abbrev pub item_end : List Token → Read Token Bool
 item_end [] = read true []
 item_end (t ∷ ts) = cond (separates t || closes t) (read true []) (wrong (fault_of t))
@@ -83,11 +83,11 @@ item_end (t ∷ ts) = cond (separates t || closes t) (read true []) (wrong (faul
 abbrev pub behind_item : (List Token → Read Token (Subject → Bool)) → Option (Subject → Bool) → List Token → Read Token (Subject → Bool)
 behind_item more m ts = on (λ _ _. on (λ k. read (either_of m k)) (more ts)) (item_end ts)
 
--- a list ends with its tokens or before a closing parenthesis
+-- A list ends with its tokens or before a closing parenthesis.
 abbrev pub list_here : (List Token → Read Token (Subject → Bool)) → List Token → Read Token (Subject → Bool)
 list_here items ts = cond (is_end ts) (read never ts) (items ts)
 
--- a factor, an item and a list, in which so many groups more may be nested; the first number bounds the steps
+-- A factor, an item and a list. The first number bounds the steps, the second the groups that may still be nested.
 unfoldable mutual
   pub factor_within : ℕ → ℕ → List Token → Read Token (Option (Subject → Bool))
   factor_within zero groups ts = wrong BadRule
@@ -102,7 +102,7 @@ unfoldable mutual
   list_within zero groups ts = wrong BadRule
   list_within (suc n) groups ts = list_here (λ here. on (behind_item (list_within n groups)) (item_within n groups here)) (after_separators ts)
 
--- nothing may follow the list of a line
+-- Nothing may follow the list of a line.
 abbrev pub line_end : List Token → Read Token Bool
 line_end [] = read true []
 line_end (t ∷ ts) = wrong (fault_of t)
@@ -110,15 +110,15 @@ line_end (t ∷ ts) = wrong (fault_of t)
 abbrev pub whole : (Subject → Bool) → List Token → Read Token (Subject → Bool)
 whole m ts = on (λ _ _. read m []) (line_end ts)
 
--- more steps than a list of so many tokens takes
+-- More steps than a list of this many tokens takes.
 abbrev pub steps : List Token → ℕ
 steps ts = 3 * length ts + 3
 
--- the list of a line: what it means, or its first fault
+-- The list of a line: its meaning, or its first error.
 unfoldable pub list_of : List Token → Read Token (Subject → Bool)
 list_of ts = on whole (list_within (steps ts) most_depth ts)
 
--- the last priority counts, and 100 where there is none
+-- The last priority counts. The default is 100.
 abbrev pub last_priority : ℕ → List Token → ℕ
 last_priority p [] = p
 last_priority p (priority n ∷ ts) = last_priority n ts

@@ -12,18 +12,18 @@ use Rattle.mime_rules.specs.Tests.{Subject}
 use Rattle.mime_rules.specs.Tokens.{Token, tokens_of}
 use Rattle.mime_rules.specs.RuleGrammar.{list_of, priority_of}
 
--- one way to tell that a document is of a type
+-- One alternative of a type.
 pub record Alternative : Type 0 where
   pub media : List ℕ
   pub priority : ℕ
   pub rule : Subject → Bool
 
--- what a line says, or why it can't be read
+-- The alternative of a line, or the error that makes it invalid.
 pub data Outcome : Type 0 where
   good : Alternative → Outcome
   bad : WarningKind → Outcome
 
--- the alternative of this list
+-- The alternative with this list.
 abbrev pub with_list : List ℕ → ℕ → Read Token (Subject → Bool) → Outcome
 with_list media p (read m rest) = good (record { media = media; priority = p; rule = m })
 with_list media p (wrong kind) = bad kind
@@ -31,7 +31,7 @@ with_list media p (wrong kind) = bad kind
 abbrev pub with_tokens : List ℕ → List Token → Outcome
 with_tokens media ts = with_list media (priority_of ts) (list_of ts)
 
--- the type comes first
+-- The type comes first.
 abbrev pub with_type : Option (List ℕ) → List ℕ → Outcome
 with_type None rest = bad BadType
 with_type (Some media) rest = with_tokens media (tokens_of rest)
@@ -47,11 +47,11 @@ abbrev pub warning_in : ℕ → Outcome → Option Warning
 warning_in number (good a) = None
 warning_in number (bad kind) = Some (record { line = number; kind = kind })
 
--- the alternatives of these lines, in their order
+-- The alternatives of these lines, in order.
 abbrev pub alternatives_in : List Line → List Alternative
 alternatives_in lines = filter_map (λ line. alternative_in (outcome_of line.text)) lines
 
--- the warnings of these lines, in their order
+-- The warnings of these lines, in order.
 abbrev pub warnings_in : List Line → List Warning
 warnings_in lines = filter_map (λ line. warning_in line.number (outcome_of line.text)) lines
 

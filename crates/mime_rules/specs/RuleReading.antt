@@ -1,19 +1,19 @@
--- What reading from the front of a list gives.
+-- The result of reading from the front of a list.
 use Rattle.std.specs.Prelude.{ℕ, Bool, cond, ◌==◌, List, [], ◌∷◌}
 use Rattle.spool_types.specs.declared.warning.WarningKind.{WarningKind}
 use Rattle.spool_types.specs.declared.warning.WarningKind.TheVariants.{BadRule}
 
--- a value and what follows it, or the fault
+-- A value and the rest, or the error.
 pub data Read (X A : Type 0) : Type 0 where
   read : A → List X → Read X A
   wrong : WarningKind → Read X A
 
--- what is read next, with the value at hand
+-- Continues after a value has been read.
 abbrev pub on : {X A B : Type 0} → (A → List X → Read X B) → Read X A → Read X B
 on next (read a rest) = next a rest
 on next (wrong kind) = wrong kind
 
--- up to the first byte that passes, and from there on
+-- The elements before the first that passes, and the elements from there on.
 abbrev pub before : (ℕ → Bool) → List ℕ → List ℕ
 before test [] = []
 before test (b ∷ bs) = cond (test b) [] (b ∷ before test bs)
@@ -22,7 +22,7 @@ abbrev pub from : (ℕ → Bool) → List ℕ → List ℕ
 from test [] = []
 from test (b ∷ bs) = cond (test b) (b ∷ bs) (from test bs)
 
--- the wanted byte, if it is next
+-- The wanted byte, if it is next.
 abbrev pub closed_by : ℕ → List ℕ → Read ℕ ℕ
 closed_by c [] = wrong BadRule
 closed_by c (b ∷ bs) = cond (b == c) (read c bs) (wrong BadRule)

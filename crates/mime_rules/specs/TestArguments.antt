@@ -10,24 +10,24 @@ use Rattle.mime_rules.specs.declared.arguments.Width.TheVariants.{Char, Short, I
 abbrev pub is_close : ℕ → Bool
 is_close b = b == 41
 
--- a comma or a closing parenthesis
+-- A comma or a closing parenthesis.
 abbrev pub is_mark : ℕ → Bool
 is_mark b = b == 44 || b == 41
 
--- a number, if it is one and not above this
+-- A number, if it is valid and at most the first argument.
 abbrev pub number_up_to : ℕ → Option ℕ → List ℕ → Read ℕ ℕ
 number_up_to most None rest = wrong BadNumber
 number_up_to most (Some n) rest = cond (nat_le n most) (read n rest) (wrong BadNumber)
 
--- the number up to the next mark
+-- The number up to the next mark.
 abbrev pub number_at : ℕ → List ℕ → Read ℕ ℕ
 number_at most bytes = number_up_to most (number_of (trimmed (before is_mark bytes))) (from is_mark bytes)
 
--- a number with the byte that must follow it
+-- A number and the byte that must follow it.
 abbrev pub number_then : ℕ → ℕ → List ℕ → Read ℕ ℕ
 number_then c most bytes = on (λ n rest. on (λ _. read n) (closed_by c rest)) (number_at most bytes)
 
--- where in a text a byte stands: outside of runs, in quotes, or in hexadecimal digits
+-- Where a byte of a text is: outside of runs, in quotes, or in hexadecimal digits.
 pub data Run : Type 0 where
   bare : Run
   quoted : ℕ → Run
@@ -36,7 +36,7 @@ pub data Run : Type 0 where
 abbrev pub is_quote : ℕ → Bool
 is_quote b = b == 34 || b == 39
 
--- a byte in front of a text
+-- A byte in front of a text.
 abbrev pub with_byte : ℕ → Read ℕ (List ℕ) → Read ℕ (List ℕ)
 with_byte b text = on (λ t. read (b ∷ t)) text
 
@@ -44,16 +44,16 @@ abbrev pub is_close_next : List ℕ → Bool
 is_close_next [] = false
 is_close_next (b ∷ bs) = is_close b
 
--- nothing but blanks stands before the closing parenthesis
+-- Only blanks precede the closing parenthesis.
 abbrev pub is_closing : List ℕ → Bool
 is_closing bytes = is_close_next (after_blanks bytes)
 
--- a blank counts where the text goes on
+-- A blank belongs to the text if the text continues after it.
 abbrev pub with_blank : Bool → ℕ → Read ℕ (List ℕ) → Read ℕ (List ℕ)
 with_blank true b text = text
 with_blank false b text = with_byte b text
 
--- the byte of two hexadecimal digits
+-- The byte of two hexadecimal digits.
 abbrev pub pair_of : ℕ → ℕ → Option ℕ
 pair_of b c = cond (is_hex_digit b) (cond (is_hex_digit c) (Some (16 * digit_value b + digit_value c)) None) None
 
@@ -61,7 +61,7 @@ abbrev pub with_pair : Option ℕ → Read ℕ (List ℕ) → Read ℕ (List ℕ
 with_pair None text = wrong BadText
 with_pair (Some b) text = with_byte b text
 
--- the pair whose second digit is next
+-- The pair whose second digit is next.
 abbrev pub pair_read : Option ℕ → List ℕ → Read ℕ ℕ
 pair_read None rest = wrong BadText
 pair_read (Some b) rest = read b rest
@@ -70,7 +70,7 @@ abbrev pub pair_at : ℕ → List ℕ → Read ℕ ℕ
 pair_at b [] = wrong BadText
 pair_at b (c ∷ bs) = pair_read (pair_of b c) bs
 
--- a text up to its closing parenthesis, and what follows that
+-- A text up to its closing parenthesis, and the rest.
 abbrev pub text_from : Run → List ℕ → Read ℕ (List ℕ)
 text_from bare [] = wrong BadRule
 text_from (quoted q) [] = wrong BadText
@@ -89,7 +89,7 @@ text_from hex (b ∷ c ∷ bs) =
 abbrev pub text_at : List ℕ → Read ℕ (List ℕ)
 text_at bytes = text_from bare (after_blanks bytes)
 
--- how many bytes a value has, which is the greatest, and its bytes, high byte first
+-- The number of bytes of a value, the greatest value, and its bytes, most significant byte first.
 abbrev pub width_of : Width → ℕ
 width_of Char = 1
 width_of Short = 2
@@ -105,11 +105,11 @@ value_bytes Char n = n ∷ []
 value_bytes Short n = n / 256 ∷ n % 256 ∷ []
 value_bytes Int n = n / 16777216 ∷ (n / 65536) % 256 ∷ (n / 256) % 256 ∷ n % 256 ∷ []
 
--- a text of this width
+-- A text of this width.
 abbrev pub text_of_width : Width → List ℕ → Read ℕ (List ℕ)
 text_of_width w bytes = on (λ t rest. cond (length t == width_of w) (read t rest) (wrong BadText)) (text_at bytes)
 
--- a value that is this number, or a text if it is none
+-- A value: this number, or a text if it is not a number.
 abbrev pub value_as : Width → Option ℕ → List ℕ → Read ℕ (List ℕ)
 value_as w None bytes = text_of_width w bytes
 value_as w (Some n) bytes = cond (nat_le n (most_of w)) (on (λ _. read (value_bytes w n)) (closed_by 41 (from is_close bytes))) (wrong BadNumber)

@@ -1,4 +1,4 @@
--- The tokens of a list of rules, left to right, up to the first fault.
+-- The tokens of a list of rules, left to right, up to the first error.
 use Rattle.std.specs.Prelude.{ℕ, zero, suc, Bool, false, ◌||◌, ◌&&◌, cond, ◌==◌, List, [], ◌∷◌, length, Option, None, Some, codes}
 use Rattle.std.specs.Str.{bytes_eq}
 use Rattle.spool_types.specs.declared.warning.WarningKind.{WarningKind}
@@ -25,18 +25,18 @@ pub data Token : Type 0 where
   priority : ℕ → Token
   fault : WarningKind → Token
 
--- `&&` comes next
+-- `&&` comes next.
 abbrev pub is_and : List ℕ → Bool
 is_and [] = false
 is_and (a ∷ []) = false
 is_and (a ∷ b ∷ bs) = a == 38 && b == 38
 
--- what stands behind the second byte of `&&`
+-- The bytes after the second byte of `&&`.
 abbrev pub behind_and : List ℕ → List ℕ
 behind_and [] = []
 behind_and (b ∷ bs) = bs
 
--- a byte that no bare word holds: a blank, or one of `,+()!"`
+-- A byte that no bare word contains: a blank, or one of `,+()!"`.
 abbrev pub is_sign : ℕ → Bool
 is_sign b = is_blank b || b == 44 || b == 43 || b == 40 || b == 41 || b == 33 || b == 34
 
@@ -61,7 +61,7 @@ other_name w =
     (cond (bytes_eq w (codes "locale")) (Some Locale)
     (cond (bytes_eq w (codes "priority")) (Some Priority) None)))))
 
--- the rule of this name, in lower case exactly
+-- The rule with this name, which must be in lower case.
 abbrev pub rule_name : List ℕ → Option RuleName
 rule_name w =
     cond (bytes_eq w (codes "match")) (Some Match)
@@ -71,7 +71,7 @@ rule_name w =
     (cond (bytes_eq w (codes "istring")) (Some FoldedText)
     (other_name w)))))
 
--- a pattern, if its sets are closed
+-- A pattern, if its sets are closed.
 abbrev pub match_token : Option (List Piece) → List ℕ → Read ℕ Token
 match_token None rest = wrong BadRule
 match_token (Some pattern) rest = read (test (match_test pattern)) rest
@@ -113,7 +113,7 @@ locale_token bytes = on (λ t. read (test (locale_test t))) (text_at bytes)
 abbrev pub priority_token : List ℕ → Read ℕ Token
 priority_token bytes = on (λ n. read (priority n)) (number_then 41 200 bytes)
 
--- the rule of this name, whose arguments stand here
+-- The rule with this name, whose arguments are next.
 abbrev pub named_token : Option RuleName → List ℕ → Read ℕ Token
 named_token None bytes = wrong UnknownRule
 named_token (Some Match) bytes = pattern_token bytes
@@ -128,17 +128,17 @@ named_token (Some Contains) bytes = contains_token bytes
 named_token (Some Locale) bytes = locale_token bytes
 named_token (Some Priority) bytes = priority_token bytes
 
--- a word right before `(` is the name of a rule, any other a suffix of names
+-- A word directly before `(` is the name of a rule. Any other word is a suffix of names.
 abbrev pub word_token : List ℕ → List ℕ → Read ℕ Token
 word_token w [] = read (test (suffix_test (46 ∷ w))) []
 word_token w (b ∷ bs) = cond (b == 40) (named_token (rule_name w) bs) (read (test (suffix_test (46 ∷ w))) (b ∷ bs))
 
--- what follows a `+` or `&&`, if one is next
+-- The bytes after a `+` or `&&`, if one is next.
 abbrev pub behind_plus : List ℕ → Option (List ℕ)
 behind_plus [] = None
 behind_plus (b ∷ bs) = cond (b == 43) (Some bs) (cond (is_and (b ∷ bs)) (Some (behind_and bs)) None)
 
--- the token of a byte that no word holds: a `"` begins none, nor does a `+` that is no plus
+-- The token of a byte that no word contains. A `"` begins no token, and neither does a `+` that is no plus.
 abbrev pub sign_token : ℕ → List ℕ → Read ℕ Token
 sign_token b bs =
     cond (is_blank b) (read gap (after_blanks bs))
@@ -148,7 +148,7 @@ sign_token b bs =
     (cond (b == 41) (read closing bs)
     (wrong BadRule)))))
 
--- a token that is no plus
+-- A token that is not a plus.
 abbrev pub other_token : List ℕ → Read ℕ Token
 other_token [] = wrong BadRule
 other_token (b ∷ bs) = cond (is_sign b) (sign_token b bs) (word_token (word_here (b ∷ bs)) (behind_word (b ∷ bs)))
@@ -157,21 +157,21 @@ abbrev pub plus_or : Option (List ℕ) → List ℕ → Read ℕ Token
 plus_or None bytes = other_token bytes
 plus_or (Some behind) bytes = read plus (after_blanks behind)
 
--- the token that begins here; blanks beside a plus and behind a `!` are part of it
+-- The token that begins here. Blanks next to a plus and after a `!` are part of it.
 abbrev pub token_at : List ℕ → Read ℕ Token
 token_at bytes = plus_or (behind_plus (after_blanks bytes)) bytes
 
--- this token, and then what reading says of the rest; a fault is the last token
+-- This token, and then the tokens of the rest. An error is the last token.
 abbrev pub with_token : (List ℕ → List Token) → Read ℕ Token → List Token
 with_token reading (read t rest) = t ∷ reading rest
 with_token reading (wrong kind) = fault kind ∷ []
 
--- the tokens of a list of rules, of which at most so many are read
+-- The tokens of a list of rules, at most n of them.
 unfoldable pub tokens_within : ℕ → List ℕ → List Token
 tokens_within zero bytes = []
 tokens_within (suc n) [] = []
 tokens_within (suc n) (b ∷ bs) = with_token (tokens_within n) (token_at (b ∷ bs))
 
--- the tokens of a list of rules: no list has more tokens than bytes
+-- The tokens of a list of rules. No list has more tokens than bytes.
 unfoldable pub tokens_of : List ℕ → List Token
 tokens_of bytes = tokens_within (length bytes) bytes

@@ -5,11 +5,11 @@ use Rattle.mime_rules.specs.declared.line.Alternative.{Alternative}
 use Rattle.mime_rules.specs.declared.rule.Rule.{Rule}
 use Rattle.mime_rules.specs.contracts.rule.Rule as rules
 
--- the alternatives in the order of their lines, each rule as the tree of its tests
+-- The alternatives in the order of their lines, each rule as the tree of its tests.
 abbrev pub TypesValue : Type 0
 TypesValue = List Alternative
 
--- an alternative is stored as the tuple of its fields
+-- An alternative is stored as the tuple of its fields.
 abbrev pub alternative_code : Coded Alternative
 alternative_code =
     code_by (List ℕ × (ℕ × Rule)) (coded× (coded_list coded_ℕ) (coded× coded_ℕ rules.the_row.coded)) (λ a. (a.media_type, (a.priority, a.rule)))

@@ -16,7 +16,7 @@ const COMMA: u8 = b',';
 
 const CLOSE: u8 = b')';
 
-/// How many bytes a value has.
+/// The width in bytes of a value.
 #[derive(Clone, Copy)]
 pub(crate) enum Width {
     Char,
@@ -46,7 +46,7 @@ impl Width {
     }
 }
 
-/// A number up to the greatest allowed, and the byte that must follow it.
+/// Reads a number that is at most `most`, and the byte that must follow it. Returns the number and the rest.
 pub(crate) fn number_then(line: &[u8], mark: u8, most: u32) -> Result<(u32, &[u8]), Stop>
     ensures value { ReadsExactly result (λ r. read r.0 r.1.now) (number_then mark most line.now) }
     ensures within { IfOk result (λ r. r.0 ≤ most) }
@@ -57,7 +57,7 @@ pub(crate) fn number_then(line: &[u8], mark: u8, most: u32) -> Result<(u32, &[u8
     Ok((number, behind))
 }
 
-// The number up to the next mark, and what follows from there on.
+// Reads the number up to the next mark. Returns it and the rest from the mark on.
 fn number_at(line: &[u8], most: u32) -> Result<(u32, &[u8]), Stop>
     ensures value { ReadsExactly result (λ r. read r.0 r.1.now) (number_at most line.now) }
     ensures within { IfOk result (λ r. r.0 ≤ most) }
@@ -77,7 +77,7 @@ fn number_at(line: &[u8], most: u32) -> Result<(u32, &[u8]), Stop>
     }
 }
 
-// What follows the wanted byte, which must stand here.
+// Returns the bytes after the wanted byte, which must be next.
 fn closed_by(line: &[u8], wanted: u8) -> Result<&[u8], Stop>
     ensures value { ReadsExactly result (λ rest. read wanted rest.now) (closed_by wanted line.now) }
     ensures bound { IfOk result (λ rest. length rest.now < length line.now) }
@@ -94,7 +94,7 @@ fn closed_by(line: &[u8], wanted: u8) -> Result<&[u8], Stop>
     }
 }
 
-// Up to the first `,` or `)`, and from there on.
+// Splits the line before its first `,` or `)`.
 fn cut_at_mark(line: &[u8]) -> (&[u8], &[u8])
     ensures before { result.0.now ≡ before is_mark line.now }
     ensures rest { result.1.now ≡ from is_mark line.now }
@@ -108,7 +108,7 @@ fn cut_at_mark(line: &[u8]) -> (&[u8], &[u8])
     (line, &[])
 }
 
-// Up to the first `)`, and from there on.
+// Splits the line before its first `)`.
 fn cut_at_close(line: &[u8]) -> (&[u8], &[u8])
     ensures before { result.0.now ≡ before is_close line.now }
     ensures rest { result.1.now ≡ from is_close line.now }
@@ -122,7 +122,7 @@ fn cut_at_close(line: &[u8]) -> (&[u8], &[u8])
     (line, &[])
 }
 
-/// A text up to its closing parenthesis, and what follows that.
+/// Reads a text up to its closing parenthesis. Returns the text and the bytes after the parenthesis.
 pub(crate) fn text_at<'a>(alloc: Global, line: &'a [u8]) -> Result<(Vec<u8>, &'a [u8]), Stop>
     ensures value { ReadsExactly result (λ r. read r.0.items r.1.now) (text_at line.now) }
     ensures bound { IfOk result (λ r. length r.1.now < length line.now) }
@@ -142,7 +142,7 @@ pub(crate) fn text_at<'a>(alloc: Global, line: &'a [u8]) -> Result<(Vec<u8>, &'a
     }
 }
 
-// The run that begins with this byte: in quotes, in hexadecimal digits, or a byte that stands for itself.
+// Reads the run that begins with this byte: a run in quotes, a run of hexadecimal digits, blanks, or a single byte.
 fn any_run<'a>(text: &mut Vec<u8>, first: u8, behind: &'a [u8]) -> Result<&'a [u8], Stop>
     requires { is_close first ≡ false }
     ensures grown { Grown result (λ rest. text_from bare rest.now) text.old.items text.new.items (text_from bare (first ∷ behind.now)) }
@@ -166,7 +166,7 @@ fn is_quote(b: u8) -> bool
     b == b'"' || b == b'\''
 }
 
-// A run up to its quote.
+// Reads a run up to its closing quote.
 fn quoted_run<'a>(text: &mut Vec<u8>, quote: u8, line: &'a [u8]) -> Result<&'a [u8], Stop>
     ensures grown { Grown result (λ rest. text_from bare rest.now) text.old.items text.new.items (text_from (quoted quote) line.now) }
     ensures bound { IfOk result (λ rest. length rest.now ≤ length line.now) }
@@ -186,7 +186,7 @@ fn quoted_run<'a>(text: &mut Vec<u8>, quote: u8, line: &'a [u8]) -> Result<&'a [
     }
 }
 
-// A run of pairs of hexadecimal digits up to its `>`.
+// Reads a run of pairs of hexadecimal digits up to its `>`.
 fn hex_run<'a>(text: &mut Vec<u8>, line: &'a [u8]) -> Result<&'a [u8], Stop>
     ensures grown { Grown result (λ rest. text_from bare rest.now) text.old.items text.new.items (text_from hex line.now) }
     ensures bound { IfOk result (λ rest. length rest.now ≤ length line.now) }
@@ -211,7 +211,7 @@ fn hex_run<'a>(text: &mut Vec<u8>, line: &'a [u8]) -> Result<&'a [u8], Stop>
     }
 }
 
-// The byte of two hexadecimal digits, of which the second is the next byte, and what follows them.
+// Returns the byte of two hexadecimal digits and the bytes after them. The second digit is the next byte.
 fn hex_pair(high: u8, line: &[u8]) -> Result<(u8, &[u8]), Stop>
     ensures value { ReadsExactly result (λ r. read r.0 r.1.now) (pair_at high line.now) }
     ensures bound { IfOk result (λ r. length r.1.now < length line.now) }
@@ -230,7 +230,7 @@ fn hex_pair(high: u8, line: &[u8]) -> Result<(u8, &[u8]), Stop>
     }
 }
 
-// What a hexadecimal digit stands for.
+// Returns the value of a hexadecimal digit.
 fn hex_value(b: u8) -> u8
     requires { is_hex_digit b ≡ true }
     ensures value { result ≡ digit_value b }
@@ -245,7 +245,7 @@ fn hex_value(b: u8) -> u8
     }
 }
 
-// A blank counts where no parenthesis follows it and the blanks behind it.
+// Reads blanks. They belong to the text unless the closing parenthesis follows them.
 fn blank_run<'a>(text: &mut Vec<u8>, first: u8, behind: &'a [u8]) -> Result<&'a [u8], Stop>
     requires { is_blank first ≡ true }
     ensures grown { Grown result (λ rest. text_from bare rest.now) text.old.items text.new.items (text_from bare (first ∷ behind.now)) }
@@ -258,7 +258,7 @@ fn blank_run<'a>(text: &mut Vec<u8>, first: u8, behind: &'a [u8]) -> Result<&'a 
     push_blanks(text, behind)
 }
 
-// Blanks that no parenthesis follows.
+// Appends blanks that the closing parenthesis does not follow.
 fn push_blanks<'a>(text: &mut Vec<u8>, line: &'a [u8]) -> Result<&'a [u8], Stop>
     requires { is_closing line.now ≡ false }
     ensures grown { Grown result (λ rest. text_from bare rest.now) text.old.items text.new.items (text_from bare line.now) }
@@ -275,7 +275,7 @@ fn push_blanks<'a>(text: &mut Vec<u8>, line: &'a [u8]) -> Result<&'a [u8], Stop>
     Ok(rest)
 }
 
-// Whether nothing but blanks stands before the closing parenthesis.
+// Returns whether only blanks precede the closing parenthesis.
 fn is_closing(line: &[u8]) -> bool
     ensures { result ≡ is_closing line.now }
 {
@@ -285,7 +285,7 @@ fn is_closing(line: &[u8]) -> bool
     }
 }
 
-/// A value up to its closing parenthesis: a number, or a text of the same width.
+/// Reads a value up to its closing parenthesis: a number, or a text of the same width.
 pub(crate) fn value_at<'a>(
     alloc: Global,
     line: &'a [u8],
@@ -308,7 +308,7 @@ pub(crate) fn value_at<'a>(
     }
 }
 
-// The bytes of a number, and what follows its closing parenthesis, which must stand here.
+// Returns the bytes of a number, and the bytes after its closing parenthesis, which must be next.
 fn closed_value<'a>(
     alloc: Global,
     n: u32,
@@ -324,7 +324,7 @@ fn closed_value<'a>(
     Ok((bytes, behind))
 }
 
-// A text that must have this width.
+// Reads a text that must have this width.
 fn text_of_width<'a>(
     alloc: Global,
     line: &'a [u8],
@@ -341,7 +341,7 @@ fn text_of_width<'a>(
     }
 }
 
-// The bytes of a number, high byte first.
+// Returns the bytes of a number, most significant byte first.
 fn value_bytes(alloc: Global, n: u32, width: Width) -> Result<Vec<u8>, AllocError>
     requires { n ≤ most_of width }
     ensures { IfOk result (λ v. v.items ≡ value_bytes width n) }

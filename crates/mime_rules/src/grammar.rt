@@ -14,12 +14,12 @@ use spool_types::WarningKind;
 use std::alloc::{AllocError, Global};
 use std::collections::VecDeque;
 
-// How deep groups nest.
+// The maximum nesting depth of groups.
 const MOST_DEPTH: u8 = 16;
 
 const USUAL_PRIORITY: u8 = 100;
 
-/// The priority that a line sets last, or 100.
+/// Returns the priority that a line sets last, by default 100.
 pub(crate) fn priority_of(tokens: &VecDeque<Token>) -> u8
     ensures value { result ≡ priority_of (map token_of tokens.now.items) }
 {
@@ -32,7 +32,7 @@ pub(crate) fn priority_of(tokens: &VecDeque<Token>) -> u8
     priority
 }
 
-/// The rule that a line's list is.
+/// Returns the rule of a line's list.
 pub(crate) fn list_of(alloc: Global, tokens: VecDeque<Token>) -> Result<Rule, Stop>
     ensures value { ReadsExactly result (λ rule. read (meaning_of rule) []) (list_of (map token_of tokens.items)) }
 {
@@ -46,7 +46,7 @@ pub(crate) fn list_of(alloc: Global, tokens: VecDeque<Token>) -> Result<Rule, St
     }
 }
 
-// Nothing may follow the list of a line.
+// Checks that nothing follows the list of a line.
 fn end_line(tokens: &VecDeque<Token>) -> Result<(), Stop>
     ensures { ReadsExactly result (λ _. read true []) (line_end (map token_of tokens.now.items)) }
 {
@@ -56,7 +56,7 @@ fn end_line(tokens: &VecDeque<Token>) -> Result<(), Stop>
     }
 }
 
-// The fault of a token that stands at a wrong place.
+// Returns the error for an unexpected token.
 fn fault_at(token: &Token) -> WarningKind
     ensures { result ≡ fault_of (token_of token.now) }
 {
@@ -66,7 +66,7 @@ fn fault_at(token: &Token) -> WarningKind
     }
 }
 
-// A list, up to the end or a closing parenthesis. So many groups may be nested in it.
+// Reads a list, up to the end or a closing parenthesis. `groups` is the number of groups that may be nested in it.
 #[cycle(grammar)]
 fn list(alloc: Global, tokens: &mut VecDeque<Token>, groups: u8) -> Result<Rule, Stop>
     ensures reads { Reads result (λ rule. read (meaning_of rule) (map token_of tokens.new.items)) (ListSays groups (map token_of tokens.old.items)) }
@@ -89,14 +89,14 @@ fn list(alloc: Global, tokens: &mut VecDeque<Token>, groups: u8) -> Result<Rule,
     Ok(any_of(items))
 }
 
-// Any of these items.
+// Returns a rule that is true if any of these items is.
 fn any_of(items: Vec<Rule>) -> Rule
     ensures { meaning_of result ≡ any_of (map meaning_of items.items) }
 {
     Rule::Any(items)
 }
 
-// Adds a rule, if there is one.
+// Appends the rule, if any.
 fn keep(rules: &mut Vec<Rule>, found: Option<Rule>) -> Result<(), AllocError>
     ensures { IfOk result (λ _. map meaning_of rules.new.items ≡ map meaning_of rules.old.items ++ option_to_list (option_map meaning_of found)) }
 {
@@ -106,7 +106,7 @@ fn keep(rules: &mut Vec<Rule>, found: Option<Rule>) -> Result<(), AllocError>
     Ok(())
 }
 
-// An item, or nothing where only priorities stand in it.
+// Reads an item. Returns `None` if it consists of priorities only.
 #[cycle(grammar)]
 fn item(alloc: Global, tokens: &mut VecDeque<Token>, groups: u8) -> Result<Option<Rule>, Stop>
     ensures reads { Reads result (λ rule. read (option_map meaning_of rule) (map token_of tokens.new.items)) (ItemSays groups (map token_of tokens.old.items)) }
@@ -126,7 +126,7 @@ fn item(alloc: Global, tokens: &mut VecDeque<Token>, groups: u8) -> Result<Optio
     }
 }
 
-// All of these factors, or nothing where there is none.
+// Returns a rule that is true if all of these factors are, or `None` if the list is empty.
 fn all_of(factors: Vec<Rule>) -> Option<Rule>
     ensures { option_map meaning_of result ≡ all_or_none (map meaning_of factors.items) }
 {
@@ -137,7 +137,7 @@ fn all_of(factors: Vec<Rule>) -> Option<Rule>
     }
 }
 
-// A factor, or nothing where it is a priority.
+// Reads a factor. Returns `None` if it is a priority.
 #[cycle(grammar)]
 fn factor(alloc: Global, tokens: &mut VecDeque<Token>, groups: u8) -> Result<Option<Rule>, Stop>
     ensures reads { Reads result (λ rule. read (option_map meaning_of rule) (map token_of tokens.new.items)) (FactorSays groups (map token_of tokens.old.items)) }
@@ -153,7 +153,7 @@ fn factor(alloc: Global, tokens: &mut VecDeque<Token>, groups: u8) -> Result<Opt
     }
 }
 
-// A rule, or its negation.
+// Returns the rule or its negation.
 fn negated(alloc: Global, negates: bool, found: Option<Rule>) -> Result<Option<Rule>, AllocError>
     ensures { IfOk result (λ rule. option_map meaning_of rule ≡ negated_meaning negates (option_map meaning_of found)) }
 {
@@ -169,7 +169,7 @@ fn negated(alloc: Global, negates: bool, found: Option<Rule>) -> Result<Option<R
     }
 }
 
-// A factor that begins with no `!`.
+// Reads a factor that does not begin with `!`.
 #[cycle(grammar)]
 fn operand(alloc: Global, tokens: &mut VecDeque<Token>, groups: u8) -> Result<Option<Rule>, Stop>
     requires { is_bang_next (map token_of tokens.old.items) ≡ false }
@@ -196,7 +196,7 @@ fn leaf(test: Test) -> Rule
     Rule::Leaf(test)
 }
 
-// A group, behind its opening parenthesis.
+// Reads a group, after its opening parenthesis.
 #[cycle(grammar)]
 fn group(alloc: Global, tokens: &mut VecDeque<Token>, groups: u8) -> Result<Option<Rule>, Stop>
     ensures reads { Reads result (λ rule. read (option_map meaning_of rule) (map token_of tokens.new.items)) (GroupSays groups (map token_of tokens.old.items)) }
@@ -217,7 +217,7 @@ fn group(alloc: Global, tokens: &mut VecDeque<Token>, groups: u8) -> Result<Opti
     }
 }
 
-// Takes the parenthesis that closes a group, and tells whether one stood there.
+// Removes the parenthesis that closes a group, if it is next. Returns whether it was.
 fn takes_close(tokens: &mut VecDeque<Token>) -> bool
     ensures value { (m : Subject → Bool) → group_end m (map token_of tokens.old.items) ≡ ended result m (map token_of tokens.new.items) }
     ensures shorter { length tokens.new.items ≤ length tokens.old.items }
@@ -238,7 +238,7 @@ fn is_at_end(tokens: &VecDeque<Token>) -> bool
     }
 }
 
-// Behind an item a separator must stand, or the end of the list.
+// Checks that an item is followed by a separator or the end of the list.
 fn end_item(tokens: &VecDeque<Token>) -> Result<(), Stop>
     ensures { ReadsExactly result (λ _. read true []) (item_end (map token_of tokens.now.items)) }
 {
@@ -273,7 +273,7 @@ fn drop_separators(tokens: &mut VecDeque<Token>)
     }
 }
 
-// Takes the plus that joins the next factor, and tells whether one stood there.
+// Removes the plus that joins the next factor, if it is next. Returns whether it was.
 fn takes_plus(tokens: &mut VecDeque<Token>) -> bool
     ensures value { map token_of tokens.new.items ≡ behind_plus (map token_of tokens.old.items) }
     ensures answer { result ≡ is_plus_next (map token_of tokens.old.items) }
@@ -289,7 +289,7 @@ fn takes_plus(tokens: &mut VecDeque<Token>) -> bool
     }
 }
 
-// Takes each `!`, and tells whether there are an odd number of them.
+// Removes all `!` at the front. Returns whether their number is odd.
 fn takes_bangs(tokens: &mut VecDeque<Token>) -> bool
     ensures bangs { (groups : ℕ) (r : Read Sign (Option (Subject → Bool))) → FactorSays groups (map token_of tokens.new.items) r → FactorSays groups (map token_of tokens.old.items) (with_bangs result r) }
     ensures next { is_bang_next (map token_of tokens.new.items) ≡ false }
@@ -302,7 +302,7 @@ fn takes_bangs(tokens: &mut VecDeque<Token>) -> bool
     is_odd
 }
 
-// Takes a `!`, and tells whether one stood there.
+// Removes a `!`, if it is next. Returns whether it was.
 fn takes_bang(tokens: &mut VecDeque<Token>) -> bool
     ensures value { map token_of tokens.new.items ≡ behind_bang (map token_of tokens.old.items) }
     ensures answer { result ≡ is_bang_next (map token_of tokens.old.items) }

@@ -1,11 +1,11 @@
-//! What is so of the best alternative, and of the order by which it is the best. The functions do nothing: their clauses are the laws.
+//! Laws of the best alternative and of the order that defines it. The functions do nothing: their clauses are the laws.
 ghost use Rattle.std.specs.Prelude.{◌≡◌, ◌⊎◌, List, Some, None, false, IsTrue};
 ghost use Rattle.mime_rules.specs.Tests.{Subject};
 ghost use Rattle.mime_rules.specs.RuleLines.{Alternative};
 ghost use Rattle.mime_rules.specs.BestType.{best, beats, IsBest, NoneHolds};
 
-/// The best alternative is a true one that no true one beats; there is none exactly where no alternative is true; and those that no true
-/// one beats are of one type.
+/// The best alternative is a true one that no true one beats. None is best exactly if no alternative is true. All true alternatives that
+/// no true one beats have one type.
 pub fn best_law()
     ensures some { (s : Subject) (all : List Alternative) (a : Alternative) → best s all ≡ Some a → IsBest s all a }
     ensures none { (s : Subject) (all : List Alternative) → best s all ≡ None → NoneHolds s all }

@@ -1,43 +1,58 @@
-//! The media type of a document, by the rules of a file of mime.types(5).
+//! Detects the media type of a document from its name and contents, by the rules of a file of mime.types(5).
 //!
 //! # The rules
 //!
-//! A line is a media type and a list of rules. The lines that backslashes join are one, and blank lines and remarks say nothing
-//! (`mime_lines`). Each line is an alternative: a document is of the type where its list is true.
+//! A line is a media type and a list of rules. Lines joined by backslashes are one line, and blank lines and comments are skipped
+//! (`mime_lines`). Each line is an alternative: a document has the type if the list is true of it.
 //!
-//! - A list is of items, with blanks or commas between them, and is true where an item is. An item is of factors, with `+` or `&&`
-//!   between them, and is true where all are. A factor is `!` and a factor, a list in parentheses, or a test. Blanks beside `+` and `&&` and after
-//!   `!` mean nothing. Parentheses are nested at most 16 deep.
-//! - A bare word is a test of the name: it ends with a dot and the word, whatever the case. The other test of the name is
-//!   `match(p)` (`*`, `?` and sets). Of the n bytes from o on there are `ascii(o,n)`, `printable(o,n)` and `contains(o,n,t)`; of what is
-//!   at o, `string(o,t)`, `istring(o,t)`, `char(o,v)`, `short(o,v)` and `int(o,v)`. And there is `locale(t)`.
-//! - `priority(n)` is no test. It is left out wherever it is, and the last one of a line counts: 0 to 200, and 100 where there is none. An
-//!   item of nothing is false.
-//! - A text is of bare bytes, bytes in quotes, and pairs of hexadecimal digits in `<>`. A value is a number, or a text of its width.
+//! - A list consists of items, separated by blanks or commas, and is true if any item is true. An item consists of factors, joined by `+`
+//!   or `&&`, and is true if all of them are true. A factor is `!` and a factor, a list in parentheses, or a test. Blanks next to `+` and
+//!   `&&` and after `!` are ignored. Parentheses are nested at most 16 deep.
+//! - A bare word tests the name: the name must end with a dot and the word, compared without regard to case. `match(p)` also tests the
+//!   name (`*`, `?` and sets). `ascii(o,n)`, `printable(o,n)` and `contains(o,n,t)` test the n bytes from byte offset o on.
+//!   `string(o,t)`, `istring(o,t)`, `char(o,v)`, `short(o,v)` and `int(o,v)` test the bytes at o. `locale(t)` tests the locale.
+//! - `priority(n)` is no test. Its item ignores it. The last one of a line sets the priority: 0 to 200, by default 100. An item without
+//!   tests is false.
+//! - A text consists of bare bytes, bytes in quotes, and pairs of hexadecimal digits in `<>`. A value is a number, or a text of its
+//!   width.
+//! - The pattern of `match` continues at the first position where the bytes between two stars match. It never backtracks further.
+//! - A token that cannot be read is an error only if the grammar reaches it.
 //!
-//! Of the true alternatives the one of the highest priority counts, and of equal ones the type that is alphabetically first.
+//! Of the true alternatives the one with the highest priority wins. Of those with equal priorities it is the type that is alphabetically
+//! first.
+//!
+//! cegmandi_programs(5) lists the differences from CUPS, and `text_examples` has examples.
 //!
 //! # Promises
 //!
-//! *ExactTyping*: the file's text alone says what is read, and the answer is the one that the definitions name.
+//! *ExactTyping*: only the file's text determines which alternatives and warnings are read, and the definitions name the result.
 //!
-//! - [`Types::read`] gives the `alternatives_of` the text, in order, and its `warnings_of`: for each line that can't be read its number and the kind of
-//!   its first fault from left to right (`specs/Lines`). What a line says is defined in two steps: its tokens up to the first that
-//!   can't be read (`Tokens`, with `Arguments` and `Patterns`), and the grammar over them by recursive descent (`Grammar`). A rule is what it means: true or false for
-//!   each name, bytes and locale (`Tests`).
-//! - [`Types::type_of`] gives the type of the `best` of the true alternatives (`Best`).
-//! - [`Types::reach`] tells how many of its first bytes have the type of a document (`value`, `enough`): the greatest end of a range that a
-//!   rule looks at (`Reach`).
-//! - [`best_law`]: the best is a true alternative that no true one beats, and all such are of one type; where there is none, no alternative is
-//!   true. [`order_law`]: what beats what is a strict order, which tells apart any two of different type or priority.
+//! - [`Types::read`] returns exactly the alternatives of the text, in order (`types`, by `alternatives_of`), and its warnings
+//!   (`warnings`, by `warnings_of`): for each invalid line its number and the kind of its first error from left to right
+//!   (`specs/RuleLines`). A line is defined in two steps: its tokens up to the first that cannot be read (`Tokens`, with `TestArguments`
+//!   and `Patterns`), and the grammar over them by recursive descent (`RuleGrammar`). The meaning of a rule is a function that is true or
+//!   false for each name, bytes and locale (`Tests`).
+//! - [`Types::type_of`] returns exactly the type of the `best` of the true alternatives (`value`, `BestType`). It allocates nothing and
+//!   cannot fail.
+//! - [`Types::reach`] returns the number of first bytes that the rules examine (`value`). These bytes have the type of the whole document
+//!   (`enough`). The number is the greatest end of a range that a rule examines, and at most the length of the document (`Reach`). Every
+//!   range has an end. A rule such as `contains(0,4294967295,t)` makes it the whole document.
+//! - [`best_law`]: the best is a true alternative that no true one beats, and all such alternatives have one type. If none is best, no
+//!   alternative is true. [`order_law`]: the order is strict, and of any two alternatives of different type or priority one beats the
+//!   other.
 //!
-//! Contracts see [`Types`] as its alternatives, each with its rule as a tree (`TypesValue`); `types_of` is what they mean.
+//! Contracts see [`Types`] as its alternatives, each with its rule as a tree (`TypesValue`): the meaning of a rule is a function, which
+//! the value of a model cannot contain. `types_of` maps the trees to their meanings.
 //!
-//! # Cost and faults
+//! # Errors
 //!
-//! Reading a file takes time in proportion to its text, and memory for the rules; out of memory is its one fault. [`Types::type_of`] takes no memory and never
-//! fails. Each rule reads its own range of the document at most once: `contains` is one search by Two-Way. A pattern takes at most
-//! the length of the name times its own, since only the last run before a mismatch is tried again.
+//! The only error is out of memory, and only [`Types::read`] returns it.
+//!
+//! # Cost
+//!
+//! Reading a file takes time in proportion to its text, and allocates the rules. [`Types::type_of`] reads the range of each rule at most
+//! once: `contains` is one search by the Two-Way algorithm. A pattern takes at most the length of the name times its own length, since
+//! only the last run before a mismatch is tried again.
 #![tactic(auto)]
 
 mod arguments;

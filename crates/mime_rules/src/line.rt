@@ -12,7 +12,7 @@ use line_words::first_word;
 use spool_types::{MediaType, WarningKind};
 use std::alloc::Global;
 
-/// One way to tell that a document is of a type.
+/// One alternative of a type: its rule and its priority.
 #[derive(Drop)]
 pub(crate) struct Alternative {
     pub media_type: MediaType,

@@ -1,4 +1,4 @@
-//! Whether a rule is true of a document.
+//! Evaluates the rules on a document.
 ghost use Rattle.std.specs.Prelude.{◌≡◌, ◌≤◌, length, take, drop, map};
 ghost use Rattle.std.specs.List.{list_all, list_any};
 ghost use Rattle.mime_rules.specs.Tests.{window, last_bytes, some_end, stands, stands_folded, is_ascii_text, is_printable_text};
@@ -8,7 +8,7 @@ use crate::pattern::matches;
 use crate::rule::{Rule, Test, Window};
 use memchr::memmem;
 
-/// What the rules see of a document.
+/// The input of the rules: the document's name and bytes, and the locale.
 #[derive(Clone, Copy)]
 pub(crate) struct Subject<'a> {
     pub name: &'a [u8],
@@ -16,7 +16,7 @@ pub(crate) struct Subject<'a> {
     pub locale: &'a [u8],
 }
 
-/// Whether the rule is true. Groups are nested at most 16 deep, so the recursion is shallow.
+/// Returns whether the rule is true. Groups are nested at most 16 deep, so the recursion is shallow.
 #[cycle(holds)]
 pub(crate) fn holds(rule: &Rule, subject: &Subject<'_>) -> bool
     ensures value { result ≡ meaning_of rule.now (subject_of subject.now) }
@@ -53,7 +53,7 @@ fn any_holds(rules: &[Rule], subject: &Subject<'_>) -> bool
     false
 }
 
-// Whether a test is true.
+// Returns whether a test is true.
 fn test_holds(test: &Test, subject: &Subject<'_>) -> bool
     ensures { result ≡ meaning_of_test test.now (subject_of subject.now) }
 {
@@ -69,14 +69,14 @@ fn test_holds(test: &Test, subject: &Subject<'_>) -> bool
     }
 }
 
-// The last bytes, or all where there are fewer.
+// The last `count` bytes, or all if there are fewer.
 fn last_bytes(bytes: &[u8], count: usize) -> &[u8]
     ensures { result.now ≡ last_bytes count bytes.now }
 {
     &bytes[bytes.len().saturating_sub(count)..]
 }
 
-// The bytes from an offset on, none where it lies behind the end.
+// The bytes from an offset on. Empty if the offset is after the end.
 fn from_offset(bytes: &[u8], offset: u32) -> &[u8]
     ensures { result.now ≡ drop offset bytes.now }
 {
@@ -88,7 +88,7 @@ fn from_offset(bytes: &[u8], offset: u32) -> &[u8]
     }
 }
 
-// The first bytes, or all where there are fewer.
+// The first `count` bytes, or all if there are fewer.
 fn front(bytes: &[u8], count: usize) -> &[u8]
     ensures { result.now ≡ take count bytes.now }
 {
@@ -117,7 +117,7 @@ fn stands_folded_at(bytes: &[u8], offset: u32, text: &[u8]) -> bool
     front(from_offset(bytes, offset), text.len()).eq_ignore_ascii_case(text)
 }
 
-// Whether the text stands somewhere in the bytes. One search, linear in them.
+// Returns whether the text occurs in the bytes. One search, linear in their number.
 fn contains(bytes: &[u8], text: &[u8]) -> bool
     ensures { result ≡ some_end (stands text.now) bytes.now }
 {

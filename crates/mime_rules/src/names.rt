@@ -2,7 +2,7 @@
 ghost use Rattle.std.specs.Prelude.{◌≡◌};
 ghost use Rattle.mime_rules.specs.Tokens.{rule_name, other_name};
 
-/// What stands before a parenthesis.
+/// The name before a parenthesis.
 #[derive(Clone, Copy)]
 pub(crate) enum RuleName {
     Match,
@@ -18,7 +18,7 @@ pub(crate) enum RuleName {
     Priority,
 }
 
-/// The rule of this name, in lower case exactly.
+/// Returns the rule with this name, which must be in lower case.
 pub(crate) fn rule_name(word: &[u8]) -> Option<RuleName>
     ensures value { result ≡ rule_name word.now }
 {
@@ -37,7 +37,7 @@ pub(crate) fn rule_name(word: &[u8]) -> Option<RuleName>
     }
 }
 
-// The same of the other names.
+// Returns the rule, if it has one of the other names.
 fn other_name(word: &[u8]) -> Option<RuleName>
     ensures { result ≡ other_name word.now }
 {

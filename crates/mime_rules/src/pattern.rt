@@ -19,11 +19,11 @@ pub(crate) enum Piece {
     Any,
     /// This byte.
     Byte(u8),
-    /// A byte of a set, which is kept as it stands between its brackets.
+    /// A byte of a set, stored as it is written between its brackets.
     Set(Vec<u8>),
 }
 
-/// Whether the whole name matches the pattern. It goes on from the first place at which the bytes between two runs stand.
+/// Returns whether the whole name matches the pattern. The match continues at the first position where the bytes between two runs match.
 pub(crate) fn matches(pattern: &[Piece], name: &[u8]) -> bool
     ensures value { result ≡ matching (map piece_of pattern.now) name.now }
 {
@@ -37,7 +37,8 @@ pub(crate) fn matches(pattern: &[Piece], name: &[u8]) -> bool
     false
 }
 
-// Passes over the single bytes at the front of a pattern, up to a run, or up to both ends. `None` where they don't stand there.
+// Matches the single bytes at the front of a pattern, up to a run, or up to the end of both. Returns the rests, or `None` if they do not
+// match.
 fn fit<'a, 'b>(pattern: &'a [Piece], name: &'b [u8]) -> Option<(&'a [Piece], &'b [u8])>
     ensures value { MatchOption result (matching (map piece_of pattern.now) name.now ≡ false) (λ r. matching (map piece_of pattern.now) name.now ≡ rest_matches (map piece_of r.0.now) r.1.now) }
     ensures leads { IfSome result (λ r. some_end (matching (map piece_of pattern.now)) name.now ≡ true → rest_matches (map piece_of r.0.now) r.1.now ≡ true) }
@@ -67,7 +68,7 @@ fn fit<'a, 'b>(pattern: &'a [Piece], name: &'b [u8]) -> Option<(&'a [Piece], &'b
     }
 }
 
-// The first end of the bytes that the pattern's front fits.
+// Finds the first end of the bytes that the front of the pattern matches.
 fn first_fit<'a, 'b>(pattern: &'a [Piece], name: &'b [u8]) -> Option<(&'a [Piece], &'b [u8])>
     ensures value { MatchOption result (some_end (matching (map piece_of pattern.now)) name.now ≡ false) (λ r. some_end (matching (map piece_of pattern.now)) name.now ≡ rest_matches (map piece_of r.0.now) r.1.now) }
     ensures bound { IfSome result (λ r. length r.0.now ≤ length pattern.now) }
@@ -93,7 +94,7 @@ fn is_run(piece: &Piece) -> bool
     }
 }
 
-// Whether the byte may stand for the piece. A run isn't asked.
+// Returns whether the byte matches the piece. The caller never passes a run.
 fn passes(piece: &Piece, b: u8) -> bool
     ensures { result ≡ passes_piece (piece_of piece.now) b }
 {
@@ -104,7 +105,7 @@ fn passes(piece: &Piece, b: u8) -> bool
     }
 }
 
-// Whether a byte is in a set: of its single bytes, or of its ranges of three bytes.
+// Returns whether a byte is in a set: one of its single bytes, or in one of its ranges of three bytes.
 fn is_in(set: &[u8], x: u8) -> bool
     ensures { result ≡ is_in set.now x }
 {
@@ -134,7 +135,7 @@ fn is_between(first: u8, last: u8, x: u8) -> bool
     first <= x && x <= last
 }
 
-// The last member of a range, if its first stands before these bytes, and what follows it.
+// Returns the last member of a range and the bytes after it, if these bytes continue a range after its first member.
 fn range_end(set: &[u8]) -> Option<(u8, &[u8])>
     ensures value { option_map (λ r. (r.0, r.1.now)) result ≡ range_behind set.now }
     ensures bound { IfSome result (λ r. length r.1.now < length set.now) }
@@ -151,7 +152,7 @@ fn range_end(set: &[u8]) -> Option<(u8, &[u8])>
     }
 }
 
-/// The pieces of a pattern. A set that isn't closed is a fault.
+/// Returns the pieces of a pattern. A set that is not closed is an error.
 pub(crate) fn pattern_of(alloc: Global, text: &[u8]) -> Result<Vec<Piece>, Stop>
     ensures value { Reads result (λ v. read (map piece_of v.items) []) (PatternSays text.now) }
 {
@@ -171,7 +172,7 @@ pub(crate) fn pattern_of(alloc: Global, text: &[u8]) -> Result<Vec<Piece>, Stop>
     }
 }
 
-// The piece that begins with this byte, and what follows it.
+// Returns the piece that begins with this byte, and the bytes after it.
 fn next_piece<'a>(alloc: Global, first: u8, behind: &'a [u8]) -> Result<(Piece, &'a [u8]), Stop>
     ensures value { Reads result (λ r. read (piece_of r.0) r.1.now) (PieceSays (first ∷ behind.now)) }
     ensures bound { IfOk result (λ r. length r.1.now ≤ length behind.now) }
@@ -200,7 +201,7 @@ fn piece_of_byte(b: u8) -> Piece
     }
 }
 
-// A set, and what follows its bracket.
+// Returns the members of a set, and the bytes after its bracket.
 fn cut_set(text: &[u8]) -> Option<(&[u8], &[u8])>
     ensures value { MatchOption result (pieces_in (Some []) text.now ≡ None) (λ r. pieces_in (Some []) text.now ≡ with_piece (one (is_in r.0.now)) (pieces_in None r.1.now)) }
     ensures bound { IfSome result (λ r. length r.1.now < length text.now) }

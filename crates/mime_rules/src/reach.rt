@@ -1,11 +1,11 @@
-//! How much of a document the rules look at.
+//! How much of a document the rules examine.
 ghost use Rattle.std.specs.Prelude.{◌≡◌, ◌+◌, length, min};
 ghost use Rattle.mime_rules.specs.Reach.{reach_of_test, reach_of, reach_of_all, reach_of_alternatives};
 
 use crate::line::Alternative;
 use crate::rule::{Rule, Test, Window};
 
-/// How many of so many bytes the alternatives look at.
+/// Returns the number of bytes that the alternatives examine of a document of `len` bytes.
 pub(crate) fn reach_of_alternatives(alternatives: &[Alternative], len: usize) -> usize
     ensures { result ≡ min len (reach_of_alternatives alternatives.now) }
 {
@@ -16,7 +16,8 @@ pub(crate) fn reach_of_alternatives(alternatives: &[Alternative], len: usize) ->
     most
 }
 
-// How many of so many bytes a rule looks at. Groups are nested at most 16 deep, so the recursion is shallow.
+// Returns the number of bytes that a rule examines of a document of `len` bytes. Groups are nested at most 16 deep, so the recursion is
+// shallow.
 #[cycle(reaches)]
 fn reach_of(rule: &Rule, len: usize) -> usize
     ensures { result ≡ min len (reach_of rule.now) }

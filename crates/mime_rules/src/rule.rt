@@ -2,7 +2,7 @@
 
 use crate::pattern::Piece;
 
-/// The bytes of a document from an offset on, as many as there are up to a count.
+/// The `count` bytes of a document from `offset` on, or fewer if it ends before.
 #[derive(Clone, Copy)]
 pub(crate) struct Window {
     pub offset: u32,
@@ -12,7 +12,7 @@ pub(crate) struct Window {
 /// A test of mime.types(5).
 #[derive(Drop)]
 pub(crate) enum Test {
-    /// The name ends with these bytes, which are a dot and a word.
+    /// The name ends with these bytes, a dot and a word.
     Suffix(Vec<u8>),
     /// The name matches a pattern.
     Match(Vec<Piece>),
@@ -20,23 +20,22 @@ pub(crate) enum Test {
     Ascii(Window),
     /// The bytes are printable.
     Printable(Window),
-    /// The text stands at an offset: `string`, and also `char`, `short` and `int`.
+    /// The text is at this offset: `string`, and also `char`, `short` and `int`.
     Text(u32, Vec<u8>),
-    /// The same, whatever the case.
+    /// The same without regard to case.
     FoldedText(u32, Vec<u8>),
-    /// The text stands somewhere in the bytes.
+    /// The text occurs in the bytes.
     Contains(Window, Vec<u8>),
     /// The locale is this text.
     Locale(Vec<u8>),
 }
 
-/// A rule.
 #[derive(Drop)]
 pub(crate) enum Rule {
     Leaf(Test),
     Not(Box<Rule>),
-    /// Each of them is true.
+    /// All of them are true.
     All(Vec<Rule>),
-    /// One of them is true.
+    /// Any of them is true.
     Any(Vec<Rule>),
 }

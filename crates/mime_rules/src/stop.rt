@@ -1,14 +1,14 @@
-//! Why reading stops.
+//! Errors that end reading.
 
 use spool_types::WarningKind;
 use std::alloc::{AllocError, AllocFailed};
 
-/// Why reading a line stops.
+/// Why reading a line ended early.
 #[derive(Clone, Copy, Debug, PartialEq, Eq)]
 pub(crate) enum Stop {
-    /// No memory was found.
+    /// Out of memory.
     Memory,
-    /// The line can't be read.
+    /// The line is invalid.
     Fault(WarningKind),
 }
 

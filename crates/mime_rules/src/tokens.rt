@@ -38,11 +38,11 @@ pub(crate) enum Token {
     Close,
     Test(Test),
     Priority(u8),
-    /// Nothing can be read from here on.
+    /// The rest cannot be read.
     Fault(WarningKind),
 }
 
-/// The tokens of a list of rules, up to the first fault.
+/// Returns the tokens of a list of rules, up to the first error.
 pub(crate) fn tokens_of(alloc: Global, line: &[u8]) -> Result<VecDeque<Token>, AllocError>
     ensures value { IfOk result (λ tokens. map token_of tokens.items ≡ tokens_of line.now) }
 {
@@ -60,7 +60,7 @@ pub(crate) fn tokens_of(alloc: Global, line: &[u8]) -> Result<VecDeque<Token>, A
     Ok(tokens)
 }
 
-// The tokens with that of a fault.
+// Appends the token of an error.
 fn with_last(tokens: VecDeque<Token>, stop: Stop) -> Result<VecDeque<Token>, AllocError>
     ensures { IfOk result (λ all. EndsBy stop (map token_of tokens.items) (map token_of all.items)) }
 {
@@ -74,7 +74,7 @@ fn with_last(tokens: VecDeque<Token>, stop: Stop) -> Result<VecDeque<Token>, All
     }
 }
 
-// The token that begins here. Blanks beside a plus are part of it.
+// Reads the token that begins here. Blanks next to a plus are part of it.
 fn token_at<'a>(alloc: Global, line: &'a [u8]) -> Result<(Token, &'a [u8]), Stop>
     ensures value { ReadsExactly result (λ r. read (token_of r.0) r.1.now) (token_at line.now) }
     ensures bound { IfOk result (λ r. length r.1.now < length line.now) }
@@ -85,7 +85,7 @@ fn token_at<'a>(alloc: Global, line: &'a [u8]) -> Result<(Token, &'a [u8]), Stop
     }
 }
 
-// A token that is no plus.
+// Reads a token that is not a plus.
 fn other_token<'a>(alloc: Global, line: &'a [u8]) -> Result<(Token, &'a [u8]), Stop>
     requires { behind_plus (after_blanks line.now) ≡ None }
     ensures value { ReadsExactly result (λ r. read (token_of r.0) r.1.now) (other_token line.now) }
@@ -103,7 +103,7 @@ fn other_token<'a>(alloc: Global, line: &'a [u8]) -> Result<(Token, &'a [u8]), S
     }
 }
 
-// What follows a `+` or `&&`, if one is next.
+// Returns the bytes after a `+` or `&&`, if one is next.
 fn behind_plus(line: &[u8]) -> Option<&[u8]>
     ensures value { option_map (λ r. r.now) result ≡ behind_plus line.now }
     ensures bound { IfSome result (λ r. length r.now < length line.now) }
@@ -121,7 +121,7 @@ fn is_sign(b: u8) -> bool
     is_blank(b) || b == b',' || b == b'+' || b == b'(' || b == b')' || b == b'!' || b == b'"'
 }
 
-// The token of a byte that no word holds.
+// Returns the token of a byte that no word contains.
 fn sign(first: u8, behind: &[u8]) -> Result<(Token, &[u8]), Stop>
     ensures value { ReadsExactly result (λ r. read (token_of r.0) r.1.now) (sign_token first behind.now) }
     ensures bound { IfOk result (λ r. length r.1.now ≤ length behind.now) }
@@ -147,7 +147,7 @@ fn is_and(line: &[u8]) -> bool
     }
 }
 
-// A suffix of names, or a rule that a name and `(` begin.
+// Reads a suffix of names, or a rule that begins with a name and `(`.
 fn word<'a>(alloc: Global, line: &'a [u8]) -> Result<(Token, &'a [u8]), Stop>
     requires { 0 < length (word_here line.now) }
     ensures value { ReadsExactly result (λ r. read (token_of r.0) r.1.now) (word_token (word_here line.now) (behind_word line.now)) }
@@ -174,7 +174,7 @@ fn suffix_token<'a>(alloc: Global, word: &[u8], rest: &'a [u8]) -> Result<(Token
     Ok((Token::Test(Test::Suffix(suffix)), rest))
 }
 
-// A dot and the word.
+// Returns a dot and the word.
 fn suffix(alloc: Global, word: &[u8]) -> Result<Vec<u8>, AllocError>
     ensures { IfOk result (λ v. v.items ≡ 46 ∷ word.now) }
 {
@@ -184,7 +184,7 @@ fn suffix(alloc: Global, word: &[u8]) -> Result<Vec<u8>, AllocError>
     Ok(suffix)
 }
 
-// Up to the first byte that ends a word, and from there on.
+// Splits the line before the first byte that ends a word.
 fn cut_word(line: &[u8]) -> (&[u8], &[u8])
     ensures word { result.0.now ≡ word_here line.now }
     ensures rest { result.1.now ≡ behind_word line.now }
@@ -198,7 +198,7 @@ fn cut_word(line: &[u8]) -> (&[u8], &[u8])
     (line, &[])
 }
 
-// The rule of this name, whose arguments stand here.
+// Reads the arguments of the rule with this name, which are next.
 fn named<'a>(
     alloc: Global,
     name: Option<RuleName>,

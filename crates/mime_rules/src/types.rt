@@ -16,8 +16,8 @@ use spool_types::{MediaType, Warning};
 use std::alloc::{AllocError, Global};
 use std::marker::Model;
 
-/// What a file of mime.types(5) says: for each media type the alternatives by which a document is of that type. Seen as the list of
-/// these, in the order of their lines.
+/// The contents of a file of mime.types(5): the alternatives of each media type. Contracts see them as a list, in the order of their
+/// lines.
 #[derive(Drop)]
 pub struct Types {
     alternatives: Vec<Alternative>,
@@ -34,7 +34,7 @@ impl Model for Types {
 }
 
 impl Types {
-    /// Reads a file. Each line that can't be read is skipped, with a warning of its first fault.
+    /// Reads a file. Each invalid line is skipped, with a warning of its first error.
     pub fn read(alloc: Global, text: &str) -> Result<(Types, Vec<Warning>), AllocError>
         ensures types { IfOk result (λ r. types_of r.0 ≡ alternatives_of text.now) }
         ensures warnings { IfOk result (λ r. r.1.items ≡ warnings_of text.now) }
@@ -44,7 +44,7 @@ impl Types {
         Ok((Types { alternatives }, warnings))
     }
 
-    /// The type of a document with this name and these bytes, in this locale. It takes no memory.
+    /// Returns the type of a document with this name and these bytes, in this locale. Allocates nothing.
     pub fn type_of(&self, name: &str, bytes: &[u8], locale: &str) -> Option<&MediaType>
         ensures value { option_map (λ media. media.now) result ≡ type_of (record { name = name.now; bytes = bytes.now; locale = locale.now }) (types_of self.now) }
     {
@@ -59,7 +59,7 @@ impl Types {
         }
     }
 
-    /// How many of its first bytes tell the type of a document of this length: no rule looks at one behind them.
+    /// Returns how many first bytes determine the type of a document of this length. No rule examines a later byte.
     pub fn reach(&self, len: usize) -> usize
         ensures value { result ≡ min len (reach self.now) }
         ensures enough { IsEnough self.now len result }
@@ -68,7 +68,7 @@ impl Types {
     }
 }
 
-// The alternatives and the warnings of these lines.
+// Returns the alternatives and the warnings of these lines.
 fn read_lines(
     alloc: Global,
     lines: &[JoinedLine<'_>],
@@ -84,7 +84,7 @@ fn read_lines(
     Ok((alternatives, warnings))
 }
 
-// Adds what a line says, or why it can't be read.
+// Adds the alternative of a line, or its warning.
 fn add_line(
     alloc: Global,
     line: &JoinedLine<'_>,
@@ -110,7 +110,7 @@ fn add_line(
     }
 }
 
-// The best of the alternatives that are true.
+// Returns the best of the alternatives that are true.
 fn best<'a>(alternatives: &'a [Alternative], subject: &Subject<'_>) -> Option<&'a Alternative>
     ensures { option_map (λ a. alternative_of a.now) result ≡ best (subject_of subject.now) (map alternative_of alternatives.now) }
 {
@@ -125,7 +125,7 @@ fn best<'a>(alternatives: &'a [Alternative], subject: &Subject<'_>) -> Option<&'
     found
 }
 
-// Which of the two counts.
+// Returns the one of the two that wins.
 fn better<'a>(first: &'a Alternative, later: Option<&'a Alternative>) -> &'a Alternative
     ensures { alternative_of result.now ≡ better (alternative_of first.now) (option_map (λ a. alternative_of a.now) later.entry) }
 {
@@ -135,7 +135,7 @@ fn better<'a>(first: &'a Alternative, later: Option<&'a Alternative>) -> &'a Alt
     }
 }
 
-// Whether an alternative has the higher priority, or the same and the type that is alphabetically before.
+// Returns whether `a` has the higher priority, or the same priority and the type that is alphabetically first.
 fn beats(a: &Alternative, b: &Alternative) -> bool
     ensures { result ≡ beats (alternative_of a.now) (alternative_of b.now) }
 {

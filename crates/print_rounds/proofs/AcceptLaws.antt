@@ -1,4 +1,4 @@
--- No event of a round is refused, so where there is no fault all was acknowledged.
+-- No event of a round is refused, so if there is no fault all events were acknowledged.
 use Rattle.std.proofs.Common.{◌≡◌, ℕ, List, [], ◌∷◌, Option, Some, None, Result, Ok, Err, refl, sym, ap, subst}
 use Rattle.std.specs.Option.{option_or}
 use Rattle.spool_disk.specs.Disk.{DiskView}
@@ -28,7 +28,7 @@ pub or_second : (a b : Option RoundFault) → option_or a b ≡ None → b ≡ N
 or_second None b e = e
 or_second (Some fault) b e = absurd (cc)
 
--- an accepted event isn't refused
+-- An accepted event is not refused.
 pub unrefused : (s : State) (e : Event) (refusal : Refusal) → refusal_of s e ≡ None → step s e ≡ Err refusal → ⊥
 unrefused s e refusal accepted refused = apart (after s e, reply_to s e) (step s e) (ap (answered s e) accepted) refused
   where
@@ -46,7 +46,7 @@ module _ {D : Type 0} (device : DiskView D) where
   one_begun old (Some j) (Some (Err faults.Full)) new is e = absurd (cc)
   one_begun old (Some j) (Some (Err faults.Disk)) new is e = absurd (cc)
 
-  -- each job was started, where no start has a fault
+  -- If no start has a fault, each job was started.
   pub all_begun : (old : OpenSpool D) (ts : List (Starting D)) (new : OpenSpool D) → AreStartings device old ts new → starting_fault ts ≡ None → AllBegun ts
   all_begun old [] new same e = tt
   all_begun old (t ∷ ts) new (start, starts) e = (
@@ -61,7 +61,7 @@ one_served launches.NoMemory e = absurd (cc)
 one_served launches.Disk e = absurd (cc)
 one_served launches.Dead e = absurd (cc)
 
--- there was memory, where no start of a child has a fault
+-- If no start of a child has a fault, memory sufficed.
 pub all_served : (ls : List Launching) → launching_fault ls ≡ None → AllServed ls
 all_served [] e = tt
 all_served (l ∷ ls) e = (one_served l.launch (or_first (launch_fault l.launch) (launching_fault ls) e), all_served ls (or_second (launch_fault l.launch) (launching_fault ls) e))

@@ -1,4 +1,4 @@
--- The places of queues among the names, and the queues of which a child runs.
+-- The positions of queues among the names, and the queues with a running child.
 use Rattle.std.proofs.Common.{◌≡◌, ◌≢◌, ℕ, zero, suc, ◌+◌, ◌<◌, Bool, true, false, cond, not, ◌&&◌, ◌||◌, List, [], ◌∷◌, ◌++◌, length, map, take, get_or, set, replicate, Option, Some, None, Result, Ok, Err, IfSome, IsNone, IsTrue, inl, inr, refl, sym, ap, subst, ◌∙◌, arith}
 use Rattle.std.specs.Cmp.{first_so, second_so, tied_itself}
 use Rattle.std.specs.Cmp.Lexicographic.{slice_cmp, nat_list_cmp_total, nat_list_eq_equiv, same_text}
@@ -26,7 +26,7 @@ use Rattle.print_rounds.specs.Passes.{unblocked}
 use Rattle.print_rounds.proofs.LookLaws.{jobs_to, no_jobs, true_from}
 use Rattle.print_rounds.proofs.StartLaws.{queue_count}
 
--- ## The place of a queue
+-- ## The position of a queue
 
 abbrev names_cmp : List ℕ → List ℕ → Ordering
 names_cmp = slice_cmp nat_cmp
@@ -50,14 +50,14 @@ rise (e ∷ es) sorted i zero d lt at = absurd (omega arith)
 rise (e ∷ es) sorted zero (suc j) d lt at = below_each e.0 es (first_so (below_all names_cmp e.0 es) (is_sorted names_cmp es) sorted) j d (omega arith)
 rise (e ∷ es) sorted (suc i) (suc j) d lt at = rise es (second_so (below_all names_cmp e.0 es) (is_sorted names_cmp es) sorted) i j d (omega arith) (omega arith)
 
--- the names of a table rise
+-- The names in a table are in ascending order.
 names_rise : (queues : Queues) (i j : ℕ) (d : List ℕ) → i < j → j < length (finite.keys queues) → names_cmp (get_or (finite.keys queues) i d) (get_or (finite.keys queues) j d) ≡ Less
 names_rise queues i j d lt at = rise (finite.entries queues) (true_from _ (finite.entries_sorted queues)) i j d lt at
 
 not_itself : (name : List ℕ) → names_cmp name name ≡ Less → ⊥
 not_itself name less = let tied = tied_itself nat_list_cmp_total name in absurd (cc)
 
--- so each stands at one place
+-- So each has one position.
 one_place : (queues : Queues) (name : List ℕ) (i j : ℕ) → i < length (finite.keys queues) → j < length (finite.keys queues) → get_or (finite.keys queues) i [] ≡ name → get_or (finite.keys queues) j [] ≡ name → i ≡ j
 one_place queues name i j i_in j_in first second = elim (cases_order i j) [
   | inl same ↦ same
@@ -65,7 +65,7 @@ one_place queues name i j i_in j_in first second = elim (cases_order i j) [
   | inr (inr lt) ↦ absurd (not_itself name (sym (ap (λ n. names_cmp n name) second) ∙ sym (ap (names_cmp (get_or (finite.keys queues) j [])) first) ∙ names_rise queues j i [] lt i_in))
 ]
 
--- what a binary search among the rows of the queues finds
+-- The result of a binary search among the rows of the queues.
 module _ (s : State) (rows : List QueueRow) (named : map (λ row. row.name) rows ≡ finite.keys s.queues) where
   name_in : (i : ℕ) (d : QueueRow) → (get_or rows i d).name ≡ get_or (finite.keys s.queues) i d.name
   name_in i d = sym (get_or-map (λ (q : QueueRow). q.name) rows i d) ∙ ap (λ ns. get_or ns i d.name) named
@@ -110,7 +110,7 @@ module _ (s : State) (rows : List QueueRow) (named : map (λ row. row.name) rows
       any_row [] apart = refl
       any_row (q ∷ qs) apart = ap (λ b. b || list_any (eq_by_cmp names_cmp name) (map (λ row. row.name) qs)) (apart 0 q (omega arith)) ∙ any_row qs (λ i d lt. apart (suc i) d (omega arith))
 
-  -- where the queue of a job stands
+  -- The position of a job's queue.
   abbrev pub IsPlaceOf : Job → Option ℕ → Type 0
   IsPlaceOf r None = finite.contains_key s.queues r.queue ≡ false
   IsPlaceOf r (Some at) = IsNameAt (finite.keys s.queues) r.queue at
@@ -128,14 +128,14 @@ module _ (s : State) (rows : List QueueRow) (named : map (λ row. row.name) rows
   place_some j r there None absent = tt
   place_some j r there (Some at) is = (r, there, is)
 
-  -- in a legal table it stands among the others
+  -- In a legal table a job's queue has a position.
   pub place_none : IsLegal s → (j : ℕ) (r : Job) → job_at s j ≡ Some r → (o : Option ℕ) → IsPlaceOf r o → IsNone o → job_at s j ≡ None
   place_none legal j r there None absent none = let is = (legal.jobs j r there).queue in absurd (cc (is, absent))
   place_none legal j r there (Some at) is none = absurd (cc)
 
 -- ## Queues that are blocked
 
--- whether each of these queues is blocked, by a child of one of these jobs
+-- Whether each of these queues is blocked, by a child of one of these jobs.
 abbrev pub flags_to : State → Slots → List ℕ → List (List ℕ) → List Bool
 flags_to s slots js names = map (λ name. list_any (λ j. runs slots j && is_of_queue name (job_at s j)) js) names
 
@@ -158,7 +158,7 @@ module _ (s : State) (slots : Slots) where
   or_more false true = refl
   or_more false false = refl
 
-  -- one job more
+  -- One more job.
   flag_more : (js : List ℕ) (k : ℕ) (name : List ℕ) → flag (js ++ k ∷ []) name ≡ (flag js name || (runs slots k && is_of_queue name (job_at s k)))
   flag_more js k name =
       list_any-append (λ j. runs slots j && is_of_queue name (job_at s j)) js (k ∷ [])
@@ -168,12 +168,12 @@ module _ (s : State) (slots : Slots) where
   or_left true b off = refl
   or_left false b off = off
 
-  -- a job that blocks none
+  -- A job that blocks no queue.
   pub flags_stay : (js : List ℕ) (k : ℕ) (names : List (List ℕ)) → ((name : List ℕ) → (runs slots k && is_of_queue name (job_at s k)) ≡ false) → flags_to s slots js names ≡ flags_to s slots (js ++ k ∷ []) names
   flags_stay js k [] off = refl
   flags_stay js k (n ∷ ns) off = λ i. sym (flag_more js k n ∙ or_left (flag js n) (runs slots k && is_of_queue n (job_at s k)) (off n)) i ∷ flags_stay js k ns off i
 
-  -- a job that blocks the queue at this place
+  -- A job that blocks the queue at this position.
   pub flags_set : (js : List ℕ) (k : ℕ) (r : Job) (names : List (List ℕ)) (at : ℕ) → runs slots k ≡ true → job_at s k ≡ Some r → IsNameAt names r.queue at → set (flags_to s slots js names) at true ≡ flags_to s slots (js ++ k ∷ []) names
   flags_set js k r names at going there place = ext_get_or true _ _ (length-set (flags_to s slots js names) at true ∙ flag_count s slots js names ∙ sym (flag_count s slots (js ++ k ∷ []) names)) each
     where
@@ -216,7 +216,7 @@ module _ (s : State) (slots : Slots) where
                 ∙ sym (new_at i i_in ∙ or_left (flag js (get_or names i [])) (own (get_or names i [])) (is_other i i_in apart))
           ]
 
--- the queues whose flags are off
+-- The queues whose flags are off.
 flags_filter : (f : List ℕ → Bool) (names : List (List ℕ)) → unblocked (map f names) names ≡ filter (λ name. not (f name)) names
 flags_filter f [] = refl
 flags_filter f (n ∷ ns) = by_test (f n) (flags_filter f ns)
@@ -228,7 +228,7 @@ flags_filter f (n ∷ ns) = by_test (f n) (flags_filter f ns)
 pub flags_free : (s : State) (slots : Slots) → unblocked (flags_to s slots (finite.keys slots) (finite.keys s.queues)) (finite.keys s.queues) ≡ free_queues s slots
 flags_free s slots = flags_filter (λ name. is_blocked s slots name) (finite.keys s.queues)
 
--- ## Starts of the queues that aren't blocked
+-- ## Starts of the queues that are not blocked
 
 unblocked_one : (flags : List Bool) (names : List (List ℕ)) (b : Bool) (name : List ℕ) → length flags ≡ length names → unblocked (flags ++ b ∷ []) (names ++ name ∷ []) ≡ unblocked flags names ++ cond b [] (name ∷ [])
 unblocked_one [] [] b name e = refl
@@ -241,7 +241,7 @@ unblocked_one (f ∷ fs) (n ∷ ns) b name e = by_test f (unblocked_one fs ns b 
     by_test true rest = rest
     by_test false rest = ap (λ ms. n ∷ ms) rest
 
--- one queue more
+-- One more queue.
 pub unblocked_more : (flags : List Bool) (names : List (List ℕ)) (i : ℕ) (b d : Bool) (name : List ℕ) → length flags ≡ length names → i < length names → b ≡ get_or flags i d → name ≡ get_or names i name →
     unblocked (take (i + 1) flags) (take (i + 1) names) ≡ unblocked (take i flags) (take i names) ++ cond b [] (name ∷ [])
 unblocked_more flags names i b d name long lt at_flag at_name =

@@ -1,4 +1,4 @@
--- The processing jobs, queue by queue, are distinct, and so are those of them that are tended and those that are started.
+-- The processing jobs, queue by queue, are distinct, and so are the tended jobs and the started jobs among them.
 use Rattle.std.proofs.Common.{◌≡◌, ℕ, suc, ◌+◌, ◌<◌, take, get_or, length, add-one, Bool, true, false, cond, not, ◌&&◌, ◌||◌, ◌==◌, List, [], ◌∷◌, ◌++◌, map, Option, Some, None, unwrap_or, IsTrue, refl, sym, ap, subst, ◌∙◌, arith}
 use Rattle.std.proofs.Math.Seq.{take-suc}
 use Rattle.std.specs.Option.{option_map}
@@ -27,7 +27,7 @@ use Rattle.print_rounds.proofs.EndLaws.{not_first, not_second}
 use Rattle.print_rounds.proofs.FreeLaws.{resting_of}
 use Rattle.print_rounds.proofs.LookLaws.{true_from}
 
--- no child of any of them runs
+-- None of them has a running child.
 pub all_rest : (slots : Slots) → HasNoneRunning slots → (js : List ℕ) → AllRest slots js
 all_rest slots rests [] = tt
 all_rest slots rests (j ∷ js) = (rests j, all_rest slots rests js)
@@ -42,7 +42,7 @@ module _ {X : Type 0} (p : X → Bool) where
       (subst (λ z. Contains (x ∷ xs) z) same (0, omega arith, refl), ap p (sym same) ∙ is)
   found_first x xs y false is e rest = let more = rest e in (later x xs y more.0, more.1)
 
-  -- what is found passes
+  -- A job that is found passes the test.
   found : (xs : List X) (y : X) → find p xs ≡ Some y → Contains xs y × (p y ≡ true)
   found [] y e = absurd (cc)
   found (x ∷ xs) y e = found_first x xs y (p x) refl e (found xs y)
@@ -53,7 +53,7 @@ below_itself Equal e below = absurd (cc)
 below_itself Greater e below = absurd (cc)
 
 module _ (s : State) (rows : (r : Job) → Contains (finite.values s.jobs) r → job_at s r.id ≡ Some r) where
-  -- the row of a queue's processing job
+  -- The row of a queue's processing job.
   busy_row : (name : List ℕ) (j : ℕ) → busy_of s name ≡ Some j → (r : Job) × (job_at s j ≡ Some r) × (r.queue ≡ name)
   busy_row name j is = by_found (find test (finite.values s.jobs)) refl is
     where
@@ -67,7 +67,7 @@ module _ (s : State) (rows : (r : Job) → Contains (finite.values s.jobs) r →
           let id : r.id ≡ j = ap (λ o. unwrap_or o j) there in
           (r, subst (λ k. job_at s k ≡ Some r) id (rows r among), same_text r.queue name (sym (first_so (is_of name r) (is_processing r.phase) passes)))
 
-  -- a job has one queue
+  -- A job has one queue.
   one_queue : (m n : List ℕ) (j : ℕ) → busy_of s m ≡ Some j → busy_of s n ≡ Some j → m ≡ n
   one_queue m n j first second =
       let (r, there, own) = busy_row m j first in
@@ -75,7 +75,7 @@ module _ (s : State) (rows : (r : Job) → Contains (finite.values s.jobs) r →
       let same : r ≡ q = ap (λ o. unwrap_or o r) (sym there ∙ also) in
       sym own ∙ ap (λ (x : Job). x.queue) same ∙ other
 
-  -- no job of a queue is that of a later one
+  -- No job of a queue is that of a later queue.
   busy_out : (n : List ℕ) (j : ℕ) → busy_of s n ≡ Some j → (es : List (List ℕ × QueueRow)) → IsTrue (below_all (slice_cmp nat_cmp) n es) → is_in j (busy_jobs s (map (λ e. e.0) es)) ≡ false
   busy_out n j own [] below = refl
   busy_out n j own (e ∷ es) below = by_busy (busy_out n j own es (second_so (is_lt (slice_cmp nat_cmp n e.0)) (below_all (slice_cmp nat_cmp) n es) below)) (busy_of s e.0) refl
@@ -101,11 +101,11 @@ module _ (s : State) (rows : (r : Job) → Contains (finite.values s.jobs) r →
       by_busy rest None is = rest
       by_busy rest (Some k) is = (busy_out e.0 k is es (first_so (below_all (slice_cmp nat_cmp) e.0 es) (finite.is_sorted (slice_cmp nat_cmp) es) sorted), rest)
 
-  -- a table has each of its processing jobs once
+  -- A table has each of its processing jobs once.
   pub all_distinct : AreDistinct (busy_jobs s (finite.keys s.queues))
   all_distinct = busy_distinct (finite.entries s.queues) (true_from _ (finite.entries_sorted s.queues))
 
--- one queue more
+-- One more queue.
 pub busy_more : (s : State) (names : List (List ℕ)) (name : List ℕ) → busy_jobs s (names ++ name ∷ []) ≡ busy_jobs s names ++ with_busy (busy_of s name) []
 busy_more s [] name = refl
 busy_more s (n ∷ names) name = by_busy (busy_more s names name) (busy_of s n)
@@ -114,24 +114,24 @@ busy_more s (n ∷ names) name = by_busy (busy_more s names name) (busy_of s n)
     by_busy rest None = rest
     by_busy rest (Some k) = ap (λ js. k ∷ js) rest
 
--- the jobs of one queue more, whose job is known
+-- The jobs with one more queue, whose job is known.
 busy_further : (s : State) (names : List (List ℕ)) (i : ℕ) (name : List ℕ) → i < length names → name ≡ get_or names i name → busy_jobs s (take (i + 1) names) ≡ busy_jobs s (take i names) ++ with_busy (busy_of s name) []
 busy_further s names i name lt at =
     ap (busy_jobs s) (ap (λ k. take k names) (add-one i) ∙ take-suc names i name lt)
     ∙ ap (λ n. busy_jobs s (take i names ++ n ∷ [])) (sym at)
     ∙ busy_more s (take i names) name
 
--- of them those of which no child runs
+-- The jobs among them without a running child.
 pub waiting_further : (s : State) (slots : Slots) (names : List (List ℕ)) (i : ℕ) (name : List ℕ) → i < length names → name ≡ get_or names i name →
     idle_among slots (busy_jobs s (take (i + 1) names)) ≡ idle_among slots (busy_jobs s (take i names)) ++ idle_among slots (with_busy (busy_of s name) [])
 waiting_further s slots names i name lt at =
     ap (idle_among slots) (busy_further s names i name lt at)
     ∙ filter-append (λ j. not (runs slots j)) (busy_jobs s (take i names)) (with_busy (busy_of s name) [])
 
--- ## Those that are tended
+-- ## Tended jobs
 
 module _ (s : State) (slots : Slots) where
-  -- that of a queue, if it is
+  -- The job of a queue, if it is tended.
   abbrev pub tended_of : Option ℕ → List ℕ
   tended_of o = filter (λ j. not (is_stray s slots j)) (with_busy o [])
 
@@ -140,7 +140,7 @@ module _ (s : State) (slots : Slots) where
       ap (filter (λ j. not (is_stray s slots j))) (busy_further s names i name lt at)
       ∙ filter-append (λ j. not (is_stray s slots j)) (busy_jobs s (take i names)) (with_busy (busy_of s name) [])
 
--- what is left out of a list is left out of a part of it
+-- An item that is not in a list is not in a part of it.
 out_of : (p : ℕ → Bool) (j : ℕ) (js : List ℕ) → is_in j js ≡ false → is_in j (filter p js) ≡ false
 out_of p j [] out = refl
 out_of p j (k ∷ js) out = by_test (out_of p j js (not_second (k == j) (is_in j js) out)) (p k)
@@ -157,12 +157,12 @@ part_distinct p (j ∷ js) (out, distinct) = by_test (part_distinct p js distinc
     by_test rest true = (out_of p j js out, rest)
     by_test rest false = rest
 
--- ## Those that are started
+-- ## Started jobs
 
 pub idle_distinct : (slots : Slots) (jobs : List ℕ) → AreDistinct jobs → AreDistinct (idle_among slots jobs)
 idle_distinct slots jobs distinct = part_distinct (λ j. not (runs slots j)) jobs distinct
 
--- no child of any of them runs
+-- None of them has a running child.
 pub idle_rests : (slots : Slots) (jobs : List ℕ) → AllRest slots (idle_among slots jobs)
 idle_rests slots [] = tt
 idle_rests slots (j ∷ jobs) = by_test (idle_rests slots jobs) (runs slots j) refl

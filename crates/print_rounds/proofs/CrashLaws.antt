@@ -1,4 +1,4 @@
--- What a crash in a part of a round leaves: the table after the first of the events that were tried in it, and the documents.
+-- The effect of a crash in a part of a round: the table after the first of the events that were tried in it, and the documents.
 use Rattle.std.proofs.Common.{◌≡◌, ◌≤◌, ◌⊎◌, ⊎_elim, inl, inr, ℕ, ◌+◌, Bool, true, false, List, [], ◌∷◌, ◌++◌, length, take, Option, Some, None, Ok, Err, refl, sym, ap, subst, ◌∙◌, arith, append-nil, length-append}
 use Rattle.std.proofs.Math.Seq.{take-append-add}
 use Rattle.std.proofs.lemmas.List.{take-append-le}
@@ -31,7 +31,7 @@ use Rattle.print_rounds.proofs.PrefixLaws.{after_both}
 use Rattle.print_rounds.proofs.LaunchLaws.{some_of}
 use Rattle.print_rounds.proofs.ReadLaws.{reads_state, reads_still, reads_handed}
 
--- the image is what is left after the first of these events, some or all
+-- The image is as required after the first of these events, some or all.
 abbrev pub HasSome : (State → List ℕ → Type 0) → State → List Event → List ℕ → Type 0
 HasSome Left s events image = (k : ℕ) × (k ≤ length events) × Left (after_all s (take k events)) image
 
@@ -39,12 +39,12 @@ module _ (Left : State → List ℕ → Type 0) where
   pub none_left : (s : State) (es : List Event) (c : List ℕ) → Left s c → HasSome Left s es c
   none_left s es c has = (0, omega arith, has)
 
-  -- some of the first, and then more
+  -- Some of the first events, and then more.
   pub first_left : (s : State) (es fs : List Event) (c : List ℕ) → HasSome Left s es c → HasSome Left s (es ++ fs) c
   first_left s es fs c (k, high, has) =
       (k, omega (arith, high, length-append es fs), subst (λ l. Left (after_all s l) c) (sym (take-append-le k es fs high)) has)
 
-  -- all of the first, and some more
+  -- All of the first events, and some more.
   pub later_left : (s t : State) (es fs : List Event) (c : List ℕ) → t ≡ after_all s es → HasSome Left t fs c → HasSome Left s (es ++ fs) c
   later_left s t es fs c is (k, high, has) = (
     length es + k,
@@ -52,8 +52,8 @@ module _ (Left : State → List ℕ → Type 0) where
     subst (λ u. Left u c) (ap (λ u. after_all u (take k fs)) is ∙ sym (after_both s es (take k fs)) ∙ ap (after_all s) (sym (take-append-add es fs k))) has,
   )
 
--- What is left by a crash, and what has to be so of a spool for that. An event that sends nothing leaves it as before or after
--- it, and while the device works it goes on to be so; and so it does over reads.
+-- A property of the images that a crash leaves, and the property of a spool that it requires. An event that sends nothing leaves images as
+-- before or after it, and while the device works the spool keeps its property. Reads keep it too.
 pub record IsLasting {D : Type 0} (device : DiskView D) (Given : OpenSpool D → Type 0) (Left : State → List ℕ → Type 0) : Type 0 where
   pub one : (old : OpenSpool D) (e : Event) (a : Answer) (new : OpenSpool D) → sent_by e ≡ None → IsApplied device old e a new → old.dead ≡ false → IsSome (device.bytes old.disk) → Given old →
       LeavesOnly device old.disk new.disk (λ c. Left old.state c ⊎ Left (after_one old.state e) c)
@@ -61,19 +61,19 @@ pub record IsLasting {D : Type 0} (device : DiskView D) (Given : OpenSpool D →
   pub read : (old new : OpenSpool D) → new.state ≡ old.state → ChangesNothing device old.disk new.disk → Given old → Given new
 
 module _ {D : Type 0} (device : DiskView D) (lawful : IsLawful device) (Given : OpenSpool D → Type 0) (Left : State → List ℕ → Type 0) (lasting : IsLasting device Given Left) where
-  -- what a crash in a part leaves: an image that there was, or what is after the first of the events
+  -- A crash in a part leaves an image that was possible before, or one after the first of the events.
   pub record Crashes (old : OpenSpool D) (tried : List Event) (new : OpenSpool D) : Type 0 where
     pub left : old.dead ≡ false → IsSome (device.bytes old.disk) → Given old → LeavesOnly device old.disk new.disk (λ c. device.image old.disk c ⊎ HasSome Left old.state tried c)
     pub keeps : new.dead ≡ false → IsSome (device.bytes old.disk) → Given old → Given new
 
-  -- nothing is done
+  -- Nothing is done.
   still : (old new : OpenSpool D) (tried : List Event) → new ≡ old → Crashes old tried new
   still old new tried same = subst (λ (s : OpenSpool D). Crashes old tried s) (sym same) (record {
     left = λ alive tells given. started device old.disk _ (λ c since. inl (lawful.only_now old.disk c since));
     keeps = λ lives tells given. given;
   })
 
-  -- a part, and another after it
+  -- One part, followed by another.
   module _ (old mid new : OpenSpool D) (es fs xs ys : List Event) (first : IsPart device old es xs mid) (more : IsPart device mid fs ys new) (one : Crashes old es mid) (two : Crashes mid fs new) where
     first_run : LeavesOnly device old.disk mid.disk (λ c. device.image old.disk c ⊎ HasSome Left old.state es c) → LeavesOnly device old.disk mid.disk (λ c. device.image old.disk c ⊎ HasSome Left old.state (es ++ fs) c)
     first_run run = weaker_run device old.disk mid.disk _ _ run (λ c. ⊎_elim (λ now. inl now) (λ some. inr (first_left Left old.state es fs c some)))
@@ -167,7 +167,7 @@ tables_last device = record {
   read = λ old new state same given. tt;
 }
 
--- an event that sends nothing leaves the documents as they are
+-- An event that sends nothing leaves the documents unchanged.
 unsent : (s : State) (documents : ℕ → List ℕ) (e : Event) (j : ℕ) → sent_by e ≡ None → documents_after_one s documents e j ≡ documents j
 unsent s documents e j none = by_cause (refusal_of s e)
   where
@@ -181,7 +181,7 @@ same_documents s t documents e c none has = λ j lasts. subst (λ d. HasDocument
 same_whole : (s t : State) (documents : ℕ → List ℕ) (e : Event) (c : List ℕ) → sent_by e ≡ None → HasWhole t (documents_after_one s documents e) c → HasWhole t documents c
 same_whole s t documents e c none (table, has) = (table, same_documents s t documents e c none has)
 
--- the bytes that a disk tells have these documents
+-- The bytes that a disk reports have these documents.
 abbrev pub TellsDocuments : {D : Type 0} → DiskView D → (ℕ → List ℕ) → OpenSpool D → Type 0
 TellsDocuments device documents s = (bytes : List ℕ) → device.bytes s.disk ≡ Some bytes → HasDocuments s.state documents bytes
 
@@ -205,7 +205,7 @@ module _ {D : Type 0} (device : DiskView D) (lawful : IsLawful device) (document
   pub told_of : (s : OpenSpool D) → LeavesDocuments device documents s → TellsDocuments device documents s
   told_of s given = λ bytes has. given bytes (lawful.reads_image s.disk bytes has)
 
-  -- what stands after an answer, by what is sent where it is acknowledged
+  -- The property after an answer, given the property after an acknowledged event.
   by_answer : (Given : OpenSpool D → Type 0) (old : OpenSpool D) (e : Event) (a : Answer) (new : OpenSpool D) → IsApplied device old e a new → new.dead ≡ false → Given old → ((reply : Reply) → a ≡ Ok reply → Given new) → Given new
   by_answer Given old e (Ok reply) new is lives given sent = sent reply refl
   by_answer Given old e (Err faults.Dead) new is lives given sent = subst Given (sym is.cause.1) given
@@ -214,7 +214,7 @@ module _ {D : Type 0} (device : DiskView D) (lawful : IsLawful device) (document
   by_answer Given old e (Err faults.Full) new is lives given sent = subst Given (sym is.cause.1) given
   by_answer Given old e (Err faults.Disk) new is lives given sent = let died = is.cause.dead in absurd (cc)
 
-  -- by the bytes that the disk tells
+  -- By the bytes that the disk reports.
   pub told_last : IsLasting device (TellsDocuments device documents) (λ s c. HasWhole s documents c)
   told_last = record {
     one = sent_run;
@@ -223,7 +223,7 @@ module _ {D : Type 0} (device : DiskView D) (lawful : IsLawful device) (document
     read = λ old new state same given bytes has. subst (λ s. HasDocuments s documents bytes) (sym state) (given bytes (sym same.bytes ∙ has));
   }
 
-  -- and by all images
+  -- By all images.
   pub left_last : IsLasting device (LeavesDocuments device documents) (λ s c. HasWhole s documents c)
   left_last = record {
     one = λ old e a new none is alive tells given. sent_run old e a new none is alive tells (told_of old given);
@@ -234,7 +234,7 @@ module _ {D : Type 0} (device : DiskView D) (lawful : IsLawful device) (document
 
 -- ## A whole round
 
--- until the device has failed a crash leaves the table
+-- Until the device has failed, a crash leaves the table.
 abbrev pub IsKept : {D : Type 0} → DiskView D → OpenSpool D → Type 0
 IsKept device s = s.dead ≡ false → IsSome (device.bytes s.disk) → (c : List ℕ) → device.image s.disk c → HasTable s.state c
 
@@ -242,7 +242,7 @@ module _ {D : Type 0} (device : DiskView D) (lawful : IsLawful device) (old mid 
   rest_part : IsPart device mid (ending_tried es) (ending_events es) new.spool
   rest_part = both_parts device mid read new.spool [] (ending_tried es) [] (ending_events es) (reads_part device mid ls read lawful reads) (ends_part device (run_state read slots told) es new ends)
 
-  -- the starts, the reads and the ends
+  -- The starts, the reads and the ends.
   pub round_part : IsPart device old (starting_tried old ts ++ ending_tried es) (starting_events old ts ++ ending_events es) new.spool
   round_part = both_parts device old mid new.spool (starting_tried old ts) (ending_tried es) (starting_events old ts) (ending_events es) (starts_part device old ts mid starts) rest_part
 
@@ -256,21 +256,21 @@ module _ {D : Type 0} (device : DiskView D) (lawful : IsLawful device) (old mid 
         (starts_crash device lawful Given Left lasting old ts mid starts) rest_crash
 
   module _ (kept : IsKept device old) where
-    -- a crash at any moment of the round leaves the table after the first of the events that were tried
+    -- A crash at any moment of the round leaves the table after the first of the events that were tried.
     pub any_moment : old.dead ≡ false → IsSome (device.bytes old.disk) → LeavesOnly device old.disk new.spool.disk (HasSomeOf old.state (starting_tried old ts ++ ending_tried es))
     any_moment alive tells = weaker_run device old.disk new.spool.disk _ _ ((round_crash (λ s. Unit {0}) HasTable (tables_last device)).left alive tells tt)
         (λ c. ⊎_elim (λ now. (0, omega arith, omega arith, kept alive tells c now)) (λ some. (some.0, omega arith, some.1, some.2)))
 
-    -- with the documents that all images had before it
+    -- It leaves the documents that all images had before the round.
     pub any_whole : old.dead ≡ false → IsSome (device.bytes old.disk) → (documents : ℕ → List ℕ) → LeavesDocuments device documents old → LeavesOnly device old.disk new.spool.disk (HasSomeWhole old.state documents (starting_tried old ts ++ ending_tried es))
     any_whole alive tells documents given = weaker_run device old.disk new.spool.disk _ _ ((round_crash (LeavesDocuments device documents) (λ s c. HasWhole s documents c) (left_last device lawful documents)).left alive tells given)
         (λ c. ⊎_elim (λ now. (0, omega arith, (kept alive tells c now, given c now))) (λ some. some))
 
-  -- and all images have them after it
+  -- All images have these documents after the round.
   pub lasting : new.spool.dead ≡ false → IsSome (device.bytes old.disk) → (documents : ℕ → List ℕ) → LeavesDocuments device documents old → LeavesDocuments device documents new.spool
   lasting lives tells documents given = (round_crash (LeavesDocuments device documents) (λ s c. HasWhole s documents c) (left_last device lawful documents)).keeps lives tells given
 
-  -- what is read where the disk tells its bytes
+  -- The documents that are read if the disk reports its bytes.
   pub handed : mid.dead ≡ false → (bytes : List ℕ) (documents : ℕ → List ℕ) → device.bytes old.disk ≡ Some bytes → HasDocuments old.state documents bytes → (place : Place) (own own' : Slots) (seen seen' : Option ChildTrace) → AreLaunchings place mid.state own seen ls own' seen' → AreHanded documents ls
   handed lives bytes documents has given place own own' seen seen' launches =
       let start = starts_crash device lawful (TellsDocuments device documents) (λ s c. HasWhole s documents c) (told_last device lawful documents) old ts mid starts in

@@ -1,4 +1,4 @@
--- Every child that is running when the first child is finished is finished once.
+-- Each child that is running when the first child is finished is finished once.
 use Rattle.std.proofs.Common.{◌≡◌, ℕ, suc, ◌+◌, Bool, ◌&&◌, nat_lt, true, false, cond, ◌==◌, ◌||◌, List, [], ◌∷◌, length, map, Option, Some, None, unwrap_or, refl, sym, ap, subst, ◌∙◌, arith, add-zero, Ok, Err}
 use Rattle.std.specs.Cmp.{nat_cmp_total, eq_by_cmp_equiv, unsigned_tied}
 use Rattle.spool_disk.specs.Disk.{DiskView}
@@ -20,7 +20,7 @@ use Rattle.print_rounds.specs.Finished.{AreDistinct, with_number, with_slot, run
 pub get_own : (m : Slots) (j : ℕ) (x : Slot ℕ) → finite.get (finite.insert m j x) j ≡ Some x
 get_own m j x = finite.get-insert nat_cmp_total m j x j ∙ ap (λ b. cond b (Some x) (finite.get m j)) ((eq_by_cmp_equiv nat_cmp_total).refl j)
 
--- a slot of another job
+-- A slot of another job.
 pub get_other : (m : Slots) (j k : ℕ) (x : Slot ℕ) → (k == j) ≡ false → finite.get (finite.insert m j x) k ≡ finite.get m k
 get_other m j k x other = finite.get-insert nat_cmp_total m j x k ∙ ap (λ b. cond b (Some x) (finite.get m k)) (unsigned_tied k j ∙ other)
 
@@ -30,7 +30,7 @@ get_left m j k other = finite.get-remove nat_cmp_total m j k ∙ ap (λ b. cond 
 pub turned : (j k : ℕ) → (j == k) ≡ false → (k == j) ≡ false
 turned j k h = sym (unsigned_tied k j) ∙ (eq_by_cmp_equiv nat_cmp_total).symm k j ∙ unsigned_tied j k ∙ h
 
--- the slots of all other jobs are as they were
+-- The slots of all other jobs are unchanged.
 abbrev pub SameBut : ℕ → Slots → Slots → Type 0
 SameBut j m n = (k : ℕ) → (k == j) ≡ false → finite.get n k ≡ finite.get m k
 
@@ -42,7 +42,7 @@ pub not_second : (a b : Bool) → (a || b) ≡ false → b ≡ false
 not_second true b h = absurd (cc)
 not_second false b h = h
 
--- so the children of other jobs run on
+-- So the children of other jobs still run.
 pub running_same : (j : ℕ) (m n : Slots) → SameBut j m n → (js : List ℕ) → is_in j js ≡ false → running_in n js ≡ running_in m js
 running_same j m n same [] out = refl
 running_same j m n same (k ∷ js) out =
@@ -76,13 +76,13 @@ one_more : (a b : ℕ) → (a + 1) + b ≡ a + suc b
 one_more a b = omega arith
 
 module _ {D : Type 0} (device : DiskView D) where
-  -- a report changes the slot of its job alone, and calls no child
+  -- A report changes only the slot of its job, and calls no child.
   pub report_same : (old : RunState D) (j : ℕ) (r : Report) (new : RunState D) → IsReport device old j r new → (new.told ≡ old.told) × SameBut j old.slots new.slots
   report_same old j reports.Silent new none = absurd none
   report_same old j reports.NoMemory new same = (ap (λ (c : RunState D). c.told) same, λ k other. ap (λ (c : RunState D). finite.get c.slots k) same)
   report_same old j (reports.Answered a) new report = (report.2, λ k other. ap (λ m. finite.get m k) report.1 ∙ moved_same old.slots j a k other)
 
-  -- what the end of one stage leaves
+  -- The result of the end of one stage.
   pub record IsOneEnd (t : ChildTrace) (old : RunState D) (j : ℕ) (js : List ℕ) (new : RunState D) : Type 0 where
     pub told : ChildTrace
     pub tells : new.told ≡ Some told
@@ -142,7 +142,7 @@ module _ {D : Type 0} (device : DiskView D) where
       by_slot None there = unchanged (ap (λ o. with_slot o (running_in old.slots js)) there) (subst (λ o. IsEndingOf device old (is_silent o) e) there ends).2
       by_slot (Some slot) there = by_progress slot slot.progress there refl (subst (λ o. IsEndingOf device old (is_silent o) e) there ends)
 
-  -- Each child that was running has been finished once, and no other, whatever became of the events.
+  -- Each running child was finished once, and no other, whatever the answers to the events.
   pub ends_finished : (t : ChildTrace) (old : RunState D) (es : List (Ending D)) (new : RunState D) → AreEndings device old es new → old.told ≡ Some t → t.running ≡ running_in old.slots (map (λ e. e.job) es) → AreDistinct (map (λ e. e.job) es) → (t' : ChildTrace) × (new.told ≡ Some t') × AreFinished t old.slots (map (λ e. e.job) es) t'
   ends_finished t old [] new same tells runs distinct = (t, ap (λ (c : RunState D). c.told) same ∙ tells, record { only = refl; orders = refl; running = runs; finished = sym (add-zero t.finished) })
   ends_finished t old (e ∷ es) new ends tells runs distinct =
@@ -160,7 +160,7 @@ module _ {D : Type 0} (device : DiskView D) where
         },
       )
 
--- what runs no child adds no number
+-- A slot without a running child adds no number.
 pub quiet : (o : Option (Slot ℕ)) → IsTicketless o → with_slot o [] ≡ []
 quiet None rests = refl
 quiet (Some slot) rests = by_progress slot.progress refl
@@ -170,7 +170,7 @@ quiet (Some slot) rests = by_progress slot.progress refl
     by_progress (Running n) is = absurd (rests n is)
     by_progress (Ended finish) is = refl
 
--- a stage that isn't running has no ticket
+-- A stage that is not running has no ticket.
 pub ticketless : (o : Option (Slot ℕ)) (slot : Slot ℕ) (p : Progress ℕ) → o ≡ Some slot → slot.progress ≡ p → is_running p ≡ false → IsTicketless o
 ticketless o slot p there is rests = subst IsTicketless (sym there) (λ n runs.
     let not : is_running p ≡ true = ap is_running (sym is) ∙ ap is_running runs in
@@ -202,7 +202,7 @@ module _ {D : Type 0} (device : DiskView D) where
   report_rests old j reports.NoMemory new same rests = subst (λ (c : RunState D). IsTicketless (finite.get c.slots j)) (sym same) rests
   report_rests old j (reports.Answered a) new report rests = subst (λ m. IsTicketless (finite.get m j)) (sym report.1) (moved_rests old.slots j a rests)
 
-  -- after the end of a stage its slot runs no child, and all others are as they were
+  -- After the end of a stage its slot has no running child, and all others are unchanged.
   pub end_rests : (old : RunState D) (e : Ending D) → IsEnding device old e → SameBut e.job old.slots e.next.slots × IsTicketless (finite.get e.next.slots e.job)
   end_rests old e ends = by_slot (finite.get old.slots e.job) refl
     where
@@ -233,7 +233,7 @@ module _ {D : Type 0} (device : DiskView D) where
   in_or_out true c e = absurd (cc)
   in_or_out false c e = refl
 
-  -- after the ends no child of these jobs runs, and those of others run on
+  -- After the ends the children of these jobs do not run, and those of other jobs still run.
   pub ends_rest : (old : RunState D) (es : List (Ending D)) (new : RunState D) → AreEndings device old es new → (k : ℕ) → (is_in k (map (λ e. e.job) es) ≡ false → IsTicketless (finite.get old.slots k)) → IsTicketless (finite.get new.slots k)
   ends_rest old [] new same k rests = subst (λ (c : RunState D). IsTicketless (finite.get c.slots k)) (sym same) (rests refl)
   ends_rest old (e ∷ es) new ends k rests = ends_rest e.next es new ends.1 k (λ out. by_job (e.job == k) refl out)

@@ -1,4 +1,4 @@
--- The children that are left are finished, once each.
+-- The children that are left are finished once each.
 use Rattle.std.proofs.Common.{◌≡◌, ℕ, Bool, true, false, cond, List, [], ◌∷◌, ◌++◌, length, map, Option, Some, None, unwrap_or, refl, sym, ap, subst, ◌∙◌, arith, append-nil}
 use Rattle.std.specs.FinMap as finite
 use Rattle.std.specs.List.{filter}
@@ -16,14 +16,14 @@ use Rattle.print_rounds.proofs.EndLaws.{in_head}
 use Rattle.print_rounds.proofs.FreeLaws.{IsWalkedTo, answered, walk_begins, walk_ends, walk_goes_on}
 use Rattle.print_rounds.proofs.LookLaws.{all_jobs, ended_rests, finish_same, jobs_to, next_filtered, next_same, no_filtered}
 
--- where no slot has a child, and the slots have all tickets, none is told to be running
+-- If no slot has a running child and the slots have all tickets, no child is running in the trace.
 none_running : (slots : Slots) (t : ChildTrace) → HasTickets slots t → HasNoneRunning slots → (ns : List ℕ) → t.running ≡ ns → ns ≡ []
 none_running slots t has rests [] is = refl
 none_running slots t has rests (n ∷ ns) is =
     let (j, r) = has.owned n (ap (is_in n) is ∙ in_head n ns) in
     absurd (subst IsTicketless r.there (rests j) n r.runs)
 
--- the tickets are kept, and no child was started
+-- The slots have the tickets, and no child was started.
 pub record IsKeptOn (t : ChildTrace) (slots : Slots) (told : Option ChildTrace) : Type 0 where
   pub kept : AreKeptBy t 0 slots told
   pub orders : kept.now.orders ≡ t.orders
@@ -35,7 +35,7 @@ finished_off slots t told on rests =
     let count : length now.running ≡ 0 = ap length none in
     record { now = now; tells = on.kept.tells; none = none; finished = omega (arith, on.kept.balanced, count); orders = on.orders }
 
--- what a finish leaves
+-- The result of a finish.
 abbrev pub FinishKeeps : Type 0
 FinishKeeps = (slots : Slots) (j n : ℕ) (t : ChildTrace) (new : Slots) (told : Option ChildTrace) → HasTickets slots t → IsRunningAs slots j n → Waits (Some t) n slots j new told → AreKeptBy t 0 new told
 
@@ -74,12 +74,12 @@ kept_on law t slots told j new told' going finishes on = by_progress (slot_in sl
           orders = ap (λ (x : ChildTrace). x.orders) same ∙ on.orders;
         }
 
--- one finish more
+-- One more finish.
 more_finishings : (slots mid : Slots) (told told' : Option ChildTrace) (fs : List Finishing) (f : Finishing) → AreFinishings slots told fs mid told' → FinishesStage told' mid f.job f.slots f.told → AreFinishings slots told (fs ++ f ∷ []) f.slots f.told
 more_finishings slots mid told told' [] f (same, tells) is = (subst (λ m. FinishesStage told m f.job f.slots f.told) same (subst (λ o. FinishesStage o mid f.job f.slots f.told) tells is), (refl, refl))
 more_finishings slots mid told told' (x ∷ fs) f (first, more) is = (first, more_finishings x.slots mid x.told told' fs f more is)
 
--- The jobs up to one have no child: each that ran has been finished, and no ticket is lost.
+-- The jobs up to one have no running child: each that ran was finished, and no ticket is lost.
 pub record AreFinishedTo (old : Slots) (told : Option ChildTrace) (behind : Option ℕ) (new : Slots) (told' : Option ChildTrace) : Type 0 where
   pub walked : IsWalkedTo (λ j o. IsTicketless o) old behind new
   pub steps : (fs : List Finishing) × AreFinishings old told fs new told' × (map (λ f. f.job) fs ≡ filter (runs old) (jobs_to behind (finite.keys old)))
@@ -94,14 +94,14 @@ none_yet old told = record {
 
 module _ (old : Slots) (told : Option ChildTrace) (behind : Option ℕ) (now : Slots) (told' : Option ChildTrace) (so_far : AreFinishedTo old told behind now told') where
   module _ (k : ℕ) (next : IsNextJob now behind (Some k)) where
-    -- the job's slot is as it was at the start
+    -- The job's slot is as it was at the start.
     at_first : runs now k ≡ runs old k
     at_first = ap has_child (so_far.walked.ahead k next.0)
 
     further : (b : Bool) → runs now k ≡ b → filter (runs old) (jobs_to (Some k) (finite.keys old)) ≡ filter (runs old) (jobs_to behind (finite.keys old)) ++ cond b (k ∷ []) []
     further b is = next_filtered (runs old) old behind k (next_same old now behind (Some k) so_far.walked.ahead next) ∙ ap (λ c. filter (runs old) (jobs_to behind (finite.keys old)) ++ cond c (k ∷ []) []) (sym at_first ∙ is)
 
-    -- it had no child
+    -- It had no child.
     pub stays : IsTicketless (finite.get now k) → AreFinishedTo old told (Some k) now told'
     stays rests =
         let (fs, are, jobs) = so_far.steps in
@@ -111,7 +111,7 @@ module _ (old : Slots) (told : Option ChildTrace) (behind : Option ℕ) (now : S
           kept = so_far.kept;
         }
 
-    -- it had one, which was finished
+    -- It had a child, which was finished.
     pub waits : FinishKeeps → (new : Slots) (told'' : Option ChildTrace) → IsRunning (finite.get now k) → FinishesStage told' now k new told'' → IsEnded (finite.get new k) → AreFinishedTo old told (Some k) new told''
     waits law new told'' going finishes ended =
         let (fs, are, jobs) = so_far.steps in
@@ -126,7 +126,7 @@ module _ (old : Slots) (told : Option ChildTrace) (behind : Option ℕ) (now : S
           kept = λ t tells has. kept_on law t now told' k new told'' going finishes (so_far.kept t tells has);
         }
 
-  -- no slot is left to be visited
+  -- No slot is left to visit.
   module _ (none : IsNextJob now behind None) where
     pub all_rest_then : HasNoneRunning now
     all_rest_then = walk_ends (λ j o. IsTicketless o) old (λ j gone. tt) behind now so_far.walked none

@@ -1,4 +1,4 @@
--- Walks over the slots, from one job to the next, and the slots that are left once those that aren't kept are freed.
+-- Iteration over the slots, from one job to the next, and the slots that remain after the others are freed.
 use Rattle.std.proofs.Common.{◌≡◌, ℕ, ◌-◌, ◌<◌, ◌≤◌, Bool, true, false, cond, ◌==◌, nat_lt, Option, Some, None, IsSome, IsTrue, refl, sym, ap, subst, ◌∙◌, arith}
 use Rattle.std.specs.Cmp.{nat_cmp_total}
 use Rattle.std.specs.FinMap as finite
@@ -13,7 +13,7 @@ use Rattle.print_rounds.specs.StageChecks.{has_child, idle_slots, is_kept}
 use Rattle.print_rounds.specs.RoundScript.{current_slots, is_current}
 use Rattle.print_rounds.proofs.EndLaws.{SameBut, get_gone, get_left, not_second}
 
--- what is left of a slot
+-- The slot of a job after the freeing, if it remains.
 abbrev pub left_of : State → ℕ → Option (Slot ℕ) → Option (Slot ℕ)
 left_of s j o = cond (is_current (job_at s j) o) o None
 
@@ -27,7 +27,7 @@ left_rests false o rests = tt
 pub current_rests : (s : State) (slots : Slots) → HasNoneRunning slots → HasNoneRunning (current_slots s slots)
 current_rests s slots rests j = subst IsTicketless (sym (get_current s slots j)) (left_rests (is_current (job_at s j) (finite.get slots j)) (finite.get slots j) (rests j))
 
--- ## Whether a child runs
+-- ## Whether a child is running
 
 pub resting_of : (o : Option (Slot ℕ)) → has_child o ≡ false → IsTicketless o
 resting_of None off = tt
@@ -51,19 +51,19 @@ child_rests (Some slot) rests = by_progress slot.progress rests
     by_progress (Running n) rests = absurd (rests n refl)
     by_progress (Ended finish) rests = refl
 
--- an answer whether the child of a slot runs
+-- An answer whether the child of a slot is running.
 pub answered : (b : Bool) (o : Option (Slot ℕ)) → (IsTrue b → IsRunning o) → (b ≡ false → IsTicketless o) → b ≡ has_child o
 answered true o on off = sym (child_runs o (on refl))
 answered false o on off = sym (child_rests o (off refl))
 
--- ## Walks
+-- ## Iteration
 
--- how many numbers come behind a job
+-- The number of job numbers after a job.
 abbrev pub jobs_ahead : Option ℕ → ℕ
 jobs_ahead None = 2147483648
 jobs_ahead (Some j) = 2147483647 - j
 
--- whether a job comes behind another
+-- Whether a job comes after another.
 module _ {P : Type 0} where
   pub by_behind : (behind : Option ℕ) (j : ℕ) → (IsBehind behind j → P) → (¬ (IsBehind behind j) → P) → P
   by_behind None j near far = near tt
@@ -102,7 +102,7 @@ less k j e out = by_lt (nat_lt j k) refl
     by_lt true is = ltb-true j k is
     by_lt false is = by_gt (ltb-false j k is) (nat_lt k j) refl
 
--- The slots up to a job are as they are to be, and those behind it are as they were.
+-- The slots up to a job are as required, and those after it are unchanged.
 pub record IsWalkedTo (P : ℕ → Option (Slot ℕ) → Type 0) (old : Slots) (behind : Option ℕ) (new : Slots) : Type 0 where
   pub passed : (j : ℕ) → ¬ (IsBehind behind j) → P j (finite.get new j)
   pub ahead : (j : ℕ) → IsBehind behind j → finite.get new j ≡ finite.get old j
@@ -115,7 +115,7 @@ module _ (P : ℕ → Option (Slot ℕ) → Type 0) (old : Slots) (absent : (j :
     where_none : (j : ℕ) → IsBehind behind j → finite.get now j ≡ None → P j (finite.get now j)
     where_none j is gone = subst (P j) (sym gone) (absent j (sym (walked.ahead j is) ∙ gone))
 
-    -- the next job is seen to, and nothing else is changed
+    -- The next job was processed, and nothing else is changed.
     pub walk_goes_on : (k : ℕ) → IsNextJob now behind (Some k) → (new : Slots) → SameBut k now new → P k (finite.get new k) → IsWalkedTo P old (Some k) new
     walk_goes_on k next new same own = record {
       passed = λ j out. by_job j (j == k) refl out;
@@ -131,24 +131,24 @@ module _ (P : ℕ → Option (Slot ℕ) → Type 0) (old : Slots) (absent : (j :
         by_job j true e out = subst (λ i. P i (finite.get new i)) (sym (eqb-true j k e)) own
         by_job j false e out = subst (P j) (sym (same j e)) (before j (less k j e out))
 
-    -- no slot is left to be visited
+    -- No slot is left to visit.
     pub walk_ends : IsNextJob now behind None → (j : ℕ) → P j (finite.get now j)
     walk_ends none j = by_behind behind j (λ is. where_none j is (none j is)) (walked.passed j)
 
--- ## Slots that aren't kept are freed
+-- ## Slots that are freed
 
--- what is left of a slot, where one whose child runs stays
+-- The slot of a job after the freeing, if it remains. A slot with a running child remains.
 abbrev pub idle_left : State → ℕ → Option (Slot ℕ) → Option (Slot ℕ)
 idle_left s j o = cond (is_kept (job_at s j) o) o None
 
 pub get_idle : (s : State) (slots : Slots) (j : ℕ) → finite.get (idle_slots s slots) j ≡ idle_left s j (finite.get slots j)
 get_idle s slots j = finite.get-retain_keys slots (λ k. is_kept (job_at s k) (finite.get slots k)) j (λ x tied. ap (λ k. is_kept (job_at s k) (finite.get slots k)) (sym (finite.nat_cmp-IsAntisymmetric j x tied)))
 
--- a slot that goes has no child
+-- A slot that is freed has no running child.
 pub off_rests : (row : Option Job) (o : Option (Slot ℕ)) → is_kept row o ≡ false → IsTicketless o
 off_rests row o off = resting_of o (not_second (is_current row o) (has_child o) off)
 
--- the slots up to a job are left or freed
+-- The slots up to a job are retained or freed.
 abbrev pub IsFreedTo : State → Slots → Option ℕ → Slots → Type 0
 IsFreedTo s old behind new = IsWalkedTo (λ j o. o ≡ idle_left s j (finite.get old j)) old behind new
 
@@ -170,11 +170,11 @@ module _ (s : State) (old : Slots) (behind : Option ℕ) (now : Slots) (freed : 
     left_by : (b : Bool) → is_kept (job_at s k) (finite.get now k) ≡ b → idle_left s k (finite.get old k) ≡ cond b (finite.get old k) None
     left_by b is = ap (λ b. cond b (finite.get old k) None) (ap (λ o. is_kept (job_at s k) o) (sym at_next) ∙ is)
 
-    -- it is kept, and stays
+    -- The slot is retained.
     pub stays : is_kept (job_at s k) (finite.get now k) ≡ true → IsFreedTo s old (Some k) now
     stays is = walk_goes_on (λ j o. o ≡ idle_left s j (finite.get old j)) old (none_left s old) behind now freed k next now (λ j other. refl) (at_next ∙ sym (left_by true is))
 
-    -- it isn't, and goes
+    -- The slot is freed.
     pub goes : is_kept (job_at s k) (finite.get now k) ≡ false → IsFreedTo s old (Some k) (finite.remove now k)
     goes is = walk_goes_on (λ j o. o ≡ idle_left s j (finite.get old j)) old (none_left s old) behind now freed k next (finite.remove now k) (λ j other. get_left now k j other) (get_gone now k ∙ sym (left_by false is))
 

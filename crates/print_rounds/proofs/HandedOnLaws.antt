@@ -1,4 +1,4 @@
--- What a child gives goes on to the next stage, also where the child ends in a later tick than it was started in.
+-- The output of a child is passed to the next stage, also if the child ends in a later tick than it was started in.
 use Rattle.std.proofs.Common.{◌≡◌, ◌⊎◌, inl, inr, ℕ, zero, suc, ◌<◌, Bool, true, false, cond, ◌==◌, ◌||◌, List, [], ◌∷◌, ◌++◌, length, slice_get, IsTrue, Option, Some, None, unwrap_or, Result, Ok, Err, refl, sym, ap, subst, ◌∙◌, append_assoc, append-nil, arith, nat_cmp}
 use Rattle.std.specs.FinMap as finite
 use Rattle.std.proofs.lemmas.Bool.{eqb-true, eq-eqb}
@@ -92,19 +92,19 @@ all_both : (earlier : List AnsweredOrder) (ps qs : List Placed) → AllRight ear
 all_both earlier [] qs first second = second
 all_both earlier (p ∷ ps) qs first second = (first.0, all_both earlier ps qs first.1 second)
 
--- ## The children that slots have
+-- ## The children of slots
 
--- Each is told to be running, is that of one slot alone, and runs the slot's stage.
+-- Each is running in the trace, belongs to one slot only, and runs the slot's stage.
 record HasRunners (t : ChildTrace) (slots : Slots) : Type 0 where
   pub running : (j n : ℕ) → IsRunningAs slots j n → is_in n t.running ≡ true
   pub apart : (i j n : ℕ) → IsRunningAs slots i n → IsRunningAs slots j n → i ≡ j
   pub run : RunTheirStages t.orders slots
 
--- the stage of a job's slot
+-- The stage of a job's slot.
 abbrev stage_at : ℕ → Slot ℕ → Key
 stage_at k slot = record { job = k; attempt = slot.attempt; stage = slot.stage }
 
--- each slot whose child runs was there before
+-- Each slot with a running child existed before.
 abbrev pub IsFewer : Slots → Slots → Type 0
 IsFewer old new = (k n : ℕ) (slot : Slot ℕ) → finite.get new k ≡ Some slot → slot.progress ≡ Running n → finite.get old k ≡ Some slot
 
@@ -131,7 +131,7 @@ fewer_run t old new fewer has = record {
   run = λ j n slot there runs. has.run j n slot (fewer j n slot there runs) runs;
 }
 
--- with more orders, none of which was started
+-- The same with more orders that were not started.
 grown_run : (t t' : ChildTrace) (slots : Slots) (more : List Placed) → t'.running ≡ t.running → t'.orders ≡ t.orders ++ more → HasRunners t slots → HasRunners t' slots
 grown_run t t' slots more running orders has = record {
   running = λ j n is. ap (is_in n) running ∙ has.running j n is;
@@ -142,7 +142,7 @@ grown_run t t' slots more running orders has = record {
 told_run : (t t' : ChildTrace) (slots : Slots) → t'.running ≡ t.running → t'.orders ≡ t.orders → HasRunners t slots → HasRunners t' slots
 told_run t t' slots running orders has = grown_run t t' slots [] running (orders ∙ sym (append-nil t.orders)) has
 
--- the child of a slot is finished
+-- The slot's child is finished.
 finished_run : (t : ChildTrace) (n j : ℕ) (slot : Slot ℕ) (old new : Slots) → finite.get old j ≡ Some slot → slot.progress ≡ Running n → IsFewer old new → IsTicketless (finite.get new j) → HasRunners t old → HasRunners (after_finish t n) new
 finished_run t n j slot old new there runs fewer rests has = record {
   running = λ k m is. still_in m n t.running (λ same.
@@ -157,7 +157,7 @@ number_in (Ready input) = 0
 number_in (Running n) = n
 number_in (Ended finish) = 0
 
--- a child was started for a slot
+-- A child was started for a slot.
 module _ (t t' : ChildTrace) (p : Placed) (j : ℕ) (old new : Slots) (put : Slot ℕ) (same : SameBut j old new) (there : finite.get new j ≡ Some put) (runs : put.progress ≡ Running (length t.orders)) (key : key_in p ≡ record { job = j; attempt = put.attempt; stage = put.stage }) (orders : t'.orders ≡ t.orders ++ p ∷ []) (running : t'.running ≡ t.running ++ length t.orders ∷ []) (has : HasRunners t old) where
   own_put : (k : ℕ) (slot : Slot ℕ) → (k == j) ≡ true → finite.get new k ≡ Some slot → slot ≡ put
   own_put k slot is at = some_of slot put (sym at ∙ ap (finite.get new) (eqb-true k j is) ∙ there)
@@ -219,7 +219,7 @@ record IsStartOn (earlier : List AnsweredOrder) (t : ChildTrace) (j : ℕ) (d : 
   pub kept : AreKeptFrom earlier new
   pub runs : HasRunners now new
 
--- no order was given
+-- No order was given.
 no_start_on : (earlier : List AnsweredOrder) (t : ChildTrace) (j : ℕ) (d : Option (List ℕ)) (old new : Slots) (told : Option ChildTrace) → told ≡ Some t → AreKeptFrom earlier new → IsFewer old new → HasRunners t old → IsStartOn earlier t j d new told
 no_start_on earlier t j d old new told tells kept fewer runs = record {
   now = t;
@@ -248,7 +248,7 @@ module _ (earlier : List AnsweredOrder) (place : Place) (t : ChildTrace) (old ow
   fewer : b ≡ false → IsFewer old new
   fewer is = put_fewer r.id old new same_but (unstarted_rests earlier place t t.finishes old own r q d due input kept_old b n new put is)
 
-  -- by the answers that are to come
+  -- By the answers to come.
   start_on : (told : Option ChildTrace) (starts : List (Result (Unit {0}) ChildFault)) → t.starts ≡ starts → b ≡ starts_first starts → (IsTrue b → n ≡ length t.orders) → told ≡ Some (started_by t (order_in place own r q (given d)) starts) → IsStartOn earlier t r.id d new told
   start_on told [] e is number tells = no_start_on earlier t r.id d old new told tells (kept_then false is) (fewer is) runs
   start_on told (Ok done ∷ rest) e is number tells =
@@ -339,9 +339,9 @@ module _ (place : Place) (s : State) (numbers : HasNumbers s) where
         runs = more.runs;
       }
 
--- ## Looks
+-- ## Checks
 
--- what the children tell of orders stays, and their running
+-- The orders and the running children in the trace are unchanged.
 abbrev IsSeen : ChildTrace → Option ChildTrace → Type 0
 IsSeen t told = (now : ChildTrace) × (told ≡ Some now) × (now.orders ≡ t.orders) × (now.running ≡ t.running)
 
@@ -361,7 +361,7 @@ looks_on waits slots told (l ∷ ls) told' t (look, looks) tells =
 grown_kept : (xs ys : List AnsweredOrder) (slots : Slots) → AreKeptFrom xs slots → AreKeptFrom (xs ++ ys) slots
 grown_kept xs ys slots kept j slot there = kept_more xs ys j slot slot.progress (kept j slot there)
 
--- a job's child was finished, or its finish was kept before
+-- A job's child was finished, or its finish was stored before.
 record IsFinishedOn (xs : List AnsweredOrder) (t : ChildTrace) (told : Option ChildTrace) (old : Slots) (j : ℕ) (new : Slots) (told' : Option ChildTrace) : Type 0 where
   pub now : ChildTrace
   pub tells : told' ≡ Some now
@@ -375,7 +375,7 @@ record IsFinishedOn (xs : List AnsweredOrder) (t : ChildTrace) (told : Option Ch
   pub same : SameBut j old new
 
 module _ (xs : List AnsweredOrder) (t : ChildTrace) (told : Option ChildTrace) (old : Slots) (j : ℕ) (new : Slots) (told' : Option ChildTrace) (tells : told ≡ Some t) (runs : HasRunners t old) (kept_old : AreKeptFrom xs old) where
-  -- the slot's child is finished
+  -- The slot's child is finished.
   waited_on : (slot : Slot ℕ) (n : ℕ) → finite.get old j ≡ Some slot → slot.progress ≡ Running n → Waits told n old j new told' → IsFinishedOn xs t told old j new told'
   waited_on slot n there is fin =
       let own : slot_in old j ≡ slot = ap (λ o. unwrap_or o (begun 0 0)) there in
@@ -408,7 +408,7 @@ module _ (xs : List AnsweredOrder) (t : ChildTrace) (told : Option ChildTrace) (
         same = same;
       }
 
-  -- its finish was kept
+  -- Its finish was stored.
   ended_on : (slot : Slot ℕ) (finish : Finish) → finite.get old j ≡ Some slot → slot.progress ≡ Ended finish → new ≡ old → told' ≡ told → IsFinishedOn xs t told old j new told'
   ended_on slot finish there is same tells' = record {
     now = t;
@@ -437,7 +437,7 @@ module _ (xs : List AnsweredOrder) (t : ChildTrace) (told : Option ChildTrace) (
 
 -- ## The ends of stages
 
--- what is left once some have been answered
+-- The state after some orders have been answered.
 record AreAnswered (xs : List AnsweredOrder) (t : ChildTrace) (slots : Slots) (told : Option ChildTrace) : Type 0 where
   pub now : ChildTrace
   pub tells : told ≡ Some now
@@ -485,7 +485,7 @@ module _ {D : Type 0} (device : DiskView D) (stays : (s : State) (events : List 
         kept = subst (λ ys. AreKeptFrom ys new.slots) (append_assoc xs (answer_at (finite.get old.slots e.job) old.told) (ended_in e.next es)) more.kept;
       }
 
--- ## Droppings, and what `finish_children` does
+-- ## Droppings, and `finish_children`
 
 module _ (waits : Bool) where
   drop_on : (xs : List AnsweredOrder) (t : ChildTrace) (slots : Slots) (told : Option ChildTrace) (d : Dropping) → IsDropping waits slots told d → told ≡ Some t → HasRunners t slots → AreKeptFrom xs slots → AreAnswered (xs ++ cond d.look.ripe (answer_at (finite.get slots d.look.job) d.look.told) []) t d.slots d.told
@@ -553,7 +553,7 @@ finishings_on xs t slots told (f ∷ fs) new told' (finish, finishes) tells runs
 runners : (slots : Slots) (t : ChildTrace) → HasTickets slots t → RunTheirStages t.orders slots → HasRunners t slots
 runners slots t tickets run = record { running = tickets.running; apart = tickets.apart; run = run }
 
--- what a finish leaves of the tickets
+-- The tickets after a finish.
 abbrev TicketsStay : Type 0
 TicketsStay = (slots : Slots) (j n : ℕ) (t : ChildTrace) (new : Slots) (told : Option ChildTrace) → HasTickets slots t → IsRunningAs slots j n → Waits (Some t) n slots j new told → AreKeptBy t 0 new told
 
@@ -645,7 +645,7 @@ module _ {D : Type 0} (device : DiskView D) (stays : (s : State) (events : List 
   pub tick_hands : (place : Place) (earlier : List AnsweredOrder) (t : ChildTrace) (old new : RunState D) (result : Result Round RoundFault) → IsLegal old.spool.state → old.told ≡ Some t → HasTickets old.slots t → AreKeptFrom earlier old.slots → RunTheirStages t.orders old.slots → (r : IsTickOf device place old new result) → TickHandsOn earlier t old r.steps new
   tick_hands place earlier t old new result legal tells tickets kept_old run r = pass_hands place false r.start_room earlier t old r.steps new r.made legal tells tickets kept_old run
 
-  -- ## Ticks one after the other
+  -- ## Consecutive ticks
 
   all_hand : (place : Place) (earlier : List AnsweredOrder) (t : ChildTrace) (slots : Slots) (told : Option ChildTrace) (cs : List (TickCall D)) (ticks : AreTicks device place slots told cs) → told ≡ Some t → HasTickets slots t → AreKeptFrom earlier slots → RunTheirStages t.orders slots → AreHandedOn device place slots told earlier t cs ticks
   all_hand place earlier t slots told [] ticks tells tickets kept_old run = tt

@@ -1,4 +1,4 @@
--- The stages that slots have started: none is started again, and each is kept until its end is told.
+-- The stages that slots have started: none is started again, and each is held until its end is reported.
 use Rattle.std.proofs.Common.{◌≡◌, ◌⊎◌, inl, inr, ℕ, Bool, true, false, cond, ◌&&◌, ◌==◌, List, [], ◌∷◌, ◌++◌, Option, Some, None, unwrap_or, Result, Ok, Err, refl, sym, ap, subst, ◌∙◌, append_assoc, append-nil}
 use Rattle.std.specs.FinMap as finite
 use Rattle.std.proofs.lemmas.List.{map-append}
@@ -47,7 +47,7 @@ use Rattle.print_rounds.proofs.ReportLaws.{fault_state}
 pub begun_same : (old new : Slots) (k : Key) → finite.get new k.job ≡ finite.get old k.job → IsBegunSlot old k → IsBegunSlot new k
 begun_same old new k same has = record { slot = has.slot; there = same ∙ has.there; attempt = has.attempt; stage = has.stage; begun = has.begun }
 
--- a slot that is held is current
+-- A slot that is held is current.
 pub held_current : (s : State) (slots : Slots) (k : Key) → IsHeld s slots k → is_current (job_at s k.job) (finite.get slots k.job) ≡ true
 held_current s slots k (inside, held) = ap (λ o. is_current o (finite.get slots k.job)) inside.there ∙ ap (is_current (Some inside.row)) held.there ∙ in_it inside.row.phase inside.phase
   where
@@ -55,11 +55,11 @@ held_current s slots k (inside, held) = ap (λ o. is_current o (finite.get slots
     in_it p is = ap (is_in_stage held.slot.attempt held.slot.stage) is
         ∙ ap (λ b. b && k.stage == held.slot.stage) (eq-eqb k.attempt held.slot.attempt (sym held.attempt)) ∙ eq-eqb k.stage held.slot.stage (sym held.stage)
 
--- so it stays among the current ones
+-- So it remains among the current ones.
 pub held_begun : (s : State) (slots : Slots) (k : Key) → IsHeld s slots k → IsBegunSlot (current_slots s slots) k
 held_begun s slots k held = begun_same slots (current_slots s slots) k (get_current s slots k.job ∙ ap (λ b. cond b (finite.get slots k.job) None) (held_current s slots k held)) held.1
 
--- the stage of a job that was begun isn't to be started
+-- A job's stage that was begun must not be started.
 begun_rests : (slots : Slots) (r : Job) (k : Key) (stages : ℕ) → r.id ≡ k.job → r.phase ≡ Processing k.attempt k.stage stages → IsBegunSlot slots k → slots_for slots r ≡ None
 begun_rests slots r k stages id is has =
     ap (slots_in slots r) is
@@ -72,8 +72,8 @@ never_both o x p q = cc
 
 -- ## The starts of stages
 
--- what starts do: their orders are for stages that the table has jobs in and that weren't begun, each once; they are begun
--- then, and what was begun stays so
+-- The effect of starts: each order is for a stage that the table has a job in and that was not begun, each stage once. It is begun after
+-- that, and a stage that was begun before stays begun.
 pub record AreBegun (s : State) (t : ChildTrace) (old : Slots) (new : Slots) (told : Option ChildTrace) : Type 0 where
   pub now : ChildTrace
   pub tells : told ≡ Some now
@@ -98,7 +98,7 @@ none_begun s t old new told tells kept = record {
   kept = kept;
 }
 
--- starts, and then more
+-- Some starts, and then more.
 both_begun : (s : State) (t : ChildTrace) (old mid new : Slots) (told told' : Option ChildTrace) (one : AreBegun s t old mid told) → AreBegun s one.now mid new told' → AreBegun s t old new told'
 both_begun s t old mid new told told' one two = record {
   now = two.now;
@@ -127,7 +127,7 @@ both_begun s t old mid new told told' one two = record {
     each : (k : Key) → IsAmong (keys_in (one.orders ++ two.orders)) k → IsAmong (keys_in one.orders) k ⊎ IsAmong (keys_in two.orders) k
     each k among = among_either (keys_in one.orders) (keys_in two.orders) k (subst (λ l. IsAmong l k) split among)
 
--- the stage that a current slot is for
+-- The stage of a current slot.
 abbrev key_at : ℕ → Slot ℕ → Key
 key_at j slot = record { job = j; attempt = slot.attempt; stage = slot.stage }
 
@@ -148,12 +148,12 @@ progress_begun : (b : Bool) (n : ℕ) → is_ready (progress_after b n) ≡ fals
 progress_begun true n = refl
 progress_begun false n = refl
 
--- the slot of a stage that is to be started
+-- The slot of a stage that must be started.
 due_slot : (o : Option (Slot ℕ)) (p : Phase) → IsDue o p → IsCurrent (unwrap_or o (begun 0 0)) p
 due_slot None p due = absurd due
 due_slot (Some slot) p due = due.1
 
--- what was begun in the slots before is no stage that is to be started, so that it is another job's
+-- A stage that was begun in the slots before must not be started, so it is another job's.
 module _ (s : State) (old own : Slots) (r : Job) (there : job_at s r.id ≡ Some r) (due : slots_for old r ≡ Some own) where
   other_begun : (k : Key) → IsIn s k → IsBegunSlot old k → (b : Bool) → (k.job == r.id) ≡ b → b ≡ false
   other_begun k inside has false is = refl
@@ -206,18 +206,18 @@ module _ (s : State) (old own : Slots) (r : Job) (there : job_at s r.id ≡ Some
       kept = kept_by new others;
     }
 
-    -- by the answers that are still to come
+    -- By the answers to come.
     by_answers : (starts : List (Result (Unit {0}) ChildFault)) (document : List ℕ) (told : Option ChildTrace) → told ≡ Some (started_by t (order_in place own r q document) starts) → AreBegun s t old new told
     by_answers [] document told tells = none_begun s t old new told tells (kept_by new others)
     by_answers (Ok done ∷ rest) document told tells = one_order (record { order = order_in place own r q document; before = t.finished }) refl _ told tells refl
     by_answers (Err fault ∷ rest) document told tells = one_order (record { order = order_in place own r q document; before = t.finished }) refl _ told tells refl
 
 module _ (place : Place) (s : State) (numbers : HasNumbers s) where
-  -- no child was started, and the slots are as they were
+  -- No child was started, and the slots are unchanged.
   same_begun : (t : ChildTrace) (old new : Slots) (told : Option ChildTrace) → told ≡ Some t → new ≡ old → AreBegun s t old new told
   same_begun t old new told tells same = none_begun s t old new told tells (λ k inside has. begun_same old new k (ap (λ m. finite.get m k.job) same) has)
 
-  -- no child was started, and there is a slot for it
+  -- No child was started, and the stage has a slot.
   own_kept : (old new : Slots) (j : ℕ) (r : Job) (own : Slots) → job_at s j ≡ Some r → slots_for old r ≡ Some own → new ≡ own → (k : Key) → IsIn s k → IsBegunSlot old k → IsBegunSlot new k
   own_kept old new j r own there due same k inside has =
       kept_by s old own r (ap (job_at s) (numbers j r there) ∙ there) due new (λ i other. ap (λ m. finite.get m i) same ∙ (due_own old r own due).same i other) k inside has
@@ -243,11 +243,11 @@ module _ (place : Place) (s : State) (numbers : HasNumbers s) where
 
 -- ## The ends of stages
 
--- the table has the job in the stage, which is begun, or the stage is spent
+-- The table has the job in the stage, which is begun, or the stage is spent.
 abbrev IsGoing : State → Slots → Key → Type 0
 IsGoing s slots k = IsHeld s slots k ⊎ IsSpent s k
 
--- what is so of each legal table
+-- Laws of each legal table.
 pub record Laws : Type 0 where
   pub legal : (s : State) (events : List Event) → IsLegal s → IsLegal (after_all s events)
   pub spent : (s : State) (k : Key) (events : List Event) → IsLegal s → IsSpent s k → IsSpent (after_all s events) k
@@ -257,7 +257,7 @@ pub record Laws : Type 0 where
   pub rises : (s : State) (events : List Event) → AreAccepted s events → AreAccepted (raised s) events × (after_all (raised s) events ≡ raised (after_all s events))
   pub raised_legal : (s : State) → IsLegal s → IsLegal (raised s)
 
--- a finish that is kept for a job
+-- A stored finish of a job.
 pub waited_begun : (old new : Slots) (j : ℕ) (told told' : Option ChildTrace) (p : Progress ℕ) → p ≡ (slot_in old j).progress → FinishesFrom p told old j new told' → (k : Key) → IsBegunSlot old k → IsBegunSlot new k
 waited_begun old new j told told' (Ended finish) at (same, tells) k has = begun_same old new k (ap (λ m. finite.get m k.job) same) has
 waited_begun old new j told told' (Ready input) at finishes k has = absurd finishes
@@ -277,7 +277,7 @@ waited_begun old new j told told' (Running n) at finishes k has = by_job (k.job 
     by_job false is = begun_same old new k (ap (λ m. finite.get m k.job) finishes.slots ∙ get_other old j k.job (with_progress (slot_in old j) (Ended finishes.finish)) is) has
 
 module _ {D : Type 0} (device : DiskView D) (laws : Laws) (k : Key) where
-  -- a stage that goes on, after an event that was accepted
+  -- A stage after an event that was accepted.
   after_event : (s t : State) (e : Event) → IsLegal s → t ≡ after_all s (e ∷ []) → IsIn s k → IsIn t k ⊎ IsSpent t k
   after_event s t e legal is inside = subst (λ u. IsIn u k ⊎ IsSpent u k) (sym is) (laws.left s k (e ∷ []) legal inside)
 

@@ -1,4 +1,4 @@
--- What a child gives stays with its stage's slot until the next stage is handed it.
+-- The output of a child stays with its stage's slot until it is passed to the next stage.
 use Rattle.std.proofs.Common.{◌≡◌, inl, inr, ℕ, suc, ◌+◌, Bool, true, false, cond, ◌&&◌, ◌==◌, nat_lt, List, [], ◌∷◌, ◌++◌, length, map, Option, Some, None, unwrap_or, Result, Ok, Err, refl, sym, ap, subst, ◌∙◌, append_assoc, append-nil, arith, add-one}
 use Rattle.std.specs.FinMap as finite
 use Rattle.std.specs.Cmp.{first_so}
@@ -106,7 +106,7 @@ module _ (xs : List AnsweredOrder) where
       never : (o : Option (Slot ℕ)) (slot : Slot ℕ) → o ≡ None → o ≡ Some slot → ⊥
       never o slot none some = cc
 
-  -- with a slot for a stage that is to be started
+  -- With a slot for a stage that must be started.
   pub own_slots : (slots : Slots) (r : Job) (own : Slots) → slots_for slots r ≡ Some own → AreKeptFrom xs slots → AreKeptFrom xs own
   own_slots slots r own due kept = by_phase r.phase refl due
     where
@@ -127,14 +127,14 @@ module _ (xs : List AnsweredOrder) where
       by_phase Canceled is e = absurd (cc)
       by_phase (Aborted reason) is e = absurd (cc)
 
--- a stage that is due has a slot, and wasn't started
+-- A stage that is due has a slot and was not started.
 pub at_due : (o : Option (Slot ℕ)) (p : Phase) → IsDue o p → (slot : Slot ℕ) × (o ≡ Some slot) × (is_ready slot.progress ≡ true)
 at_due None p due = absurd due
 at_due (Some slot) p due = (slot, refl, due.0)
 
--- ## The finishes that are due
+-- ## The finishes to come
 
--- one of these orders is for that stage, and its child ends so
+-- One of these orders is for that stage, and this is the finish of its child.
 pub record HasRun (xs : List AnsweredOrder) (k : Key) (end : Option Finish) : Type 0 where
   pub from : AnsweredOrder
   pub among : IsOneOf xs from
@@ -162,7 +162,7 @@ abbrev pub left_at : Option (Slot ℕ) → Finishes → Finishes
 left_at None fs = fs
 left_at (Some slot) fs = left_by slot.progress fs
 
--- the finishes to come are those of the children of these jobs that run, in turn, and then these
+-- The finishes to come are those of the running children of these jobs, in order, followed by `left`.
 abbrev pub AreDue : List AnsweredOrder → Slots → List ℕ → Finishes → Finishes → Type 0
 AreDue xs slots [] fs left = fs ≡ left
 AreDue xs slots (j ∷ js) fs left = IsDueAt xs j (finite.get slots j) fs × AreDue xs slots js (left_at (finite.get slots j) fs) left
@@ -187,7 +187,7 @@ due_same xs j m n same (k ∷ js) out fs left due =
       due_same xs j m n same js (not_second (k == j) (is_in j js) out) (left_at (finite.get n k) fs) left (subst (λ o. AreDue xs m js (left_at o fs) left) (sym here) due.1),
     )
 
--- nothing is due where no child runs
+-- Without a running child no finish is taken.
 none_due : (xs : List AnsweredOrder) (j : ℕ) (o : Option (Slot ℕ)) (fs : Finishes) → IsTicketless o → IsDueAt xs j o fs × (left_at o fs ≡ fs)
 none_due xs j None fs rests = (tt, refl)
 none_due xs j (Some slot) fs rests = by_progress slot.progress refl
@@ -200,7 +200,7 @@ none_due xs j (Some slot) fs rests = by_progress slot.progress refl
 pub ready_rests : (o : Option (Slot ℕ)) (slot : Slot ℕ) → o ≡ Some slot → is_ready slot.progress ≡ true → IsTicketless o
 ready_rests o slot there ready = subst IsTicketless (sym there) (λ n runs. let not : is_ready (Running n) ≡ true = ap is_ready (sym runs) ∙ ready in absurd (cc))
 
--- a finish that is kept and ended with 0 is what the child gave
+-- A stored finish that ended with 0 is the output of the child.
 pub run_given : (xs : List AnsweredOrder) (k : Key) (end : Option Finish) → HasRun xs k end → (f : Finish) → f ≡ kept end → f.exit ≡ Code 0 → HasGiven xs k f.output
 run_given xs k None has f is zero = let other : Lost ≡ Code 0 = sym (ap (λ (x : Finish). x.exit) is) ∙ zero in absurd (cc)
 run_given xs k (Some g) has f is zero = by_length (nat_lt longest_document (length g.output)) refl
@@ -228,7 +228,7 @@ run_given xs k (Some g) has f is zero = by_length (nat_lt longest_document (leng
 
 -- ## The start of a stage
 
--- its order is right
+-- The order of the stage is right.
 right_order : (place : Place) (r : Job) (q : QueueRow) (xs : List AnsweredOrder) (slot : Slot ℕ) (content : List ℕ) (p : Progress ℕ) → IsKeptFrom xs r.id slot p → is_ready p ≡ true → IsRight xs (order_of place r q slot.attempt slot.stage (input_in p content))
 right_order place r q xs slot content (Ready None) first ready = record { first = λ is. (content, refl); later = λ not. absurd (not first) }
 right_order place r q xs slot content (Ready (Some output)) (n, stage, has) ready = record {
@@ -244,7 +244,7 @@ stage_begins xs j slot (Ready (Some output)) (n, stage, has) ready = (suc n, sta
 stage_begins xs j slot (Running n) is ready = absurd (cc)
 stage_begins xs j slot (Ended finish) is ready = absurd (cc)
 
--- in a first stage it has what was read
+-- In a first stage it has the document that was read.
 own_document : (xs : List AnsweredOrder) (j : ℕ) (slot : Slot ℕ) (p : Progress ℕ) (len : ℕ) (d : Option (List ℕ)) (wanted : List ℕ) → IsKeptFrom xs j slot p → IsInput p len d → ((read : List ℕ) → d ≡ Some read → read ≡ wanted) → slot.stage ≡ 1 → input_in p (given d) ≡ Document wanted
 own_document xs j slot (Ready None) len None wanted is input read first = absurd input
 own_document xs j slot (Ready None) len (Some document) wanted is input read first = ap Document (read document refl)
@@ -252,7 +252,7 @@ own_document xs j slot (Ready (Some output)) len d wanted (n, stage, has) input 
 own_document xs j slot (Running n) len d wanted is input read first = absurd input
 own_document xs j slot (Ended finish) len d wanted is input read first = absurd input
 
--- What the start of a stage does, where these are the finishes to come for it and for later ones.
+-- The effect of the start of a stage, given the finishes to come for it and for later ones.
 pub record IsOneOn (earlier : List AnsweredOrder) (t : ChildTrace) (fs : Finishes) (old : Slots) (j : ℕ) (d : Option (List ℕ)) (new : Slots) (told : Option ChildTrace) : Type 0 where
   pub now : ChildTrace
   pub tells : told ≡ Some now
@@ -270,7 +270,7 @@ pub record IsOneOn (earlier : List AnsweredOrder) (t : ChildTrace) (fs : Finishe
   pub rest : left_at (finite.get new j) fs ≡ left
   pub same : SameBut j old new
 
--- no order was given
+-- No order was given.
 none_on : (earlier : List AnsweredOrder) (t : ChildTrace) (fs : Finishes) (old : Slots) (j : ℕ) (d : Option (List ℕ)) (new : Slots) (told : Option ChildTrace) → told ≡ Some t → AreKeptFrom earlier new → IsTicketless (finite.get new j) → SameBut j old new → IsOneOn earlier t fs old j d new told
 none_on earlier t fs old j d new told tells kept rests same = record {
   now = t;
@@ -333,7 +333,7 @@ module _ (earlier : List AnsweredOrder) (place : Place) (t : ChildTrace) (fs : F
   pub right : IsRight earlier order
   right = right_order place r q earlier own_slot (given d) own_slot.progress slot_kept ready
 
-  -- by the answers that are to come
+  -- By the answers to come.
   launched_on : (told : Option ChildTrace) (starts : List (Result (Unit {0}) ChildFault)) → t.starts ≡ starts → b ≡ starts_first starts → told ≡ Some (started_by t order starts) → IsOneOn earlier t fs old r.id d new told
   launched_on told [] e is tells = none_on earlier t fs old r.id d new told tells (subst (λ xs. AreKeptFrom xs new) (append-nil earlier) (new_kept [] false is)) (unstarted_rests is) others
   launched_on told (Ok done ∷ rest) e is tells =
@@ -402,7 +402,7 @@ module _ (place : Place) (s : State) (numbers : HasNumbers s) where
   one_on earlier t fs old told j d Disk new told' (r, q, own, due, none, same, tells') tells kept rests = own_on earlier t fs old j d r own new told' (numbers j r due.row) due.due (tells' ∙ tells) kept same
   one_on earlier t fs old told j d Dead new told' (none, same, tells') tells kept rests = same_on earlier t fs old j d new told' (tells' ∙ tells) kept rests same
 
-  -- what all the starts do
+  -- The effect of all the starts.
   pub record AreOn (earlier : List AnsweredOrder) (t : ChildTrace) (fs : Finishes) (ts : List Launching) (new : Slots) (told : Option ChildTrace) : Type 0 where
     pub now : ChildTrace
     pub tells : told ≡ Some now
@@ -470,7 +470,7 @@ module _ (place : Place) (s : State) (numbers : HasNumbers s) where
 -- ## The end of a stage
 
 module _ {D : Type 0} (device : DiskView D) (xs : List AnsweredOrder) where
-  -- the output of a stage that has ended with 0 is that of the next one
+  -- The output of a stage that has ended with 0 is the input of the next one.
   advanced_kept : (slots : Slots) (j : ℕ) (slot : Slot ℕ) (finish : Finish) → finite.get slots j ≡ Some slot → slot.progress ≡ Ended finish → AreKeptFrom xs slots → finish.exit ≡ Code 0 → AreKeptFrom xs (advanced_in slots j)
   advanced_kept slots j slot finish there ended kept zero =
       let own : slot_in slots j ≡ slot = ap (λ o. unwrap_or o (begun 0 0)) there in
@@ -510,7 +510,7 @@ module _ {D : Type 0} (device : DiskView D) (xs : List AnsweredOrder) where
       let exit : end.exit ≡ finish.exit = ap (λ (x : Slot ℕ). (finish_in x.progress).exit) own ∙ ap (λ p. (finish_in p).exit) ended in
       sym exit ∙ goes_on_zero old.spool.state legal end accepted (ap (λ r. is_processing (phase_in r)) (replied ∙ at) ∙ goes)))
 
-  -- what the end of a stage leaves
+  -- The result of the end of a stage.
   pub record IsEndOn (t : ChildTrace) (old : RunState D) (j : ℕ) (js : List ℕ) (new : RunState D) : Type 0 where
     pub now : ChildTrace
     pub tells : new.told ≡ Some now
@@ -580,7 +580,7 @@ module _ {D : Type 0} (device : DiskView D) (xs : List AnsweredOrder) where
       by_slot None there = unchanged (ap (λ o. with_slot o (running_in old.slots js)) there) (ap (λ o. left_at o t.finishes) there) (subst (λ o. IsEndingOf device old (is_silent o) e) there ends).2
       by_slot (Some slot) there = by_progress slot slot.progress there refl (subst (λ o. IsEndingOf device old (is_silent o) e) there ends)
 
-  -- what all the ends leave
+  -- The result of all the ends.
   pub record AreEndsOn (t : ChildTrace) (left : Finishes) (new : RunState D) : Type 0 where
     pub now : ChildTrace
     pub tells : new.told ≡ Some now

@@ -1,4 +1,4 @@
--- Two calls one after the other are one turn.
+-- Two consecutive calls are one call.
 use Rattle.std.proofs.Common.{◌≡◌, ◌⊎◌, inl, inr, Bool, true, false, List, ◌++◌, refl, sym, ap, subst, ◌∙◌, append_assoc}
 use Rattle.std.proofs.lemmas.Bool.{both_ways}
 use Rattle.std.proofs.lemmas.List.{map-append}
@@ -23,14 +23,14 @@ module _ {D : Type 0} (laws : Laws) (old mid new : RunState D) (t : ChildTrace) 
   abbrev later_keys : List Key
   later_keys = keys_in two.orders
 
-  -- the table between them, as the newest version has it
+  -- The table between them, as the newest version has it.
   abbrev between : State
   between = raised mid.spool.state
 
   legal_between : IsLegal between
   legal_between = laws.raised_legal mid.spool.state two.turn.legal
 
-  -- the second call starts no stage that the first started, or that was held
+  -- The second call starts no stage that the first one started or that was held.
   apart : (k : Key) → IsHeld old.spool.state old.slots k ⊎ IsAmong first_keys k → IsAmong later_keys k → ⊥
   apart k before among = either mid.spool.dead refl
     where
@@ -44,7 +44,7 @@ module _ {D : Type 0} (laws : Laws) (old mid new : RunState D) (t : ChildTrace) 
             (laws.spent between k reached.first legal_between gone)
       ]
 
-  -- the device hadn't failed between them where it hasn't after them
+  -- If the device has not failed after the calls, it had not failed between them.
   lived : new.spool.dead ≡ false → (b : Bool) → mid.spool.dead ≡ b → mid.spool.dead ≡ false
   lived alive true died = absurd (both_ways _ alive (two.after_over died).1)
   lived alive false lives = lives
@@ -55,7 +55,7 @@ module _ {D : Type 0} (laws : Laws) (old mid new : RunState D) (t : ChildTrace) 
   of_all : (k : Key) → IsAmong (keys_in (one.orders ++ two.orders)) k → IsAmong first_keys k ⊎ IsAmong later_keys k
   of_all k among = among_either (keys_in one.orders) (keys_in two.orders) k (subst (λ l. IsAmong l k) all_keys among)
 
-  -- what was held, or started by the first call, is held or spent after both
+  -- A stage that was held, or started by the first call, is held or spent after both.
   settled_on : new.spool.dead ≡ false → (k : Key) → IsHeld old.spool.state old.slots k ⊎ IsAmong first_keys k → IsHeld new.spool.state new.slots k ⊎ IsSpent new.spool.state k
   settled_on alive k before = elim (one.turn.settled (lived alive mid.spool.dead refl) k before) [
     | inl held ↦ two.turn.settled alive k (inl held)

@@ -30,7 +30,7 @@ among_either (x ∷ xs) ys k (inr among) = elim (among_either xs ys k among) [
   | inr later ↦ inr later
 ]
 
--- no stage of the first list is in the second
+-- No stage of the first list is in the second.
 pub once_both : (xs ys : List Key) → AreOnce xs → AreOnce ys → ((k : Key) → IsAmong xs k → IsAmong ys k → ⊥) → AreOnce (xs ++ ys)
 once_both [] ys one two apart = two
 once_both (x ∷ xs) ys (new, one) two apart = (

@@ -1,4 +1,4 @@
--- Every start of a round comes before its first finish, and the children that were started are the ones that are running.
+-- Each start of a round comes before its first finish, and the children that were started are the running ones.
 use Rattle.std.proofs.Common.{◌≡◌, ℕ, zero, suc, ◌<◌, ◌||◌, length, take, get_or, arith, Bool, true, false, cond, ◌==◌, List, [], ◌∷◌, ◌++◌, map, Option, Some, None, unwrap_or, refl, sym, ap, subst, ◌∙◌, append_assoc, append-nil, ◌⊎◌, inl, inr, Result, Ok, Err}
 use Rattle.std.specs.FinMap as finite
 use Rattle.spool_types.specs.declared.phase.Phase.{Phase}
@@ -20,7 +20,7 @@ use Rattle.print_rounds.specs.declared.outcome.Launch.TheVariants.{Unlaunched, L
 use Rattle.print_rounds.specs.Finished.{AreDistinct, with_number, with_slot, running_in, AreBefore, AreStarted, AllRest, after_starts}
 use Rattle.print_rounds.proofs.EndLaws.{get_other, get_own, SameBut, not_first, not_second, turned, quiet}
 
--- the slots for a job's stage: those of other jobs are as they were, and its own has no child, if it had none
+-- The slots for a job's stage: those of other jobs are unchanged, and its own has no running child if it had none.
 pub record IsOwn (slots : Slots) (j : ℕ) (own : Slots) : Type 0 where
   pub same : SameBut j slots own
   pub rests : with_slot (finite.get slots j) [] ≡ [] → with_slot (finite.get own j) [] ≡ []
@@ -60,7 +60,7 @@ due_own slots r own due = by_phase r.phase refl due
     by_phase Canceled is e = absurd (cc)
     by_phase (Aborted reason) is e = absurd (cc)
 
--- what the start of one stage leaves
+-- The result of the start of one stage.
 pub record IsOneStart (t : ChildTrace) (old : Slots) (j : ℕ) (new : Slots) (told : Option ChildTrace) : Type 0 where
   pub now : ChildTrace
   pub tells : told ≡ Some now
@@ -73,7 +73,7 @@ pub record IsOneStart (t : ChildTrace) (old : Slots) (j : ℕ) (new : Slots) (to
   pub running : now.running ≡ t.running ++ with_slot (finite.get new j) []
   pub same : SameBut j old new
 
--- no child was started
+-- No child was started.
 none_started : (t : ChildTrace) (old : Slots) (j : ℕ) (new : Slots) (told : Option ChildTrace) → told ≡ Some t → SameBut j old new → with_slot (finite.get new j) [] ≡ [] → IsOneStart t old j new told
 none_started t old j new told tells same rests = record {
   now = t;
@@ -88,7 +88,7 @@ none_started t old j new told tells same rests = record {
   same = same;
 }
 
--- the answers that were to come say whether it was
+-- The answers to come decide whether it was started.
 started_one : (t : ChildTrace) (order : Order) (b : Bool) (n : ℕ) (old own : Slots) (j : ℕ) (new : Slots) (told : Option ChildTrace) → IsOwn old j own → new ≡ put_progress own j (progress_after b n) → IsStartOf t order b n told → IsOneStart t old j new told
 started_one t order b n old own j new told is put start = by_answer t.starts refl
   where
@@ -134,14 +134,14 @@ started_one t order b n old own j new told is put start = by_answer t.starts ref
           same = others;
         }
 
--- there is a slot for the stage, and no child was started
+-- There is a slot for the stage, and no child was started.
 own_started : (t : ChildTrace) (old : Slots) (j : ℕ) (r : Job) (own new : Slots) (told : Option ChildTrace) → r.id ≡ j → IsOwn old r.id own → told ≡ Some t → with_slot (finite.get old j) [] ≡ [] → new ≡ own → IsOneStart t old j new told
 own_started t old j r own new told id is tells rests same =
     subst (λ i. IsOneStart t old i new told) id
     (none_started t old r.id new told tells (λ k other. ap (λ m. finite.get m k) same ∙ is.same k other)
     (ap (λ m. with_slot (finite.get m r.id) []) same ∙ is.rests (subst (λ i. with_slot (finite.get old i) [] ≡ []) (sym id) rests)))
 
--- a job's number is its key
+-- A job's number is its key.
 abbrev pub HasNumbers : State → Type 0
 HasNumbers s = (j : ℕ) (r : Job) → job_at s j ≡ Some r → r.id ≡ j
 
@@ -185,14 +185,14 @@ starts_append : (t : ChildTrace) (first more : List Order) → after_starts t (f
 starts_append t [] more = refl
 starts_append t (order ∷ first) more = starts_append (after_start t order) first more
 
--- what all the starts leave, also of other jobs
+-- The result of all the starts, also for other jobs.
 pub record AreAllStarted (t : ChildTrace) (old : Slots) (js : List ℕ) (new : Slots) (told : Option ChildTrace) : Type 0 where
   pub now : ChildTrace
   pub tells : told ≡ Some now
   pub are : AreStarted t new js now
   pub others : (k : ℕ) → is_in k js ≡ false → finite.get new k ≡ finite.get old k
 
--- The new orders were all given before the first finish, whatever failed.
+-- All new orders were given before the first finish, whatever failed.
 pub all_started : (place : Place) (s : State) → HasNumbers s → (t : ChildTrace) (old : Slots) (told : Option ChildTrace) (ts : List Launching) (new : Slots) (told' : Option ChildTrace) → AreLaunchings place s old told ts new told' → told ≡ Some t → AllRest old (map (λ l. l.job) ts) → AreDistinct (map (λ l. l.job) ts) → AreAllStarted t old (map (λ l. l.job) ts) new told'
 all_started place s numbers t old told [] new told' (same, tells') tells rests distinct = record {
   now = t;
@@ -227,7 +227,7 @@ all_started place s numbers t old told (l ∷ ts) new told' (launch, launches) t
 one_same : (old own new : Slots) (r : Job) (p : Slot ℕ) → IsOwn old r.id own → new ≡ finite.insert own r.id p → SameBut r.id old new
 one_same old own new r p is put = λ k other. ap (λ m. finite.get m k) put ∙ get_other own r.id k p other ∙ is.same k other
 
--- the start of a stage changes the slot of its job alone
+-- The start of a stage changes only the slot of its job.
 launch_same : (place : Place) (s : State) → HasNumbers s → (old : Slots) (told : Option ChildTrace) (j : ℕ) (d : Option (List ℕ)) (l : Launch) (new : Slots) (told' : Option ChildTrace) → IsLaunch place s old told j d l new told' → SameBut j old new
 launch_same place s numbers old told j d Unlaunched new told' (rests_on, none, same, tells) = λ k other. ap (λ m. finite.get m k) same
 launch_same place s numbers old told j d (Launched b) new told' (r, q, own, due, input, starts) = λ k other.
@@ -241,14 +241,14 @@ launch_same place s numbers old told j d NoMemory new told' (r, q, own, due, eit
 launch_same place s numbers old told j d Disk new told' (r, q, own, due, none, same, tells) = λ k other. ap (λ m. finite.get m k) same ∙ (due_own old r own due.due).same k (ap (λ i. k == i) (numbers j r due.row) ∙ other)
 launch_same place s numbers old told j d Dead new told' (none, same, tells) = λ k other. ap (λ m. finite.get m k) same
 
--- the starts change the slots of their jobs alone
+-- The starts change only the slots of their jobs.
 pub launches_same : (place : Place) (s : State) → HasNumbers s → (old : Slots) (told : Option ChildTrace) (ts : List Launching) (new : Slots) (told' : Option ChildTrace) → AreLaunchings place s old told ts new told' → (k : ℕ) → is_in k (map (λ l. l.job) ts) ≡ false → finite.get new k ≡ finite.get old k
 launches_same place s numbers old told [] new told' (same, tells) k out = ap (λ m. finite.get m k) same
 launches_same place s numbers old told (l ∷ ts) new told' (launch, launches) k out =
     launches_same place s numbers l.slots l.told ts new told' launches k (not_second (l.job == k) (is_in k (map (λ l. l.job) ts)) out)
     ∙ launch_same place s numbers old told l.job l.document l.launch l.slots l.told launch k (turned l.job k (not_first (l.job == k) (is_in k (map (λ l. l.job) ts)) out))
 
--- an item isn't the job that isn't among them
+-- An item is not the job that is not among them.
 out_at : (j : ℕ) (js : List ℕ) → is_in j js ≡ false → (i : ℕ) → i < length js → (d : ℕ) → (get_or js i d == j) ≡ false
 out_at j [] out i lt d = absurd (omega (arith, lt))
 out_at j (k ∷ js) out zero lt d = not_first (k == j) (is_in j js) out
@@ -258,7 +258,7 @@ in_both : (a b : Bool) → a ≡ false → b ≡ false → (a || b) ≡ false
 in_both true b first second = absurd (cc)
 in_both false b first second = second
 
--- each job comes after others alone
+-- Each job comes after others only.
 pub not_before : (js : List ℕ) → AreDistinct js → (i : ℕ) → i < length js → (d : ℕ) → is_in (get_or js i d) (take i js) ≡ false
 not_before [] distinct i lt d = absurd (omega (arith, lt))
 not_before (j ∷ js) distinct zero lt d = refl
@@ -270,7 +270,7 @@ rests_at m [] rests i lt d = absurd (omega (arith, lt))
 rests_at m (j ∷ js) rests zero lt d = rests.0
 rests_at m (j ∷ js) rests (suc i) lt d = rests_at m js rests.1 i (omega (arith, lt)) d
 
--- so its slot still runs no child when its turn comes
+-- So its slot still has no running child before its own start.
 pub rests_on : (place : Place) (s : State) → HasNumbers s → (old : Slots) (told : Option ChildTrace) (ts : List Launching) (new : Slots) (told' : Option ChildTrace) → AreLaunchings place s old told ts new told' → (js : List ℕ) → AreDistinct js → AllRest old js → (i : ℕ) → map (λ l. l.job) ts ≡ take i js → i < length js → (j : ℕ) → j ≡ get_or js i j → IsTicketless (finite.get new j)
 rests_on place s numbers old told ts new told' launches js distinct rests i so_far lt j is =
     let out : is_in j (map (λ l. l.job) ts) ≡ false = ap (λ k. is_in k (map (λ l. l.job) ts)) is ∙ ap (λ ks. is_in (get_or js i j) ks) so_far ∙ not_before js distinct i lt j in

@@ -1,4 +1,4 @@
--- No stage of an attempt is started twice in a world, and the calls of an engine are the turns of a life.
+-- In a StageHistory no stage of an attempt is started twice, and the calls of an engine are the calls of a life.
 use Rattle.std.proofs.Common.{◌≡◌, ◌⊎◌, inl, inr, ◌||◌, ◌&&◌, ◌==◌, ℕ, Bool, not, true, false, List, [], ◌∷◌, ◌++◌, Option, None, Some, refl, sym, ap, subst, ◌∙◌, append-nil, append_assoc}
 use Rattle.std.specs.Ordering.{nat_cmp}
 use Rattle.std.specs.FinMap as finite
@@ -31,18 +31,18 @@ use Rattle.print_rounds.proofs.PrefixLaws.{after_both}
 none_among : (ks : List Key) (k : Key) → ks ≡ [] → IsAmong ks k → ⊥
 none_among ks k none among = subst (λ l. IsAmong l k) none among
 
--- a stage that the table has its job in, or that is spent
+-- A stage that the table has its job in, or that is spent.
 abbrev Came : State → Key → Type 0
 Came s k = IsIn s k ⊎ IsSpent s k
 
 module _ (laws : Laws) where
-  -- ## One turn
+  -- ## One call
 
   came_on : (s : State) (k : Key) (es : List Event) → IsLegal s → Came s k → Came (after_all s es) k
   came_on s k es legal (inl now) = laws.left s k es legal now
   came_on s k es legal (inr gone) = inr (laws.spent s k es legal gone)
 
-  -- The tables of a turn are seen as the newest version has them.
+  -- The tables of a call are compared in the newest version.
   module _ (t : StageCall) (turn : IsStageCallOf t) where
     abbrev before : State
     before = raised t.table
@@ -53,7 +53,7 @@ module _ (laws : Laws) where
     legal_then : IsLegal (raised t.table_after)
     legal_then = subst IsLegal (sym turn.table) (laws.legal before t.more legal_before)
 
-    -- what is spent before it isn't started in it
+    -- A stage that is spent before the call is not started in it.
     not_again : (k : Key) → IsSpent t.table k → IsAmong t.keys k → ⊥
     not_again k gone among =
         let r = turn.reached k among in
@@ -65,25 +65,25 @@ module _ (laws : Laws) where
     still_came : (k : Key) → Came before k → Came (raised t.table_after) k
     still_came k came = subst (λ s. Came s k) (sym turn.table) (came_on before k t.more legal_before came)
 
-    -- what it starts has come by its end
+    -- A stage that the call starts has come by its end.
     has_come : (k : Key) → IsAmong t.keys k → Came (raised t.table_after) k
     has_come k among =
         let r = turn.reached k among in
         subst (λ s. Came s k) (sym (turn.table ∙ ap (after_all before) r.split ∙ after_both before r.first r.rest))
         (came_on (after_all before r.first) k r.rest (laws.legal before r.first legal_before) (inl r.reached))
 
-    -- what was held, spent or started by it is held or spent after it, unless it is over
+    -- A stage that was held, spent or started by the call is held or spent after it, unless it is over.
     settled_then : t.over ≡ false → (k : Key) → Has t.held k ⊎ IsSpent t.table k → Has t.held_after k ⊎ IsSpent t.table_after k
     settled_then lives k (inl held) = turn.settled lives k (inl held)
     settled_then lives k (inr gone) = inr (still_spent k gone)
 
-  -- ## The turns of a life
+  -- ## The calls of a life
 
-  -- the stage is held or spent, unless a turn was over
+  -- The stage is held or spent, unless a call was over.
   abbrev IsDone : State → Keys → Bool → Key → Type 0
   IsDone s held over k = over ≡ false → Has held k ⊎ IsSpent s k
 
-  -- no turn starts what is held or spent before it
+  -- No call starts a stage that is held or spent before it.
   none_again : (ts : List StageCall) (s : State) (held : Keys) (over : Bool) → AreStageCallsOn s held over ts → (k : Key) → IsDone s held over k → IsAmong (keys_of_calls ts) k → ⊥
   none_again [] s held over turns k done among = among
   none_again (t ∷ ts) s held over (same_table, same_held, turn, quiet, turns) k done among = elim (among_either t.keys (keys_of_calls ts) k among) [
@@ -107,7 +107,7 @@ module _ (laws : Laws) where
       then : IsDone t.table_after t.held_after (over || t.over) k
       then lives = let both = or_parts over t.over lives in settled_then t turn both.1 k (at_start both.0)
 
-  -- nor what one of them has started
+  -- No call starts a stage that an earlier one has started.
   turns_once : (ts : List StageCall) (s : State) (held : Keys) (over : Bool) → AreStageCallsOn s held over ts → AreOnce (keys_of_calls ts)
   turns_once [] s held over turns = tt
   turns_once (t ∷ ts) s held over (same_table, same_held, turn, quiet, turns) =
@@ -143,19 +143,19 @@ module _ (laws : Laws) where
     life_legal : IsLegal (raised (end_of l))
     life_legal = turns_legal l.later first.table_after first.held_after first.over life.turns (legal_then first life.turn)
 
-    -- what it has started has come by its end
+    -- A stage that the life has started has come by its end.
     life_came : (k : Key) → IsAmong (keys_of_life l) k → Came (raised (end_of l)) k
     life_came k among = elim (among_either first.keys (keys_of_calls l.later) k among) [
       | inl now ↦ came_through l.later first.table_after first.held_after first.over life.turns k (has_come first life.turn k now)
       | inr later ↦ came_in l.later first.table_after first.held_after first.over life.turns k later
     ]
 
-    -- what has come before it is spent at its start: nothing is processing then
+    -- A stage that came before the life is spent at its start, since nothing is processing then.
     spent_first : (k : Key) → Came (raised first.table) k → IsSpent first.table k
     spent_first k (inl now) = absurd (both_ways _ (life.idle k.job now.row now.there) (ap is_processing now.phase))
     spent_first k (inr gone) = gone
 
-    -- and isn't started in it
+    -- Such a stage is not started in the life.
     life_none : (k : Key) → Came (raised first.table) k → IsAmong (keys_of_life l) k → ⊥
     life_none k came among = elim (among_either first.keys (keys_of_calls l.later) k among) [
       | inl now ↦ not_again first life.turn k (spent_first k came) now
@@ -165,7 +165,7 @@ module _ (laws : Laws) where
     life_through : (k : Key) → Came (raised first.table) k → Came (raised (end_of l)) k
     life_through k came = came_through l.later first.table_after first.held_after first.over life.turns k (still_came first life.turn k came)
 
-  -- ## A world
+  -- ## A history
 
   lives_none : (ls : List Life) (s : State) → IsLegal (raised s) → AreLives s ls → (k : Key) → Came (raised s) k → IsAmong (keys_of ls) k → ⊥
   lives_none [] s legal lives k came among = among
@@ -190,7 +190,7 @@ module _ (laws : Laws) where
 
 -- ## Calls
 
--- the stage of a phase
+-- The stage of a phase.
 in_stage : (attempt stage : ℕ) (p : Phase) → is_in_stage attempt stage p ≡ true → (stages : ℕ) × (p ≡ Processing attempt stage stages)
 in_stage attempt stage (Incoming hold) is = absurd (cc)
 in_stage attempt stage (Waiting hold not_before first) is = absurd (cc)
@@ -221,7 +221,7 @@ module _ (s : State) (slots : Slots) (k : Key) where
       let both = and_parts (slot.attempt == k.attempt) (slot.stage == k.stage) first.0 in
       record { slot = slot; there = at; attempt = eqb-true slot.attempt k.attempt both.0; stage = eqb-true slot.stage k.stage both.1; begun = off slot.progress first.1 }
 
-  -- the test of what is held tells it
+  -- The test whether a stage is held is correct.
   held_from : Has (is_held s slots) k → IsHeld s slots k
   held_from is =
       let both = and_parts (is_in_of k (job_at s k.job)) (is_begun_of k (finite.get slots k.job)) is in
@@ -235,7 +235,7 @@ module _ (s : State) (slots : Slots) (k : Key) where
       ∙ and_from (kept.slot.attempt == k.attempt && kept.slot.stage == k.stage) (not (is_ready kept.slot.progress))
       (and_from (kept.slot.attempt == k.attempt) (kept.slot.stage == k.stage) (eq-eqb _ _ kept.attempt) (eq-eqb _ _ kept.stage)) (ap not kept.begun))
 
--- a call is a turn
+-- A call of an engine is a call of the table.
 call_turn : {D : Type 0} (t : ChildTrace) (old new : RunState D) (more : List Event) (call : IsStageCall t old more new) → IsStageCallOf (stage_call_of old more new (keys_in call.orders))
 call_turn t old new more call = record {
   legal = call.turn.legal;
@@ -253,7 +253,7 @@ call_turn t old new more call = record {
   ];
 }
 
--- calls one after the other are turns
+-- Consecutive calls of an engine are calls of the table.
 calls_turns : {D : Type 0} (cs : List (List Event × RunState D)) (t : ChildTrace) (old : RunState D) (calls : AreStageCalls t old cs) → AreStageCallsOn old.spool.state (is_held old.spool.state old.slots) old.spool.dead (stage_calls_of t old cs calls)
 calls_turns [] t old calls = tt
 calls_turns (c ∷ cs) t old calls =
@@ -270,7 +270,7 @@ calls_turns (c ∷ cs) t old calls =
     dead_on true died over = sym (over died).1
     dead_on false lives over = refl
 
--- no slot holds anything
+-- No slot holds anything.
 none_held : (s : State) (slots : Slots) → slots ≡ finite.empty → (k : Key) → Has (is_held s slots) k → ⊥
 none_held s slots none k is = by_slot (finite.get slots k.job) (ap (λ (m : Slots). finite.get m k.job) none ∙ finite.get-empty nat_cmp k.job) (and_parts (is_in_of k (job_at s k.job)) (is_begun_of k (finite.get slots k.job)) is).1
   where
@@ -278,7 +278,7 @@ none_held s slots none k is = by_slot (finite.get slots k.job) (ap (λ (m : Slot
     by_slot None at begun = absurd (cc)
     by_slot (Some slot) at begun = absurd (cc)
 
--- so they are a life
+-- So the calls are a life.
 pub calls_life : {D : Type 0} (t : ChildTrace) (old : RunState D) (c : List Event × RunState D) (cs : List (List Event × RunState D)) (calls : AreStageCalls t old (c ∷ cs))
     → HasNoProcessing old.spool.state → old.slots ≡ finite.empty → IsLife (life_of t old c cs calls)
 calls_life t old c cs calls idle none = record {
@@ -295,7 +295,7 @@ calls_end (c ∷ cs) t old calls = calls_end cs calls.0.now c.1 calls.1
 pub life_end : {D : Type 0} (t : ChildTrace) (old : RunState D) (c : List Event × RunState D) (cs : List (List Event × RunState D)) (calls : AreStageCalls t old (c ∷ cs)) → end_of (life_of t old c cs calls) ≡ (last_left c.1 cs).spool.state
 life_end t old c cs calls = calls_end cs calls.0.now c.1 calls.1
 
--- the orders that come in calls, and their stages
+-- The new orders of calls, and their stages.
 abbrev HasOrders : {D : Type 0} → ChildTrace → List Key → RunState D → Type 0
 HasOrders t keys last = (now : ChildTrace) × (last.told ≡ Some now) × (orders : List Placed) × (now.orders ≡ t.orders ++ orders) × (keys ≡ keys_in orders)
 

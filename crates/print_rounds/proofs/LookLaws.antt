@@ -1,4 +1,4 @@
--- The jobs that have slots, up to the one last visited, and the looks and droppings that are made one after another.
+-- The jobs that have slots, up to the last visited one, and consecutive checks and droppings.
 use Rattle.std.proofs.Common.{◌≡◌, ℕ, ◌<◌, ◌≤◌, Bool, true, false, cond, not, ◌&&◌, nat_lt, List, [], ◌∷◌, ◌++◌, map, Option, Some, None, IsSome, IsTrue, refl, sym, ap, subst, ◌∙◌, arith, append-nil}
 use Rattle.std.specs.Prelude.{T}
 use Rattle.std.specs.Cmp.{first_so, second_so, nat_cmp_total, tied_itself}
@@ -29,12 +29,12 @@ pub true_from : (b : Bool) → T b → IsTrue b
 true_from true h = refl
 true_from false h = absurd h
 
--- whether a job is up to the one last visited
+-- Whether a job is up to the last visited one.
 abbrev pub is_passed : Option ℕ → ℕ → Bool
 is_passed None j = false
 is_passed (Some k) j = not (nat_lt k j)
 
--- those of these jobs that are up to the one last visited
+-- Those of these jobs up to the last visited one.
 abbrev pub jobs_to : Option ℕ → List ℕ → List ℕ
 jobs_to behind js = filter (is_passed behind) js
 
@@ -98,7 +98,7 @@ module _ {X : Type 0} where
           omega (arith, same, lt)
       by_test rest false is there = rest there
 
-  -- where all are ahead none is passed
+  -- If all jobs are ahead, none is passed.
   none_to : (behind : Option ℕ) (es : List (ℕ × X)) → ((j : ℕ) → IsSome (find nat_cmp j es) → IsBehind behind j) → jobs_to behind (keys es) ≡ []
   none_to behind [] ahead = refl
   none_to behind (e ∷ es) ahead = by_test (none_to behind es (λ j there. ahead j (found_later e es j there))) (is_passed behind e.0) refl
@@ -116,7 +116,7 @@ module _ {X : Type 0} where
           let found : IsSome (find nat_cmp j (e ∷ es)) = found_later e es j (subst IsSome (sym is) refl) in
           absurd (cc (subst IsSome none found))
 
-  -- where none is ahead all are passed
+  -- If no job is ahead, all are passed.
   all_to : (behind : Option ℕ) (es : List (ℕ × X)) → ((j : ℕ) → IsBehind behind j → find nat_cmp j es ≡ None) → jobs_to behind (keys es) ≡ keys es
   all_to behind [] none = refl
   all_to behind (e ∷ es) none = by_test (all_to behind es (λ j is. none_later e es j (none j is))) (is_passed behind e.0) refl
@@ -139,7 +139,7 @@ module _ {X : Type 0} where
       by_test true is there = same_key k e.0 is
       by_test false is there = let lt : e.0 < k = above e.0 es below k there in absurd (omega (arith, le, lt))
 
-  -- the next key comes last
+  -- The next key comes last.
   next_to : (behind : Option ℕ) (k : ℕ) (es : List (ℕ × X)) → IsTrue (is_sorted nat_cmp es) → IsBehind behind k → IsSome (find nat_cmp k es) → ((j : ℕ) → IsBehind behind j → IsSome (find nat_cmp j es) → k ≤ j) →
       jobs_to (Some k) (keys es) ≡ jobs_to behind (keys es) ++ k ∷ []
   next_to behind k [] sorted near there least = absurd (cc)
@@ -175,7 +175,7 @@ pub next_jobs : (slots : Slots) (behind : Option ℕ) (k : ℕ) → IsNextJob sl
 next_jobs slots behind k (near, there, least) = next_to behind k (finite.entries slots) (true_from (is_sorted nat_cmp (finite.entries slots)) (finite.entries_sorted slots)) near
     (subst IsSome (finite.get-entries slots k) there) (λ j is found. least j is (subst IsSome (sym (finite.get-entries slots j)) found))
 
--- the same of those that pass a test
+-- The same for the jobs that pass a test.
 module _ (p : ℕ → Bool) (slots : Slots) where
   pub no_filtered : filter p (jobs_to None (finite.keys slots)) ≡ []
   no_filtered = ap (filter p) (no_jobs slots)
@@ -183,12 +183,12 @@ module _ (p : ℕ → Bool) (slots : Slots) where
   pub next_filtered : (behind : Option ℕ) (k : ℕ) → IsNextJob slots behind (Some k) → filter p (jobs_to (Some k) (finite.keys slots)) ≡ filter p (jobs_to behind (finite.keys slots)) ++ cond (p k) (k ∷ []) []
   next_filtered behind k next = ap (filter p) (next_jobs slots behind k next) ∙ filter-append p (jobs_to behind (finite.keys slots)) (k ∷ [])
 
--- what is behind a job is the same, and so is the next one
+-- The slots after a job are the same, and so is the next job.
 pub next_same : (old now : Slots) (behind : Option ℕ) (o : Option ℕ) → ((j : ℕ) → IsBehind behind j → finite.get now j ≡ finite.get old j) → IsNextJob now behind o → IsNextJob old behind o
 next_same old now behind None same none = λ j is. sym (same j is) ∙ none j is
 next_same old now behind (Some k) same (near, there, least) = (near, subst IsSome (same k near) there, λ j is found. least j is (subst IsSome (sym (same j is)) found))
 
--- ## Looks
+-- ## Checks
 
 pub more_looks : (waits : Bool) (slots : Slots) (told mid : Option ChildTrace) (ls : List Look) (l : Look) → AreLooks waits slots told ls mid → IsLook waits slots mid l → AreLooks waits slots told (ls ++ l ∷ []) l.told
 more_looks waits slots told mid [] l same is = (subst (λ o. IsLook waits slots o l) same is, refl)
@@ -205,7 +205,7 @@ more_ripe (x ∷ ls) l = by_test x.ripe (more_ripe ls l)
 
 -- ## Droppings
 
--- a stage that has ended has no child
+-- A stage that has ended has no running child.
 pub ended_rests : (o : Option (Slot ℕ)) → IsEnded o → IsTicketless o
 ended_rests None ended = tt
 ended_rests (Some slot) ended = by_progress slot.progress ended
@@ -215,7 +215,7 @@ ended_rests (Some slot) ended = by_progress slot.progress ended
     by_progress (Running k) ended n is = absurd (cc)
     by_progress (Ended finish) ended n is = absurd (cc)
 
--- the end of a stage leaves the slots of other jobs
+-- The end of a stage does not change the slots of other jobs.
 pub finish_same : (told : Option ChildTrace) (slots : Slots) (j : ℕ) (new : Slots) (told' : Option ChildTrace) → FinishesStage told slots j new told' → SameBut j slots new
 finish_same told slots j new told' finishes = by_progress (slot_in slots j).progress finishes
   where
@@ -228,7 +228,7 @@ pub more_droppings : (waits : Bool) (slots mid : Slots) (told told' : Option Chi
 more_droppings waits slots mid told told' [] d (same, tells) is = (subst (λ m. IsDropping waits m told d) same (subst (λ o. IsDropping waits mid o d) tells is), (refl, refl))
 more_droppings waits slots mid told told' (x ∷ ds) d (first, drops) is = (first, more_droppings waits x.slots mid x.told told' ds d drops is)
 
--- The strays up to a job are looked at, and those that have ended are dropped.
+-- The strays up to a job are checked, and those that have ended are dropped.
 pub record AreDroppedTo (waits : Bool) (s : State) (old : Slots) (told : Option ChildTrace) (behind : Option ℕ) (new : Slots) (told' : Option ChildTrace) : Type 0 where
   pub walked : IsWalkedTo (λ j o. Unit {0}) old behind new
   pub steps : (ds : List Dropping) × AreDroppings waits old told ds new told' × (map (λ d. d.look.job) ds ≡ filter (is_stray s old) (jobs_to behind (finite.keys old)))
@@ -241,14 +241,14 @@ none_dropped waits s old told = record {
 
 module _ (waits : Bool) (s : State) (old : Slots) (told : Option ChildTrace) (behind : Option ℕ) (now : Slots) (told' : Option ChildTrace) (so_far : AreDroppedTo waits s old told behind now told') where
   module _ (k : ℕ) (next : IsNextJob now behind (Some k)) where
-    -- the job's slot is as it was at the start
+    -- The job's slot is as it was at the start.
     at_first : is_stray s now k ≡ is_stray s old k
     at_first = ap (λ o. has_child o && not (is_current (job_at s k) o)) (so_far.walked.ahead k next.0)
 
     further : (b : Bool) → is_stray s now k ≡ b → filter (is_stray s old) (jobs_to (Some k) (finite.keys old)) ≡ filter (is_stray s old) (jobs_to behind (finite.keys old)) ++ cond b (k ∷ []) []
     further b is = next_filtered (is_stray s old) old behind k (next_same old now behind (Some k) so_far.walked.ahead next) ∙ ap (λ c. filter (is_stray s old) (jobs_to behind (finite.keys old)) ++ cond c (k ∷ []) []) (sym at_first ∙ is)
 
-    -- it is no stray
+    -- The job is no stray.
     pub passes : is_stray s now k ≡ false → AreDroppedTo waits s old told (Some k) now told'
     passes off =
         let (ds, are, jobs) = so_far.steps in
@@ -257,7 +257,7 @@ module _ (waits : Bool) (s : State) (old : Slots) (told : Option ChildTrace) (be
           steps = (ds, are, jobs ∙ sym (append-nil _) ∙ sym (further false off));
         }
 
-    -- it is one
+    -- The job is a stray.
     pub seen_to : is_stray s now k ≡ true → (d : Dropping) → d.look.job ≡ k → IsDropping waits now told' d → SameBut k now d.slots → AreDroppedTo waits s old told (Some k) d.slots d.told
     seen_to is d job dropping same =
         let (ds, are, jobs) = so_far.steps in
@@ -270,12 +270,12 @@ module _ (waits : Bool) (s : State) (old : Slots) (told : Option ChildTrace) (be
           );
         }
 
-  -- no slot is left to be visited
+  -- No slot is left to visit.
   pub all_dropped : IsNextJob now behind None → (ds : List Dropping) × AreDroppings waits old told ds now told' × (map (λ d. d.look.job) ds ≡ strays s old)
   all_dropped none =
       let (ds, are, jobs) = so_far.steps in
       (ds, are, jobs ∙ ap (filter (is_stray s old)) (all_jobs old behind (next_same old now behind None so_far.walked.ahead none)))
 
--- a stray that was dropped leaves the slots of other jobs
+-- A stray that was dropped does not change the slots of other jobs.
 pub dropped_same : (told : Option ChildTrace) (slots kept new : Slots) (j : ℕ) (told' : Option ChildTrace) → FinishesStage told slots j kept told' → new ≡ finite.remove kept j → SameBut j slots new
 dropped_same told slots kept new j told' finishes gone k other = ap (λ m. finite.get m k) gone ∙ get_left kept j k other ∙ finish_same told slots j kept told' finishes k other

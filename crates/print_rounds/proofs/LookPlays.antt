@@ -1,4 +1,4 @@
--- The looks, ends and droppings of a tick, where nothing failed, are those of Script.
+-- If nothing failed, the checks, ends and droppings of a tick are those of Script.
 use Rattle.std.proofs.Common.{◌≡◌, ℕ, Bool, true, false, cond, List, [], ◌∷◌, map, Option, Some, None, refl, sym, ap, subst, ◌∙◌, append_assoc, append-nil}
 use Rattle.std.specs.Cmp.{nat_cmp_total}
 use Rattle.std.specs.Ordering.{nat_cmp, eq_by_cmp}
@@ -22,16 +22,16 @@ use Rattle.print_rounds.proofs.LaunchLaws.{some_of}
 use Rattle.print_rounds.proofs.ReportLaws.{one_ended, play_past, play_after}
 use Rattle.print_rounds.proofs.TickTickets.{TicketLaws, looks_keep, ends_keep, drops_keep, runs_as}
 
--- ## Looks
+-- ## Checks
 
--- the next look is taken of a child that runs, and of no other
+-- A check takes the next answer for a running child, and none otherwise.
 one_look : (b : Bool) (t : ChildTrace) (told : Option ChildTrace) (l : Look) → told ≡ Some t → IsLookBy b told l → (l.ripe ≡ ripe_by b t) × (l.told ≡ Some (looked_by b t))
 one_look true t told l tells is =
     let looked : HasLooked t l.ripe l.told = subst (λ o. Looks o l.ripe l.told) tells is in
     (looked.answer, looked.told)
 one_look false t told l tells is = (is.0, is.1 ∙ tells)
 
--- what the looks find, and what the children tell behind them
+-- The results of the checks, and the trace after them.
 pub looks_played : (slots : Slots) (t : ChildTrace) (told : Option ChildTrace) (ls : List Look) (told' : Option ChildTrace) → told ≡ Some t → AreLooks false slots told ls told' → (ripe_in ls ≡ ripe_among slots t (map (λ l. l.job) ls)) × (told' ≡ Some (looked_among slots t (map (λ l. l.job) ls)))
 looks_played slots t told [] told' tells same = (refl, same ∙ tells)
 looks_played slots t told (l ∷ ls) told' tells (look, looks) =
@@ -46,7 +46,7 @@ looks_played slots t told (l ∷ ls) told' tells (look, looks) =
 -- ## Ends
 
 module _ {D : Type 0} (laws : TicketLaws) (device : DiskView D) where
-  -- The ends of stages, where each event was acknowledged and the slots have the tickets, are those of Script.
+  -- If each event was acknowledged and the slots have the tickets, the ends of stages are those of Script.
   pub ends_played : (p : Play) (sp : OpenSpool D) (es : List (Ending D)) (new : RunState D) → sp.state ≡ p.state → HasTickets p.slots p.told → AreEndings device (run_state sp p.slots (Some p.told)) es new → AllTold es
       → (t' : ChildTrace) × (new.told ≡ Some t') × HasTickets new.slots t' × (plays play_end p (map (λ e. e.job) es) ≡ play_after device p es new t')
   ends_played p sp [] new state has same told = (
@@ -78,7 +78,7 @@ gone_or : (b : Bool) (x : Slot ℕ) (o : Option (Slot ℕ)) → cond b None (con
 gone_or true x o = refl
 gone_or false x o = refl
 
--- a slot that is freed may have been put before
+-- Freeing a slot after storing it is the same as freeing it.
 put_gone : (m : Slots) (j : ℕ) (x : Slot ℕ) → finite.remove (finite.insert m j x) j ≡ finite.remove m j
 put_gone m j x = finite.same_map nat_cmp_total finite.nat_cmp-IsAntisymmetric (finite.remove (finite.insert m j x) j) (finite.remove m j) (λ k.
     let b = eq_by_cmp nat_cmp k j in
@@ -87,14 +87,14 @@ put_gone m j x = finite.same_map nat_cmp_total finite.nat_cmp-IsAntisymmetric (f
     ∙ gone_or b x (finite.get m k)
     ∙ sym (finite.get-remove nat_cmp_total m j k))
 
--- what one dropping leaves of a play
+-- The effect of one dropping on a play.
 record IsOneDropped (p : Play) (d : Dropping) : Type 0 where
   pub told : ChildTrace
   pub tells : d.told ≡ Some told
   pub played : play_drop p d.look.job ≡ record p { slots = d.slots; told = told }
 
 module _ (p : Play) (d : Dropping) (t : ChildTrace) (has : HasTickets p.slots t) (tells : d.look.told ≡ Some t) where
-  -- the play behind the look
+  -- The play after the check.
   abbrev looked : Play
   looked = record p { told = t }
 
@@ -108,7 +108,7 @@ module _ (p : Play) (d : Dropping) (t : ChildTrace) (has : HasTickets p.slots t)
     ap (λ c. dropped_if c looked j) is ∙ played ∙ ap (λ m. record p { slots = m; told = now }) (sym gone),
   )
 
-  -- a child that has ended is finished, and its slot freed
+  -- A child that has ended is finished, and its slot freed.
   ripe_drop : (kept : Slots) (v : Progress ℕ) → (slot_in p.slots j).progress ≡ v → FinishesFrom v d.look.told p.slots j kept d.told → d.slots ≡ finite.remove kept j → (b : Bool) → b ≡ true → (now : ChildTrace) × (d.told ≡ Some now) × (dropped_if b looked j ≡ record p { slots = d.slots; told = now })
   ripe_drop kept (Ready input) at finishes gone = absurd finishes
   ripe_drop kept (Running n) at finishes gone =
@@ -132,7 +132,7 @@ one_dropped laws p d has (look, dropped) =
     let (now, tells', played) = by_ripe p d (looked_by b p.told) has1 tells d.look.ripe dropped (ripe_by b p.told) (sym ripe) in
     record { told = now; tells = tells'; played = played }
 
--- The children whose jobs have left their stages are dropped as Script says.
+-- The children whose jobs have left their stages are dropped as Script states.
 pub drops_played : (laws : TicketLaws) (p : Play) (ds : List Dropping) (new : Slots) (told' : Option ChildTrace) → HasTickets p.slots p.told → AreDroppings false p.slots (Some p.told) ds new told'
     → (t' : ChildTrace) × (told' ≡ Some t') × (plays play_drop p (map (λ d. d.look.job) ds) ≡ record p { slots = new; told = t' })
 drops_played laws p [] new told' has (same, tells) = (p.told, tells, ap (λ m. record p { slots = m }) (sym same))

@@ -1,4 +1,4 @@
--- The slot of a stage that is to be started.
+-- The slot of a stage that must be started.
 use Rattle.std.proofs.Common.{◌≡◌, ℕ, Bool, true, false, cond, ◌&&◌, ◌==◌, Option, Some, None, unwrap_or, refl, sym, ap, subst, ◌∙◌}
 use Rattle.std.specs.FinMap as finite
 use Rattle.std.specs.Cmp.{first_so, second_so}
@@ -21,11 +21,11 @@ due_of : (attempt stage stages : ℕ) (o : Option (Slot ℕ)) → readiness atte
 due_of attempt stage stages None e = absurd (cc)
 due_of attempt stage stages (Some slot) e = due_by attempt stage slot stages (slot.attempt == attempt && slot.stage == stage) refl e
 
--- is to be started where it wasn't
+-- A stage that is ready to be started is due.
 pub ready_due : (slots : Slots) (r : Job) (attempt stage stages : ℕ) → r.phase ≡ Processing attempt stage stages → readiness attempt stage (finite.get slots r.id) ≡ Some true → IsDue (finite.get slots r.id) r.phase
 ready_due slots r attempt stage stages is ready = subst (IsDue (finite.get slots r.id)) (sym is) (due_of attempt stage stages (finite.get slots r.id) ready)
 
--- a slot is made for the first stage
+-- A slot is made for the first stage.
 pub made_due : (slots : Slots) (r : Job) (attempt stage stages : ℕ) → r.phase ≡ Processing attempt stage stages → readiness attempt stage (finite.get slots r.id) ≡ None → stage ≡ 1 → slots_for slots r ≡ Some (begun_in slots r.id r.phase)
 made_due slots r attempt stage stages is absent first =
     ap (slots_in slots r) is

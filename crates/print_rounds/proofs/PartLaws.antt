@@ -1,4 +1,4 @@
--- What a part of a round leaves: the table of the events acknowledged in it.
+-- The effect of a part of a round: the table after the events acknowledged in it.
 use Rattle.std.proofs.Common.{◌≡◌, inl, inr, ◌≤◌, ℕ, Bool, true, false, List, [], ◌∷◌, ◌++◌, Option, Some, None, Ok, Err, refl, sym, ap, subst, ◌∙◌, append_assoc, append-nil, arith}
 use Rattle.std.specs.FinMap as finite
 use Rattle.std.specs.Prelude.{◌↔◌, IsSome}
@@ -20,8 +20,7 @@ use Rattle.print_rounds.proofs.PrefixLaws.{after_both}
 use Rattle.print_rounds.proofs.ReadLaws.{reads_counted, reads_over, reads_state, reads_still}
 use Rattle.print_rounds.proofs.ReportLaws.{done_state, fault_state}
 
--- A part of a round, with the events that were tried in it and those that were acknowledged. After a fault of the device
--- nothing is done.
+-- A part of a round, with the events that were tried in it and those that were acknowledged. After a device error nothing is done.
 pub record IsPart {D : Type 0} (device : DiskView D) (old : OpenSpool D) (tried events : List Event) (new : OpenSpool D) : Type 0 where
   pub table : new.state ≡ after_all old.state events
   pub acknowledged : new.dead ≡ false → tried ≡ events
@@ -32,7 +31,7 @@ pub record IsPart {D : Type 0} (device : DiskView D) (old : OpenSpool D) (tried 
   pub told : IsSome (device.bytes new.disk) ↔ IsSome (device.bytes old.disk)
 
 module _ {D : Type 0} (device : DiskView D) where
-  -- nothing is done
+  -- Nothing is done.
   still : (old new : OpenSpool D) → new ≡ old → IsPart device old [] [] new
   still old new same = record {
     table = ap (λ (x : OpenSpool D). x.state) same;
@@ -44,7 +43,7 @@ module _ {D : Type 0} (device : DiskView D) where
     told = subst (λ (x : OpenSpool D). IsSome (device.bytes x.disk) ↔ IsSome (device.bytes old.disk)) (sym same) (λ k. k, λ k. k);
   }
 
-  -- what works after a part worked before it
+  -- A device that works after a part worked before it.
   pub alive_before : (mid new : OpenSpool D) (tried events : List Event) → IsPart device mid tried events new → new.dead ≡ false → mid.dead ≡ false
   alive_before mid new tried events part lives = by_dead mid.dead refl
     where
@@ -54,7 +53,7 @@ module _ {D : Type 0} (device : DiskView D) where
           absurd (cc)
       by_dead false is = is
 
-  -- a part, and another after it
+  -- One part, followed by another.
   module _ (old mid new : OpenSpool D) (es fs xs ys : List Event) (first : IsPart device old es xs mid) (more : IsPart device mid fs ys new) where
     pub both_parts : IsPart device old (es ++ fs) (xs ++ ys) new
     both_parts = record {
@@ -156,7 +155,7 @@ module _ {D : Type 0} (device : DiskView D) where
       both_parts device old t.next new (start_tried o t.answer) (starting_tried t.next ts) (start_events o t.answer) (starting_events t.next ts)
       (start_part old o t.answer t.next start) (starts_part t.next ts new starts)
 
-  -- the reads of documents are one too
+  -- The reads of documents are a part too.
   pub reads_part : (old : OpenSpool D) (ts : List Launching) (new : OpenSpool D) → IsLawful device → AreReads device old ts new → IsPart device old [] [] new
   reads_part old ts new lawful reads =
       let same : device.bytes new.disk ≡ device.bytes old.disk = (reads_still device lawful old ts new reads).bytes in

@@ -1,4 +1,4 @@
--- An attempt goes on to its next stage only behind a child that ended with 0.
+-- An attempt continues with its next stage only after a child that ended with 0.
 use Rattle.std.proofs.Common.{◌≡◌, ℕ, Bool, true, false, cond, not, ◌&&◌, ◌==◌, List, [], ◌∷◌, Option, Some, None, refl, sym, ap, ◌∙◌}
 use Rattle.std.specs.FinMap as finite
 use Rattle.std.specs.Prelude.{is_none, nat_le}
@@ -110,7 +110,7 @@ ruled_next now interval verdicts.StopQueue r goes = absurd (never false refl goe
 ruled_next now interval verdicts.RetryAt r goes = absurd (never false refl goes)
 ruled_next now interval verdicts.RetryFirst r goes = absurd (never false refl goes)
 
--- ## The row behind the end of a stage
+-- ## The row after the end of a stage
 
 row_put : (jobs : Jobs) (j : ℕ) (r : Job) → finite.get (finite.insert jobs j r) j ≡ Some r
 row_put jobs j r = finite.get-insert nat_cmp_total jobs j r j ∙ ap (λ b. cond b (Some r) (finite.get jobs j)) ((eq_by_cmp_equiv nat_cmp_total).refl j)
@@ -123,7 +123,7 @@ no_first true r cs e = absurd (cc)
 no_first false r cs e = refl
 
 module _ (s : State) (legal : IsLegal s) (e : StageEnd) (accepted : refusal_of s (Stage e) ≡ None) where
-  -- the job is there, with a queue
+  -- The job exists, with a queue.
   module _ (r : Job) (there : job_at s e.job ≡ Some r) (q : QueueRow) (own : queue_at s r.queue ≡ Some q) where
     abbrev paged : Job
     paged = with_pages e.effects r
@@ -156,14 +156,14 @@ module _ (s : State) (legal : IsLegal s) (e : StageEnd) (accepted : refusal_of s
         verdict_zero e.exit (is_last_stage paged.phase) noted.policy paged.attempts noted.limit
         (ruled_next told_state.moment noted.interval verdict paged (sym (ap (λ o. is_processing (phase_found o)) at) ∙ goes))
 
-  -- the causes behind the first one
+  -- The causes after the first one.
   abbrev others : List (Bool × Refusal)
   others = (passes (λ r. has_ended r.phase) (job_at s e.job), JobEnded)
       ∷ (passes (λ r. not (is_processing r.phase)) (job_at s e.job), NotProcessing)
       ∷ (passes (λ r. not (is_in_stage e.attempt e.stage r.phase)) (job_at s e.job), WrongStage)
       ∷ []
 
-  -- where the job is still processing behind it, the child ended with 0
+  -- If the job is still processing after that, the child ended with 0.
   pub goes_on_zero : is_processing (phase_found (job_at (after s (Stage e)) e.job)) ≡ true → e.exit ≡ Code 0
   goes_on_zero goes = by_row (job_at s e.job) refl
     where

@@ -21,7 +21,7 @@ use Rattle.print_rounds.proofs.PlaceLaws.{in_turn_none}
 use Rattle.print_rounds.proofs.RoundLaws.{or_none}
 use Rattle.print_rounds.proofs.StartLaws.{queue_count, starts_keys}
 
--- a list with room for each queue has room for each after the starts
+-- A list with room for each queue has room for each after the starts.
 pub room_left : {D : Type 0} (device : DiskView D) (old : OpenSpool D) (ts : List (Starting D)) (mid : OpenSpool D) → AreStartings device old ts mid → (t : State) → t ≡ old.state → (rows : List QueueRow) → map (λ row. row.name) rows ≡ finite.keys t.queues
     → (capacity : ℕ) → length rows ≤ capacity → (now : State) → now ≡ mid.state → length (finite.keys now.queues) ≤ capacity
 room_left device old ts mid starts t same rows names capacity few now later =
@@ -29,13 +29,13 @@ room_left device old ts mid starts t same rows names capacity few now later =
     (queue_count rows (finite.keys t.queues) names ∙ ap (λ (s : State). length (finite.keys s.queues)) same ∙ sym (ap length (starts_keys device old ts mid starts)) ∙ sym (ap (λ (s : State). length (finite.keys s.queues)) later))
     few
 
--- the queues that aren't marked are those that are chosen
+-- The queues that are not marked are the chosen ones.
 pub queues_chosen : (start_room : Option StartRoom) (names : List (List ℕ)) (slots : Slots) (now old : State) → now ≡ old → (given flags : List Bool) → given ≡ flags → AreChosen start_room now slots (unblocked flags (finite.keys now.queues)) → names ≡ unblocked given (finite.keys old.queues) → AreChosen start_room old slots names
 queues_chosen start_room names slots now old same given flags are value is =
     subst (AreChosen start_room old slots) (sym (is ∙ ap (λ fs. unblocked fs (finite.keys old.queues)) are))
     (subst (λ (s : State). AreChosen start_room s slots (unblocked flags (finite.keys s.queues))) same value)
 
--- the slots are those that stay
+-- The slots are the retained ones.
 module _ {D : Type 0} (device : DiskView D) (place : Place) (waits : Bool) (start_room : Option StartRoom) (old : RunState D) (alive : old.spool.dead ≡ false) (slots : Slots) (stay : slots ≡ idle_slots old.spool.state old.slots)
     (mid : OpenSpool D) (ts : List (Starting D)) (starts : AreStartings device old.spool ts mid) (queues : AreChosen start_room old.spool.state slots (map (λ t. t.queue) ts)) where
   abbrev idle : Slots
@@ -44,7 +44,7 @@ module _ {D : Type 0} (device : DiskView D) (place : Place) (waits : Bool) (star
   queues_free : AreChosen start_room old.spool.state idle (map (λ t. t.queue) ts)
   queues_free = subst (λ m. AreChosen start_room old.spool.state m (map (λ t. t.queue) ts)) stay queues
 
-  -- the device failed at a start
+  -- The device failed at a start.
   pub failed_pass : mid.dead ≡ true → (result : Result Round RoundFault) → result ≡ result_of (record { started = 0; finished = 0 }) (starting_fault ts) → IsPassBy device place waits start_room old old.spool.dead (run_state mid slots old.told) result
   failed_pass dead result answer =
       subst (λ b. IsPassBy device place waits start_room old b (run_state mid slots old.told) result) (sym alive)
@@ -73,7 +73,7 @@ module _ {D : Type 0} (device : DiskView D) (place : Place) (waits : Bool) (star
         answer = answer ∙ ap (result_of (record { started = 0; finished = 0 })) (sym (or_none (starting_fault ts)));
       }))
 
-  -- it works on
+  -- The device still works.
   module _ (lives : mid.dead ≡ false) (js : List ℕ) (jobs : js ≡ tended_jobs mid.state slots (finite.keys mid.state.queues)) where
     tended : js ≡ jobs_tended mid mid.dead idle
     tended = jobs ∙ ap (λ m. tended_jobs mid.state m (finite.keys mid.state.queues)) stay ∙ sym (ap (λ b. jobs_tended mid b idle) lives)

@@ -1,4 +1,4 @@
--- Parts of lists, and those that have a place.
+-- Parts of lists, and the items that have room.
 use Rattle.std.proofs.Common.{◌≡◌, inl, inr, ℕ, zero, suc, ◌+◌, ◌-◌, ◌<◌, ◌≤◌, ◌%◌, Bool, true, false, cond, not, ◌&&◌, ◌||◌, ◌==◌, List, [], ◌∷◌, ◌++◌, length, take, drop, get_or, set, replicate, Option, Some, None, refl, sym, ap, subst, ◌∙◌, arith}
 use Rattle.std.specs.Prelude.{nat_le, IfSome}
 use Rattle.std.proofs.lemmas.Bool.Decides.{nat_tests}
@@ -28,12 +28,12 @@ module _ {X : Type 0} where
   part_take (suc n) [] = tt
   part_take (suc n) (x ∷ xs) = inl (refl, part_take n xs)
 
-  -- one more that is left out
+  -- One more item, which is left out.
   part_skip : (xs : List X) (y : X) (ys : List X) → IsPartOf xs ys → IsPartOf xs (y ∷ ys)
   part_skip [] y ys part = tt
   part_skip (x ∷ xs) y ys part = inr part
 
-  -- a front, and a part behind it
+  -- The beginning of a list, and a part after it.
   part_both : (again first more : ℕ) (xs : List X) → again ≤ first → IsPartOf (take again xs ++ take more (drop first xs)) xs
   part_both zero zero more xs le = part_take more xs
   part_both zero (suc first) more [] le = part_take more []
@@ -61,7 +61,7 @@ part_once (x ∷ xs) [] part distinct = absurd part
 part_once (x ∷ xs) (y ∷ ys) (inl (same, part)) (out, distinct) = (subst (λ k. is_in k xs ≡ false) (sym same) (part_out y xs ys part out), part_once xs ys part distinct)
 part_once (x ∷ xs) (y ∷ ys) (inr part) (out, distinct) = part_once (x ∷ xs) ys part distinct
 
--- ## Those that have a place
+-- ## Items that have room
 
 above : (m n : ℕ) → nat_le m n ≡ false → n < m
 above m n off = grind (arith, nat_tests)
@@ -130,7 +130,7 @@ opened_count (f ∷ fs) (n ∷ ns) long = by_flag f (opened_count fs ns (omega a
     by_flag true rest = omega arith
     by_flag false rest = omega arith
 
--- where only those are open that aren't blocked, they are a part of them
+-- If only queues that are not blocked are open, the open queues are a part of those.
 closed_part : (closed blocked : List Bool) (names : List (List ℕ)) → length closed ≡ length names → length blocked ≡ length names → ((i : ℕ) → get_or blocked i true ≡ true → get_or closed i true ≡ true) → IsPartOf (unblocked closed names) (unblocked blocked names)
 closed_part closed blocked [] long too keeps = none closed
   where
@@ -147,7 +147,7 @@ closed_part (c ∷ cs) (b ∷ bs) (n ∷ ns) long too keeps = by_flags c b (keep
     by_flags false true keeps rest = let closed : false ≡ true = keeps refl in absurd (cc)
     by_flags false false keeps rest = inl (refl, rest)
 
--- where just those are open that aren't blocked and pass a test, they are those that pass it
+-- If exactly the queues are open that are not blocked and pass a test, the open queues are those that pass it.
 opened_filter : (test : List ℕ → Bool) (closed blocked : List Bool) (names : List (List ℕ)) → length closed ≡ length names → length blocked ≡ length names
     → ((i : ℕ) → i < length names → get_or closed i true ≡ false → (not (get_or blocked i true) && test (get_or names i [])) ≡ true)
     → ((i : ℕ) → i < length names → (not (get_or blocked i true) && test (get_or names i [])) ≡ true → get_or closed i true ≡ false)
@@ -201,7 +201,7 @@ all_chosen start_room s slots names are fits = record {
     full_by None fits = tt
     full_by (Some p) fits = λ more fewer. absurd (omega arith)
 
--- a few, if there are fewer places than queues
+-- A few, if there is room for fewer starts than queues.
 module _ (p : StartRoom) (s : State) (slots : Slots) (blocked closed : List Bool) (left : ℕ)
     (more : p.count < length (finite.keys s.queues)) (free : unblocked blocked (finite.keys s.queues) ≡ free_queues s slots) (long : length blocked ≡ length (finite.keys s.queues)) (too : length closed ≡ length (finite.keys s.queues))
     (starts : (i : ℕ) → get_or closed i true ≡ false → can_start s blocked i ≡ true) (all : 0 < left → (i : ℕ) → i < length (finite.keys s.queues) → can_start s blocked i ≡ true → get_or closed i true ≡ false)

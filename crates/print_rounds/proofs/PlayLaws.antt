@@ -1,4 +1,4 @@
--- A round in which nothing failed is the one of Script.
+-- A round without a failure is that of Script.
 use Rattle.std.proofs.Common.{◌≡◌, ℕ, ◌+◌, Bool, true, false, cond, List, [], ◌∷◌, length, map, fold, Option, Some, None, refl, sym, ap, subst, ◌∙◌, IsTrue, add-zero}
 use Rattle.spool_types.specs.declared.rows.QueueRow.{QueueRow}
 use Rattle.spool_types.specs.State.{Job, job_at, queue_at}
@@ -23,7 +23,7 @@ same_progress : (t : ChildTrace) (b : Bool) (n : ℕ) → b ≡ starts_next t �
 same_progress t true n is number = ap (progress_after true) (number refl) ∙ ap (λ b. progress_after b (length t.orders)) is
 same_progress t false n is number = ap (λ b. progress_after b (length t.orders)) is
 
--- the play after a launch, where the spool has stayed
+-- The play after a launch if the spool is unchanged.
 abbrev pub play_to : Play → Slots → ChildTrace → ℕ → Play
 play_to p slots told more = record p { slots = slots; told = told; started = p.started + more }
 
@@ -33,7 +33,7 @@ counted n ls = fold (λ a l. a + started_by l.launch) n ls
 abbrev pub play_at : Play → Slots → ChildTrace → ℕ → Play
 play_at p slots told n = record p { slots = slots; told = told; started = n }
 
--- an order for a stage is the same with the document that was read and with the one that it is
+-- An order for a stage is the same with the document that was read and with the job's document.
 same_input : (p : Progress ℕ) (len : ℕ) (d : Option (List ℕ)) (document : List ℕ) → IsInput p len d → ((read : List ℕ) → d ≡ Some read → read ≡ document) → input_in p (given d) ≡ input_in p document
 same_input (Ready None) len None document is own = absurd is
 same_input (Ready None) len (Some read) document is own = ap (λ (x : List ℕ). input_in (Ready None) x) (own read refl)
@@ -81,7 +81,7 @@ module _ (place : Place) (documents : ℕ → List ℕ) where
   one_play p numbers j d Disk new told' is served own_is = absurd served
   one_play p numbers j d Dead new told' is served own_is = absurd served
 
-  -- The starts of stages, where there was memory for each, are those of Script: the orders, the slots and the count.
+  -- If memory sufficed for each, the starts of stages are those of Script: the orders, the slots and the count.
   pub all_played : (p : Play) → HasNumbers p.state → (told : Option ChildTrace) (ls : List Launching) (new : Slots) (told' : Option ChildTrace) → told ≡ Some p.told → AreLaunchings place p.state p.slots told ls new told' → AllServed ls → AreHanded documents ls → (t' : ChildTrace) × (told' ≡ Some t') × (plays (play_launch place documents) p (map (λ l. l.job) ls) ≡ play_at p new t' (counted p.started ls))
   all_played p numbers told [] new told' tells (same, tells') served handed = (p.told, tells' ∙ tells, ap (λ s. record p { slots = s }) (sym same))
   all_played p numbers told (l ∷ ls) new told' tells (launch, launches) (served, others) (here, handed) =

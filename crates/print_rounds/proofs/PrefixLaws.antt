@@ -18,12 +18,12 @@ none_of s es c has = (0, omega arith, omega arith, has)
 pub one_of : (s : State) (e : Event) (c : List ℕ) → HasBeforeOrAfterEvent s e c → HasSomeOf s (e ∷ []) c
 one_of s e c = ⊎_elim (λ before. none_of s (e ∷ []) c before) (λ after. (1, omega arith, omega arith, after))
 
--- some of the first, and then more
+-- Some of the first events, and then more.
 pub some_first : (s : State) (es fs : List Event) (c : List ℕ) → HasSomeOf s es c → HasSomeOf s (es ++ fs) c
 some_first s es fs c (k, low, high, has) =
     (k, low, omega (arith, high, length-append es fs), subst (λ l. HasTable (after_all s l) c) (sym (take-append-le k es fs high)) has)
 
--- all of the first, and some more
+-- All of the first events, and some more.
 pub some_later : (s t : State) (es fs : List Event) (c : List ℕ) → t ≡ after_all s es → HasSomeOf t fs c → HasSomeOf s (es ++ fs) c
 some_later s t es fs c is (k, low, high, has) = (
   length es + k,

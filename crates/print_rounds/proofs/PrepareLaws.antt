@@ -38,7 +38,7 @@ module _ (s : State) (slots : Slots) (j : ℕ) where
   pub unprepared : (r : Job) (q : QueueRow) → job_at s j ≡ Some r → queue_at s r.queue ≡ Some q → (new : Slots) → IsUnmade slots r new → IsUnprepared s slots j new
   unprepared r q row queue new unmade = (r, q, unmade.own, record { row = row; queue = queue; due = unmade.due }, unmade.same)
 
--- the child of a stage that is prepared was started, or there was no memory
+-- The child of a stage that is prepared was started, or memory ran out.
 pub launched_as : (place : Place) (s : State) (slots : Slots) (told : Option ChildTrace) (j : ℕ) (r : Job) (q : QueueRow) (own : Slots) (document : Option (List ℕ)) (l : Launch) (new : Slots) (told' : Option ChildTrace) → IsToStart s slots j r q own → IsInput (slot_in own r.id).progress (document_len r) document → IsStarted place told own r q (given document) l new told' → IsLaunch place s slots told j document l new told'
 launched_as place s slots told j r q own document Unlaunched new told' start input started = absurd started
 launched_as place s slots told j r q own document (Launched b) new told' start input started = (r, q, own, start, input, started)
@@ -54,13 +54,13 @@ pub on_err : {X E : Type 0} {A B : Type 0} (r : Result X E) → (A → B) → On
 on_err (Ok x) weaker holds = holds
 on_err (Err e) weaker holds = weaker holds
 
--- a launch for which there was no memory: for the slot, or for what comes behind it
+-- A launch that ran out of memory: for the slot, or after that.
 pub unprepared_as : (place : Place) (s : State) (slots : Slots) (told : Option ChildTrace) (j : ℕ) (new : Slots) → IsUnprepared s slots j new → IsLaunch place s slots told j None NoMemory new told
 unprepared_as place s slots told j new (r, q, own, start, same) = (r, q, own, start, inl same, refl)
 
 pub prepared_as : (place : Place) (s : State) (slots : Slots) (told : Option ChildTrace) (j : ℕ) (new : Slots) → IsPrepared s slots j true new → IsLaunch place s slots told j None NoMemory new told
 prepared_as place s slots told j new (r, q, start, due, id) = (r, q, new, start, inr refl, refl)
 
--- a launch at which the device failed
+-- A launch during which the device failed.
 pub broken_as : (place : Place) (s : State) (slots : Slots) (told : Option ChildTrace) (j : ℕ) (new : Slots) → IsPrepared s slots j true new → IsLaunch place s slots told j None Disk new told
 broken_as place s slots told j new (r, q, start, due, id) = (r, q, new, start, refl, refl, refl)

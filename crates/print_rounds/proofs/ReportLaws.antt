@@ -1,4 +1,4 @@
--- The ends of stages, where nothing failed, are those of Script.
+-- If nothing failed, the ends of stages are those of Script.
 use Rattle.std.proofs.Common.{◌≡◌, ℕ, ◌+◌, true, false, List, [], ◌∷◌, ◌++◌, map, fold, Option, Some, None, unwrap_or, Result, Ok, Err, refl, sym, ap, subst, ◌∙◌, append_assoc, append-nil, add-zero}
 use Rattle.spool_disk.specs.Disk.{DiskView}
 use Rattle.std.specs.FinMap as finite
@@ -26,7 +26,7 @@ use Rattle.print_rounds.specs.Faultless.{IsTold, AllTold}
 use Rattle.print_rounds.specs.RoundScript.{Play, play_end, ended_if, waited, waited_by, reported, plays}
 use Rattle.print_rounds.proofs.EndLaws.{in_head, report_same, one_end, running_same}
 
--- an accepted event leaves the table and the reply of the step
+-- An accepted event results in the table and the reply of the step.
 pub done_state : (s : State) (e : Event) (o : Option Refusal) (new : State) (reply : Reply) → refusal_of s e ≡ o → o ≡ None → step s e ≡ Ok (new, reply) → (after s e ≡ new) × (reply_to s e ≡ reply)
 done_state s e o new reply is none stepped =
     let both : Ok (after s e, reply_to s e) ≡ Ok (new, reply) = sym (ap (answered s e) (is ∙ none)) ∙ stepped in
@@ -36,14 +36,14 @@ done_state s e o new reply is none stepped =
     pair_of (Ok p) = p
     pair_of (Err r) = (s, reply)
 
--- the child of the first job is told to be running
+-- The child of the first job is running in the trace.
 head_runs : (t : ChildTrace) (slots : Slots) (j : ℕ) (js : List ℕ) → t.running ≡ running_in slots (j ∷ js) → (n : ℕ) → IsRunningAs slots j n → is_in n t.running ≡ true
 head_runs t slots j js runs n r =
     let first : running_in slots (j ∷ js) ≡ n ∷ running_in slots js = ap (λ o. with_slot o (running_in slots js)) r.there ∙ ap (λ v. with_number v (running_in slots js)) r.runs in
     ap (λ ns. is_in n ns) (runs ∙ first) ∙ in_head n (running_in slots js)
 
 module _ {D : Type 0} (device : DiskView D) where
-  -- an event that isn't acknowledged leaves the table
+  -- An event that is not acknowledged does not change the table.
   pub fault_state : (old : OpenSpool D) (e : Event) (fault : ApplyFault) (new : OpenSpool D) → IsAnswer device old e (Err fault) new → new.state ≡ old.state
   fault_state old e faults.Dead new (dead, same) = ap (λ (x : OpenSpool D). x.state) same
   fault_state old e (faults.Refused refusal) new (alive, refused, same) = ap (λ (x : OpenSpool D). x.state) same
@@ -66,7 +66,7 @@ module _ {D : Type 0} (device : DiskView D) where
       ∙ ap (λ m. record p { state = next.spool.state; slots = m; events = p.events ++ e ∷ []; ended = p.ended + 1 }) slots_are
       ∙ ap (λ k. record p { state = next.spool.state; slots = next.slots; events = p.events ++ Stage k ∷ []; ended = p.ended + 1 }) (sym at)
 
-  -- the play after the end of a stage
+  -- The play after the end of a stage.
   abbrev pub play_past : Play → Ending D → ChildTrace → Play
   play_past p e told = record p {
     state = e.next.spool.state;
@@ -76,13 +76,13 @@ module _ {D : Type 0} (device : DiskView D) where
     ended = p.ended + told_by e.report;
   }
 
-  -- what the end of one stage leaves of a play
+  -- The effect of the end of one stage on a play.
   pub record IsOnePlayed (p : Play) (e : Ending D) : Type 0 where
     pub told : ChildTrace
     pub tells : e.next.told ≡ Some told
     pub played : play_end p e.job ≡ play_past p e told
 
-  -- a stage that is reported: its child is finished first, if it is running
+  -- A stage that is reported: its child is finished first, if it is running.
   spoken_play : (p : Play) (e : Ending D) (t' : ChildTrace) → is_silent (finite.get p.slots e.job) ≡ false → waited p e.job ≡ record p { slots = e.kept.slots; told = t' } → e.kept.spool.state ≡ p.state → e.next.told ≡ Some t' → IsReport device e.kept e.job e.report e.next → IsTold e.report → IsOnePlayed p e
   spoken_play p e t' spoken waits state tells report told =
       let mid : Play = record p { slots = e.kept.slots; told = t' } in
@@ -92,7 +92,7 @@ module _ {D : Type 0} (device : DiskView D) where
         played = ap (ended_if p e.job) spoken ∙ ap (λ q. reported q e.job) waits ∙ told_play mid e.kept e.next e.job e.report report told state refl;
       }
 
-  -- a stage of which nothing has ended
+  -- A stage with nothing to report.
   silent_play : (p : Play) (e : Ending D) → is_silent (finite.get p.slots e.job) ≡ true → e.report ≡ reports.Silent → e.next.spool.state ≡ p.state → e.next.slots ≡ p.slots → e.next.told ≡ Some p.told → IsOnePlayed p e
   silent_play p e silent report state slots tells =
       let at : Report → Play = λ r. record p {
@@ -113,7 +113,7 @@ module _ {D : Type 0} (device : DiskView D) where
             ∙ ap at (sym report);
       }
 
-  -- the child of a stage is finished as Script says
+  -- The child of a stage is finished as Script states.
   waited_running : (p : Play) (e : Ending D) (slot : Slot ℕ) (n : ℕ) → finite.get p.slots e.job ≡ Some slot → slot.progress ≡ Running n → (fin : Waits (Some p.told) n p.slots e.job e.kept.slots e.kept.told) → is_in n p.told.running ≡ true → (waited p e.job ≡ record p { slots = e.kept.slots; told = after_finish p.told n }) × (e.kept.told ≡ Some (after_finish p.told n))
   waited_running p e slot n there is fin running =
       let at : (slot_in p.slots e.job).progress ≡ Running n = ap (λ o. (unwrap_or o (begun 0 0)).progress) there ∙ is in
@@ -124,7 +124,7 @@ module _ {D : Type 0} (device : DiskView D) where
         told_is,
       )
 
-  -- one end of a stage, where its event was acknowledged
+  -- One end of a stage whose event was acknowledged.
   pub one_ended : (p : Play) (sp : OpenSpool D) (e : Ending D) → sp.state ≡ p.state → ((n : ℕ) → IsRunningAs p.slots e.job n → is_in n p.told.running ≡ true) → IsEnding device (run_state sp p.slots (Some p.told)) e → IsTold e.report → IsOnePlayed p e
   one_ended p sp e state runs ends served = by_slot (finite.get p.slots e.job) refl
     where
@@ -157,7 +157,7 @@ module _ {D : Type 0} (device : DiskView D) where
   some_told : (a b : ChildTrace) → Some a ≡ Some b → a ≡ b
   some_told a b e = ap (λ o. unwrap_or o a) e
 
-  -- the play after the ends of stages
+  -- The play after the ends of stages.
   abbrev pub play_after : Play → List (Ending D) → RunState D → ChildTrace → Play
   play_after p es new told = record p {
     state = new.spool.state;
@@ -167,7 +167,7 @@ module _ {D : Type 0} (device : DiskView D) where
     ended = fold (λ n e. n + told_by e.report) p.ended es;
   }
 
-  -- The ends of stages, where each event was acknowledged, are those of Script.
+  -- If each event was acknowledged, the ends of stages are those of Script.
   pub all_ended : (p : Play) (sp : OpenSpool D) (es : List (Ending D)) (new : RunState D) → sp.state ≡ p.state → p.told.running ≡ running_in p.slots (map (λ e. e.job) es) → AreDistinct (map (λ e. e.job) es) → AreEndings device (run_state sp p.slots (Some p.told)) es new → AllTold es → (t' : ChildTrace) × (new.told ≡ Some t') × (plays play_end p (map (λ e. e.job) es) ≡ play_after p es new t')
   all_ended p sp [] new state runs distinct same told = (
     p.told,

@@ -38,7 +38,7 @@ use Rattle.print_rounds.proofs.ReadLaws.{reads_state, some_handed}
 use Rattle.print_rounds.proofs.ToldLaws.{all_told, suit_in}
 use Rattle.print_rounds.proofs.StageHistoryLaws.{failed_accepted, failed_turn, live_accepted, live_turn}
 
--- where no child is asked for, none is to be finished
+-- If no child was started, none must be finished.
 pub none_asked : (t : ChildTrace) (slots : Slots) (told : Option ChildTrace) → told ≡ Some t → t.running ≡ [] → EachFinishedOnce t told []
 none_asked t slots told tells none = record {
   between = t;
@@ -53,7 +53,7 @@ pub or_none : (a : Option RoundFault) → option_or a None ≡ a
 or_none None = refl
 or_none (Some fault) = refl
 
--- the answer of the parts together
+-- The result of all parts.
 pub first_answer : (round : Round) (first later : Option RoundFault) (fault : RoundFault) → first ≡ Some fault → Err fault ≡ result_of round (option_or first later)
 first_answer round first later fault some = ap (λ f. result_of round (option_or f later)) (sym some)
 
@@ -67,7 +67,7 @@ module _ {D : Type 0} (device : DiskView D) where
   one_alive old (Some j) (Some (Ok reply)) new (accepted, is) begun alive = is.cause.alive
   one_alive old (Some j) (Some (Err fault)) new is begun alive = absurd begun
 
-  -- where each start was acknowledged the device hasn't failed
+  -- If each start was acknowledged, the device has not failed.
   pub starts_alive : (old : OpenSpool D) (ts : List (Starting D)) (new : OpenSpool D) → AreStartings device old ts new → AllBegun ts → old.dead ≡ false → new.dead ≡ false
   starts_alive old [] new same begun alive = ap (λ (x : OpenSpool D). x.dead) same ∙ alive
   starts_alive old (t ∷ ts) new (start, starts) (first, others) alive = starts_alive t.next ts new starts others (one_alive old (next_of old.state t.queue) t.answer t.next start first alive)
@@ -89,14 +89,14 @@ module _ {D : Type 0} (device : DiskView D) where
   end_alive old e true (silent, kept, same) none alive = ap (λ (c : RunState D). c.spool.dead) same ∙ alive
   end_alive old e false (finishes, same, report) none alive = report_alive e.kept e.job e.report e.next report none (ap (λ (x : OpenSpool D). x.dead) same ∙ alive)
 
-  -- where no end had a fault it works on
+  -- If no end had a fault, the device still works.
   pub ends_alive : (old : RunState D) (es : List (Ending D)) (new : RunState D) → AreEndings device old es new → ending_fault es ≡ None → old.spool.dead ≡ false → new.spool.dead ≡ false
   ends_alive old [] new same none alive = ap (λ (c : RunState D). c.spool.dead) same ∙ alive
   ends_alive old (e ∷ es) new are none alive =
       ends_alive e.next es new are.1 (or_second (report_fault e.report) (ending_fault es) none)
       (end_alive old e (is_silent (finite.get old.slots e.job)) are.0 (or_first (report_fault e.report) (ending_fault es) none) alive)
 
-  -- and where no read had one
+  -- The same if no read had a fault.
   pub reads_work : (old : OpenSpool D) (ls : List Launching) (new : OpenSpool D) → AreReads device old ls new → launching_fault ls ≡ None → old.dead ≡ false → new.dead ≡ false
   reads_work old [] new same none alive = ap (λ (x : OpenSpool D). x.dead) same ∙ alive
   reads_work old (l ∷ ls) new (next, first, reads) none alive = reads_work next ls new reads (or_second (launch_fault l.launch) (launching_fault ls) none) (by_dead next.dead refl)
@@ -108,12 +108,12 @@ module _ {D : Type 0} (device : DiskView D) where
         | inr broke ↦ absurd (let here : launch_fault l.launch ≡ None = or_first (launch_fault l.launch) (launching_fault ls) none in let there : launch_fault l.launch ≡ Some ends.Disk = ap launch_fault broke in cc)
       ]
 
-  -- the starts, and a run of stages after them
+  -- The starts, and a run of stages after them.
   pub run_part : {mid : OpenSpool D} {slots : Slots} {told : Option ChildTrace} {js : List ℕ} {new : RunState D} (lawful : IsLawful device) (place : Place) (old : OpenSpool D) (ts : List (Starting D)) → AreStartings device old ts mid → (runs : IsRunOfStages device place (run_state mid slots told) js new) → IsPart device old (starting_tried old ts ++ ending_tried runs.endings) (starting_events old ts ++ ending_events runs.endings) new.spool
   run_part {mid} {slots} {told} {js} {new} lawful place old ts starts runs = round_part device lawful old mid ts starts runs.launchings runs.read runs.reads runs.slots runs.told runs.endings new runs.ends
 
   module _ (lawful : IsLawful device) (place : Place) (old : RunState D) (kept : IsKept device old.spool) (mid : OpenSpool D) (ts : List (Starting D)) (starts : AreStartings device old.spool ts mid) (queues : map (λ t. t.queue) ts ≡ finite.keys old.spool.state.queues) where
-    -- the device failed at a start
+    -- The device failed at a start.
     pub dead_round : Laws → IsLegal old.spool.state → HasNoneRunning old.slots → old.spool.dead ≡ false → mid.dead ≡ true → (result : Result Round RoundFault) → result ≡ result_of (record { started = 0; finished = 0 }) (starting_fault ts) → IsRoundOf device place old (run_state mid (current_slots old.spool.state old.slots) old.told) result
     dead_round laws legal rests alive dead result answer = record {
       steps = record { startings = ts; mid = mid; launchings = []; read = mid; slots = current_slots old.spool.state old.slots; told = old.told; endings = [] };
@@ -153,9 +153,9 @@ module _ {D : Type 0} (device : DiskView D) where
         part : IsPart device old.spool (starting_tried old.spool ts ++ []) (starting_events old.spool ts ++ []) mid
         part = round_part device lawful old.spool mid ts starts [] mid refl slots old.told [] failed refl
 
-    -- a stage of each processing job was run
+    -- A stage of each processing job was run.
     module _ (js : List ℕ) (new : RunState D) (runs : IsRunOfStages device place (run_state mid (current_slots old.spool.state old.slots) old.told) js new) (jobs : js ≡ busy_jobs mid.state (finite.keys mid.state.queues)) where
-      -- where nothing failed it is Script's
+      -- If nothing failed, it is Script's.
       live_exact : IsLegal old.spool.state → ((s : State) (events : List Event) → IsLegal s → IsLegal (after_all s events)) → AreExactStarts old.spool (finite.keys old.spool.state.queues) mid ts → AreExact device place (run_state mid (current_slots old.spool.state old.slots) old.told) js new runs → AreDistinct js → starting_fault ts ≡ None → launching_fault runs.launchings ≡ None → ending_fault runs.endings ≡ None → (t : ChildTrace) (documents : ℕ → List ℕ) → old.told ≡ Some t → t.running ≡ [] → AreHanded documents runs.launchings
           → IsScriptRound old (record { startings = ts; mid = mid; launchings = runs.launchings; read = runs.read; slots = runs.slots; told = runs.told; endings = runs.endings }) new (round_of place documents old.spool.state old.slots t)
       live_exact legal stays exact_starts exact distinct no_start no_launch no_end t documents tells quiet handed =
@@ -220,7 +220,7 @@ module _ {D : Type 0} (device : DiskView D) where
           part : IsPart device old.spool (starting_tried old.spool ts ++ ending_tried runs.endings) (starting_events old.spool ts ++ ending_events runs.endings) new.spool
           part = run_part lawful place old.spool ts starts runs
 
-    -- the same over slots that are the current ones, whatever was answered of the starts
+    -- The same over slots that are the current ones, whatever the answers to the starts.
     pub whole_round : old.spool.dead ≡ false → mid.dead ≡ false → IsLegal old.spool.state → Laws → HasNoneRunning old.slots → AreExactStarts old.spool (finite.keys old.spool.state.queues) mid ts
         → (slots : Slots) → slots ≡ current_slots old.spool.state old.slots → (js : List ℕ) → js ≡ busy_jobs mid.state (finite.keys mid.state.queues) → AreDistinct js
         → (new : RunState D) → HasNoneRunning new.slots → (stages : Result Round RoundFault) → ((runs : IsRunOfStages device place (run_state mid slots old.told) js new) × AreExact device place (run_state mid slots old.told) js new runs × (stages ≡ result_of (counts_of runs.launchings runs.endings) (stages_fault runs.launchings runs.endings)))
@@ -230,7 +230,7 @@ module _ {D : Type 0} (device : DiskView D) where
         subst (λ b. IsRoundBy device place old b new result) (sym alive)
         (inr (live_round js new runs jobs alive mid_alive legal laws rests rests_then exact_starts exact distinct result (answer (counts_of runs.launchings runs.endings) (stages_fault runs.launchings runs.endings) is)))
 
-    -- the same where the device failed at a start
+    -- The same if the device failed at a start.
     pub failed_round : Laws → IsLegal old.spool.state → HasNoneRunning old.slots → old.spool.dead ≡ false → mid.dead ≡ true → (slots : Slots) → slots ≡ current_slots old.spool.state old.slots → (result : Result Round RoundFault) → result ≡ result_of (record { started = 0; finished = 0 }) (starting_fault ts) → IsRoundBy device place old old.spool.dead (run_state mid slots old.told) result
     failed_round laws legal rests alive dead slots freed result answer =
         subst (λ b. IsRoundBy device place old b (run_state mid slots old.told) result) (sym alive)

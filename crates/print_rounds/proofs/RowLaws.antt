@@ -17,14 +17,14 @@ not_tied Less below = refl
 not_tied Equal below = absurd (cc)
 not_tied Greater below = absurd (cc)
 
--- a key below all others isn't among them
+-- A key below all others is not among them.
 none_found : (k : ℕ) (es : List (ℕ × Job)) → IsTrue (below_all nat_cmp k es) → finite.find nat_cmp k es ≡ None
 none_found k [] below = refl
 none_found k (e ∷ es) below =
     ap (λ b. cond b (Some e.1) (finite.find nat_cmp k es)) (not_tied (nat_cmp k e.0) (first_so (is_lt (nat_cmp k e.0)) (below_all nat_cmp k es) below))
     ∙ none_found k es (second_so (is_lt (nat_cmp k e.0)) (below_all nat_cmp k es) below)
 
--- a value is found at its key
+-- A value is found at its key.
 value_found : (es : List (ℕ × Job)) → IsTrue (finite.is_sorted nat_cmp es) → (r : Job) (i : ℕ) → i < length es → get_or (map (λ e. e.1) es) i r ≡ r → (k : ℕ) × (finite.find nat_cmp k es ≡ Some r)
 value_found [] sorted r i lt is = absurd (omega (arith, lt))
 value_found (e ∷ es) sorted r zero lt is = (e.0, ap (λ b. cond b (Some e.1) (finite.find nat_cmp e.0 es)) ((eq_by_cmp_equiv nat_cmp_total).refl e.0) ∙ ap Some is)
@@ -49,7 +49,7 @@ module _ (s : State) (legal : IsLegal s) where
   true_from true h = refl
   true_from false h = absurd h
 
-  -- each row of a legal table is found by its number
+  -- Each row of a legal table is found by its number.
   pub legal_rows : (r : Job) → Contains (finite.values s.jobs) r → job_at s r.id ≡ Some r
   legal_rows r (i, lt, is) =
       let es = finite.entries s.jobs in

@@ -1,4 +1,4 @@
--- A round is a turn of StageHistory.
+-- A round is a call of a StageHistory.
 use Rattle.std.proofs.Common.{◌≡◌, ◌⊎◌, inl, inr, ℕ, false, List, [], ◌++◌, map, Some, refl, sym, ap, subst, ◌∙◌, append-nil}
 use Rattle.std.proofs.lemmas.Bool.{both_ways}
 use Rattle.spool_disk.specs.Disk.{DiskView}
@@ -26,7 +26,7 @@ use Rattle.print_rounds.proofs.ReadLaws.{reads_state}
 use Rattle.print_rounds.proofs.VersionLaws.{raised_turn}
 
 module _ {D : Type 0} (device : DiskView D) (laws : Laws) (old : RunState D) (legal : IsLegal old.spool.state) (mid : OpenSpool D) (ts : List (Starting D)) (starts : AreStartings device old.spool ts mid) where
-  -- what was held at the start goes on, or is spent
+  -- A stage that was held at the start is still held, or is spent.
   held_going : (k : Key) → IsHeld old.spool.state old.slots k → IsHeld mid.state (current_slots old.spool.state old.slots) k ⊎ IsSpent mid.state k
   held_going k held =
       let table = (starts_part device old.spool ts mid starts).table in
@@ -38,7 +38,7 @@ module _ {D : Type 0} (device : DiskView D) (laws : Laws) (old : RunState D) (le
   legal_mid : IsLegal mid.state
   legal_mid = subst IsLegal (sym (starts_part device old.spool ts mid starts).table) (laws.legal old.spool.state (starting_events old.spool ts) legal)
 
-  -- the events of a round are accepted in turn
+  -- The events of a round are accepted in order.
   pub live_accepted : (place : Place) (js : List ℕ) (new : RunState D) (runs : IsRunOfStages device place (run_state mid (current_slots old.spool.state old.slots) old.told) js new) → AreAccepted old.spool.state (starting_events old.spool ts ++ ending_events runs.endings)
   live_accepted place js new runs =
       let same = reads_state device mid runs.launchings runs.read runs.reads ∙ (starts_part device old.spool ts mid starts).table in
@@ -48,7 +48,7 @@ module _ {D : Type 0} (device : DiskView D) (laws : Laws) (old : RunState D) (le
   pub failed_accepted : AreAccepted old.spool.state (starting_events old.spool ts ++ [])
   failed_accepted = subst (AreAccepted old.spool.state) (sym (append-nil (starting_events old.spool ts))) (starts_accepted device old.spool ts mid starts)
 
-  -- the device failed at a start
+  -- The device failed at a start.
   pub failed_turn : HasNoneRunning old.slots → (t : ChildTrace) → old.told ≡ Some t → old.spool.dead ≡ false → IsStageCall t old (starting_events old.spool ts ++ []) (run_state mid (current_slots old.spool.state old.slots) old.told)
   failed_turn rests t tells alive = record {
     now = t;
@@ -72,13 +72,13 @@ module _ {D : Type 0} (device : DiskView D) (laws : Laws) (old : RunState D) (le
     numbers : HasNumbers mid.state
     numbers j r there = (legal_mid.jobs j r there).id
 
-    -- what goes on before the ends does so behind them, or is spent
+    -- A stage that is held before the ends is held after them, or is spent.
     going_on : (k : Key) → IsHeld mid.state runs.slots k ⊎ IsSpent mid.state k → IsHeld new.spool.state new.slots k ⊎ IsSpent new.spool.state k
     going_on k going =
         let still : runs.read.state ≡ mid.state = reads_state device mid runs.launchings runs.read runs.reads in
         ends_going device laws k (run_state runs.read runs.slots runs.told) runs.endings new runs.ends (subst IsLegal (sym still) legal_mid) (subst (λ s. IsHeld s runs.slots k ⊎ IsSpent s k) (sym still) going)
 
-    -- a stage of each processing job was run
+    -- A stage of each processing job was run.
     pub live_turn : old.spool.dead ≡ false → IsStageCall t old (starting_events old.spool ts ++ ending_events runs.endings) new
     live_turn alive =
         let slots : Slots = current_slots old.spool.state old.slots in

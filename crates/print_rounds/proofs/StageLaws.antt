@@ -1,4 +1,4 @@
--- Each child that a round starts is finished in it, and where nothing failed the steps are Script's.
+-- Each child that a round starts is finished in it and, if nothing failed, the steps are Script's.
 use Rattle.std.proofs.Common.{◌≡◌, ℕ, List, [], ◌++◌, map, Some, refl, sym, ap, subst, ◌∙◌}
 use Rattle.std.specs.FinMap as finite
 use Rattle.spool_disk.specs.Disk.{DiskView}
@@ -17,7 +17,7 @@ use Rattle.print_rounds.proofs.ReadLaws.{reads_state}
 use Rattle.print_rounds.proofs.ReportLaws.{all_ended, play_after}
 
 module _ {D : Type 0} (device : DiskView D) (place : Place) (old : RunState D) (js : List ℕ) (new : RunState D) (numbers : HasNumbers old.spool.state) (runs : IsRunOfStages device place old js new) where
-  -- no child runs on
+  -- No child is still running.
   pub none_run : HasNoneRunning old.slots → HasNoneRunning new.slots
   none_run rests k = ends_rest device (run_state runs.read runs.slots runs.told) runs.endings new runs.ends k (λ out.
       let same : finite.get runs.slots k ≡ finite.get old.slots k = launches_same place old.spool.state numbers old.slots old.told runs.launchings runs.slots runs.told runs.starts k (ap (is_in k) (runs.started ∙ sym runs.ended) ∙ out) in
@@ -38,7 +38,7 @@ module _ {D : Type 0} (device : DiskView D) (place : Place) (old : RunState D) (
         finished = subst (λ ks. AreFinished all.now runs.slots ks ends.0) runs.ended ends.2;
       }
 
-  -- the steps of Script, where nothing failed
+  -- If nothing failed, the steps of Script.
   pub all_exact : AreDistinct js → AllRest old.slots js → AreExact device place old js new runs
   all_exact distinct rests t before documents tells none served told handed =
       let p : Play = record (play_from old.spool.state old.slots t) { events = before } in

@@ -1,4 +1,4 @@
--- The starts of jobs, where nothing failed, are those of Script.
+-- If nothing failed, the starts of jobs are those of Script.
 use Rattle.std.proofs.Common.{◌≡◌, ℕ, List, [], ◌∷◌, ◌++◌, length, map, get_or, Option, Some, None, Ok, Err, refl, sym, ap, subst, ◌∙◌, append_assoc, append-nil}
 use Rattle.std.specs.FinMap as finite
 use Rattle.std.proofs.Math.ListN.{get_or-map}
@@ -37,7 +37,7 @@ module _ {D : Type 0} (device : DiskView D) where
       ∙ starts_played t.next ts new starts (record p { events = p.events ++ es }) others
       ∙ ap (λ more. record p { state = new.state; events = more }) (append_assoc p.events es (starting_events t.next ts))
 
--- a start changes no queue
+-- A start changes no queue.
 started_keys : (s : State) (j : ℕ) (o : Option Job) → finite.keys (change_found s j started o).queues ≡ finite.keys s.queues
 started_keys s j None = refl
 started_keys s j (Some r) = refl
@@ -51,12 +51,12 @@ module _ {D : Type 0} (device : DiskView D) where
       ∙ started_keys old.state j (job_at old.state j)
   one_keys old (Some j) (Some (Err fault)) new (accepted, is) = ap (λ (s : State). finite.keys s.queues) (fault_state device old (Start j) fault new is.cause)
 
-  -- the starts change no queue
+  -- The starts change no queue.
   pub starts_keys : (old : OpenSpool D) (ts : List (Starting D)) (new : OpenSpool D) → AreStartings device old ts new → finite.keys new.state.queues ≡ finite.keys old.state.queues
   starts_keys old [] new same = ap (λ (s : OpenSpool D). finite.keys s.state.queues) same
   starts_keys old (t ∷ ts) new (start, starts) = starts_keys t.next ts new starts ∙ one_keys old (next_of old.state t.queue) t.answer t.next start
 
--- the name of the queue at a place
+-- The name of the queue at a position.
 pub name_at : (rows : List QueueRow) (names : List (List ℕ)) → map (λ row. row.name) rows ≡ names → (at : ℕ) (row : QueueRow) → row ≡ get_or rows at row → row.name ≡ get_or names at row.name
 name_at rows names are at row is =
     ap (λ (q : QueueRow). q.name) is
@@ -67,7 +67,7 @@ pub queue_count : (rows : List QueueRow) (names : List (List ℕ)) → map (λ r
 queue_count rows names are = sym (length-map rows (λ (q : QueueRow). q.name)) ∙ ap length are
 
 module _ {D : Type 0} (device : DiskView D) where
-  -- the start of the queue at a place
+  -- The start of the queue at a position.
   pub starting_at : (old : OpenSpool D) (t : State) → t ≡ old.state → (at : ℕ) (name : List ℕ) → name ≡ get_or (finite.keys t.queues) at name → (o : Option ℕ) → o ≡ next_of t name → (answer : Option Answer) (new : OpenSpool D) → IsStartingOf device old o answer new
       → (n : List ℕ) × (n ≡ get_or (finite.keys old.state.queues) at n) × IsStarting device old (record { queue = n; answer = answer; next = new })
   starting_at old t same at name there o next answer new start =

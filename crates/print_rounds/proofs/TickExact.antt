@@ -1,4 +1,4 @@
--- Where nothing failed a tick is Script's.
+-- If nothing failed, a tick is Script's.
 use Rattle.std.proofs.Common.{◌≡◌, ℕ, zero, suc, Bool, not, ◌&&◌, ◌||◌, true, false, cond, ◌==◌, List, [], ◌∷◌, length, map, Option, Some, None, refl, sym, ap, subst, ◌∙◌, arith, IsTrue}
 use Rattle.std.specs.Prelude.{IsSome, T, is_some}
 use Rattle.std.specs.declared.cmp.Ordering.{Ordering}
@@ -60,7 +60,7 @@ less_or_tied Less tied less = absurd (cc)
 less_or_tied Equal tied less = absurd (cc)
 less_or_tied Greater tied less = absurd (cc)
 
--- what is found behind a key isn't at it
+-- A row that is found after a key has another key.
 found_later : (x : ℕ) (es : List (ℕ × Job)) → IsTrue (below_all nat_cmp x es) → (k : ℕ) (r : Job) → finite.find nat_cmp k es ≡ Some r → eq_by_cmp nat_cmp k x ≡ false
 found_later x [] below k r there = absurd (cc)
 found_later x (e ∷ es) below k r there = by_key (eq_by_cmp nat_cmp k e.0) refl (found_later x es (second_so (is_lt (nat_cmp x e.0)) (below_all nat_cmp x es) below) k r)
@@ -77,7 +77,7 @@ found_later x (e ∷ es) below k r there = by_key (eq_by_cmp nat_cmp k e.0) refl
     by_key true own rest = at own (eq_by_cmp nat_cmp k x) refl
     by_key false other rest = rest (ap (λ b. cond b (Some e.1) (finite.find nat_cmp k es)) (sym other) ∙ there)
 
--- a value is found at a key
+-- A value is found at a key.
 value_found : (es : List (ℕ × Job)) → IsTrue (finite.is_sorted nat_cmp es) → (r : Job) → Contains (map (λ e. e.1) es) r → (k : ℕ) × (finite.find nat_cmp k es ≡ Some r)
 value_found [] sorted r (i, lt, is) = absurd (omega (arith, lt))
 value_found (e ∷ es) sorted r (zero, lt, is) = (e.0, ap (λ b. cond b (Some e.1) (finite.find nat_cmp e.0 es)) ((eq_by_cmp_equiv nat_cmp_total).refl e.0) ∙ ap Some is)
@@ -85,14 +85,14 @@ value_found (e ∷ es) sorted r (suc i, lt, is) =
     let (k, there) = value_found es (second_so (below_all nat_cmp e.0 es) (finite.is_sorted nat_cmp es) sorted) r (i, omega (arith, lt), is) in
     (k, ap (λ b. cond b (Some e.1) (finite.find nat_cmp k es)) (found_later e.0 es (first_so (below_all nat_cmp e.0 es) (finite.is_sorted nat_cmp es) sorted) k r there) ∙ there)
 
--- each row is found by its number
+-- Each row is found by its number.
 legal_rows : (s : State) → IsLegal s → (r : Job) → Contains (finite.values s.jobs) r → job_at s r.id ≡ Some r
 legal_rows s legal r there =
     let (k, found) = value_found (finite.entries s.jobs) (true_from _ (finite.entries_sorted s.jobs)) r there in
     let at : job_at s k ≡ Some r = finite.get-entries s.jobs k ∙ found in
     subst (λ i. job_at s i ≡ Some r) (sym (legal.jobs k r at).id) at
 
--- ## Jobs whose ends are to be told
+-- ## Jobs whose ends are reported
 
 ripe_out : (slots : Slots) (t : ChildTrace) (j : ℕ) (js : List ℕ) → is_in j js ≡ false → is_in j (ripe_among slots t js) ≡ false
 ripe_out slots t j [] out = refl
@@ -128,7 +128,7 @@ module _ {D : Type 0} (device : DiskView D) where
 
 -- ## The slots of tended jobs are current
 
--- a slot that was kept, and runs no child, was current
+-- A slot that was retained and has no running child was current.
 quiet_left : (b : Bool) (o : Option (Slot ℕ)) → has_child (cond (b || has_child o) o None) ≡ false → cond (b || has_child o) o None ≡ cond b o None
 quiet_left true o quiet = refl
 quiet_left false o quiet = by_child (has_child o) refl quiet
@@ -137,7 +137,7 @@ quiet_left false o quiet = by_child (has_child o) refl quiet
     by_child true runs quiet = let both : true ≡ false = sym runs ∙ quiet in absurd (cc)
     by_child false rests quiet = refl
 
--- a slot that runs a child is current, but for a stray
+-- A slot with a running child is current, unless it is a stray.
 running_suits : (row : Option Job) (o : Option (Slot ℕ)) → has_child o ≡ true → (has_child o && not (is_current row o)) ≡ false → Suits row o
 running_suits row None runs tended = tt
 running_suits row (Some slot) runs tended = by_current (is_current row (Some slot)) refl (sym (ap (λ b. b && not (is_current row (Some slot))) runs) ∙ tended)
@@ -215,7 +215,7 @@ module _ {D : Type 0} (device : DiskView D) (laws : Laws) (kept : TicketLaws) (p
   numbers : HasNumbers mid.state
   numbers j r there = (legal_mid.jobs j r there).id
 
-  -- the tended jobs, each once, and their slots
+  -- The tended jobs, each once, and their slots.
   abbrev js : List ℕ
   js = tended_jobs mid.state idle (finite.keys mid.state.queues)
 
@@ -259,7 +259,7 @@ module _ {D : Type 0} (device : DiskView D) (laws : Laws) (kept : TicketLaws) (p
       ∙ played
       ∙ ap (λ u. play_at p1 slots u (started_in launchings)) (some_of now t1 (sym tells1 ∙ launched.tells))
 
-  -- ### The looks
+  -- ### The checks
 
   seen : map (λ l. l.job) steps.looks ≡ js
   seen = made.seen ∙ tended
@@ -337,7 +337,7 @@ module _ {D : Type 0} (device : DiskView D) (laws : Laws) (kept : TicketLaws) (p
     ended = refl;
   })
 
--- the tables, slots, what is told, events and counts are those of Script's tick with the documents that were read
+-- The tables, slots, trace, events and counts are those of Script's tick with the documents that were read.
 pub tick_exact : {D : Type 0} (device : DiskView D) (laws : Laws) (kept : TicketLaws) (place : Place) (start_room : Option StartRoom) (old new : RunState D) (steps : PassSteps D)
     → IsPass device place false start_room old steps new → IsLegal old.spool.state → old.spool.dead ≡ false → (IsSome old.told → start_room ≡ None) → fault_in steps.parts ≡ None
     → (t : ChildTrace) (documents : ℕ → List ℕ) → old.told ≡ Some t → HasTickets old.slots t → AreHanded documents steps.parts.launchings

@@ -1,4 +1,4 @@
--- A tick is a turn of StageHistory, and whole.
+-- A tick is a call of a StageHistory, with all its clauses.
 use Rattle.std.proofs.Common.{◌≡◌, ◌⊎◌, inl, inr, ℕ, ◌≤◌, Bool, not, ◌&&◌, ◌||◌, true, false, cond, ◌==◌, List, [], ◌∷◌, length, map, Option, Some, None, Result, refl, sym, ap, subst, ◌∙◌, append-nil, arith}
 use Rattle.std.specs.Prelude.{◌↔◌, IsSome}
 use Rattle.std.specs.FinMap as finite
@@ -48,7 +48,7 @@ use Rattle.print_rounds.proofs.TickExact.{tick_exact}
 use Rattle.print_rounds.proofs.TickTickets.{TicketLaws, IsKeptTo, idle_tickets, fails_out, launches_keep, looks_keep, ends_keep, drops_keep, finishings_keep}
 use Rattle.print_rounds.proofs.VersionLaws.{raised_turn}
 
--- no job is tended twice
+-- No job is tended twice.
 tended_distinct : {D : Type 0} (s : OpenSpool D) (slots : Slots) (b : Bool) → IsLegal s.state → AreDistinct (jobs_tended s b slots)
 tended_distinct s slots true legal = tt
 tended_distinct s slots false legal = part_distinct (λ j. not (is_stray s.state slots j)) (busy_jobs s.state (finite.keys s.state.queues)) (all_distinct s.state (legal_rows s.state legal))
@@ -65,14 +65,14 @@ module _ (k : ℕ) where
   drop_same slots told j false new told' (same, told_same) other = ap (λ m. finite.get m k) same
   drop_same slots told j true new told' (kept, finishes, gone) other = ap (λ m. finite.get m k) gone ∙ get_left kept j k other ∙ finish_same slots told j kept told' (slot_in slots j).progress finishes other
 
-  -- the slots of other jobs are as they were
+  -- The slots of other jobs are unchanged.
   drops_same : (waits : Bool) (slots : Slots) (told : Option ChildTrace) (ds : List Dropping) (new : Slots) (told' : Option ChildTrace) → AreDroppings waits slots told ds new told' → is_in k (map (λ d. d.look.job) ds) ≡ false → finite.get new k ≡ finite.get slots k
   drops_same waits slots told [] new told' (same, told_same) out = ap (λ m. finite.get m k) same
   drops_same waits slots told (d ∷ ds) new told' ((look, dropped), drops) out =
       drops_same waits d.slots d.told ds new told' drops (not_second (d.look.job == k) (is_in k (map (λ d. d.look.job) ds)) out)
       ∙ drop_same slots d.look.told d.look.job d.look.ripe d.slots d.told dropped (turned d.look.job k (not_first (d.look.job == k) (is_in k (map (λ d. d.look.job) ds)) out))
 
--- what is held is no stray
+-- The slot of a held stage is no stray.
 held_out : (s : State) (slots : Slots) (k : Key) → IsHeld s slots k → is_stray s slots k.job ≡ false
 held_out s slots k held = ap (λ b. runs slots k.job && not b) (held_current s slots k held) ∙ no (runs slots k.job)
   where
@@ -84,7 +84,7 @@ left_out : {D : Type 0} (b : Bool) (c : RunState D) (k : Key) → IsHeld c.spool
 left_out true c k held = refl
 left_out false c k held = fails_out (is_stray c.spool.state c.slots) k.job (finite.keys c.slots) (held_out c.spool.state c.slots k held)
 
--- what is held stays in the slots that are left
+-- A held stage is held in the retained slots.
 idle_begun : (s : State) (slots : Slots) (k : Key) → IsHeld s slots k → IsBegunSlot (idle_slots s slots) k
 idle_begun s slots k held =
     begun_same slots (idle_slots s slots) k
@@ -103,7 +103,7 @@ module _ {D : Type 0} (device : DiskView D) (laws : Laws) (tickets : TicketLaws)
   abbrev idle : Slots
   idle = idle_slots old.spool.state old.slots
 
-  -- where the looks have been taken
+  -- After the checks.
   abbrev seen : RunState D
   seen = run_state parts.read parts.slots steps.looked
 
@@ -122,7 +122,7 @@ module _ {D : Type 0} (device : DiskView D) (laws : Laws) (tickets : TicketLaws)
   last : new.spool.state ≡ after_all parts.mid.state (ending_events parts.endings)
   last = ap (λ (x : OpenSpool D). x.state) made.spool ∙ (ends_part device seen parts.endings steps.ended made.ends).table ∙ ap (λ s. after_all s (ending_events parts.endings)) still
 
-  -- no job's stage is started twice, and none beside a child
+  -- No job's stage is started twice, and none while a child runs.
   abbrev resting : List ℕ
   resting = idle_among idle (jobs_tended parts.mid parts.mid.dead idle)
 
@@ -156,18 +156,18 @@ module _ {D : Type 0} (device : DiskView D) (laws : Laws) (tickets : TicketLaws)
     dropped : IsKeptTo ended.now new.slots new.told
     dropped = drops_keep tickets ended.now false steps.ended.slots steps.ended.told steps.droppings new.slots new.told made.drops ended.tells ended.tickets
 
-    -- every ticket is kept, or spent once
+    -- Each ticket is retained, or spent once.
     tick_keeps : AreKeptBy t (started_in parts.launchings) new.slots new.told
     tick_keeps = record { now = dropped.now; tells = dropped.tells; tickets = dropped.tickets; balanced = omega (arith, launched.balanced, looked.balanced, ended.balanced, dropped.balanced) }
 
-    -- what was held at the start goes on, or is spent
+    -- A stage that was held at the start is still held, or is spent.
     held_going : (k : Key) → IsHeld old.spool.state old.slots k → IsHeld parts.mid.state idle k ⊎ IsSpent parts.mid.state k
     held_going k held = elim (laws.left old.spool.state k (starting_events old.spool parts.startings) legal held.0) [
       | inl now ↦ inl (subst (λ s. IsIn s k) (sym first) now, idle_begun old.spool.state old.slots k held)
       | inr gone ↦ inr (subst (λ s. IsSpent s k) (sym first) gone)
     ]
 
-    -- what goes on before the looks does so at the end, or is spent
+    -- A stage that is held before the checks is held at the end, or is spent.
     going_on : (k : Key) → IsHeld parts.mid.state parts.slots k ⊎ IsSpent parts.mid.state k → IsHeld new.spool.state new.slots k ⊎ IsSpent new.spool.state k
     going_on k going = elim (ends_going device laws k seen parts.endings steps.ended made.ends (subst IsLegal (sym still) legal_mid) (subst (λ s. IsHeld s parts.slots k ⊎ IsSpent s k) (sym still) going)) [
       | inl held ↦ inl (
@@ -204,7 +204,7 @@ module _ {D : Type 0} (device : DiskView D) (laws : Laws) (tickets : TicketLaws)
           after_over = λ died. absurd (both_ways _ alive died);
         }
 
-  -- no fault, and the device works
+  -- If there is no fault, the device works.
   lives_on : fault_in parts ≡ None → old.spool.dead ≡ false → new.spool.dead ≡ false
   lives_on none alive =
       let later = or_second (starting_fault parts.startings) (stages_fault parts.launchings parts.endings) none in
@@ -219,7 +219,7 @@ module _ {D : Type 0} (device : DiskView D) (laws : Laws) (tickets : TicketLaws)
     part = subst (IsPart device old.spool (tried_in old parts) (events_in old parts)) (sym made.spool)
         (round_part device lawful old.spool parts.mid parts.startings made.starts parts.launchings parts.read made.reads parts.slots steps.looked parts.endings steps.ended made.ends)
 
-    -- what was read, where the disk tells its bytes
+    -- The documents that were read if the disk reports its bytes.
     own_handed : (bytes : List ℕ) (documents : ℕ → List ℕ) → device.bytes old.spool.disk ≡ Some bytes → HasDocuments old.spool.state documents bytes → AreHanded documents parts.launchings
     own_handed bytes documents is given = by_dead parts.mid.dead refl
       where
@@ -265,7 +265,7 @@ module _ {D : Type 0} (device : DiskView D) (lawful : IsLawful device) (laws : L
   abbrev still_part : IsPart device old.spool [] [] old.spool
   still_part = starts_part device old.spool [] old.spool refl
 
-  -- the pass is a tick
+  -- The pass is a tick.
   module _ (always : IsSome old.told → start_room ≡ None) (asked : Option StartRoom → Type 0) (has : asked start_room) (kept : IsKept device old.spool) where
     by_pass : (b : Bool) → old.spool.dead ≡ b → IsPassBy device place false start_room old b new result → IsTickAsked asked device place old b new result
     by_pass true died pass = pass
@@ -280,7 +280,7 @@ module _ {D : Type 0} (device : DiskView D) (lawful : IsLawful device) (laws : L
   unmoved : new ≡ old → (device.failures old.spool.disk ≤ device.failures new.spool.disk) × (IsSome (device.bytes new.spool.disk) ↔ IsSome (device.bytes old.spool.disk))
   unmoved same = subst (λ (c : RunState D). (device.failures old.spool.disk ≤ device.failures c.spool.disk) × (IsSome (device.bytes c.spool.disk) ↔ IsSome (device.bytes old.spool.disk))) (sym same) (still_part.counted, still_part.told)
 
-  -- and what it leaves of the device
+  -- Its effect on the device.
   pub passed_device : (b : Bool) → IsPassBy device place false start_room old b new result → (device.failures old.spool.disk ≤ device.failures new.spool.disk) × (IsSome (device.bytes new.spool.disk) ↔ IsSome (device.bytes old.spool.disk))
   passed_device true pass = unmoved pass.1
   passed_device false (inl unbegun) = unmoved unbegun.1
@@ -288,13 +288,13 @@ module _ {D : Type 0} (device : DiskView D) (lawful : IsLawful device) (laws : L
 
 -- ## Finishes alone
 
--- what was begun stays so
+-- A stage that was begun stays begun.
 finishings_begun : (slots : Slots) (told : Option ChildTrace) (fs : List Finishing) (new : Slots) (told' : Option ChildTrace) → AreFinishings slots told fs new told' → (k : Key) → IsBegunSlot slots k → IsBegunSlot new k
 finishings_begun slots told [] new told' (same, told_same) k has = subst (λ m. IsBegunSlot m k) (sym same) has
 finishings_begun slots told (f ∷ fs) new told' (finishes, others) k has =
     finishings_begun f.slots f.told fs new told' others k (waited_begun slots f.slots f.job told f.told (slot_in slots f.job).progress refl finishes k has)
 
--- no stage is started, and no event comes
+-- No stage is started, and there is no event.
 pub finishes_turn : {D : Type 0} (laws : Laws) (tickets : TicketLaws) (t : ChildTrace) (old new : RunState D) (fs : List Finishing) → IsLegal old.spool.state → HasTickets old.slots t → old.told ≡ Some t → AreFinishings old.slots old.told fs new.slots new.told → new.spool ≡ old.spool → IsStageCall t old [] new
 finishes_turn {D} laws tickets t old new fs legal has tells finishings same =
     let kept = finishings_keep tickets t old.slots old.told fs new.slots new.told finishings tells has in

@@ -1,4 +1,4 @@
--- A round is the tick in which every look says yes.
+-- A round is the tick whose checks all report an end.
 use Rattle.std.proofs.Common.{◌≡◌, ℕ, Bool, true, false, cond, ◌||◌, ◌==◌, List, [], ◌∷◌, length, Option, Some, None, Result, Ok, Err, refl, sym, ap, subst, ◌∙◌}
 use Rattle.std.specs.Cmp.{nat_cmp_total, unsigned_tied}
 use Rattle.std.specs.FinMap as finite
@@ -30,9 +30,9 @@ use Rattle.print_rounds.proofs.FreeLaws.{current_rests}
 use Rattle.print_rounds.proofs.LaunchLaws.{HasNumbers, due_own}
 use Rattle.print_rounds.proofs.WaitLaws.{idle_current, all_free, all_tended, all_idle, no_strays}
 
--- ## Looks
+-- ## Checks
 
--- where no look is to come, each says yes and changes nothing
+-- If no answers of checks are listed, each check reports an end and changes nothing.
 module _ (t : ChildTrace) (none : t.looks ≡ []) where
   each_ripe : (b : Bool) → ripe_by b t ≡ true
   each_ripe true = ap first_look none
@@ -56,13 +56,13 @@ module _ (t : ChildTrace) (none : t.looks ≡ []) where
 
 -- ## Starts of jobs
 
--- before the stages are started: jobs have their numbers, no child runs, and no look is to come
+-- Before the stages are started: jobs have their numbers, no child runs, and no answers of checks are listed.
 record IsStill (p : Play) : Type 0 where
   pub numbers : HasNumbers p.state
   pub rests : HasNoneRunning p.slots
   pub looks : p.told.looks ≡ []
 
--- a start keeps the numbers
+-- A start does not change the numbers.
 started_numbers : (s : State) → HasNumbers s → (j : ℕ) (o : Option Job) → job_at s j ≡ o → HasNumbers (change_found s j started o)
 started_numbers s numbers j None there = numbers
 started_numbers s numbers j (Some r) there = λ k q is. by_job k q is (k == j) refl
@@ -92,13 +92,13 @@ starts_still p (name ∷ names) still = starts_still (play_start p name) names (
 
 -- ## Starts of stages
 
--- a start takes no look
+-- A start makes no check.
 start_looks : (t : ChildTrace) (order : Order) (answers : List (Result (Unit {0}) ChildFault)) → (started_by t order answers).looks ≡ t.looks
 start_looks t order [] = refl
 start_looks t order (Ok done ∷ rest) = refl
 start_looks t order (Err fault ∷ rest) = refl
 
--- it changes the slot of its job alone, and no row
+-- It changes only the slot of its job, and no row.
 record IsLaunched (p : Play) (j : ℕ) (q : Play) : Type 0 where
   pub state : q.state ≡ p.state
   pub looks : q.told.looks ≡ p.told.looks
@@ -130,7 +130,7 @@ module _ (place : Place) (documents : ℕ → List ℕ) where
       by_row None is = nothing_launched p j
       by_row (Some r) is = by_queue r (numbers j r is) (queue_at p.state r.queue)
 
-  -- behind the starts a child may run of these jobs alone
+  -- After the starts, only children of these jobs may run.
   record AreLaunched (p : Play) (js : List ℕ) (q : Play) : Type 0 where
     pub looks : q.told.looks ≡ p.told.looks
     pub others : (k : ℕ) → is_in k js ≡ false → finite.get q.slots k ≡ finite.get p.slots k
@@ -156,7 +156,7 @@ waited_same p j (Ready input) = λ k other. refl
 waited_same p j (Running n) = λ k other. get_other p.slots j k (with_progress (slot_in p.slots j) (Ended (kept (first_finish p.told.finishes)))) other
 waited_same p j (Ended finish) = λ k other. refl
 
--- behind its end no child of a job runs, and the slots of all others are as they were
+-- After its end a job has no running child, and the slots of all others are unchanged.
 one_rests : (p : Play) (j : ℕ) → SameBut j p.slots (play_end p j).slots × IsTicketless (finite.get (play_end p j).slots j)
 one_rests p j = by_silence (is_silent (finite.get p.slots j)) refl
   where
@@ -180,7 +180,7 @@ all_rest_then p (j ∷ js) k rests = all_rest_then (play_end p j) js k (λ out. 
 -- ## The whole
 
 module _ (place : Place) (documents : ℕ → List ℕ) where
-  -- behind the starts of jobs
+  -- After the starts of jobs.
   still_same : (p : Play) (names : List (List ℕ)) → IsStill p → drop_strays (tend_queues place documents p names) ≡ play_busy place documents p names
   still_same p names still =
       let js = busy_jobs p.state names in
@@ -195,7 +195,7 @@ module _ (place : Place) (documents : ℕ → List ℕ) where
       ∙ ap (λ ks. drop_strays (plays play_end q ks)) (all_ripe q.told none q.slots js)
       ∙ ap (λ ks. plays play_drop last ks) (no_strays last.state last.slots rests)
 
-  -- From slots without a running child, where every look says yes, the tick is the round.
+  -- If no child runs and each check reports an end, the tick is the round.
   pub round_is_tick : (s : State) (slots : Slots) (t : ChildTrace) → IsLegal s → HasNoneRunning slots → t.looks ≡ [] → tick_of place documents s slots t ≡ round_of place documents s slots t
   round_is_tick s slots t legal rests looks =
       let names = finite.keys s.queues in

@@ -1,4 +1,4 @@
--- A tick loses no ticket: each child that was started runs or has been finished once.
+-- A tick loses no ticket: each child that was started runs or was finished once.
 use Rattle.std.proofs.Common.{◌≡◌, inl, inr, ℕ, Bool, ◌&&◌, ◌||◌, nat_lt, true, false, cond, ◌==◌, List, [], ◌∷◌, map, Option, Some, None, unwrap_or, Ok, Err, refl, sym, ap, subst, ◌∙◌, arith}
 use Rattle.std.specs.FinMap as finite
 use Rattle.std.specs.List.{filter}
@@ -33,7 +33,7 @@ use Rattle.print_rounds.proofs.EndLaws.{get_own, get_other, ticketless, turned, 
 use Rattle.print_rounds.proofs.FreeLaws.{get_idle, off_rests}
 use Rattle.print_rounds.proofs.LaunchLaws.{HasNumbers, launches_same, rest_same, some_of}
 
--- what is so of all tickets
+-- Laws of all tickets.
 pub record TicketLaws : Type 0 where
   pub starts : (slots : Slots) (j : ℕ) (t : ChildTrace) (order : Order) (b : Bool) (n : ℕ) (told : Option ChildTrace) → HasTickets slots t → IsTicketless (finite.get slots j) → IsStart (Some t) order b n told → AreKeptBy t (cond b 1 0) (put_progress slots j (progress_after b n)) told
   pub finishes : (slots : Slots) (j n : ℕ) (t : ChildTrace) (new : Slots) (told : Option ChildTrace) → HasTickets slots t → IsRunningAs slots j n → Waits (Some t) n slots j new told → AreKeptBy t 0 new told
@@ -45,7 +45,7 @@ none_lost t = omega arith
 
 -- ## Slots
 
--- slots that are freed have no child
+-- Slots that are freed have no running child.
 pub idle_tickets : (s : State) (slots : Slots) (t : ChildTrace) → HasTickets slots t → HasTickets (idle_slots s slots) t
 idle_tickets s slots t has = record {
   running = λ j n r. has.running j n (back j n r);
@@ -69,7 +69,7 @@ idle_tickets s slots t has = record {
         by_test true there = record { slot = r.slot; there = there; runs = r.runs }
         by_test false there = absurd (cc)
 
--- a slot without a child, in the place of one without a child
+-- A slot without a child replaces a slot without a child.
 module _ (m : Slots) (j : ℕ) (x : Slot ℕ) (quiet : (n : ℕ) → ¬ (x.progress ≡ Running n)) (rests : IsTicketless (finite.get m j)) where
   other_job : (k n : ℕ) → IsRunningAs m k n → (k == j) ≡ false
   other_job k n r = by_test (k == j) refl
@@ -98,7 +98,7 @@ module _ (m : Slots) (j : ℕ) (x : Slot ℕ) (quiet : (n : ℕ) → ¬ (x.progr
 
 -- ## Jobs
 
--- what doesn't pass isn't in the part
+-- An item that does not pass the test is not in the part.
 pub fails_out : (p : ℕ → Bool) (j : ℕ) (js : List ℕ) → p j ≡ false → is_in j (filter p js) ≡ false
 fails_out p j [] fails = refl
 fails_out p j (k ∷ js) fails = by_test (fails_out p j js fails) (p k) refl
@@ -113,7 +113,7 @@ fails_out p j (k ∷ js) fails = by_test (fails_out p j js fails) (p k) refl
 
 -- ## Starts
 
--- the slots for a stage, before its start
+-- The slots for a stage, before its start.
 module _ (slots : Slots) (r : Job) (own : Slots) (t : ChildTrace) (rests : IsTicketless (finite.get slots r.id)) (has : HasTickets slots t) where
   begun_has : (attempt stage stages : ℕ) → HasTickets (begun_in slots r.id (Processing attempt stage stages)) t
   begun_has attempt stage stages = quiet_put slots r.id (begun attempt stage) (λ n is. absurd (cc)) rests t has
@@ -141,7 +141,7 @@ module _ (slots : Slots) (r : Job) (own : Slots) (t : ChildTrace) (rests : IsTic
       by_phase Canceled is e = absurd (cc)
       by_phase (Aborted reason) is e = absurd (cc)
 
--- a stage that is due has no child
+-- A stage that is due has no child.
 due_rests : (o : Option (Slot ℕ)) (p : Phase) → IsDue o p → IsTicketless o
 due_rests None p due = tt
 due_rests (Some slot) p due = by_progress slot.progress due.0
@@ -170,11 +170,11 @@ module _ (laws : TicketLaws) (place : Place) (s : State) (numbers : HasNumbers s
       same_kept t own new told told' tells tells' same (due_has old r own t (subst (λ i. IsTicketless (finite.get old i)) (sym (numbers j r due.row)) rests) has due.due)
   launch_keeps t old told j d Dead new told' (none, same, tells') tells rests has = same_kept t old new told told' tells tells' same has
 
-  -- the start of a stage changes the slot of its job alone
+  -- The start of a stage changes only the slot of its job.
   one_same : (old : Slots) (told : Option ChildTrace) (l : Launching) → IsLaunch place s old told l.job l.document l.launch l.slots l.told → SameBut l.job old l.slots
   one_same old told l launch = λ k other. launches_same place s numbers old told (l ∷ []) l.slots l.told (launch, (refl, refl)) k (ap (λ b. b || false) (turned k l.job other))
 
-  -- stages of jobs of which no child runs
+  -- Stages of jobs without a running child.
   pub launches_keep : (t : ChildTrace) (old : Slots) (told : Option ChildTrace) (ts : List Launching) (new : Slots) (told' : Option ChildTrace) → AreLaunchings place s old told ts new told' → AllRest old (map (λ l. l.job) ts) → AreDistinct (map (λ l. l.job) ts) → told ≡ Some t → HasTickets old t → AreKeptBy t (started_in ts) new told'
   launches_keep t old told [] new told' (same, tells') rest distinct tells has = same_kept t old new told told' tells tells' same has
   launches_keep t old told (l ∷ ts) new told' (launch, launches) (rests, rest) (first, distinct) tells has =
@@ -184,9 +184,9 @@ module _ (laws : TicketLaws) (place : Place) (s : State) (numbers : HasNumbers s
       let count = sum_by-cons (λ (x : Launching). started_by x.launch) l ts in
       record { now = more.now; tells = more.tells; tickets = more.tickets; balanced = omega (arith, one.balanced, more.balanced, count) }
 
--- ## Looks, ends and droppings
+-- ## Checks, ends and droppings
 
--- what such a step leaves: the orders as they were, and every ticket
+-- The effect of such a step: the orders are unchanged, and no ticket is lost.
 pub record IsKeptTo (t : ChildTrace) (slots : Slots) (told : Option ChildTrace) : Type 0 where
   pub now : ChildTrace
   pub tells : told ≡ Some now
@@ -200,7 +200,7 @@ unchanged t slots told tells has = record { now = t; tells = tells; orders = ref
 kept_on : (t : ChildTrace) (mid new : Slots) (told told' : Option ChildTrace) (one : IsKeptTo t mid told) → IsKeptTo one.now new told' → IsKeptTo t new told'
 kept_on t mid new told told' one more = record { now = more.now; tells = more.tells; orders = more.orders ∙ one.orders; tickets = more.tickets; balanced = omega (arith, one.balanced, more.balanced) }
 
--- a job whose slot says so has the child
+-- A job has the child that its slot shows.
 pub runs_as : (slots : Slots) (j n : ℕ) → (slot_in slots j).progress ≡ Running n → IsRunningAs slots j n
 runs_as slots j n is = by_slot (finite.get slots j) refl
   where
@@ -208,7 +208,7 @@ runs_as slots j n is = by_slot (finite.get slots j) refl
     by_slot None there = let none : Ready None ≡ Running n = sym (ap (λ o. (unwrap_or o (begun 0 0)).progress) there) ∙ is in absurd (cc)
     by_slot (Some slot) there = record { slot = slot; there = there; runs = sym (ap (λ o. (unwrap_or o (begun 0 0)).progress) there) ∙ is }
 
--- a job whose slot has a finish has none
+-- A job whose slot has a finish has no running child.
 ended_rests : (slots : Slots) (j : ℕ) (q : Progress ℕ) → (slot_in slots j).progress ≡ q → is_running q ≡ false → IsTicketless (finite.get slots j)
 ended_rests slots j q is quiet = by_slot (finite.get slots j) refl
   where
@@ -228,7 +228,7 @@ moved_keeps laws slots j (Ok (replies.Phase p)) t rests has = by_phase (is_proce
     by_phase false = laws.releases slots j t has rests
 
 module _ (laws : TicketLaws) where
-  -- a look takes an answer, and nothing else
+  -- A check takes one answer, and changes nothing else.
   look_keeps : (t : ChildTrace) (slots : Slots) (b : Bool) (told : Option ChildTrace) (l : Look) → IsLookBy b told l → told ≡ Some t → HasTickets slots t → IsKeptTo t slots l.told
   look_keeps t slots true told l look tells has =
       let looked : Looks (Some t) l.ripe l.told = subst (λ o. Looks o l.ripe l.told) tells look in
@@ -248,7 +248,7 @@ module _ (laws : TicketLaws) where
       let one = look_keeps t slots (is_looked_at waits slots l.job) told l look tells has in
       kept_on t slots slots l.told told' one (looks_keep one.now waits slots l.told ls told' looks one.tells one.tickets)
 
-  -- a child is finished, or has been
+  -- A child is finished now or was finished before.
   finish_keeps : (t : ChildTrace) (slots : Slots) (told : Option ChildTrace) (j : ℕ) (kept : Slots) (told' : Option ChildTrace) (p : Progress ℕ) → (slot_in slots j).progress ≡ p → FinishesFrom p told slots j kept told' → told ≡ Some t → HasTickets slots t → IsKeptTo t kept told' × IsTicketless (finite.get kept j)
   finish_keeps t slots told j kept told' (Ready input) at finishes tells has = absurd finishes
   finish_keeps t slots told j kept told' (Running n) at finishes tells has =
@@ -313,7 +313,7 @@ module _ (laws : TicketLaws) where
       let one = kept_on t slots d.slots d.look.told d.told looked (drop_keeps looked.now slots d.look.told d.look.job d.look.ripe d.slots d.told dropped looked.tells looked.tickets) in
       kept_on t d.slots new d.told told' one (drops_keep one.now waits d.slots d.told ds new told' drops one.tells one.tickets)
 
-  -- children are only finished
+  -- Children are only finished.
   pub finishings_keep : (t : ChildTrace) (slots : Slots) (told : Option ChildTrace) (fs : List Finishing) (new : Slots) (told' : Option ChildTrace) → AreFinishings slots told fs new told' → told ≡ Some t → HasTickets slots t → IsKeptTo t new told'
   finishings_keep t slots told [] new told' (same, told_same) tells has = unchanged t new told' (told_same ∙ tells) (subst (λ m. HasTickets m t) (sym same) has)
   finishings_keep t slots told (f ∷ fs) new told' (finishes, others) tells has =

@@ -1,4 +1,4 @@
--- Steps that are made one after another.
+-- Consecutive steps.
 use Rattle.std.proofs.Common.{◌≡◌, ℕ, ◌+◌, ◌<◌, List, [], ◌∷◌, ◌++◌, length, map, take, get_or, true, false, Option, None, Some, refl, sym, ap, subst, ◌∙◌, add-one}
 use Rattle.std.proofs.Math.Seq.{take-suc}
 use Rattle.std.proofs.lemmas.List.{map-append}
@@ -18,7 +18,7 @@ use Rattle.print_rounds.specs.declared.outcome.Report.{Report}
 use Rattle.print_rounds.specs.declared.outcome.Report.TheVariants as reports
 use Rattle.print_rounds.specs.declared.outcome.RoundFault.{RoundFault}
 
--- one item more
+-- One more item.
 pub one_further : {X Y : Type 0} (f : X → Y) (xs : List X) (x : X) (ys : List Y) (i : ℕ) (y : Y) → map f xs ≡ take i ys → i < length ys → y ≡ get_or ys i y → f x ≡ y → map f (xs ++ x ∷ []) ≡ take (i + 1) ys
 one_further f xs x ys i y so_far lt at is =
     map-append f xs (x ∷ [])
@@ -63,11 +63,11 @@ or_none : (a : Option RoundFault) → option_or a None ≡ a
 or_none None = refl
 or_none (Some fault) = refl
 
--- the first fault, with one step more
+-- The first fault, with one more step.
 pub one_fault : {X : Type 0} (f : X → Option RoundFault) (xs : List X) (x : X) → first_fault f (xs ++ x ∷ []) ≡ option_or (first_fault f xs) (f x)
 one_fault f [] x = or_none (f x)
 one_fault f (y ∷ xs) x = ap (option_or (f y)) (one_fault f xs x) ∙ sym (or_apart (f y) (first_fault f xs) (f x))
 
--- the count, with one step more
+-- The count, with one more step.
 pub one_count : {X : Type 0} (f : X → ℕ) (xs : List X) (x : X) → sum_by f (xs ++ x ∷ []) ≡ sum_by f xs + f x
 one_count f xs x = fold-append (λ a x. a + f x) 0 xs (x ∷ [])

@@ -1,4 +1,4 @@
--- A turn that changes no version is one over the tables as the newest version has them.
+-- A call that changes no version is one over the tables as the newest version has them.
 use Rattle.std.proofs.Common.{◌≡◌, ◌⊎◌, Bool, false, List, [], ◌∷◌, ◌++◌, sym, ap, subst, ◌∙◌}
 use Rattle.spool_types.specs.declared.event.Event.{Event}
 use Rattle.spool_types.specs.State.{State}
@@ -10,12 +10,12 @@ use Rattle.job_table.specs.TableCalls.{AreOnce, IsAmong, IsReached, IsTableCall}
 use Rattle.job_table.specs.TableVersions.{raised}
 use Rattle.print_rounds.proofs.HoldLaws.{Laws}
 
--- the first of some events that are accepted in turn
+-- The first of some events that are accepted in order.
 accepted_first : (s : State) (es fs : List Event) → AreAccepted s (es ++ fs) → AreAccepted s es
 accepted_first s [] fs taken = tt
 accepted_first s (e ∷ es) fs (first, others) = (first, accepted_first (after s e) es fs others)
 
--- the same row is there in the newest version
+-- The newest version has the same row.
 in_raised : (s : State) (k : Key) → IsIn s k → IsIn (raised s) k
 in_raised s k now = record { row = now.row; stages = now.stages; there = now.there; phase = now.phase }
 

@@ -1,4 +1,4 @@
--- A pass that waits for each child, over slots of which none has one that runs, is a round.
+-- A pass that waits for each child, over slots without a running child, is a round.
 use Rattle.std.proofs.Common.{◌≡◌, ◌≤◌, ◌↔◌, inl, inr, ℕ, Bool, true, false, cond, not, ◌&&◌, ◌||◌, List, [], ◌∷◌, map, filter, Option, Some, None, Result, IsSome, refl, sym, ap, subst, ◌∙◌, arith}
 use Rattle.std.specs.List.{list_any}
 use Rattle.std.specs.Option.{option_or}
@@ -32,7 +32,7 @@ use Rattle.print_rounds.proofs.RowLaws.{legal_rows}
 use Rattle.print_rounds.proofs.StageLaws.{all_exact, each_once, none_run}
 use Rattle.print_rounds.proofs.StartLaws.{starts_played}
 
--- ## Slots without a child
+-- ## Slots without a running child
 
 or_false : (a b : Bool) → b ≡ false → (a || b) ≡ a
 or_false true b is = refl
@@ -58,15 +58,15 @@ module _ (s : State) (slots : Slots) (rests : HasNoneRunning slots) where
   none_strays : (j : ℕ) → is_stray s slots j ≡ false
   none_strays j = ap (λ b. b && not (is_current (job_at s j) (finite.get slots j))) (none_runs j)
 
-  -- the slots that stay are the current ones
+  -- The retained slots are the current ones.
   pub idle_current : idle_slots s slots ≡ current_slots s slots
   idle_current = λ i. finite.retain_keys slots (λ j. or_false (is_current (job_at s j) (finite.get slots j)) (has_child (finite.get slots j)) (none_runs j) i)
 
-  -- no queue is blocked
+  -- No queue is blocked.
   pub all_free : free_queues s slots ≡ finite.keys s.queues
   all_free = all_pass (λ name. not (is_blocked s slots name)) (λ name. ap not (none_any (λ j. runs slots j && is_of_queue name (job_at s j)) (λ j. ap (λ b. b && is_of_queue name (job_at s j)) (none_runs j)) (finite.keys slots))) (finite.keys s.queues)
 
-  -- each processing job is tended
+  -- Each processing job is tended.
   pub all_tended : (names : List (List ℕ)) → tended_jobs s slots names ≡ busy_jobs s names
   all_tended names = all_pass (λ j. not (is_stray s slots j)) (λ j. ap not (none_strays j)) (busy_jobs s names)
 
@@ -78,7 +78,7 @@ module _ (s : State) (slots : Slots) (rests : HasNoneRunning slots) where
 
 -- ## Steps
 
--- where each child is waited for each look says yes, and changes nothing
+-- If each child is waited for, each check reports an end and changes nothing.
 waited_looks : (slots : Slots) (told : Option ChildTrace) (ls : List Look) (told' : Option ChildTrace) → AreLooks true slots told ls told' → (told' ≡ told) × (ripe_in ls ≡ map (λ l. l.job) ls)
 waited_looks slots told [] told' same = (same, refl)
 waited_looks slots told (l ∷ ls) told' (look, looks) =
@@ -107,7 +107,7 @@ same_run_state a b spool slots told = λ i. record { spool = spool i; slots = sl
 
 -- ## The round
 
--- what a round leaves, whatever was answered
+-- The result of a round, whatever the answers.
 pub record LeavesNone {D : Type 0} (device : DiskView D) (old new : RunState D) : Type 0 where
   pub later : device.failures old.spool.disk ≤ device.failures new.spool.disk
   pub told : IsSome (device.bytes new.spool.disk) ↔ IsSome (device.bytes old.spool.disk)
@@ -154,7 +154,7 @@ module _ {D : Type 0} (device : DiskView D) (lawful : IsLawful device) (place : 
     ended : (b : Bool) → parts.mid.dead ≡ b → map (λ e. e.job) parts.endings ≡ jobs_tended parts.mid b idle
     ended b is = passed.made.told ∙ looked.1 ∙ passed.made.seen ∙ ap (λ c. jobs_tended parts.mid c idle) is
 
-    -- behind the last start of a stage
+    -- After the last start of a stage.
     abbrev between : RunState D
     between = run_state parts.read parts.slots parts.told
 
@@ -166,7 +166,7 @@ module _ {D : Type 0} (device : DiskView D) (lawful : IsLawful device) (place : 
         let (slots, told) = none_dropped true passed.steps.ended.slots passed.steps.ended.told passed.steps.droppings new.slots new.told passed.made.drops (passed.made.left ∙ ap (λ c. jobs_left c passed.steps.ended) is ∙ none) in
         same_run_state new passed.steps.ended passed.made.spool slots told
 
-    -- the device failed at a start
+    -- The device failed at a start.
     failed_leaves : parts.mid.dead ≡ true → Leaves
     failed_leaves dead =
         let (no_launch, slots, told) = none_launched place parts.mid.state idle old.told parts.launchings parts.slots parts.told passed.made.launches (launched true dead) in
@@ -189,7 +189,7 @@ module _ {D : Type 0} (device : DiskView D) (lawful : IsLawful device) (place : 
           }),
         )
 
-    -- it works on
+    -- The device still works.
     module _ (lives : parts.mid.dead ≡ false) where
       abbrev jobs : List ℕ
       jobs = busy_jobs parts.mid.state (finite.keys parts.mid.state.queues)
@@ -226,7 +226,7 @@ module _ {D : Type 0} (device : DiskView D) (lawful : IsLawful device) (place : 
       ended_rests : HasNoneRunning passed.steps.ended.slots
       ended_rests = none_run device place mid jobs passed.steps.ended numbers (run passed.steps.ended ends) idle_rests
 
-      -- nothing is left to be dropped
+      -- No stray is left.
       same : new ≡ passed.steps.ended
       same = new_is false lives (no_strays passed.steps.ended.spool.state passed.steps.ended.slots ended_rests)
 

@@ -1,4 +1,4 @@
--- What the steps of a round come to: the children that were started, the ends that were told, the events that were
+-- The results of a round's steps: the number of children that were started and of ends that were acknowledged, the events that were
 -- acknowledged or tried, and the faults.
 use Rattle.std.specs.Prelude.{◌≡◌, ◌⊎◌, ℕ, Bool, true, cond, List, [], ◌∷◌, ◌++◌, Option, None, Some, Result, Ok, Err}
 use Rattle.std.specs.List.{flat_map, sum_by}
@@ -21,7 +21,7 @@ use Rattle.print_rounds.specs.declared.outcome.RoundFault.TheVariants as ends
 
 -- ## Faults
 
--- a refusal is none: the table is asked first, so that none comes
+-- A refusal is no fault: the pass asks the table first, so none occurs.
 abbrev pub fault_of : ApplyFault → Option RoundFault
 fault_of faults.Dead = Some ends.Dead
 fault_of (faults.Refused refusal) = None
@@ -49,7 +49,7 @@ report_fault reports.Silent = None
 report_fault reports.NoMemory = Some ends.Memory
 report_fault (reports.Answered answer) = answer_fault answer
 
--- the first fault of some steps
+-- The first fault of some steps.
 abbrev pub first_fault : {X : Type 0} → (X → Option RoundFault) → List X → Option RoundFault
 first_fault f [] = None
 first_fault f (x ∷ xs) = option_or (f x) (first_fault f xs)
@@ -90,7 +90,7 @@ counts_of launchings endings = record { started = started_in launchings; finishe
 abbrev pub stages_fault : {D : Type 0} → List Launching → List (Ending D) → Option RoundFault
 stages_fault launchings endings = option_or (launching_fault launchings) (ending_fault endings)
 
--- the counts, or the first fault
+-- The counts, or the first fault.
 abbrev pub result_of : Round → Option RoundFault → Result Round RoundFault
 result_of round None = Ok round
 result_of round (Some fault) = Err fault
@@ -106,7 +106,7 @@ start_events None answer = []
 start_events (Some j) None = []
 start_events (Some j) (Some a) = acknowledged_by (Start j) a
 
--- the events that were acknowledged among the starts
+-- The events that were acknowledged among the starts.
 abbrev pub starting_events : {D : Type 0} → OpenSpool D → List (Starting D) → List Event
 starting_events s [] = []
 starting_events s (t ∷ ts) = start_events (next_of s.state t.queue) t.answer ++ starting_events t.next ts
@@ -116,16 +116,16 @@ report_events e reports.Silent = []
 report_events e reports.NoMemory = []
 report_events e (reports.Answered a) = acknowledged_by e a
 
--- the events that were acknowledged among the ends
+-- The events that were acknowledged among the ends.
 abbrev pub ending_events : {D : Type 0} → List (Ending D) → List Event
 ending_events es = flat_map (λ e. report_events (Stage (end_in e.kept.slots e.job)) e.report) es
 
--- These of the tried events were acknowledged: all of them or, where the device has failed by then, all but the last one, which
--- was in hand when it failed. Where it failed at a read, or at a checkpoint, none was in hand.
+-- These of the tried events were acknowledged: all of them or, if the device has failed by then, all except the last one, which was in
+-- progress when it failed. If it failed at a read or at a checkpoint, no event was in progress.
 abbrev pub AreAcknowledged : Bool → List Event → List Event → Type 0
 AreAcknowledged dead tried acknowledged = (tried ≡ acknowledged) ⊎ ((dead ≡ true) × (hand : Event) × (tried ≡ acknowledged ++ hand ∷ []))
 
--- An event is tried where it is acknowledged, or the device fails at it. After that none is.
+-- An event is tried if it is acknowledged or the device fails at it. After that no event is tried.
 abbrev pub tried_by : Event → Answer → List Event
 tried_by e (Ok reply) = e ∷ []
 tried_by e (Err faults.Dead) = []
@@ -139,7 +139,7 @@ start_tried None answer = []
 start_tried (Some j) None = []
 start_tried (Some j) (Some a) = tried_by (Start j) a
 
--- the events that were tried among the starts
+-- The events that were tried among the starts.
 abbrev pub starting_tried : {D : Type 0} → OpenSpool D → List (Starting D) → List Event
 starting_tried s [] = []
 starting_tried s (t ∷ ts) = start_tried (next_of s.state t.queue) t.answer ++ starting_tried t.next ts
@@ -149,6 +149,6 @@ report_tried e reports.Silent = []
 report_tried e reports.NoMemory = []
 report_tried e (reports.Answered a) = tried_by e a
 
--- the events that were tried among the ends
+-- The events that were tried among the ends.
 abbrev pub ending_tried : {D : Type 0} → List (Ending D) → List Event
 ending_tried es = flat_map (λ e. report_tried (Stage (end_in e.kept.slots e.job)) e.report) es

@@ -1,4 +1,4 @@
--- Where nothing failed, the steps are those of Script.
+-- If nothing failed, the steps are those of Script.
 use Rattle.std.specs.Prelude.{◌≡◌, ℕ, List, [], ◌∷◌, ◌++◌, Option, None, Some, Ok, Err}
 use Rattle.spool_disk.specs.Disk.{DiskView}
 use Rattle.spool_types.specs.declared.event.Event.{Event}
@@ -14,7 +14,7 @@ use Rattle.print_rounds.specs.declared.outcome.Launch.TheVariants.{Unlaunched, L
 use Rattle.print_rounds.specs.declared.outcome.Report.{Report}
 use Rattle.print_rounds.specs.declared.outcome.Report.TheVariants as reports
 
--- the job of a queue was started, or there was none to be
+-- The job of a queue was started, or the queue had none.
 abbrev pub IsBegun : Option Answer → Type 0
 IsBegun None = Unit {0}
 IsBegun (Some (Ok reply)) = Unit {0}
@@ -24,12 +24,12 @@ abbrev pub AllBegun : {D : Type 0} → List (Starting D) → Type 0
 AllBegun [] = Unit {0}
 AllBegun (t ∷ ts) = IsBegun t.answer × AllBegun ts
 
--- these starts, where nothing failed in them, are Script's
+-- If nothing failed in these starts, they are Script's.
 abbrev pub AreExactStarts : {D : Type 0} → OpenSpool D → List (List ℕ) → OpenSpool D → List (Starting D) → Type 0
 AreExactStarts old queues new ts =
     (slots : Slots) (told : ChildTrace) → AllBegun ts → plays play_start (play_from old.state slots told) queues ≡ record (play_from new.state slots told) { events = starting_events old ts }
 
--- there was memory, and the device worked
+-- Memory sufficed, and the device worked.
 abbrev pub IsServed : Launch → Type 0
 IsServed Unlaunched = Unit {0}
 IsServed (Launched started) = Unit {0}
@@ -41,7 +41,7 @@ abbrev pub AllServed : List Launching → Type 0
 AllServed [] = Unit {0}
 AllServed (l ∷ ls) = IsServed l.launch × AllServed ls
 
--- the event, where there is one, was acknowledged
+-- The event, if any, was acknowledged.
 abbrev pub IsTold : Report → Type 0
 IsTold reports.Silent = Unit {0}
 IsTold reports.NoMemory = ⊥
@@ -52,7 +52,7 @@ abbrev pub AllTold : {D : Type 0} → List (Ending D) → Type 0
 AllTold [] = Unit {0}
 AllTold (e ∷ es) = IsTold e.report × AllTold es
 
--- the table, the slots, what is told, the events behind earlier ones, and the counts are those of a play
+-- The table, the slots, the trace, the events after earlier ones, and the counts are those of a play.
 pub record IsPlayed {D : Type 0} (device : DiskView D) (place : Place) (old : RunState D) (jobs : List ℕ) (new : RunState D) (runs : IsRunOfStages device place old jobs new) (before : List Event) (p : Play) : Type 0 where
   pub state : new.spool.state ≡ p.state
   pub slots : new.slots ≡ p.slots
@@ -61,7 +61,7 @@ pub record IsPlayed {D : Type 0} (device : DiskView D) (place : Place) (old : Ru
   pub started : started_in runs.launchings ≡ p.started
   pub ended : told_in runs.endings ≡ p.ended
 
--- these steps, where nothing failed in them and the children tell, are Script's with the documents that were read
+-- If nothing failed in these steps and the children report, they are Script's, with the documents that were read.
 abbrev pub AreExact : {D : Type 0} (device : DiskView D) (place : Place) (old : RunState D) (jobs : List ℕ) (new : RunState D) → IsRunOfStages device place old jobs new → Type 0
 AreExact device place old jobs new runs =
     (t : ChildTrace) (before : List Event) (documents : ℕ → List ℕ) → old.told ≡ Some t → t.running ≡ [] → AllServed runs.launchings → AllTold runs.endings → AreHanded documents runs.launchings

@@ -1,4 +1,4 @@
--- RightInput: what the stages of attempts are handed, in a list of all orders with the answers of the children.
+-- RightInput: the inputs of the stages of attempts, in a list of all orders with the answers of the children.
 use Rattle.std.specs.Prelude.{◌≡◌, ◌⊎◌, ◌≤◌, ℕ, suc, List, [], ◌∷◌, ◌++◌, length, map, Option, None, Some, Result, Ok, Err}
 use Rattle.std.specs.FinMap as finite
 use Rattle.spool_types.specs.declared.effect.Exit.TheVariants.{Code}
@@ -19,12 +19,12 @@ use Rattle.print_rounds.specs.Finished.{HasNoneRunning}
 
 -- ## Orders and their answers
 
--- an order, and how its child ended: none where it couldn't be started, or nothing is known of its end
+-- An order and the finish of its child: None if the child could not be started or nothing is known of its end.
 pub record AnsweredOrder : Type 0 where
   pub order : Order
   pub finish : Option Finish
 
--- Each order takes one answer of `start`, and where its child was started one of `finish`, both in turn.
+-- Each order takes one answer of `start` and, if its child was started, one of `finish`, both in order.
 abbrev pub answered : List (Result (Unit {0}) ChildFault) → List (Result Finish ChildFault) → List Placed → List AnsweredOrder
 answered [] finishes orders = []
 answered (Ok done ∷ starts) finishes [] = []
@@ -36,13 +36,13 @@ abbrev pub IsOneOf : List AnsweredOrder → AnsweredOrder → Type 0
 IsOneOf [] x = ⊥
 IsOneOf (y ∷ ys) x = (y ≡ x) ⊎ IsOneOf ys x
 
--- ## What a stage is handed
+-- ## The input of a stage
 
--- the stage of the attempt that an order is for
+-- The stage of the attempt that an order is for.
 abbrev pub stage_of : Order → Key
 stage_of o = record { job = o.job; attempt = o.attempt; stage = o.stage }
 
--- One of these orders is for that stage, and its child gave this output: it ended with 0, and the output isn't longer than a
+-- One of these orders is for that stage, and its child produced this output: it ended with 0, and the output is at most as long as a
 -- document may be.
 pub record HasGiven (orders : List AnsweredOrder) (k : Key) (output : List ℕ) : Type 0 where
   pub from : AnsweredOrder
@@ -54,7 +54,7 @@ pub record HasGiven (orders : List AnsweredOrder) (k : Key) (output : List ℕ) 
   pub short : length finish.output ≤ longest_document
   pub whole : finish.output ≡ output
 
--- an order is handed the whole output of the stage before, in the same attempt
+-- The order's input is the whole output of the previous stage in the same attempt.
 pub record IsHandedOn (earlier : List AnsweredOrder) (o : Order) : Type 0 where
   pub stage : ℕ
   pub next : o.stage ≡ suc stage
@@ -62,25 +62,25 @@ pub record IsHandedOn (earlier : List AnsweredOrder) (o : Order) : Type 0 where
   pub given : HasGiven earlier (record { job = o.job; attempt = o.attempt; stage = stage }) output
   pub input : o.input ≡ Bytes output
 
--- a first stage is handed a document, and each later one what the stage before gave
+-- The input of a first stage is a document, and that of a later stage the output of the previous one.
 pub record IsRight (earlier : List AnsweredOrder) (o : Order) : Type 0 where
   pub first : o.stage ≡ 1 → (document : List ℕ) × (o.input ≡ Document document)
   pub later : ¬ (o.stage ≡ 1) → IsHandedOn earlier o
 
--- each of these orders is, behind the earlier ones
+-- Each of these orders is right, after the earlier ones.
 abbrev pub AreRight : List AnsweredOrder → List AnsweredOrder → Type 0
 AreRight earlier [] = Unit {0}
 AreRight earlier (x ∷ xs) = IsRight earlier x.order × AreRight (earlier ++ x ∷ []) xs
 
--- each first stage is handed the document that its job has
+-- The input of each first stage is its job's document.
 abbrev pub HaveDocuments : (ℕ → List ℕ) → List Placed → Type 0
 HaveDocuments documents [] = Unit {0}
 HaveDocuments documents (p ∷ ps) = (p.order.stage ≡ 1 → p.order.input ≡ Document (documents p.order.job)) × HaveDocuments documents ps
 
--- ## What slots keep
+-- ## What slots retain
 
--- What a slot keeps was given by its own stage or, where that is to be started, by the one before. Nothing was given for a
--- first stage.
+-- What a slot retains was produced by its own stage or, if its stage is not started yet, by the previous one. A first stage has no earlier
+-- output.
 abbrev pub IsKeptFrom : List AnsweredOrder → ℕ → Slot ℕ → Progress ℕ → Type 0
 IsKeptFrom orders j slot (Ready None) = slot.stage ≡ 1
 IsKeptFrom orders j slot (Ready (Some output)) = (n : ℕ) × (slot.stage ≡ suc (suc n)) × HasGiven orders (record { job = j; attempt = slot.attempt; stage = suc n }) output
@@ -92,7 +92,7 @@ AreKeptFrom orders slots = (j : ℕ) (slot : Slot ℕ) → finite.get slots j �
 
 -- ## A round
 
--- A round whose children told this before it: its orders with their answers, behind the earlier ones.
+-- A round with this trace of the children before it: its orders with their answers, after the earlier ones.
 pub record HandsOn {D : Type 0} (earlier : List AnsweredOrder) (t : ChildTrace) (launchings : List Launching) (new : RunState D) : Type 0 where
   pub now : ChildTrace
   pub tells : new.told ≡ Some now
@@ -100,10 +100,10 @@ pub record HandsOn {D : Type 0} (earlier : List AnsweredOrder) (t : ChildTrace) 
   pub added : now.orders ≡ t.orders ++ orders
   pub each : List AnsweredOrder
   pub all : map (λ x. x.order) each ≡ map (λ p. p.order) orders
-  -- the answers that are left are those of the orders to come
+  -- The answers that are left are those of the orders to come.
   pub answers : (more : List Placed) → answered t.starts t.finishes (orders ++ more) ≡ each ++ answered now.starts now.finishes more
   pub right : AreRight earlier each
-  -- where these are the documents that were read
+  -- The input of each first stage is the document that was read.
   pub documents : (documents : ℕ → List ℕ) → AreHanded documents launchings → HaveDocuments documents orders
   pub kept : AreKeptFrom (earlier ++ each) new.slots
   pub rests : HasNoneRunning new.slots

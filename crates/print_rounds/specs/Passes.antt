@@ -1,4 +1,4 @@
--- What a round and a tick have in common: a pass over the queues, step by step.
+-- The common part of a round and a tick: a pass over the queues, step by step.
 use Rattle.std.specs.Prelude.{◌≡◌, ◌⊎◌, ℕ, Bool, true, false, cond, List, [], ◌∷◌, map, Option, Result, Err}
 use Rattle.std.specs.FinMap as finite
 use Rattle.spool_disk.specs.Disk.{DiskView}
@@ -16,23 +16,23 @@ use Rattle.print_rounds.specs.declared.outcome.Round.{Round}
 use Rattle.print_rounds.specs.declared.outcome.RoundFault.{RoundFault}
 use Rattle.print_rounds.specs.declared.outcome.RoundFault.TheVariants as ends
 
--- The steps of a round, with the looks between the starts of stages and their ends, and what follows the ends.
+-- The steps of a round, with the checks between the starts of stages and their ends, and the steps after the ends.
 pub record PassSteps (D : Type 0) : Type 0 where
   pub parts : RoundSteps D
   pub looks : List Look
-  -- what the children tell behind the looks
+  -- The trace after the checks.
   pub looked : Option ChildTrace
-  -- behind the last end of a stage
+  -- After the last end of a stage.
   pub ended : RunState D
   pub droppings : List Dropping
 
--- the queues that aren't blocked
+-- The queues that are not blocked.
 abbrev pub unblocked : List Bool → List (List ℕ) → List (List ℕ)
 unblocked [] names = []
 unblocked (blocked ∷ flags) [] = []
 unblocked (blocked ∷ flags) (name ∷ names) = cond blocked (unblocked flags names) (name ∷ unblocked flags names)
 
--- the jobs that are tended: after a fault of the device none
+-- The jobs whose stages are run: none after a device error.
 abbrev pub jobs_tended : {D : Type 0} → OpenSpool D → Bool → Slots → List ℕ
 jobs_tended s true slots = []
 jobs_tended s false slots = tended_jobs s.state slots (finite.keys s.state.queues)
@@ -41,10 +41,10 @@ abbrev pub jobs_left : {D : Type 0} → Bool → RunState D → List ℕ
 jobs_left true c = []
 jobs_left false c = strays c.spool.state c.slots
 
--- The slots that are neither current nor have a child are freed. The next job of each free queue is started, and then a stage
--- of each processing job whose child doesn't run: those that have places. Each child that runs is looked at, or waited for,
--- and the ends are told of those that have ended, and of those that keep a finish. Last come the children whose jobs have left
--- their stages. If the device fails at the start of a job, nothing follows.
+-- The slots that neither are current nor have a running child are freed. The next job of each chosen free queue is started, and then a
+-- stage of each chosen processing job without a running child. Each running child is checked or waited for. The ends of those that have
+-- ended are reported, and the ends whose finish is stored. The children whose jobs have left their stages come last. If the device fails at
+-- the start of a job, nothing follows.
 pub record IsPass {D : Type 0} (device : DiskView D) (place : Place) (waits : Bool) (start_room : Option StartRoom) (old : RunState D) (steps : PassSteps D) (new : RunState D) : Type 0 where
   pub starts : AreStartings device old.spool steps.parts.startings steps.parts.mid
   pub queues : AreChosen start_room old.spool.state (idle_slots old.spool.state old.slots) (map (λ t. t.queue) steps.parts.startings)
@@ -60,7 +60,7 @@ pub record IsPass {D : Type 0} (device : DiskView D) (place : Place) (waits : Bo
   pub left : map (λ d. d.look.job) steps.droppings ≡ jobs_left steps.parts.mid.dead steps.ended
   pub spool : new.spool ≡ steps.ended.spool
 
--- A pass and its answer.
+-- A pass and its result.
 pub record IsPassed {D : Type 0} (device : DiskView D) (place : Place) (waits : Bool) (start_room : Option StartRoom) (old new : RunState D) (result : Result Round RoundFault) : Type 0 where
   pub steps : PassSteps D
   pub made : IsPass device place waits start_room old steps new

@@ -1,4 +1,4 @@
--- Script's round: what a round does where nothing fails.
+-- Script's round: what a round does if nothing fails.
 use Rattle.std.specs.Prelude.{ℕ, ◌+◌, Bool, true, false, cond, List, [], ◌∷◌, ◌++◌, length, Option, None, Some}
 use Rattle.std.specs.FinMap as finite
 use Rattle.spool_types.specs.declared.event.Event.{Event}
@@ -17,8 +17,8 @@ use Rattle.child_pipeline.specs.declared.runner.Slot.{Slot}
 use Rattle.print_rounds.specs.Choice.{busy_jobs, slots_for}
 use Rattle.print_rounds.specs.RunStates.{is_silent, moved_by}
 
--- a table with the slots beside it and what children tell; the events so far, how many children were started, and how
--- many ends were told
+-- A table, the slots, the children's trace, the events so far, and the number of children that were started and of ends that were
+-- acknowledged.
 pub record Play : Type 0 where
   pub state : State
   pub slots : Slots
@@ -34,11 +34,11 @@ abbrev pub start_of : Play → Option ℕ → Play
 start_of p None = p
 start_of p (Some j) = with_event p (Start j)
 
--- a queue's next job is started
+-- A queue's next job is started.
 abbrev pub play_start : Play → List ℕ → Play
 play_start p queue = start_of p (next_of p.state queue)
 
--- A first stage is handed its job's document. No event of a round sends anything, so that the documents stay as they are.
+-- The input of a first stage is its job's document. No event of a round sends anything, so the documents stay as they are.
 abbrev pub launched_on : Place → (ℕ → List ℕ) → Play → Job → QueueRow → Slots → Play
 launched_on place documents p r q own = record p {
   slots = put_progress own r.id (progress_after (starts_next p.told) (length p.told.orders));
@@ -58,7 +58,7 @@ abbrev pub launched_for : Place → (ℕ → List ℕ) → Play → Option Job �
 launched_for place documents p None = p
 launched_for place documents p (Some r) = launched_in place documents p r (queue_at p.state r.queue)
 
--- the stage of a job is started
+-- The stage of a job is started.
 abbrev pub play_launch : Place → (ℕ → List ℕ) → Play → ℕ → Play
 play_launch place documents p j = launched_for place documents p (job_at p.state j)
 
@@ -79,7 +79,7 @@ abbrev pub ended_if : Play → ℕ → Bool → Play
 ended_if p j true = p
 ended_if p j false = reported (waited p j) j
 
--- the child of a job is finished, and its end told
+-- The child of a job is finished, and its end reported.
 abbrev pub play_end : Play → ℕ → Play
 play_end p j = ended_if p j (is_silent (finite.get p.slots j))
 
@@ -87,13 +87,13 @@ abbrev pub plays : {X : Type 0} → (Play → X → Play) → Play → List X �
 plays f p [] = p
 plays f p (x ∷ xs) = plays f (f p x) xs
 
--- the slot is that of the attempt and the stage in which the job is
+-- The slot is for the attempt and the stage that the job is in.
 abbrev pub is_current : Option Job → Option (Slot ℕ) → Bool
 is_current None slot = false
 is_current (Some r) None = false
 is_current (Some r) (Some slot) = is_in_stage slot.attempt slot.stage r.phase
 
--- a slot whose job, attempt and stage aren't those of the table is freed
+-- A slot whose attempt and stage are not those of its job in the table is freed.
 abbrev pub current_slots : State → Slots → Slots
 current_slots s slots = finite.retain_keys slots (λ j. is_current (job_at s j) (finite.get slots j))
 
@@ -103,13 +103,13 @@ play_from s slots told = record { state = s; slots = slots; told = told; events 
 abbrev pub fresh_play : State → Slots → ChildTrace → Play
 fresh_play s slots told = play_from s (current_slots s slots) told
 
--- one stage of each of these jobs: all are started, then each is finished
+-- One stage of each of these jobs: all are started, then each is finished.
 abbrev pub play_stages : Place → (ℕ → List ℕ) → Play → List ℕ → Play
 play_stages place documents p jobs = plays play_end (plays (play_launch place documents) p jobs) jobs
 
 abbrev pub play_busy : Place → (ℕ → List ℕ) → Play → List (List ℕ) → Play
 play_busy place documents p queues = play_stages place documents p (busy_jobs p.state queues)
 
--- Script's round of jobs that have these documents, over the queues in ascending order of name
+-- Script's round for jobs with these documents, over the queues in ascending order of name.
 abbrev pub round_of : Place → (ℕ → List ℕ) → State → Slots → ChildTrace → Play
 round_of place documents s slots told = play_busy place documents (plays play_start (fresh_play s slots told) (finite.keys s.queues)) (finite.keys s.queues)

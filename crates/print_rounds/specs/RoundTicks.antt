@@ -1,4 +1,4 @@
--- A tick: what a round does, for whoever waits for no child.
+-- A tick: a round that waits for no child.
 use Rattle.std.specs.Prelude.{◌≡◌, ◌⊎◌, ℕ, ◌+◌, length, Bool, true, false, cond, List, [], ◌∷◌, IsSome, Option, None, Some, Result, Err}
 use Rattle.std.specs.List.{filter}
 use Rattle.std.specs.FinMap as finite
@@ -23,9 +23,9 @@ use Rattle.print_rounds.specs.declared.outcome.Round.{Round}
 use Rattle.print_rounds.specs.declared.outcome.RoundFault.{RoundFault}
 use Rattle.print_rounds.specs.declared.outcome.RoundFault.TheVariants as ends
 
--- ## Script's tick: what a tick does where nothing fails
+-- ## Script's tick: what a tick does if nothing fails
 
--- whether an end is to be told, and what the children tell behind it: of a child that runs, by the next look
+-- Whether an end is reported now, and the trace after that: for a running child the next check decides.
 abbrev pub ripe_by : Bool → ChildTrace → Bool
 ripe_by true t = looks_next t
 ripe_by false t = true
@@ -34,7 +34,7 @@ abbrev pub looked_by : Bool → ChildTrace → ChildTrace
 looked_by true t = after_look t
 looked_by false t = t
 
--- the jobs whose ends are to be told, and what the children tell behind the looks at all of them
+-- The jobs whose ends are reported now, and the trace after the checks of all of them.
 abbrev pub ripe_among : Slots → ChildTrace → List ℕ → List ℕ
 ripe_among slots t [] = []
 ripe_among slots t (j ∷ js) =
@@ -44,15 +44,15 @@ abbrev pub looked_among : Slots → ChildTrace → List ℕ → ChildTrace
 looked_among slots t [] = t
 looked_among slots t (j ∷ js) = looked_among slots (looked_by (runs slots j) t) js
 
--- the children of these jobs are looked at, then those that have ended are finished, and their ends told
+-- The children of these jobs are checked, then those that have ended are finished, and their ends reported.
 abbrev pub play_ripe : Play → List ℕ → Play
 play_ripe p js = plays play_end (record p { told = looked_among p.slots p.told js }) (ripe_among p.slots p.told js)
 
--- the stages of those jobs of which no child runs are started, and the ends of all that have ended are told
+-- The stages of the jobs without a running child are started, and the ends of all that have ended are reported.
 abbrev pub play_tended : Place → (ℕ → List ℕ) → Play → List ℕ → Play
 play_tended place documents p js = play_ripe (plays (play_launch place documents) p (idle_among p.slots js)) js
 
--- a child that has ended, and whose job has left its stage, is finished, and its slot freed
+-- A child that has ended, and whose job has left its stage, is finished, and its slot freed.
 abbrev pub dropped_if : Bool → Play → ℕ → Play
 dropped_if false p j = p
 dropped_if true p j = record (waited p j) { slots = finite.remove p.slots j }
@@ -66,65 +66,64 @@ drop_strays p = plays play_drop p (strays p.state p.slots)
 abbrev pub tend_queues : Place → (ℕ → List ℕ) → Play → List (List ℕ) → Play
 tend_queues place documents p queues = play_tended place documents p (tended_jobs p.state p.slots queues)
 
--- Script's tick of jobs that have these documents, over the queues in ascending order of name
+-- Script's tick for jobs with these documents, over the queues in ascending order of name.
 abbrev pub tick_of : Place → (ℕ → List ℕ) → State → Slots → ChildTrace → Play
 tick_of place documents s slots told =
     drop_strays (tend_queues place documents (plays play_start (play_from s (idle_slots s slots) told) (free_queues s (idle_slots s slots))) (finite.keys s.queues))
 
--- ## A tick, also where something fails
+-- ## A tick, also if something fails
 
 pub record IsTickOf {D : Type 0} (device : DiskView D) (place : Place) (old new : RunState D) (result : Result Round RoundFault) : Type 0 where
-  -- how many children may be started: where they tell nothing bounds them
+  -- How many children may be started. For children that report, nothing bounds the starts.
   pub start_room : Option StartRoom
   pub always : IsSome old.told → start_room ≡ None
   pub steps : PassSteps D
   pub made : IsPass device place false start_room old steps new
   pub few : HasStartRoomFor start_room (length steps.parts.launchings)
   pub answer : result ≡ result_of (counts_of steps.parts.launchings steps.parts.endings) (fault_in steps.parts)
-  -- the events acknowledged in it are accepted in turn, and the table is the one after them
+  -- The events acknowledged in it are accepted in order, and the table is the one after them.
   pub accepted : AreAccepted old.spool.state (events_in old steps.parts)
   pub table : new.spool.state ≡ after_all old.spool.state (events_in old steps.parts)
-  -- Unless the device had failed before, a crash at any moment leaves the table after the first of the events that were tried,
-  -- some or all, with the documents as they are.
+  -- Unless the device had failed before, a crash at any moment leaves the table after the first of the events that were tried, some or all,
+  -- with the documents as they are.
   pub any_moment : old.spool.dead ≡ false → IsSome (device.bytes old.spool.disk) →
       LeavesOnly device old.spool.disk new.spool.disk (HasSomeOf old.spool.state (tried_in old steps.parts))
   pub any_whole : old.spool.dead ≡ false → IsSome (device.bytes old.spool.disk) → (documents : ℕ → List ℕ) → LeavesDocuments device documents old.spool →
       LeavesOnly device old.spool.disk new.spool.disk (HasSomeWhole old.spool.state documents (tried_in old steps.parts))
   pub lasting : new.spool.dead ≡ false → IsSome (device.bytes old.spool.disk) → (documents : ℕ → List ℕ) → LeavesDocuments device documents old.spool →
       LeavesDocuments device documents new.spool
-  -- a tick without a fault leaves a device that works
+  -- A tick without a fault leaves a device that works.
   pub works : fault_in steps.parts ≡ None → old.spool.dead ≡ false → new.spool.dead ≡ false
-  -- while the device works every event that was tried was acknowledged, and else all but the one in hand
+  -- While the device works, every event that was tried was acknowledged; otherwise all except the one in progress.
   pub all_acknowledged : new.spool.dead ≡ false → tried_in old steps.parts ≡ events_in old steps.parts
   pub in_hand : AreAcknowledged new.spool.dead (tried_in old steps.parts) (events_in old steps.parts)
-  -- Where the children tell, each that was started runs or has been finished once, as does each that ran before, and the tick
-  -- is a turn of StageHistory.
+  -- If the children report, each child that was started or ran before runs or was finished once, and the tick is a call of a StageHistory.
   pub tickets : (t : ChildTrace) → old.told ≡ Some t → HasTickets old.slots t → AreKeptBy t (started_in steps.parts.launchings) new.slots new.told
   pub turn : (t : ChildTrace) → old.told ≡ Some t → HasTickets old.slots t → IsStageCall t old (events_in old steps.parts) new
-  -- What was read are documents of jobs, and where the disk tells its bytes they are those that the bytes have.
+  -- The documents that were read are jobs' documents. If the disk reports its bytes, they are the documents in the bytes.
   pub read : (documents : ℕ → List ℕ) × AreHanded documents steps.parts.launchings
   pub handed : (bytes : List ℕ) (documents : ℕ → List ℕ) → device.bytes old.spool.disk ≡ Some bytes → HasDocuments old.spool.state documents bytes → AreHanded documents steps.parts.launchings
-  -- where nothing failed, and the children tell, it is Script's with the documents that were read
+  -- If nothing failed and the children report, it is Script's tick with the documents that were read.
   pub exact : fault_in steps.parts ≡ None → (t : ChildTrace) (documents : ℕ → List ℕ) → old.told ≡ Some t → HasTickets old.slots t → AreHanded documents steps.parts.launchings →
       IsScriptRound old steps.parts new (tick_of place documents old.spool.state old.slots t)
 
--- a spool that has met a fault of the device does nothing
+-- A spool that has met a device error does nothing.
 abbrev pub IsTickBy : {D : Type 0} → DiskView D → Place → RunState D → Bool → RunState D → Result Round RoundFault → Type 0
 IsTickBy device place old true new result = (result ≡ Err ends.Dead) × (new ≡ old)
 IsTickBy device place old false new result = IsUnbegun old new result ⊎ IsTickOf device place old new result
 
--- a tick that goes by the places that the children were asked for
+-- A tick that uses the room that the children were asked for.
 abbrev pub IsTickAsked : {D : Type 0} → (Option StartRoom → Type 0) → DiskView D → Place → RunState D → Bool → RunState D → Result Round RoundFault → Type 0
 IsTickAsked asked device place old true new result = (result ≡ Err ends.Dead) × (new ≡ old)
 IsTickAsked asked device place old false new result = IsUnbegun old new result ⊎ ((made : IsTickOf device place old new result) × asked made.start_room)
 
 -- ## At the end
 
--- the jobs whose children run, in ascending order of number
+-- The jobs with running children, in ascending order of number.
 abbrev pub running_jobs : Slots → List ℕ
 running_jobs slots = filter (runs slots) (finite.keys slots)
 
--- A child is finished, and its finish kept in its slot.
+-- A child is finished, and its finish stored in its slot.
 pub record Finishing : Type 0 where
   pub job : ℕ
   pub slots : Slots
@@ -134,7 +133,7 @@ abbrev pub AreFinishings : Slots → Option ChildTrace → List Finishing → Sl
 AreFinishings slots told [] new told' = (new ≡ slots) × (told' ≡ told)
 AreFinishings slots told (f ∷ fs) new told' = FinishesStage told slots f.job f.slots f.told × AreFinishings f.slots f.told fs new told'
 
--- None is running any more, and each that was has been finished, once.
+-- No child is running, and each that ran was finished once.
 pub record IsFinishedOff (t : ChildTrace) (told : Option ChildTrace) : Type 0 where
   pub now : ChildTrace
   pub tells : told ≡ Some now

@@ -1,4 +1,4 @@
--- A whole round: its steps, its answer, what a crash leaves of it, and what it is where nothing failed.
+-- A whole round: its steps, its result, the effect of a crash, and the round if nothing failed.
 use Rattle.std.specs.Prelude.{◌≡◌, ◌≤◌, ◌⊎◌, ℕ, Bool, true, false, List, [], ◌++◌, length, map, take, IsSome, Option, None, Some, Result, Err}
 use Rattle.std.specs.FinMap as finite
 use Rattle.std.specs.Option.{option_or}
@@ -22,31 +22,31 @@ use Rattle.print_rounds.specs.declared.outcome.Round.{Round}
 use Rattle.print_rounds.specs.declared.outcome.RoundFault.{RoundFault}
 use Rattle.print_rounds.specs.declared.outcome.RoundFault.TheVariants as ends
 
--- the table after the first of these events, some or all
+-- The table after the first of these events, some or all.
 abbrev pub HasSomeOf : State → List Event → List ℕ → Type 0
 HasSomeOf s events image = HasPrefixTable s events 0 (length events) image
 
--- so it is, and these are its documents: none of the events sends anything
+-- The same with these documents: none of the events sends anything.
 abbrev pub HasSomeWhole : State → (ℕ → List ℕ) → List Event → List ℕ → Type 0
 HasSomeWhole s documents events image = (k : ℕ) × (k ≤ length events) × HasWhole (after_all s (take k events)) documents image
 
--- a crash leaves these documents
+-- A crash leaves these documents.
 abbrev pub LeavesDocuments : {D : Type 0} → DiskView D → (ℕ → List ℕ) → OpenSpool D → Type 0
 LeavesDocuments device documents s = (c : List ℕ) → device.image s.disk c → HasDocuments s.state documents c
 
--- the steps of a round: the slots that aren't current are freed, the next jobs started, and unless the device has failed
--- by then a stage of each processing job is run
+-- The steps of a round: the slots that are not current are freed, the next jobs are started and, unless the device has failed by then, a
+-- stage of each processing job is run.
 pub record RoundSteps (D : Type 0) : Type 0 where
   pub startings : List (Starting D)
   pub mid : OpenSpool D
   pub launchings : List Launching
-  -- behind the last start of a stage
+  -- After the last start of a stage.
   pub read : OpenSpool D
   pub slots : Slots
   pub told : Option ChildTrace
   pub endings : List (Ending D)
 
--- the jobs of which a stage is run: after a fault of the device none, else each that is processing, in queue order
+-- The jobs with a stage that is run: none after a device error, otherwise each processing job, in the order of the queues.
 abbrev pub jobs_run : {D : Type 0} → OpenSpool D → Bool → List ℕ
 jobs_run s true = []
 jobs_run s false = busy_jobs s.state (finite.keys s.state.queues)
@@ -61,19 +61,19 @@ pub record IsRound {D : Type 0} (device : DiskView D) (place : Place) (old : Run
   pub ends : AreEndings device (run_state steps.read steps.slots steps.told) steps.endings new
   pub ended : map (λ e. e.job) steps.endings ≡ jobs_run steps.mid steps.mid.dead
 
--- the first fault in time
+-- The first fault in time.
 abbrev pub fault_in : {D : Type 0} → RoundSteps D → Option RoundFault
 fault_in steps = option_or (starting_fault steps.startings) (stages_fault steps.launchings steps.endings)
 
--- the events acknowledged in a round
+-- The events acknowledged in a round.
 abbrev pub events_in : {D : Type 0} → RunState D → RoundSteps D → List Event
 events_in old steps = starting_events old.spool steps.startings ++ ending_events steps.endings
 
--- the events tried in a round: the acknowledged ones and, behind them, the one at which the device failed, if it did
+-- The events tried in a round: the acknowledged ones, followed by the one at which the device failed, if it did.
 abbrev pub tried_in : {D : Type 0} → RunState D → RoundSteps D → List Event
 tried_in old steps = starting_tried old.spool steps.startings ++ ending_tried steps.endings
 
--- The round is Script's; children that tell go on to tell.
+-- The round is Script's. Children that report still report.
 pub record IsScriptRound {D : Type 0} (old : RunState D) (steps : RoundSteps D) (new : RunState D) (p : Play) : Type 0 where
   pub state : new.spool.state ≡ p.state
   pub slots : new.slots ≡ p.slots
@@ -86,38 +86,38 @@ pub record IsRoundOf {D : Type 0} (device : DiskView D) (place : Place) (old new
   pub steps : RoundSteps D
   pub made : IsRound device place old steps new
   pub answer : result ≡ result_of (counts_of steps.launchings steps.endings) (fault_in steps)
-  -- the events acknowledged in it are accepted in turn, and the table is the one after them
+  -- The events acknowledged in it are accepted in order, and the table is the one after them.
   pub accepted : AreAccepted old.spool.state (events_in old steps)
   pub table : new.spool.state ≡ after_all old.spool.state (events_in old steps)
-  -- Unless the device had failed before, a crash at any moment of the round leaves the table after the first of the events
-  -- that were tried, some or all.
+  -- Unless the device had failed before, a crash at any moment of the round leaves the table after the first of the events that were tried,
+  -- some or all.
   pub any_moment : old.spool.dead ≡ false → IsSome (device.bytes old.spool.disk) →
       LeavesOnly device old.spool.disk new.spool.disk (HasSomeOf old.spool.state (tried_in old steps))
-  -- So it is with the documents: they stay as they are, at any moment and, while the device works, at the end.
+  -- The documents stay as they are, at any moment and, while the device works, at the end.
   pub any_whole : old.spool.dead ≡ false → IsSome (device.bytes old.spool.disk) → (documents : ℕ → List ℕ) → LeavesDocuments device documents old.spool →
       LeavesOnly device old.spool.disk new.spool.disk (HasSomeWhole old.spool.state documents (tried_in old steps))
   pub lasting : new.spool.dead ≡ false → IsSome (device.bytes old.spool.disk) → (documents : ℕ → List ℕ) → LeavesDocuments device documents old.spool →
       LeavesDocuments device documents new.spool
-  -- a round without a fault leaves a device that works
+  -- A round without a fault leaves a device that works.
   pub works : fault_in steps ≡ None → old.spool.dead ≡ false → new.spool.dead ≡ false
-  -- while the device works every event that was tried was acknowledged
+  -- While the device works, every event that was tried was acknowledged.
   pub all_acknowledged : new.spool.dead ≡ false → tried_in old steps ≡ events_in old steps
-  -- and else all but the one in hand
+  -- Otherwise all except the one in progress.
   pub in_hand : AreAcknowledged new.spool.dead (tried_in old steps) (events_in old steps)
-  -- where the children tell it is a turn of StageHistory
+  -- If the children report, it is a call of a StageHistory.
   pub turn : (t : ChildTrace) → old.told ≡ Some t → t.running ≡ [] → IsStageCall t old (events_in old steps) new
-  -- What was read are documents of jobs, and where the disk tells its bytes they are those that the bytes have.
+  -- The documents that were read are jobs' documents. If the disk reports its bytes, they are the documents in the bytes.
   pub read : (documents : ℕ → List ℕ) × AreHanded documents steps.launchings
   pub handed : (bytes : List ℕ) (documents : ℕ → List ℕ) → device.bytes old.spool.disk ≡ Some bytes → HasDocuments old.spool.state documents bytes → AreHanded documents steps.launchings
-  -- where nothing failed, and the children tell, it is Script's with the documents that were read
+  -- If nothing failed and the children report, it is Script's round with the documents that were read.
   pub exact : fault_in steps ≡ None → (t : ChildTrace) (documents : ℕ → List ℕ) → old.told ≡ Some t → t.running ≡ [] → AreHanded documents steps.launchings →
       IsScriptRound old steps new (round_of place documents old.spool.state old.slots t)
 
--- without memory for the list of the jobs nothing is done
+-- If the list of the jobs runs out of memory, nothing is done.
 abbrev pub IsUnbegun : {D : Type 0} → RunState D → RunState D → Result Round RoundFault → Type 0
 IsUnbegun old new result = (result ≡ Err ends.Memory) × (new ≡ old)
 
--- a spool that has met a fault of the device does nothing
+-- A spool that has met a device error does nothing.
 abbrev pub IsRoundBy : {D : Type 0} → DiskView D → Place → RunState D → Bool → RunState D → Result Round RoundFault → Type 0
 IsRoundBy device place old true new result = (result ≡ Err ends.Dead) × (new ≡ old)
 IsRoundBy device place old false new result = IsUnbegun old new result ⊎ IsRoundOf device place old new result

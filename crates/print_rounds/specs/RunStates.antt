@@ -1,4 +1,4 @@
--- What a round did, step by step, also where something failed.
+-- The steps of a round, also if something failed.
 use Rattle.std.specs.Prelude.{◌≡◌, ◌≤◌, ◌↔◌, ◌⊎◌, ℕ, Bool, ◌&&◌, nat_lt, true, false, List, [], ◌∷◌, length, map, IsSome, IsTrue, Option, None, Some, unwrap_or, Result, Ok, Err, OnOk, if◌then◌else◌}
 use Rattle.std.specs.FinMap as finite
 use Rattle.spool_disk.specs.Disk.{DiskView, Blames, ChangesNothing, LeavesOnly}
@@ -27,7 +27,7 @@ use Rattle.print_rounds.specs.declared.outcome.Launch.TheVariants.{Unlaunched, L
 use Rattle.print_rounds.specs.declared.outcome.Report.{Report}
 use Rattle.print_rounds.specs.declared.outcome.Report.TheVariants as reports
 
--- a round under way: the spool, the slots, and what the children tell
+-- The state during a round: the spool, the slots, and the children's trace.
 pub record RunState (D : Type 0) : Type 0 where
   pub spool : OpenSpool D
   pub slots : Slots
@@ -36,12 +36,12 @@ pub record RunState (D : Type 0) : Type 0 where
 abbrev pub run_state : {D : Type 0} → OpenSpool D → Slots → Option ChildTrace → RunState D
 run_state spool slots told = record { spool = spool; slots = slots; told = told }
 
--- what came of an event
+-- The answer to an event.
 abbrev pub Answer : Type 0
 Answer = Result Reply ApplyFault
 
--- An event that was answered so: the cause of the answer, and what it left. Unless the device had failed before, a crash at
--- any moment of it leaves the table before the event or the one after it, with the documents of that moment.
+-- An event with its answer: the cause of the answer, and the result. Unless the device had failed before, a crash at any moment of it
+-- leaves the table before the event or the one after it, with the documents of that moment.
 pub record IsApplied {D : Type 0} (device : DiskView D) (old : OpenSpool D) (e : Event) (a : Answer) (new : OpenSpool D) : Type 0 where
   pub cause : IsAnswer device old e a new
   pub counted : device.failures old.disk ≤ device.failures new.disk
@@ -70,7 +70,7 @@ abbrev pub AreStartings : {D : Type 0} → DiskView D → OpenSpool D → List (
 AreStartings device old [] new = new ≡ old
 AreStartings device old (t ∷ ts) new = IsStarting device old t × AreStartings device t.next ts new
 
--- Second, one stage of each processing job is started. Its document is what was read for it, if it was.
+-- Second, one stage of each processing job is started. `document` is the document that was read for it, if any.
 pub record Launching : Type 0 where
   pub job : ℕ
   pub document : Option (List ℕ)
@@ -78,18 +78,18 @@ pub record Launching : Type 0 where
   pub slots : Slots
   pub told : Option ChildTrace
 
--- a job and its queue, whose stage is to be started, with the slots for it
+-- A job, its queue, and the slots for it. Its stage must be started.
 pub record IsToStart (s : State) (slots : Slots) (j : ℕ) (r : Job) (q : QueueRow) (own : Slots) : Type 0 where
   pub row : job_at s j ≡ Some r
   pub queue : queue_at s r.queue ≡ Some q
   pub due : slots_for slots r ≡ Some own
 
--- its stage isn't to be started
+-- Its stage must not be started.
 abbrev pub IsToRest : State → Slots → ℕ → Type 0
 IsToRest s slots j = (r : Job) (q : QueueRow) (own : Slots) → ¬ (IsToStart s slots j r q own)
 
--- What is read for a stage: for a first one the document, as long as the table says, and nothing for one that has the output
--- of the stage before.
+-- The document read for a stage: for a first stage of the length that the table states, and none for a stage that has the output of the
+-- previous one.
 abbrev pub IsInput : Progress ℕ → ℕ → Option (List ℕ) → Type 0
 IsInput (Ready None) len None = ⊥
 IsInput (Ready None) len (Some document) = length document ≡ len
@@ -100,8 +100,8 @@ IsInput (Ended finish) len document = ⊥
 abbrev pub given : Option (List ℕ) → List ℕ
 given document = unwrap_or document []
 
--- The stage of a job is started with its slot and its document. Where the device fails at the document nothing is started,
--- and where it had failed before nothing is done.
+-- The stage of a job is started with its slot and its document. If the device fails at the document, nothing is started. If it had failed
+-- before, nothing is done.
 abbrev pub IsLaunch : Place → State → Slots → Option ChildTrace → ℕ → Option (List ℕ) → Launch → Slots → Option ChildTrace → Type 0
 IsLaunch place s slots told j document Unlaunched new told' = IsToRest s slots j × (document ≡ None) × (new ≡ slots) × (told' ≡ told)
 IsLaunch place s slots told j document (Launched started) new told' =
@@ -117,8 +117,8 @@ abbrev pub AreLaunchings : Place → State → Slots → Option ChildTrace → L
 AreLaunchings place s slots told [] new told' = (new ≡ slots) × (told' ≡ told)
 AreLaunchings place s slots told (t ∷ ts) new told' = IsLaunch place s slots told t.job t.document t.launch t.slots t.told × AreLaunchings place s t.slots t.told ts new told'
 
--- What the start of a stage does to the spool. A read changes no table, and nothing of what a crash leaves. Where the device
--- fails at it the spool is dead. What is read is the document that the disk's bytes have for the job, where it tells them.
+-- The effect of the start of a stage on the spool. A read changes neither the table nor the images that a crash leaves. If the device fails
+-- at it, the spool is dead. If the disk reports its bytes, the document that is read is the one in the bytes.
 pub record IsReadFor {D : Type 0} (device : DiskView D) (old : OpenSpool D) (j : ℕ) (document : Option (List ℕ)) (launch : Launch) (new : OpenSpool D) : Type 0 where
   pub state : new.state ≡ old.state
   pub room : new.room ≡ old.room
@@ -131,36 +131,36 @@ pub record IsReadFor {D : Type 0} (device : DiskView D) (old : OpenSpool D) (j :
   pub unread : document ≡ None → ¬ (launch ≡ Disk) → new ≡ old
   pub own : (read bytes kept : List ℕ) → document ≡ Some read → device.bytes old.disk ≡ Some bytes → HasDocument j kept bytes → read ≡ kept
 
--- the reads for these starts, in turn
+-- The reads for these starts, in order.
 abbrev pub AreReads : {D : Type 0} → DiskView D → OpenSpool D → List Launching → OpenSpool D → Type 0
 AreReads device old [] new = new ≡ old
 AreReads {D} device old (t ∷ ts) new = (next : OpenSpool D) × IsReadFor device old t.job t.document t.launch next × AreReads device next ts new
 
--- each document that was read is its job's
+-- Each document that was read is its job's.
 abbrev pub AreHanded : (ℕ → List ℕ) → List Launching → Type 0
 AreHanded documents [] = Unit {0}
 AreHanded documents (t ∷ ts) = ((read : List ℕ) → t.document ≡ Some read → read ≡ documents t.job) × AreHanded documents ts
 
--- Third, each child is finished, its finish kept, and the event of its end applied. What is between is `kept`.
+-- Third, each child is finished, its finish is stored, and the event of its end is applied. `kept` is the state between the last two.
 pub record Ending (D : Type 0) : Type 0 where
   pub job : ℕ
   pub kept : RunState D
   pub report : Report
   pub next : RunState D
 
--- the job has no child to be finished and no finish that was kept
+-- The job has neither a child to be finished nor a stored finish.
 abbrev pub is_silent : Option (Slot ℕ) → Bool
 is_silent None = true
 is_silent (Some slot) = is_ready slot.progress
 
--- an attempt that goes on to its next stage keeps its output; any other frees the slot
+-- An attempt that continues with its next stage retains its output. Otherwise the slot is freed.
 abbrev pub moved_by : Slots → ℕ → Reply → Slots
 moved_by slots j replies.Done = finite.remove slots j
 moved_by slots j (replies.Number n) = finite.remove slots j
 moved_by slots j (replies.Size n) = finite.remove slots j
 moved_by slots j (replies.Phase p) = (if is_processing p && nat_lt (slot_in slots j).stage 16 then advanced_in slots j else finite.remove slots j)
 
--- where the event wasn't applied, the slot keeps the finish
+-- If the event was not applied, the slot retains the finish.
 abbrev pub moved : Slots → ℕ → Answer → Slots
 moved slots j (Ok reply) = moved_by slots j reply
 moved slots j (Err fault) = slots
@@ -183,7 +183,7 @@ abbrev pub AreEndings : {D : Type 0} → DiskView D → RunState D → List (End
 AreEndings device old [] new = new ≡ old
 AreEndings device old (t ∷ ts) new = IsEnding device old t × AreEndings device t.next ts new
 
--- one stage of each of these jobs: all are started, then each is finished
+-- One stage of each of these jobs: all are started, then each is finished.
 pub record IsRunOfStages {D : Type 0} (device : DiskView D) (place : Place) (old : RunState D) (jobs : List ℕ) (new : RunState D) : Type 0 where
   pub slots : Slots
   pub told : Option ChildTrace
@@ -191,7 +191,7 @@ pub record IsRunOfStages {D : Type 0} (device : DiskView D) (place : Place) (old
   pub endings : List (Ending D)
   pub starts : AreLaunchings place old.spool.state old.slots old.told launchings slots told
   pub started : map (λ t. t.job) launchings ≡ jobs
-  -- the spool behind the reads
+  -- The spool after the reads.
   pub read : OpenSpool D
   pub reads : AreReads device old.spool launchings read
   pub ends : AreEndings device (run_state read slots told) endings new

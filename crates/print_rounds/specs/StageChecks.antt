@@ -1,4 +1,4 @@
--- What is looked at where children may run: which slots stay, which queues may start a job, and whose ends are to be told.
+-- Checks while children may be running: which slots stay, which queues may start a job, and whose ends are reported.
 use Rattle.std.specs.Prelude.{◌≡◌, ℕ, Bool, ◌&&◌, ◌||◌, not, true, false, cond, List, [], ◌∷◌, Option, None, Some}
 use Rattle.std.specs.List.{filter, list_any}
 use Rattle.std.specs.FinMap as finite
@@ -10,24 +10,24 @@ use Rattle.child_pipeline.specs.declared.runner.Slot.{Slot}
 use Rattle.print_rounds.specs.Choice.{busy_jobs}
 use Rattle.print_rounds.specs.RoundScript.{is_current}
 
--- ## Slots whose child runs
+-- ## Slots with a running child
 
 abbrev pub has_child : Option (Slot ℕ) → Bool
 has_child None = false
 has_child (Some slot) = is_running slot.progress
 
--- the child of the job's slot runs
+-- The child of the job's slot is running.
 abbrev pub runs : Slots → ℕ → Bool
 runs slots j = has_child (finite.get slots j)
 
 abbrev pub is_kept : Option Job → Option (Slot ℕ) → Bool
 is_kept row o = is_current row o || has_child o
 
--- a slot whose job, attempt and stage aren't those of the table is freed, unless its child runs
+-- A slot whose attempt and stage are not those of its job in the table is freed, unless its child is running.
 abbrev pub idle_slots : State → Slots → Slots
 idle_slots s slots = finite.retain_keys slots (λ j. is_kept (job_at s j) (finite.get slots j))
 
--- The child of the slot runs, and its job has left the stage: it was canceled, or its attempt abandoned.
+-- The child of the slot is running, and its job has left the stage: it was canceled, or its attempt was abandoned.
 abbrev pub is_stray : State → Slots → ℕ → Bool
 is_stray s slots j = runs slots j && not (is_current (job_at s j) (finite.get slots j))
 
@@ -40,35 +40,35 @@ abbrev pub is_of_queue : List ℕ → Option Job → Bool
 is_of_queue name None = false
 is_of_queue name (Some r) = is_of name r
 
--- A child of the queue runs: that of its processing job, or of one that has left its stage.
+-- A child of the queue is running: that of its processing job, or of a job that has left its stage.
 abbrev pub is_blocked : State → Slots → List ℕ → Bool
 is_blocked s slots name = list_any (λ j. runs slots j && is_of_queue name (job_at s j)) (finite.keys slots)
 
--- the queues of which no child runs, in ascending order of name
+-- The queues without a running child, in ascending order of name.
 abbrev pub free_queues : State → Slots → List (List ℕ)
 free_queues s slots = filter (λ name. not (is_blocked s slots name)) (finite.keys s.queues)
 
--- the processing jobs of these queues, but those of which an earlier stage's child runs
+-- The processing jobs of these queues, except those with a running child of an earlier stage.
 abbrev pub tended_jobs : State → Slots → List (List ℕ) → List ℕ
 tended_jobs s slots names = filter (λ j. not (is_stray s slots j)) (busy_jobs s names)
 
--- those of which no child runs
+-- The jobs without a running child.
 abbrev pub idle_among : Slots → List ℕ → List ℕ
 idle_among slots js = filter (λ j. not (runs slots j)) js
 
--- ## Looks
+-- ## Checks
 
--- A look at a job: whether the end of its stage is to be told, and what the children tell behind it.
+-- A check of a job: whether the end of its stage is reported now, and the trace after the check.
 pub record Look : Type 0 where
   pub job : ℕ
   pub ripe : Bool
   pub told : Option ChildTrace
 
--- whether a look is taken: of a child that runs and isn't waited for
+-- Whether a check is made: only of a running child that is not waited for.
 abbrev pub is_looked_at : Bool → Slots → ℕ → Bool
 is_looked_at waits slots j = not waits && runs slots j
 
--- where no look is taken the end is to be told
+-- If no check is made, the end is reported.
 abbrev pub IsLookBy : Bool → Option ChildTrace → Look → Type 0
 IsLookBy true told l = Looks told l.ripe l.told
 IsLookBy false told l = (l.ripe ≡ true) × (l.told ≡ told)
@@ -80,20 +80,20 @@ abbrev pub AreLooks : Bool → Slots → Option ChildTrace → List Look → Opt
 AreLooks waits slots told [] told' = told' ≡ told
 AreLooks waits slots told (l ∷ ls) told' = IsLook waits slots told l × AreLooks waits slots l.told ls told'
 
--- the jobs whose ends are to be told
+-- The jobs whose ends are reported now.
 abbrev pub ripe_in : List Look → List ℕ
 ripe_in [] = []
 ripe_in (l ∷ ls) = cond l.ripe (l.job ∷ ripe_in ls) (ripe_in ls)
 
 -- ## Children whose jobs have left their stages
 
--- Such a child is looked at and, where it has ended, finished, and its slot freed. Its end is told to nobody.
+-- Such a child is checked and, if it has ended, it is finished and its slot freed. Its end is not reported.
 pub record Dropping : Type 0 where
   pub look : Look
   pub slots : Slots
   pub told : Option ChildTrace
 
--- what is between is the slot with its finish
+-- `kept` are the slots with its finish.
 abbrev pub IsDropped : Bool → Slots → ℕ → Option ChildTrace → Slots → Option ChildTrace → Type 0
 IsDropped false slots j told new told' = (new ≡ slots) × (told' ≡ told)
 IsDropped true slots j told new told' = (kept : Slots) × FinishesStage told slots j kept told' × (new ≡ finite.remove kept j)

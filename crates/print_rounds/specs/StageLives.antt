@@ -1,4 +1,4 @@
--- Lives and worlds: what calls do with the stages of attempts over any number of lives of a spool.
+-- Lives and histories: what calls do with the stages of attempts over any number of lives of a spool.
 use Rattle.std.specs.Prelude.{◌≡◌, ◌||◌, ◌&&◌, ◌==◌, ℕ, Bool, not, true, false, List, [], ◌∷◌, ◌++◌, Option, None, Some, IsTrue}
 use Rattle.std.specs.FinMap as finite
 use Rattle.spool_types.specs.declared.event.Event.{Event}
@@ -14,17 +14,17 @@ use Rattle.child_pipeline.specs.declared.runner.Slot.{Slot}
 use Rattle.print_rounds.specs.RunStates.{RunState}
 use Rattle.print_rounds.specs.StageHistory.{IsStageCall, keys_in}
 
--- ## Turns
+-- ## Calls of a table
 
--- a set of stages
+-- A set of stages.
 abbrev pub Keys : Type 0
 Keys = Key → Bool
 
 abbrev pub Has : Keys → Key → Type 0
 Has held k = IsTrue (held k)
 
--- what one call does: its table and its kept stages at its start, its events and the stages it starts, its table and its kept
--- stages at its return, and whether the device has failed by then
+-- What one call does: its table and held stages at its start, its events and the stages that it starts, its table and held stages at its
+-- return, and whether the device has failed by then.
 pub record StageCall : Type 0 where
   pub table : State
   pub held : Keys
@@ -39,25 +39,26 @@ IsStageCallOf t = IsTableCall t.table (Has t.held) t.more t.keys t.table_after (
 
 -- ## Lives
 
--- Turns go on from this table and these kept stages, each from what the one before left. Once one is over, none has stages.
+-- Consecutive calls from this table and these held stages, each from the state that the previous one left. After one is over, none has
+-- stages.
 abbrev pub AreStageCallsOn : State → Keys → Bool → List StageCall → Type 0
 AreStageCallsOn s held over [] = Unit {0}
 AreStageCallsOn s held over (t ∷ ts) =
     (t.table ≡ s) × (t.held ≡ held) × IsStageCallOf t × (over ≡ true → t.keys ≡ []) × AreStageCallsOn t.table_after t.held_after (over || t.over) ts
 
--- one engine's calls: at least one
+-- The calls of one engine: at least one.
 pub record Life : Type 0 where
   pub first : StageCall
   pub later : List StageCall
 
--- it begins with nothing processing and nothing kept
+-- It begins with nothing processing and nothing held.
 pub record IsLife (l : Life) : Type 0 where
   pub idle : HasNoProcessing (l.first).table
   pub none : (k : Key) → ¬ (Has (l.first).held k)
   pub turn : IsStageCallOf l.first
   pub turns : AreStageCallsOn (l.first).table_after (l.first).held_after (l.first).over l.later
 
--- the table that the last of the turns leaves
+-- The table that the last of the calls leaves.
 abbrev pub last_table : State → List StageCall → State
 last_table s [] = s
 last_table s (t ∷ ts) = last_table t.table_after ts
@@ -65,10 +66,10 @@ last_table s (t ∷ ts) = last_table t.table_after ts
 abbrev pub end_of : Life → State
 end_of l = last_table (l.first).table_after l.later
 
--- ## Worlds
+-- ## Histories
 
--- Each life begins with the table after the last one of the life before and some further events: the one in hand, and the
--- opening's Reopen. A checkpoint in hand may have raised the version, so the tables are seen as the newest has them.
+-- Each life begins with the table at the end of the previous life after some further events: the one in progress, and the Reopen of the
+-- opening. A checkpoint in progress may have raised the version, so the tables are compared in the newest version.
 abbrev pub AreLives : State → List Life → Type 0
 AreLives s [] = Unit {0}
 AreLives s (l ∷ ls) = IsLife l × ((further : List Event) × (raised (l.first).table ≡ after_all (raised s) further)) × AreLives (end_of l) ls
@@ -77,7 +78,7 @@ abbrev pub IsStageHistory : List Life → Type 0
 IsStageHistory [] = Unit {0}
 IsStageHistory (l ∷ ls) = IsLife l × AreLives (end_of l) ls
 
--- the stages of all orders, in order
+-- The stages of all orders, in order.
 abbrev pub keys_of_calls : List StageCall → List Key
 keys_of_calls [] = []
 keys_of_calls (t ∷ ts) = t.keys ++ keys_of_calls ts
@@ -89,7 +90,7 @@ abbrev pub keys_of : List Life → List Key
 keys_of [] = []
 keys_of (l ∷ ls) = keys_of_life l ++ keys_of ls
 
--- ## Calls
+-- ## Calls of an engine
 
 abbrev pub is_in_of : Key → Option Job → Bool
 is_in_of k None = false
@@ -99,11 +100,11 @@ abbrev pub is_begun_of : Key → Option (Slot ℕ) → Bool
 is_begun_of k None = false
 is_begun_of k (Some slot) = slot.attempt == k.attempt && slot.stage == k.stage && not (is_ready slot.progress)
 
--- the stage that the table has a job in, and that was begun and isn't told
+-- The stage that the table has a job in, if it was begun and its end is not reported.
 abbrev pub is_held : State → Slots → Keys
 is_held s slots k = is_in_of k (job_at s k.job) && is_begun_of k (finite.get slots k.job)
 
--- a call as a turn
+-- A call of an engine as a call of the table.
 abbrev pub stage_call_of : {D : Type 0} → RunState D → List Event → RunState D → List Key → StageCall
 stage_call_of old more new keys = record {
   table = old.spool.state;
@@ -115,7 +116,7 @@ stage_call_of old more new keys = record {
   over = new.spool.dead;
 }
 
--- calls of one engine, each from what the one before left: the events of each, and what it leaves
+-- Consecutive calls of one engine, each from the state that the previous one left: the events of each, and the state that it leaves.
 abbrev pub AreStageCalls : {D : Type 0} → ChildTrace → RunState D → List (List Event × RunState D) → Type 0
 AreStageCalls t old [] = Unit {0}
 AreStageCalls t old (c ∷ cs) = (call : IsStageCall t old c.0 c.1) × AreStageCalls call.now c.1 cs
@@ -124,11 +125,11 @@ abbrev pub stage_calls_of : {D : Type 0} → (t : ChildTrace) (old : RunState D)
 stage_calls_of t old [] calls = []
 stage_calls_of t old (c ∷ cs) calls = stage_call_of old c.0 c.1 (keys_in calls.0.orders) ∷ stage_calls_of calls.0.now c.1 cs calls.1
 
--- at least one call, as a life
+-- At least one call, as a life.
 abbrev pub life_of : {D : Type 0} → (t : ChildTrace) (old : RunState D) (c : List Event × RunState D) (cs : List (List Event × RunState D)) → AreStageCalls t old (c ∷ cs) → Life
 life_of t old c cs calls = record { first = stage_call_of old c.0 c.1 (keys_in calls.0.orders); later = stage_calls_of calls.0.now c.1 cs calls.1 }
 
--- what the last of the calls leaves
+-- The state that the last of the calls leaves.
 abbrev pub last_left : {D : Type 0} → RunState D → List (List Event × RunState D) → RunState D
 last_left s [] = s
 last_left s (c ∷ cs) = last_left c.1 cs

@@ -1,4 +1,4 @@
--- What is started where the children have room for a few starts.
+-- The starts if the children have room for a few only.
 use Rattle.std.specs.Prelude.{◌≡◌, ◌⊎◌, ◌≤◌, ◌<◌, ◌+◌, ◌-◌, ◌%◌, ℕ, nat_le, Bool, true, not, ◌&&◌, cond, List, [], ◌∷◌, ◌++◌, length, take, drop, slice_index_or, Option, None, Some, IfSome, is_some}
 use Rattle.std.specs.List.{filter}
 use Rattle.std.specs.FinMap as finite
@@ -9,33 +9,33 @@ use Rattle.child_pipeline.specs.declared.children.StartRoom.{StartRoom}
 use Rattle.print_rounds.specs.Choice.{busy_jobs}
 use Rattle.print_rounds.specs.StageChecks.{free_queues, idle_among}
 
--- there are so many places, or nothing bounds them
+-- There is room for n starts, or nothing bounds them.
 abbrev pub HasStartRoomFor : Option StartRoom → ℕ → Type 0
 HasStartRoomFor None n = Unit {0}
 HasStartRoomFor (Some p) n = n ≤ p.count
 
--- a part of a list, in its order
+-- A part of a list, in its order.
 abbrev pub IsPartOf : {X : Type 0} → List X → List X → Type 0
 IsPartOf [] ys = Unit {0}
 IsPartOf (x ∷ xs) [] = ⊥
 IsPartOf (x ∷ xs) (y ∷ ys) = ((x ≡ y) × IsPartOf xs ys) ⊎ IsPartOf (x ∷ xs) ys
 
--- how many of these flags are off
+-- The number of these flags that are off.
 abbrev pub opened_in : List Bool → ℕ
 opened_in [] = 0
 opened_in (closed ∷ flags) = cond closed 0 1 + opened_in flags
 
 -- ## Jobs
 
--- the processing jobs of which no child runs
+-- The processing jobs without a running child.
 abbrev pub waiting_jobs : State → Slots → List ℕ
 waiting_jobs s slots = idle_among slots (busy_jobs s (finite.keys s.queues))
 
--- so many from the first on and, behind the end, from the beginning, in the order of the list
+-- `count` items from position `first` on and then from the beginning, in the order of the list.
 abbrev pub window : {X : Type 0} → ℕ → ℕ → List X → List X
 window count first xs = take (count - (length xs - first)) xs ++ take (count - (count - (length xs - first))) (drop first xs)
 
--- those that have a place: all, if there are as many places
+-- The items that have room: all, if there is room for all.
 abbrev pub rotated : {X : Type 0} → Option StartRoom → List X → List X
 rotated None xs = xs
 rotated (Some p) xs = cond (nat_le (length xs) p.count) xs (window p.count (p.first % length xs) xs)
@@ -45,12 +45,12 @@ rotated (Some p) xs = cond (nat_le (length xs) p.count) xs (window p.count (p.fi
 abbrev pub has_next : State → List ℕ → Bool
 has_next s name = is_some (next_of s name)
 
--- the queue at this place isn't blocked, and has a next job
+-- The queue at this position is not blocked and has a next job.
 abbrev pub can_start : State → List Bool → ℕ → Bool
 can_start s blocked at = not (slice_index_or blocked at true) && has_next s (slice_index_or (finite.keys s.queues) at [])
 
--- The free queues whose next jobs may be started: all, if there are as many places as queues. If there are fewer, jobs that
--- wait for a child have theirs first, and as many queues with a next job have one as places are left.
+-- The free queues whose next jobs may be started: all, if there is room for each queue. Otherwise the jobs that wait for a child come
+-- first, and queues with a next job use the room that is left.
 pub record AreChosen (start_room : Option StartRoom) (s : State) (slots : Slots) (names : List (List ℕ)) : Type 0 where
   pub all : HasStartRoomFor start_room (length (finite.keys s.queues)) → names ≡ free_queues s slots
   pub part : IsPartOf names (free_queues s slots)

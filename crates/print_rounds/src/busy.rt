@@ -1,4 +1,4 @@
-//! Which queues may start a job, and of which jobs a stage is run.
+//! Which queues may start a job, and which jobs have a stage that is run.
 ghost use Rattle.std.specs.Prelude.{◌≡◌, ◌≤◌, [], length, vec_capacity, None, Some, IfSome, IsNone};
 ghost use Rattle.std.specs.FinMap as finite;
 ghost use Rattle.spool_types.specs.State.{Job, job_at};
@@ -12,7 +12,7 @@ use child_pipeline::{Children, Runner};
 use job_table::Table;
 use spool_types::JobId;
 
-// Where the queue of a job stands among the queues.
+// Returns the position of a job's queue among the queues.
 fn queue_position(table: &Table, job: JobId) -> Option<usize>
     ensures place { IfSome result (λ at. (r : Job) × (job_at table.now.state job ≡ Some r) × IsNameAt (finite.keys table.now.state.queues) r.queue at) }
     ensures none { IsNone result → job_at table.now.state job ≡ None }
@@ -25,7 +25,7 @@ fn queue_position(table: &Table, job: JobId) -> Option<usize>
     place.ok()
 }
 
-// Marks each queue of which a child is running.
+// Marks each queue that has a running child.
 pub(crate) fn mark_blocked<C: Children>(table: &Table, runner: &Runner<C>, blocked: &mut Vec<bool>)
     requires empty { blocked.old.items ≡ [] }
     requires room { length (finite.keys table.now.state.queues) ≤ vec_capacity blocked.old }
@@ -46,7 +46,7 @@ pub(crate) fn mark_blocked<C: Children>(table: &Table, runner: &Runner<C>, block
     }
 }
 
-// Lists the processing jobs, in ascending order of their queues' names, but those of which an earlier stage's child runs.
+// Lists the processing jobs, in ascending order of their queues' names, except jobs whose child still runs an earlier stage.
 pub(crate) fn list_tended<C: Children>(table: &Table, runner: &Runner<C>, jobs: &mut Vec<JobId>)
     requires empty { jobs.old.items ≡ [] }
     requires room { length (finite.keys table.now.state.queues) ≤ vec_capacity jobs.old }
@@ -54,7 +54,7 @@ pub(crate) fn list_tended<C: Children>(table: &Table, runner: &Runner<C>, jobs: 
     ensures distinct { AreDistinct jobs.new.items }
     ensures bound { length jobs.new.items ≤ length (finite.keys table.now.state.queues) }
 {
-    // Each row is found by its number, so that no job stands twice.
+    // Each row is found by its number, so no job is listed twice.
     let _rows = table.jobs();
     for queue in table.queues() {
         if let Some(job) = table.processing(&queue.name) {
@@ -65,7 +65,7 @@ pub(crate) fn list_tended<C: Children>(table: &Table, runner: &Runner<C>, jobs: 
     }
 }
 
-// Lists those of these jobs of which no child is running.
+// Lists the jobs that have no running child.
 pub(crate) fn list_idle<C: Children>(runner: &Runner<C>, jobs: &[JobId], idle: &mut Vec<JobId>)
     requires empty { idle.old.items ≡ [] }
     requires room { length jobs.now ≤ vec_capacity idle.old }

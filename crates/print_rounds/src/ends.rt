@@ -1,4 +1,4 @@
-//! The third part of a round: each child is finished, and the event of its end applied.
+//! The third part of a round: it finishes each child and applies the event of its end.
 ghost use Rattle.std.specs.Prelude.{◌≡◌, List, ℕ, map, nat_lt};
 ghost use Rattle.std.specs.FinMap as finite;
 ghost use Rattle.child_pipeline.specs.StageSlots.{IsEnded, slot_in};
@@ -11,21 +11,21 @@ use spool_core::{ApplyFault, Spool};
 use spool_disk::Disk;
 use spool_types::{Event, JobId, Reply, StageEnd};
 
-// How many ends were told, and the first fault.
+// The number of ends that were acknowledged, and the first fault.
 #[derive(Clone, Copy, Debug)]
 pub(crate) struct Ends {
     pub(crate) told: usize,
     pub(crate) fault: Option<RoundFault>,
 }
 
-// Whether a job has no child to be finished and no finish that was kept.
+// Returns whether a job has neither a child to be finished nor a stored finish.
 fn is_silent<C: Children>(runner: &Runner<C>, job: JobId) -> bool
     ensures { result ≡ is_silent (finite.get runner.now job) }
 {
     !runner.is_reporting(job)
 }
 
-// Whether the stage of a job, which has ended, isn't the last that there can be.
+// Returns whether a further stage can follow the stage of a job that has ended.
 fn is_early<C: Children>(runner: &Runner<C>, job: JobId) -> bool
     requires { IsEnded (finite.get runner.now job) }
     ensures { result ≡ nat_lt (slot_in runner.now job).stage 16 }
@@ -62,7 +62,7 @@ fn apply_end<D: Disk>(spool: &mut Spool<D>, end: StageEnd) -> Result<Reply, Appl
     spool.apply(stage(end))
 }
 
-// Moves on the slot of a job whose end was answered so.
+// Moves on the slot of a job after this answer to the event of its end.
 fn settle<C: Children>(runner: &mut Runner<C>, job: JobId, answer: &Result<Reply, ApplyFault>)
     requires { IsEnded (finite.get runner.old job) }
     ensures { runner.new ≡ moved runner.old job answer.now }
@@ -110,7 +110,7 @@ fn end_stage<D: Disk, C: Children>(
     }
 }
 
-// Finishes the children of these jobs, in turn, and applies the events of their ends.
+// Finishes the children of these jobs, in order, and applies the events of their ends.
 pub(crate) fn end_stages<D: Disk, C: Children>(
     spool: &mut Spool<D>,
     runner: &mut Runner<C>,

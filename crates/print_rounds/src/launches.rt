@@ -1,4 +1,4 @@
-//! The second part of a round: one stage of each processing job is started.
+//! The second part of a round: it starts one stage of each processing job.
 ghost use Rattle.std.specs.Prelude.{◌≡◌, List, Option, ℕ, false, map, None, Some, IfOk, IsSome, OnErr};
 ghost use Rattle.std.specs.FinMap as finite;
 ghost use Rattle.spool_types.specs.State.{Job, job_at, queue_at};
@@ -20,14 +20,14 @@ use spool_disk::Disk;
 use spool_types::{Job, JobId, Phase};
 use std::alloc::{AllocError, Global};
 
-// How many children were started, and the first fault.
+// The number of children that were started, and the first fault.
 #[derive(Clone, Copy, Debug)]
 pub(crate) struct Launches {
     pub(crate) started: usize,
     pub(crate) fault: Option<RoundFault>,
 }
 
-// Whether a job has a slot for this stage, and whether it is to be started.
+// Returns whether the job's slot is ready to be started, or `None` if the job has no slot for this stage.
 fn slot_at<C: Children>(runner: &Runner<C>, job: JobId, attempt: u32, stage: u8) -> Option<bool>
     ensures { result ≡ readiness attempt stage (finite.get runner.now job) }
 {
@@ -41,7 +41,7 @@ fn slot_at<C: Children>(runner: &Runner<C>, job: JobId, attempt: u32, stage: u8)
     }
 }
 
-// Sees that a job whose stage is to be started has a slot for it, and tells whether it is to be.
+// Makes a slot for the job if its stage will be started and has none yet, and returns whether it will be started.
 fn make_due<C: Children>(runner: &mut Runner<C>, row: &Job) -> Result<bool, AllocError>
     requires fits { Fits row.now row.now.phase }
     requires rests { IsTicketless (finite.get runner.old row.now.id) }
@@ -65,7 +65,7 @@ fn make_due<C: Children>(runner: &mut Runner<C>, row: &Job) -> Result<bool, Allo
     }
 }
 
-// The same for the job of this number.
+// Does the same as `make_due` for the job with this number.
 fn prepare<C: Children>(
     table: &Table,
     runner: &mut Runner<C>,
@@ -85,7 +85,7 @@ fn prepare<C: Children>(
     make_due(runner, &row.job)
 }
 
-// Whether the stage of a job has the output of the one before it.
+// Returns whether the stage of a job has the output of the previous stage.
 fn has_output<C: Children>(runner: &Runner<C>, job: JobId) -> bool
     ensures { result ≡ has_output (slot_in runner.now job).progress }
 {
@@ -95,7 +95,7 @@ fn has_output<C: Children>(runner: &Runner<C>, job: JobId) -> bool
     }
 }
 
-// The document, where the stage of a job is handed it.
+// Reads the job's document, or returns an empty one if the stage has the output of the previous stage.
 fn document<D: Disk, C: Children>(
     alloc: Global,
     spool: &mut Spool<D>,
@@ -169,7 +169,7 @@ fn launch<D: Disk, C: Children>(
     }
 }
 
-// Starts the stages of these jobs, in turn.
+// Starts the stages of these jobs, in order.
 pub(crate) fn launch_all<D: Disk, C: Children>(
     alloc: Global,
     place: &Place,

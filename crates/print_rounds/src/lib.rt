@@ -1,68 +1,99 @@
-//! Rounds and ticks: the next job of every queue is started, and one stage of every job that is processing is run by a child.
+//! Rounds and ticks: they start the next job of each queue, and run one stage of each processing job in a child.
 //!
-//! A [`round`] waits for the ends of all its children, and a [`tick`] for none. Both are a pass over a spool, which holds the
-//! table (`Spool`), the slots of the stages (`Runner`), and what runs the children (`Children`). It goes this way, and
-//! `specs/` says each step, also where something fails:
+//! A [`round`] waits for the ends of all its children, a [`tick`] for none. Both are a pass over a spool, which has the table (`Spool`),
+//! the slots of the stages (`Runner`), and the launcher of children (`Children`). `specs/` defines each step, also if something fails:
 //!
-//! 1. Each slot whose job isn't in that stage of that attempt any more is freed, unless its child runs (`idle_slots`).
-//! 2. The next job of each queue of which no child runs is started, in ascending order of the queues' names (`free_queues`).
-//! 3. A stage of each processing job of which no child runs is started, queue by queue. Its slot and its order are made first,
-//!    and the document of a first stage is read from the device. A child that can't be started ends its stage with NoStart.
-//! 4. A round waits for each child, in the same order. A tick looks at each, and goes on with those that have ended. Each
-//!    of them is finished, and the event of its end applied. An acknowledged end moves the slot on to the next stage or frees
-//!    it. Any other leaves the finish in the slot, and the next pass applies its event again without a second child.
-//! 5. A child whose job has left its stage (it was canceled, or its attempt abandoned) keeps its slot until it has ended, and
-//!    its queue starts nothing. So no second backend writes to its device. Its end is told to nobody.
+//! 1. Each slot whose job has left that stage of that attempt is freed, unless its child runs (`idle_slots`).
+//! 2. The next job of each queue without a running child is started, in ascending order of the queues' names (`free_queues`).
+//! 3. A stage of each processing job without a running child is started, queue by queue. Its slot is made first. Then the document of a
+//!    first stage is read from the device, and the order is made. A child that cannot be started ends its stage with NoStart.
+//! 4. A round waits for each child, in the same order. A tick checks each child and continues with those that have ended. Each of them is
+//!    finished, and the event of its end is applied. If the event is acknowledged, the slot moves on to the next stage or is freed.
+//!    Otherwise the slot retains the finish, and the next pass applies its event again without a second child.
+//! 5. If a job has left its stage (it was canceled, or its attempt was abandoned), a child that still runs for it keeps its slot until it
+//!    has ended, and its queue starts nothing. So no second backend writes to its device. The end of this child is not reported.
 //!
-//! Where the children have places for a few starts (`Children::places`), a tick starts no more, so that no job loses an attempt
-//! (`specs/StartRoom.antt`). Jobs that wait for a child have theirs first, then queues with a next job, in turn. A round bounds
-//! nothing, and asks that no child runs when it begins: [`finish_children`] waits for those that a tick has left.
+//! If the children have room for a few starts only (`Children::start_room`), a tick starts at most that many, so that no job loses an
+//! attempt (`specs/StartLimits.antt`). Processing jobs that wait for a child come first, then queues with a next job, in order from `first`
+//! on. A tick asks for this room once, before the first start. A round limits nothing, and requires that no child runs when it begins:
+//! [`finish_children`] waits for those that a tick has left.
 //!
 //! # Promises
 //!
-//! - *The steps* (`IsRoundOf`, `IsTickOf`): what was done and in which order, each event with the answer of the spool, its cause
-//!   and what it left. The answer is the counts, or the first fault (`answer`), and the table is that of the acknowledged events,
-//!   which are accepted in turn (`accepted`, `table`). So no pass changes the version of the area. Where there is a place for
-//!   each queue, the queues that start in a tick are exactly those of which no child runs, and the stages those of the processing
-//!   jobs of which none runs. The ends are those of the children that a look found ended, and of the finishes that were kept (`made`).
-//! - *StartRoom*: a tick goes by the places that it asked for (`IsTickAsked`), and calls `start` no more often than there are (`few`).
-//! - *A crash in a pass*: unless the device had failed before, a crash at any moment of it leaves the table after the first of
-//!   the events that were tried in it, some or all (`any_moment`). These are the acknowledged ones and, behind them, the one at
-//!   which the device failed, if it did (`tried_in`, `all_acknowledged`, `in_hand`). The documents stay as they are, in a crash
-//!   (`any_whole`) and at the end (`lasting`), since no event of a pass sends anything. The count of the device's failures
-//!   doesn't fall (`later`), and a disk that tells its bytes goes on to tell them (`told`).
-//! - *ExactScript*: where nothing failed and the children tell, the table, the slots, what is told, the events and the counts
-//!   are those of the definition, with the documents that were read (`round_of`, `tick_of`, `exact`). A round is the tick in which
-//!   every look says that the child has ended ([`rounds_are_ticks`]).
-//! - *EachFinishedOnce*: whatever failed, each child that a round started is finished once, none else, and every start came
-//!   before the first finish (`finished`). After a round no child runs (`rest`), which the next one asks for. Over ticks the
-//!   children that are told to run are exactly those whose tickets the slots have: each that was started runs or has been
-//!   finished once (`tickets`). After [`finish_children`] none runs.
-//! - *NoStageTwice*: where the children tell, a pass is a turn of StageHistory (`turn`, `IsStageCall`), and two calls one after the other
-//!   are one turn ([`calls_join`]); finishes alone are one too ([`finishes_are_a_call`]). What is held between calls was begun and
-//!   isn't told: its child runs, or its finish is kept. So no stage of an attempt that was ordered is ordered again. Over any
-//!   number of lives it is a law of every world (`Lives`, [`no_stage_comes_twice`]), and calls one after the other are a life
-//!   of one ([`calls_make_a_life`]). StageHistory sees each table as the newest version has it (`raised`), so that a checkpoint may come
-//!   between calls.
-//! - *RightInput*: each start's order is exactly `order_in` of the job's slot, with the document that was read in a first stage
-//!   and the output in the slot in a later one (`Launched`). What was read is as long as the table says (`IsInput`), and where
-//!   the disk tells its bytes it is the document that these have for the job (`IsReadFor`, `handed`): what the accepted events
-//!   sent. A later stage that has no slot isn't started. Over rounds one after the other it is one law ([`rounds_hand_on`]), and
-//!   over ticks another ([`ticks_hand_on`]): an order has its document, or what the order of the stage before gave, in whatever
-//!   pass its child ended, and whatever failed in between.
+//! - *Steps* (`IsRoundOf`, `IsTickOf`): on a spool that is not dead, [`round`] and [`tick`] make the steps of their definitions in order,
+//!   each event with the answer of the spool, its cause and its result (`round`; `tick`, `made`), or nothing if their lists run out of
+//!   memory. On a dead spool they return Dead and change nothing. The result is the counts, or the first fault (`answer`). The table is
+//!   that of the acknowledged events, which are accepted in order (`accepted`, `table`), so no pass changes the version of the area. No
+//!   start and no end is refused. A round requires that no child runs (`HasNoneRunning`) and leaves none running (`rest`); a tick waits for
+//!   none and requires nothing.
+//! - *Ends in a tick*: a tick calls `finish` for exactly the children that a check found ended. It applies the events of the jobs among
+//!   them that are still in their stages, and of finishes stored before, and no others.
+//! - *Starts in a tick*: if there is room for a child of each queue, the queues that start are exactly those without a running child, and
+//!   the stages those of the processing jobs without one (`AreChosen`: `all`). Otherwise processing jobs come first, then queues with a
+//!   next job, as far as room is left (`few`, `full`). In any case a tick uses the room that it asked for (`IsTickAsked`), and calls
+//!   `start` at most that many times (`few`).
+//! - *Crash*: unless the device had failed before, a crash at any moment of a pass leaves the table after the first of the events that were
+//!   tried in it, some or all (`any_moment`). These are the acknowledged ones, followed by the event in progress when the device failed, if
+//!   it did (`tried_in`, `all_acknowledged`, `in_hand`). A pass without a fault leaves a device that works (`works`). The documents stay as
+//!   they are, in a crash (`any_whole`) and at the end (`lasting`), since no event of a pass sends anything. No job is run twice in a round
+//!   (`once`). The device's count of failures does not fall (`later`), and a disk that reports its bytes still reports them (`told`).
+//! - *ExactScript*: if nothing failed and the children report, the table, the slots, the children's trace, the events and the counts are
+//!   those of the definition, with the documents that were read (`round_of`, `tick_of`, `exact`). A round is the tick whose checks all
+//!   report that the child has ended ([`rounds_are_ticks`]).
+//! - *EachFinishedOnce*: whatever failed, each child that a round started is finished once and no other is, and every start came before the
+//!   first finish (`finished`). Over ticks the running children of the trace are exactly those whose tickets the slots have: each child
+//!   that was started runs or was finished once (`tickets`). [`finish_children`] finishes each child that runs, and applies no event
+//!   (`steps`, `rest`, `finished`).
+//! - *NoStageTwice*: if the children report, a pass is a call of a StageHistory (`turn`, `IsStageCall`), and two consecutive calls are one
+//!   call ([`calls_join`]). Finishes alone are a call too ([`finishes_are_a_call`]). A stage that is held between calls was begun and its
+//!   end is not reported: its child runs, or its finish is stored. So no stage of an attempt that was ordered is ordered again. Over any
+//!   number of lives no stage comes twice in any StageHistory (`StageLives`, [`no_stage_comes_twice`]), and consecutive calls are a life of
+//!   one ([`calls_make_a_life`]). A StageHistory has each table as the newest version has it (`raised`), so a checkpoint may come between
+//!   calls.
+//! - *RightInput*: each start's order is exactly `order_in` of the job's slot, with the document that was read in a first stage, and with
+//!   the output in the slot in a later one (`Launched`, `IsLaunch`). A document that was read has the length that the table states
+//!   (`IsInput`). If the disk reports its bytes, it is the document that these have for the job (`IsReadFor`, `handed`), which the accepted
+//!   events sent. If the device fails at a read, no further stage is started. A later stage that has no slot is not started. If the slots
+//!   retain the outputs of earlier orders (`AreKeptFrom`), this applies to consecutive rounds by one law ([`rounds_hand_on`]), and to ticks
+//!   by another ([`ticks_hand_on`]): an order has its document, or the output of the order of the previous stage, whichever pass its child
+//!   ended in, whatever failed in between, and whatever events came between the passes. The law of rounds pairs orders and answers in the
+//!   order of the starts. The law of ticks pairs them in the call that finishes the child (`answers_in`), since children end in another
+//!   order.
 //!
-//! # Faults and what they leave
+//! # Invariants
 //!
-//! [`RoundFault`] is the first fault of a pass. After `Dead` nothing was done. `Memory` and `Full` are of one queue or job and
-//! don't stop the others; what they hindered is done by the next pass. After `Disk`, of an event or of a document that is read,
-//! no event is applied and nothing more is started, and a round still finishes all children that it started; the spool has to be
-//! opened again.
+//! - The slots whose jobs have left their stages are freed first, so the end of no stage is refused.
+//! - The lists of a pass are reserved before anything else. If memory runs out there, nothing is done. The list of the processing jobs is
+//!   fixed after the starts of jobs.
+//! - A start or an end changes no queue's name, so the starts of jobs iterate over the queues by position and allocate no list.
+//! - Within a part no branch follows a device error, since the spool then answers Dead without a call of the device. Only between the
+//!   starts of jobs and the starts of stages a pass asks whether the spool is dead.
+//! - A tick checks the children of all current jobs before it finishes the first one, so its ends are one list of steps, as in a round.
+//!   Children whose jobs have left their stages are checked after that.
+//! - No child runs before a round, so its clause has no blocked queue and no check of a child.
+//!
+//! # Not proved
+//!
+//! - Which queues start if there is room for fewer children than queues: the clause states how many (`AreChosen`), not which. That the
+//!   choice begins at `first` is read in the code.
+//! - How long a tick takes: a check and a start take as long as those of the launcher (`spool_runtime`).
+//! - The effect of out of memory on a pass: one refused allocation in a round hinders at most one queue, except those of the lists that a
+//!   pass reserves first (`tests/refused_scripts.py`).
+//!
+//! # Errors
+//!
+//! [`RoundFault`] is the first fault of a pass in time: a pass that met Full and then Disk returns Full, and the next one Dead. After
+//! `Dead` nothing was done. `Memory` and `Full` concern one queue or job and do not stop the others; the next pass makes the steps that
+//! they prevented. After `Disk`, of an event or of the read of a document, no event is applied and nothing more is started, and a round
+//! still finishes all children that it started. The spool must then be opened again.
 //!
 //! # Cost
 //!
-//! A pass visits the slots three times: they are about as many as the queues. The table tells each queue's next job and its
-//! processing one without a look at the rows of jobs. A pass takes memory for its lists before all else, and then for each order
-//! and each event.
+//! A pass iterates over the slots three times. The number of slots is about that of the queues. The table returns each queue's next job and
+//! its processing job without a search of the rows of jobs. A pass allocates its lists before anything else, and then memory for each order
+//! and each event. A document is read only if the slot has no output, into memory of its own, since an order owns its input. A round holds
+//! one document at a time, from its read until its child is started, and for each queue the output of its last stage. It holds none of them
+//! twice.
 #![tactic(auto)]
 
 mod busy;

@@ -1,4 +1,4 @@
-//! Looks at children, of those that have ended and of those whose jobs have left their stages.
+//! Checks of children, and the children whose jobs have left their stages.
 ghost use Rattle.std.specs.Prelude.{◌≡◌, ◌≤◌, true, [], length, map, List, vec_capacity};
 ghost use Rattle.std.specs.FinMap as finite;
 ghost use Rattle.child_pipeline.specs.StageSlots.{IsRunning};
@@ -9,7 +9,7 @@ use child_pipeline::{Children, Runner};
 use job_table::Table;
 use spool_types::JobId;
 
-// Whether the end of a job's stage is to be told: its child is waited for or has ended, or it has none.
+// Returns whether the end of a job's stage is reported now: its child is waited for or has ended, or it has none.
 fn is_ripe<C: Children>(waits: bool, runner: &mut Runner<C>, children: &mut C, job: JobId) -> bool
     ensures slots { runner.new ≡ runner.old }
     ensures look { IsLook waits runner.old (C.tells children.old) (record { job = job; ripe = result; told = C.tells children.new }) }
@@ -20,7 +20,7 @@ fn is_ripe<C: Children>(waits: bool, runner: &mut Runner<C>, children: &mut C, j
     runner.has_ended(children, job)
 }
 
-// Lists those of these jobs whose ends are to be told.
+// Lists the jobs whose ends are reported now.
 pub(crate) fn list_ripe<C: Children>(
     waits: bool,
     runner: &mut Runner<C>,
@@ -49,7 +49,7 @@ fn drop_child<C: Children>(runner: &mut Runner<C>, children: &mut C, job: JobId)
     runner.release(job);
 }
 
-// Finishes the children that have ended and whose jobs have left their stages. It visits the slots alone.
+// Finishes the children that have ended and whose jobs have left their stages. It iterates over the slots only.
 pub(crate) fn drop_strays<C: Children>(
     waits: bool,
     table: &Table,

@@ -1,11 +1,11 @@
-//! How a round went.
+//! The outcome of a round.
 ghost use Rattle.std.specs.Prelude.{◌≡◌, ◌≤◌};
 ghost use Rattle.print_rounds.specs.Counts.{answer_fault, fault_of, launch_fault, report_fault, result_of, started_by, told_by};
 
 use spool_core::ApplyFault;
 use spool_types::Reply;
 
-/// How many children a round started, and how many ends of stages it told.
+/// The number of children that a round started, and of ends of stages that were acknowledged.
 #[derive(Clone, Copy, Debug, PartialEq, Eq)]
 pub struct Round {
     pub started: usize,
@@ -15,24 +15,24 @@ pub struct Round {
 /// The first fault of a round.
 #[derive(Clone, Copy, Debug, PartialEq, Eq)]
 pub enum RoundFault {
-    /// An earlier call met a fault of the device, and nothing was done.
+    /// An earlier call met a device error, and nothing was done.
     Dead,
-    /// There was no memory for a step, which the next round makes.
+    /// A step ran out of memory. The next round makes it.
     Memory,
-    /// An event found no room in the area. The next round applies it again.
+    /// The area has no room for an event. The next round applies it again.
     Full,
-    /// The device has failed.
+    /// The device failed.
     Disk,
 }
 
-/// How the stage of a processing job was started.
+/// The outcome of starting the stage of a processing job.
 #[derive(Clone, Copy, Debug, PartialEq, Eq)]
 pub enum Launch {
-    /// Not at all: its child's finish was kept.
+    /// It was not started: its child's finish is stored.
     Unlaunched,
-    /// Its child was started, or couldn't be.
+    /// Whether its child was started.
     Launched(bool),
-    /// There was no memory, and nothing was started.
+    /// Memory ran out, and nothing was started.
     NoMemory,
     /// The device failed while the document was read, and nothing was started.
     Disk,
@@ -40,14 +40,14 @@ pub enum Launch {
     Dead,
 }
 
-/// What came of the end of a job's stage.
+/// The outcome of the end of a job's stage.
 #[derive(Clone, Copy, Debug, PartialEq, Eq)]
 pub enum Report {
-    /// No stage of it has ended.
+    /// No stage of the job has ended.
     Silent,
-    /// There was no memory for the event. The finish is kept.
+    /// The event ran out of memory. The finish stays in the slot.
     NoMemory,
-    /// The event was answered so. Where it wasn't acknowledged the finish is kept.
+    /// The answer to the event. If it was not acknowledged, the finish stays in the slot.
     Answered(Result<Reply, ApplyFault>),
 }
 
@@ -63,7 +63,7 @@ impl Launch {
         }
     }
 
-    // How many children were started.
+    // The number of children that were started.
     pub(crate) fn started(&self) -> usize
         ensures value { result ≡ started_by self.now }
         ensures at_most { result ≤ 1 }
@@ -86,7 +86,7 @@ impl Report {
         }
     }
 
-    // How many ends were told.
+    // The number of ends that were acknowledged.
     pub(crate) fn told(&self) -> usize
         ensures value { result ≡ told_by self.now }
         ensures at_most { result ≤ 1 }
@@ -98,7 +98,7 @@ impl Report {
     }
 }
 
-// The fault that an answer tells, if it does.
+// The fault in an answer, if any.
 pub(crate) fn answer_fault(answer: &Result<Reply, ApplyFault>) -> Option<RoundFault>
     ensures { result ≡ answer_fault answer.now }
 {
@@ -108,7 +108,7 @@ pub(crate) fn answer_fault(answer: &Result<Reply, ApplyFault>) -> Option<RoundFa
     }
 }
 
-// A refusal is no fault of a round: the table was asked before.
+// A refusal is no fault of a round, since the pass asks the table first.
 fn fault_of(fault: ApplyFault) -> Option<RoundFault>
     ensures { result ≡ fault_of fault }
 {
@@ -127,7 +127,7 @@ impl Round {
         finished: 0,
     };
 
-    // The counts, or the fault.
+    // Returns the counts, or the fault if there is one.
     pub(crate) fn unless(self, fault: Option<RoundFault>) -> Result<Round, RoundFault>
         ensures { result ≡ result_of self fault }
     {

@@ -1,4 +1,4 @@
-//! A pass over the queues: what a round and a tick have in common.
+//! A pass over the queues, the common part of a round and a tick.
 ghost use Rattle.std.specs.Prelude.{◌≡◌, ◌≤◌, [], vec_capacity, IfOk};
 ghost use Rattle.print_rounds.specs.RunStates.{run_state};
 ghost use Rattle.print_rounds.specs.Passes.{IsPassBy};
@@ -18,22 +18,22 @@ use spool_disk::Disk;
 use spool_types::JobId;
 use std::alloc::{AllocError, Global};
 
-// The lists of a pass, reserved before all else.
+// The lists of a pass, which are reserved before anything else.
 #[derive(Drop)]
 struct Lists {
-    // Whether a queue starts nothing, for each queue.
+    // For each queue, whether it starts nothing.
     blocked: Vec<bool>,
     spare: Vec<bool>,
     // The jobs whose stages are run.
     tended: Vec<JobId>,
-    // Those of them of which no child is running.
+    // The jobs in `tended` without a running child.
     idle: Vec<JobId>,
-    // Those that are started and, after that, those whose ends are told.
+    // The jobs whose stages are started and, after that, the jobs whose ends are reported.
     chosen: Vec<JobId>,
 }
 
 impl Lists {
-    // Empty lists, with room for so many queues.
+    // Returns empty lists with room for `queues` items each.
     fn reserve(alloc: Global, queues: usize) -> Result<Lists, AllocError>
         ensures blocked { IfOk result (λ l. (l.blocked.items ≡ []) × (queues ≤ vec_capacity l.blocked)) }
         ensures spare { IfOk result (λ l. (l.spare.items ≡ []) × (queues ≤ vec_capacity l.spare)) }
@@ -56,9 +56,9 @@ impl Lists {
     }
 }
 
-// Frees the slots that are neither current nor have a child, starts the next job of each queue of which no child runs and
-// then a stage of each processing job of which none does, as far as there are places, and tells the ends: of all children,
-// each of which is waited for, or of those that a look finds to have ended.
+// Frees the slots that neither are current nor have a running child. Then it starts the next job of each queue without a running child, and
+// a stage of each processing job without one, as far as there is room for starts. Then it reports the ends: of all children, which it waits
+// for, or of the children that a check found ended.
 pub(crate) fn pass<D: Disk, C: Children>(
     alloc: Global,
     place: &Place,

@@ -14,9 +14,9 @@ use spool_core::Spool;
 use spool_disk::Disk;
 use std::alloc::Global;
 
-/// One round: it frees the slots whose jobs aren't in their stages any more, starts the next job of each queue, starts a
-/// stage of each processing job, and finishes each child and applies the event of its end. It answers how many children
-/// it started and how many ends it told, or its first fault.
+/// Runs one round: frees the slots whose jobs have left their stages, starts the next job of each queue, starts a stage of each processing
+/// job, finishes each child and applies the event of its end. It returns the number of children that it started and of ends that were
+/// acknowledged, or its first fault.
 pub fn round<D: Disk, C: Children>(
     alloc: Global,
     place: &Place,
@@ -26,8 +26,8 @@ pub fn round<D: Disk, C: Children>(
 ) -> Result<Round, RoundFault>
     requires { HasNoneRunning runner.old }
 
-    // What was done, step by step, and its answer. A crash at any moment of it leaves the table after the first of its events.
-    // Where the children tell it is a turn of StageHistory, and where nothing failed it is what Script says.
+    // The steps and the result. A crash at any moment leaves the table after the first of its events. If the children report, it is a call
+    // of a StageHistory, and if nothing failed it is Script's round.
     ensures round { IsRoundBy D.device place.now (run_state spool.old runner.old (C.tells children.old)) spool.old.dead (run_state spool.new runner.new (C.tells children.new)) result }
     ensures later { D.device.failures spool.old.disk ≤ D.device.failures spool.new.disk }
     ensures told { IsSome (D.device.bytes spool.new.disk) ↔ IsSome (D.device.bytes spool.old.disk) }
@@ -36,7 +36,7 @@ pub fn round<D: Disk, C: Children>(
     ensures finished { (t : ChildTrace) → C.tells children.old ≡ Some t → t.running ≡ [] → (js : List ℕ) × EachFinishedOnce t (C.tells children.new) js }
     ensures rest { HasNoneRunning runner.new }
 {
-    // The table is legal, and stays so.
+    // The table is legal and stays legal.
     let _legal = spool.table().jobs();
     legal_tables_stay_legal();
     spent_stages_stay_spent();

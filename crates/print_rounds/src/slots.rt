@@ -1,4 +1,4 @@
-//! Which slots stay, and which of them have a child that runs.
+//! Which slots stay, and which of them have a running child.
 ghost use Rattle.std.specs.Prelude.{◌≡◌};
 ghost use Rattle.std.specs.FinMap as finite;
 ghost use Rattle.spool_types.specs.State.{job_at};
@@ -9,7 +9,7 @@ use child_pipeline::{Children, Runner};
 use job_table::{Table, is_in_stage};
 use spool_types::JobId;
 
-// Whether the slot of a job is that of the stage in which the table has it.
+// Returns whether the slot of a job is for the stage that the table has the job in.
 fn is_current<C: Children>(table: &Table, runner: &Runner<C>, job: JobId) -> bool
     ensures { result ≡ is_current (job_at table.now.state job) (finite.get runner.now job) }
 {
@@ -22,28 +22,28 @@ fn is_current<C: Children>(table: &Table, runner: &Runner<C>, job: JobId) -> boo
     is_in_stage(row.job.phase, slot.attempt, slot.stage)
 }
 
-// Whether the child of a job's slot is running.
+// Returns whether the child of a job's slot is running.
 pub(crate) fn has_child<C: Children>(runner: &Runner<C>, job: JobId) -> bool
     ensures { result ≡ runs runner.now job }
 {
     runner.is_running(job)
 }
 
-// Whether the slot of a job is that of its stage, or has a child that is running.
+// Returns whether the slot of a job is for its current stage or has a running child.
 fn is_kept<C: Children>(table: &Table, runner: &Runner<C>, job: JobId) -> bool
     ensures { result ≡ is_kept (job_at table.now.state job) (finite.get runner.now job) }
 {
     is_current(table, runner, job) || has_child(runner, job)
 }
 
-// Whether a child is running in the slot of a job that has left the slot's stage.
+// Returns whether a child is running in the slot of a job that has left the slot's stage.
 pub(crate) fn is_stray<C: Children>(table: &Table, runner: &Runner<C>, job: JobId) -> bool
     ensures { result ≡ is_stray table.now.state runner.now job }
 {
     has_child(runner, job) && !is_current(table, runner, job)
 }
 
-// Frees each slot whose job isn't in its stage any more, unless its child is running. It visits the slots alone.
+// Frees each slot whose job has left the slot's stage, unless its child is running. It iterates over the slots only.
 pub(crate) fn free_idle<C: Children>(table: &Table, runner: &mut Runner<C>)
     ensures { runner.new ≡ idle_slots table.now.state runner.old }
 {

@@ -1,4 +1,4 @@
-//! Which queues and jobs have a place, where the children have room for a few starts.
+//! Which queues and jobs are chosen if the children have room for a few starts only.
 ghost use Rattle.std.specs.Prelude.{◌≡◌, ◌⊎◌, ◌≤◌, ◌<◌, ◌+◌, ◌++◌, ℕ, true, false, [], length, slice_index_or, vec_capacity};
 ghost use Rattle.std.specs.FinMap as finite;
 ghost use Rattle.print_rounds.specs.StageChecks.{free_queues};
@@ -12,7 +12,7 @@ use job_table::Table;
 use spool_types::JobId;
 use std::mem;
 
-// How many processing jobs wait for a child.
+// Returns the number of processing jobs that wait for a child.
 fn count_waiting<C: Children>(table: &Table, runner: &Runner<C>) -> usize
     ensures { result ≡ length (waiting_jobs table.now.state runner.now) }
 {
@@ -27,7 +27,7 @@ fn count_waiting<C: Children>(table: &Table, runner: &Runner<C>) -> usize
     waiting
 }
 
-// Whether a queue isn't blocked and has a next job.
+// Returns whether a queue is not blocked and has a next job.
 fn can_start(table: &Table, blocked: &[bool], at: usize) -> bool
     requires range { at < length (finite.keys table.now.state.queues) }
     requires count { length blocked.now ≡ length (finite.keys table.now.state.queues) }
@@ -36,7 +36,7 @@ fn can_start(table: &Table, blocked: &[bool], at: usize) -> bool
     !blocked[at] && next_at(table, at).is_some()
 }
 
-// Opens those of these queues that can start, as long as places are left. It answers how many are left then.
+// Opens the queues in the range that can start, as long as there is room. It returns the room that is left.
 fn open_some(
     table: &Table,
     blocked: &[bool],
@@ -67,8 +67,8 @@ fn open_some(
     left
 }
 
-// Blocks the queues that have no place. Where there are fewer places than queues, the jobs that wait for a child have theirs
-// first, then queues with a next job, from the first on.
+// Blocks the queues that have no room. If there is room for fewer starts than queues, the jobs that wait for a child come first,
+// then queues with a next job, from `first` on.
 pub(crate) fn hold_back<C: Children>(
     start_room: Option<StartRoom>,
     table: &Table,
@@ -102,8 +102,8 @@ pub(crate) fn hold_back<C: Children>(
     mem::swap(blocked, spare);
 }
 
-// Lists the jobs that have a place: all or, where there are fewer places, those from the first on and, behind the end, those
-// from the beginning, in the order of the list.
+// Lists the jobs that have room: all of them, or else `count` jobs from position `first` on and then from the beginning, in the order of
+// `jobs`.
 pub(crate) fn choose_jobs(start_room: Option<StartRoom>, jobs: &[JobId], chosen: &mut Vec<JobId>)
     requires empty { chosen.old.items ≡ [] }
     requires room { length jobs.now ≤ vec_capacity chosen.old }
@@ -121,7 +121,7 @@ pub(crate) fn choose_jobs(start_room: Option<StartRoom>, jobs: &[JobId], chosen:
     }
 }
 
-// Lists these jobs, too.
+// Appends these jobs.
 fn list_more(jobs: &[JobId], chosen: &mut Vec<JobId>)
     requires { length chosen.old.items + length jobs.now ≤ vec_capacity chosen.old }
     ensures items { chosen.new.items ≡ chosen.old.items ++ jobs.now }

@@ -1,4 +1,4 @@
-//! The first part of a round: the next job of every queue is started.
+//! The first part of a round: it starts the next job of each queue.
 ghost use Rattle.std.specs.Prelude.{◌≡◌, ◌<◌, List, ℕ, IfSome, None, length, map, slice_index_or};
 ghost use Rattle.std.specs.FinMap as finite;
 ghost use Rattle.job_table.specs.Attempts.{next_of};
@@ -13,7 +13,7 @@ use spool_core::{ApplyFault, Spool};
 use spool_disk::Disk;
 use spool_types::{Event, JobId, Reply};
 
-// The next job of the queue at this place.
+// Returns the next job of the queue at position `at`.
 pub(crate) fn next_at(table: &Table, at: usize) -> Option<JobId>
     requires { at < length (finite.keys table.now.state.queues) }
     ensures next { (name : List ℕ) × (name ≡ slice_index_or (finite.keys table.now.state.queues) at name) × (result ≡ next_of table.now.state name) }
@@ -22,7 +22,7 @@ pub(crate) fn next_at(table: &Table, at: usize) -> Option<JobId>
     table.next(&table.queues()[at].name)
 }
 
-// Starts the next job of the queue at this place.
+// Starts the next job of the queue at position `at`.
 fn start_next<D: Disk>(spool: &mut Spool<D>, at: usize) -> Option<Result<Reply, ApplyFault>>
     requires { at < length (finite.keys spool.old.state.queues) }
     ensures { (name : List ℕ) × (name ≡ slice_index_or (finite.keys spool.old.state.queues) at name)
@@ -34,7 +34,7 @@ fn start_next<D: Disk>(spool: &mut Spool<D>, at: usize) -> Option<Result<Reply, 
     }
 }
 
-// The fault that the answer to a start tells, if there was one.
+// The fault in the answer to a start, if any.
 fn start_fault(answer: &Option<Result<Reply, ApplyFault>>) -> Option<RoundFault>
     ensures { result ≡ start_fault answer.now }
 {
@@ -44,8 +44,8 @@ fn start_fault(answer: &Option<Result<Reply, ApplyFault>>) -> Option<RoundFault>
     }
 }
 
-// Starts the next job of each queue that isn't blocked, in ascending order of name, and tells the first fault. A fault of one
-// queue doesn't stop the others; after one of the device each further answer is `Dead`, and no device is called.
+// Starts the next job of each queue that is not blocked, in ascending order of name, and returns the first fault. A fault of one queue does
+// not stop the others. After a device error each further answer is `Dead`, and the device is not called.
 pub(crate) fn start_free<D: Disk>(spool: &mut Spool<D>, blocked: &[bool]) -> Option<RoundFault>
     requires { length blocked.now ≡ length (finite.keys spool.old.state.queues) }
     ensures { (ts : List (Starting D)) × AreStartings D.device spool.old ts spool.new × (map (λ t. t.queue) ts ≡ unblocked blocked.now (finite.keys spool.old.state.queues))

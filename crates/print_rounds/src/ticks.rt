@@ -1,4 +1,4 @@
-//! A tick: what a round does, for whoever waits for no child.
+//! A tick: a round that waits for no child.
 ghost use Rattle.std.specs.Prelude.{◌≡◌, ◌≤◌, ◌↔◌, List, map, IsSome, Some};
 ghost use Rattle.child_pipeline.specs.Tickets.{HasTickets};
 ghost use Rattle.child_pipeline.specs.ChildTraces.{ChildTrace};
@@ -15,11 +15,10 @@ use spool_core::Spool;
 use spool_disk::Disk;
 use std::alloc::Global;
 
-/// One tick: a round that waits for no child. It starts the next job of each queue of which no child runs, starts a stage of
-/// each processing job of which none does, and tells the ends of those children that have ended. A job that was canceled or
-/// abandoned while its child ran keeps its slot, and its queue starts nothing, until that child has ended. It starts no
-/// more children than there are places ([`Children::places`]). It answers how many children it started and how many ends it
-/// told, or its first fault.
+/// Runs one tick, a round that waits for no child. It starts the next job of each queue without a running child, starts a stage of each
+/// processing job without one, and applies the events of the children that have ended. A job that was canceled or abandoned while its child
+/// ran keeps its slot, and its queue starts nothing, until that child has ended. It starts no more children than [`Children::start_room`]
+/// allows. It returns the number of children that it started and of ends that were acknowledged, or its first fault.
 pub fn tick<D: Disk, C: Children>(
     alloc: Global,
     place: &Place,
@@ -31,7 +30,7 @@ pub fn tick<D: Disk, C: Children>(
     ensures later { D.device.failures spool.old.disk ≤ D.device.failures spool.new.disk }
     ensures told { IsSome (D.device.bytes spool.new.disk) ↔ IsSome (D.device.bytes spool.old.disk) }
 {
-    // The table is legal, and stays so; no ticket is lost.
+    // The table is legal and stays legal. No ticket is lost.
     let _legal = spool.table().jobs();
     legal_tables_stay_legal();
     spent_stages_stay_spent();
@@ -41,14 +40,14 @@ pub fn tick<D: Disk, C: Children>(
     pass(alloc, place, spool, runner, children, false, start_room)
 }
 
-/// Waits for each child that is running. Their finishes stay in their slots, and no event is applied. So each child that was
-/// started has been finished once before an engine is taken apart, or a round begins.
+/// Waits for each running child. Their finishes stay in their slots, and no event is applied. So each child that was started has been
+/// finished once before an engine is taken apart or a round begins.
 pub fn finish_children<C: Children>(runner: &mut Runner<C>, children: &mut C)
     ensures steps { (fs : List Finishing) × AreFinishings runner.old (C.tells children.old) fs runner.new (C.tells children.new) × (map (λ f. f.job) fs ≡ running_jobs runner.old) }
     ensures rest { HasNoneRunning runner.new }
     ensures finished { (t : ChildTrace) → C.tells children.old ≡ Some t → HasTickets runner.old t → IsFinishedOff t (C.tells children.new) }
 {
-    // No ticket is lost on the way.
+    // No ticket is lost.
     tickets_stay();
     let mut behind = None;
     while let Some(job) = runner.next_job(behind) {

@@ -1,13 +1,16 @@
-//! Whether a program of the file can be run as it is.
+//! Checks whether a program of the file can be run.
 //!
-//! The system runs what begins with `#!`, and programs of the form ELF. What it doesn't know `env` would hand to a shell,
-//! where an empty file does nothing and ends with 0, as if the job were printed. So such a file isn't run.
+//! The system runs files that begin with `#!`, and ELF programs. `env` would run any other file in a shell. An empty file then does
+//! nothing and exits with 0, as if the job had been printed. So such a file is not run.
 //!
 //! # Promises
 //!
-//! - A file begins right where its first bytes are those of a script or of a program (`begins_right`), and a line of the list
-//!   with a carriage return at its end, as in a file from another system, is told as that (`ends_with_return`).
-//! - What the system tells of a file no clause says; `tests/children.py` shows it.
+//! - The beginning of a file is accepted exactly if its first bytes are those of a script or of an ELF program (`begins_right`). A line
+//!   of the list that ends with a carriage return, as in a file from another system, is reported as such (`ends_with_return`).
+//!
+//! # Not proved
+//!
+//! - The system's reports about a file. `tests/children.py` tests them.
 #![tactic(auto)]
 
 ghost use Rattle.std.specs.Prelude.{◌≡◌, IsTrue, Some};
@@ -21,27 +24,27 @@ use std::os::unix::fs::PermissionsExt;
 use std::{fs, io};
 use thiserror::Error;
 
-// What a script begins with, and a program of the form ELF.
+// The first bytes of a script, and of an ELF program.
 const SCRIPT: &[u8] = b"#!";
 
 const ELF: &[u8] = b"\x7fELF";
 
-/// Why a program can't be run as it is.
+/// Why a program cannot be run.
 #[derive(Clone, Copy, Debug, Drop, Error, PartialEq, Eq)]
 pub enum Obstacle {
-    #[error("not there")]
+    #[error("file not found")]
     Absent,
-    #[error("no file")]
+    #[error("not a regular file")]
     NoFile,
     #[error("not executable")]
     NotExecutable,
-    #[error("neither a script nor a program")]
+    #[error("neither a script nor an ELF program")]
     NoProgram,
-    #[error("a carriage return at its end")]
+    #[error("the line ends with a carriage return")]
     Return,
 }
 
-/// What keeps a program of the list from being run, if something does. Where the system can't look nothing is known to.
+/// Returns the reason why a program of the list cannot be run, if any. Returns `None` if the system cannot check it.
 pub fn obstacle_of_program<R: Files<File = File>>(
     rt: &R,
     program: &ListedProgram,
@@ -57,7 +60,7 @@ pub fn obstacle_of_program<R: Files<File = File>>(
     }
 }
 
-/// What keeps the file of a program from being run, if something does. The error is the system's, where it can't look.
+/// Returns the reason why a program's file cannot be run, if any. The error is the system's, if it cannot check the file.
 pub fn obstacle_of<R: Files<File = File>>(rt: &R, path: &str) -> io::Result<Option<Obstacle>> {
     let found = match fs::metadata(rt, path) {
         Ok(found) => found,
@@ -77,8 +80,8 @@ pub fn obstacle_of<R: Files<File = File>>(rt: &R, path: &str) -> io::Result<Opti
     Ok(obstacle)
 }
 
-// Whether the file begins as what the system runs. One that may only be run, and not read, is left to the system: no
-// shell can read it either.
+// Returns whether the file begins as a file that the system runs. A file that is executable but not readable passes, since a shell cannot
+// read it either.
 fn can_begin<R: Files<File = File>>(rt: &R, path: &str) -> io::Result<bool> {
     let file = match File::open(rt, path) {
         Err(error) if error.kind() == ErrorKind::PermissionDenied => return Ok(true),
@@ -90,14 +93,14 @@ fn can_begin<R: Files<File = File>>(rt: &R, path: &str) -> io::Result<bool> {
     Ok(begins_right(&head[..count]))
 }
 
-// Whether a file that begins so is a script or a program.
+// Returns whether a file with these first bytes is a script or an ELF program.
 fn begins_right(head: &[u8]) -> bool
     ensures { result ≡ begins_right head.now }
 {
     head.starts_with(SCRIPT) || head.starts_with(ELF)
 }
 
-// Whether the line of a program ends with a carriage return, as in a file from another system.
+// Returns whether the line of a program ends with a carriage return, as in a file from another system.
 fn ends_with_return(program: &ListedProgram) -> bool
     ensures { result ≡ ends_with_return program.now }
 {

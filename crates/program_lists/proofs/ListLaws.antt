@@ -1,4 +1,4 @@
--- A list of programs that grows line by line.
+-- A list of programs that grows by lines.
 use Rattle.std.proofs.Common.{◌≡◌, ℕ, ◌+◌, ◌<◌, ◌≤◌, Bool, true, false, ◌&&◌, ◌||◌, not, cond, List, [], ◌∷◌, ◌++◌, length, map, get_or, take, drop, Option, None, Some, is_some, is_none, refl, ap, sym, ◌∙◌, arith, Bor}
 use Rattle.std.specs.List.{list_all, list_any, flat_map, find}
 use Rattle.std.specs.Option.{option_map}
@@ -30,7 +30,7 @@ some_map : {A B : Type 0} (f : A → B) (o : Option A) → is_some o ≡ is_some
 some_map f None = refl
 some_map f (Some x) = refl
 
--- a program was found where the name is there
+-- A program was found if the name exists.
 pub found_any : {K : Type 0} (name : List ℕ) (list : List (Listed K)) (found : Option (Bor ListedProgram))
     → option_map (λ program. program.now) found ≡ program_named name list → is_some found ≡ list_any (is_named name) list
 found_any name list found same = some_map (λ program. program.now) found ∙ ap is_some same ∙ named_any name list
@@ -62,7 +62,7 @@ distinct_free (x ∷ xs) ys y h =
     let seam = or_parts (is_named y.name x) (list_any (λ other. is_named other.name x) ys) split.1 in
     ap (λ v. v || list_any (is_named y.name) xs) seam.0 ∙ distinct_free xs ys y parts.1
 
--- ## A text that is read
+-- ## A text that is accepted
 
 record Reads (said : List Said) : Type 0 where
   pub read : list_all is_read said ≡ true
@@ -88,7 +88,7 @@ no_side : (programs : List ListedProgram) → is_none (first programs) ≡ true 
 no_side [] h = refl
 no_side (x ∷ xs) h = absurd (cc)
 
--- at most one, and none before the one that is seen
+-- If a list has at most one element, none precedes it.
 alone : {A : Type 0} (xs ys : List A) (y : A) → is_at_most_one (xs ++ y ∷ ys) ≡ true → xs ≡ []
 alone [] ys y h = refl
 alone (x ∷ xs) ys y h =
@@ -96,7 +96,7 @@ alone (x ∷ xs) ys y h =
     let long = length-append xs (y ∷ ys) in
     absurd (omega (arith, short, long))
 
--- a further line that is none too many
+-- A further line that is not one too many.
 pub read_push : (xs : List Said) (s : Said) → reads_of xs ≡ true → fits (programs_of xs) s ≡ true → reads_of (xs ++ s ∷ []) ≡ true
 read_push xs s h fit = whole (xs ++ s ∷ []) (more s fit)
   where
@@ -146,7 +146,7 @@ read_push xs s h fit = whole (xs ++ s ∷ []) (more s fit)
     }
     more Unread f = absurd (cc)
 
--- its program comes behind the others
+-- Its program comes after the others.
 pub programs_push : (xs : List Said) (s : Said) → fits (programs_of xs) s ≡ true → with_said (programs_of xs) s ≡ programs_of (xs ++ s ∷ [])
 programs_push xs s fit = more s fit
   where
@@ -178,7 +178,7 @@ programs_push xs s fit = more s fit
     more (Side p) f = three no_filter no_backend (ap (λ l. first (l ++ p ∷ [])) (sym (no_side (flat_map sides_said xs) f))) ∙ grown (Side p)
     more Unread f = absurd (cc)
 
--- in a text that is read no line is one too many
+-- In a text that is accepted no line is one too many.
 pub read_fits : (xs ys : List Said) (s : Said) → reads_of (xs ++ s ∷ ys) ≡ true → fits (programs_of xs) s ≡ true
 read_fits xs ys s h = each s (parts (xs ++ s ∷ ys) h)
   where
@@ -222,6 +222,6 @@ module _ (lines : List (Bor (List ℕ))) (i : ℕ) (d : Bor (List ℕ)) (less : 
           let good = read_fits (map says (take i lines)) (map says (drop (i + 1) lines)) (says (get_or lines i d)) (ap reads_of (sym around) ∙ e) in
           sym good ∙ bad
 
--- what the lines of a text say, once all are seen
+-- The contents of the lines of a text, once all have been read.
 pub lines_said : (lines : List (Bor (List ℕ))) (text : List ℕ) → map (λ line. line.now) lines ≡ lines_of text → map says lines ≡ said_in text
 lines_said lines text same = sym (map-map (λ line. said_by (words_of line)) (λ line. line.now) lines) ∙ ap (map (λ line. said_by (words_of line))) same

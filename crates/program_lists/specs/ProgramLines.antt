@@ -1,4 +1,4 @@
--- What the lines of a text say.
+-- The contents of the lines of a text.
 use Rattle.std.specs.Prelude.{ℕ, Bool, false, not, cond, nat_eq, ◌==◌, List, [], ◌∷◌, length, codes, map, filter, Option, None, Some}
 use Rattle.std.specs.List.{slice_split, take_while}
 use Rattle.std.specs.Cmp.Lexicographic.{pointwise}
@@ -12,11 +12,11 @@ use Rattle.program_lists.specs.declared.line.ListedProgram.{ListedProgram}
 use Rattle.program_lists.specs.declared.line.Said.{Said}
 use Rattle.program_lists.specs.declared.line.Said.TheVariants.{Nothing, Filter, Backend, Side, Unread}
 
--- the same bytes
+-- The same bytes.
 abbrev pub same : List ℕ → List ℕ → Bool
 same text other = pointwise nat_eq text other
 
--- a line goes up to its line feed; what follows the last one is a line too
+-- A line ends with its line feed. The bytes after the last line feed are a line too.
 abbrev pub lines_of : List ℕ → List (List ℕ)
 lines_of text = slice_split (λ b. b == 10) text
 
@@ -25,18 +25,18 @@ lines_of text = slice_split (λ b. b == 10) text
 abbrev pub is_empty : List ℕ → Bool
 is_empty word = length word == 0
 
--- a word begins at the line's start or after a blank, so a remark begins with one that begins with `#`
+-- A word begins at the line's start or after a blank, so a comment begins with a word that begins with `#`.
 abbrev pub begins_remark : List ℕ → Bool
 begins_remark [] = false
 begins_remark (b ∷ bs) = b == 35
 
--- the words between the blanks, up to the remark
+-- The words between the blanks, up to the comment.
 abbrev pub words_of : List ℕ → List (List ℕ)
 words_of line = take_while (λ word. not (begins_remark word)) (filter (λ word. not (is_empty word)) (slice_split is_blank line))
 
--- ## What they say
+-- ## The contents of words
 
--- [WORD]
+-- [WORD].
 abbrev pub some_word : Option (List ℕ) → Option (Option (List ℕ))
 some_word None = None
 some_word (Some word) = Some (Some word)
@@ -46,7 +46,7 @@ word_in [] = Some None
 word_in (word ∷ []) = some_word (text_in is_word word)
 word_in (word ∷ more ∷ others) = None
 
--- PATH [WORD]
+-- PATH [WORD].
 abbrev pub with_path : Option (List ℕ) → Option (Option (List ℕ)) → Option ListedProgram
 with_path (Some path) (Some word) = Some (record { path = path; word = word })
 with_path path word = None
@@ -55,7 +55,7 @@ abbrev pub program_in : List (List ℕ) → Option ListedProgram
 program_in [] = None
 program_in (path ∷ words) = with_path (text_in is_path path) (word_in words)
 
--- NAME PATH [WORD], of which the name is such a text
+-- NAME PATH [WORD], with a name of this kind.
 abbrev pub with_name : {K : Type 0} → Option (List ℕ) → Option ListedProgram → Option (Listed K)
 with_name (Some name) (Some program) = Some (record { name = name; program = program })
 with_name name program = None
@@ -76,7 +76,7 @@ abbrev pub as_side : Option ListedProgram → Said
 as_side None = Unread
 as_side (Some program) = Side program
 
--- what a line of these words says
+-- The contents of a line with these words.
 abbrev pub said_by : List (List ℕ) → Said
 said_by [] = Nothing
 said_by (kind ∷ words) =
@@ -84,6 +84,6 @@ said_by (kind ∷ words) =
     (cond (same kind (codes "backend")) (as_backend (listed_in is_scheme words))
     (cond (same kind (codes "side")) (as_side (program_in words)) Unread))
 
--- what the lines of a text say, in order
+-- The contents of the lines of a text, in order.
 abbrev pub said_in : List ℕ → List Said
 said_in text = map (λ line. said_by (words_of line)) (lines_of text)

@@ -1,4 +1,4 @@
--- The programs that a text names.
+-- The programs of a text.
 use Rattle.std.specs.Prelude.{ℕ, Bool, true, false, ◌&&◌, not, nat_le, List, [], ◌∷◌, ◌++◌, length, Option, None, Some, is_none, refl}
 use Rattle.std.specs.List.{list_all, list_any, flat_map, find}
 use Rattle.std.specs.Option.{option_map}
@@ -11,7 +11,7 @@ use Rattle.program_lists.specs.declared.line.ListedProgram.{ListedProgram}
 use Rattle.program_lists.specs.declared.line.Said.{Said}
 use Rattle.program_lists.specs.declared.line.Said.TheVariants.{Nothing, Filter, Backend, Side, Unread}
 
--- the filters and the backends in order, and the program of the side channel
+-- The filters and the backends in order, and the program of the side channel.
 pub record Programs : Type 0 where
   pub filters : List (Listed FilterNameKind)
   pub backends : List (Listed BackendNameKind)
@@ -20,7 +20,7 @@ pub record Programs : Type 0 where
 abbrev pub no_programs : Programs
 no_programs = record { filters = []; backends = []; side = None }
 
--- ## What a text names
+-- ## The programs of a text
 
 abbrev pub filters_said : Said → List (Listed FilterNameKind)
 filters_said (Filter listed) = listed ∷ []
@@ -38,14 +38,14 @@ abbrev pub first : List ListedProgram → Option ListedProgram
 first [] = None
 first (program ∷ programs) = Some program
 
--- each line's program, in the order of the lines
+-- Each line's program, in the order of the lines.
 abbrev pub programs_of : List Said → Programs
 programs_of said = record { filters = flat_map filters_said said; backends = flat_map backends_said said; side = first (flat_map sides_said said) }
 
 abbrev pub programs_in : List ℕ → Programs
 programs_in text = programs_of (said_in text)
 
--- ## Whether a text is read
+-- ## Whether a text is accepted
 
 abbrev pub is_read : Said → Bool
 is_read Unread = false
@@ -54,7 +54,7 @@ is_read said = true
 abbrev pub is_named : {K : Type 0} → List ℕ → Listed K → Bool
 is_named name listed = same listed.name name
 
--- no name stands twice
+-- No name occurs twice.
 abbrev pub are_distinct : {K : Type 0} → List (Listed K) → Bool
 are_distinct [] = true
 are_distinct (listed ∷ others) = not (list_any (λ other. is_named other.name listed) others) && are_distinct others
@@ -62,7 +62,7 @@ are_distinct (listed ∷ others) = not (list_any (λ other. is_named other.name 
 abbrev pub is_at_most_one : {A : Type 0} → List A → Bool
 is_at_most_one list = nat_le (length list) 1
 
--- each line reads, no name stands twice in its kind, and at most one line is of the side channel
+-- Each line is valid, no name occurs twice in its kind, and at most one line is of the side channel.
 abbrev pub reads_of : List Said → Bool
 reads_of said =
     (list_all is_read said && are_distinct (flat_map filters_said said))
@@ -79,9 +79,9 @@ program_of listed = listed.program
 abbrev pub program_named : {K : Type 0} → List ℕ → List (Listed K) → Option ListedProgram
 program_named name list = option_map program_of (find (is_named name) list)
 
--- ## Between the lines of a text; no caller needs it
+-- ## Between the lines of a text. Internal: no caller needs it.
 
--- a further line reads, and is none too many
+-- A further line is valid, and is not one too many.
 abbrev pub fits : Programs → Said → Bool
 fits programs Nothing = true
 fits programs (Filter listed) = not (list_any (is_named listed.name) programs.filters)
@@ -89,14 +89,14 @@ fits programs (Backend listed) = not (list_any (is_named listed.name) programs.b
 fits programs (Side program) = is_none programs.side
 fits programs Unread = false
 
--- the programs with that of a further line
+-- The programs with the program of a further line.
 abbrev pub with_said : Programs → Said → Programs
 with_said programs (Filter listed) = record programs { filters = programs.filters ++ listed ∷ [] }
 with_said programs (Backend listed) = record programs { backends = programs.backends ++ listed ∷ [] }
 with_said programs (Side program) = record programs { side = Some program }
 with_said programs said = programs
 
--- ## How the logic stores a list; no clause cites it
+-- ## How the logic stores a list. No clause cites it.
 
 abbrev pub program_code : Coded ListedProgram
 program_code =

@@ -1,4 +1,4 @@
-//! What the words of a line may be.
+//! The kinds of words of a line.
 ghost use Rattle.std.specs.Prelude.{◌≡◌};
 ghost use Rattle.std.specs.List.{list_all};
 ghost use Rattle.program_lists.specs.ProgramWords.{is_path, is_path_byte, is_word, is_scheme, is_scheme_byte, is_small_letter};
@@ -6,11 +6,11 @@ ghost use Rattle.program_lists.specs.ProgramWords.{is_path, is_path_byte, is_wor
 use line_words::is_blank;
 use spool_types::{Text, TextKind};
 
-/// The kind of a program's path: it begins with `/`, and holds neither a blank nor `=`.
+/// The kind of a program's path: it begins with `/`, and contains neither a blank nor `=`.
 #[derive(Clone, Copy, Debug)]
 pub struct ProgramPathKind;
 
-/// Where a program lies.
+/// The path of a program.
 pub type ProgramPath = Text<ProgramPathKind>;
 
 impl TextKind for ProgramPathKind {
@@ -30,18 +30,18 @@ fn has_only_path_bytes(text: &str) -> bool
     text.as_bytes().iter().all(|b| is_path_byte(*b))
 }
 
-// Neither a blank nor `=`.
+// Returns whether `b` is neither a blank nor `=`.
 fn is_path_byte(b: u8) -> bool
     ensures { result ≡ is_path_byte b }
 {
     !is_blank(b) && b != b'='
 }
 
-/// The kind of a program's first word: it holds no blank.
+/// The kind of a program's first word: it contains no blank.
 #[derive(Clone, Copy, Debug)]
 pub struct ProgramWordKind;
 
-/// A word that a program is given before all others.
+/// A word that a program gets before all others.
 pub type ProgramWord = Text<ProgramWordKind>;
 
 impl TextKind for ProgramWordKind {
@@ -52,8 +52,8 @@ impl TextKind for ProgramWordKind {
     }
 }
 
-/// The kind of a backend's name: the scheme of a device's URI (RFC 3986, 3.1) as the URL Standard's parser gives it, which folds
-/// capitals. It is a small letter, and then small letters, digits, `+`, `-` and `.`.
+/// The kind of a backend's name: the scheme of a device's URI (RFC 3986) as the parser of the URL Standard returns it, with capitals
+/// turned into lower case. It is a lower-case letter, and then lower-case letters, digits, `+`, `-` and `.`.
 #[derive(Clone, Copy, Debug)]
 pub struct BackendNameKind;
 
@@ -83,7 +83,7 @@ fn is_small_letter(b: u8) -> bool
     matches!(b, b'a'..=b'z')
 }
 
-// A small letter, a digit or one of `+-.`.
+// Returns whether `b` is a lower-case letter, a digit or one of `+-.`.
 fn is_scheme_byte(b: u8) -> bool
     ensures { result ≡ is_scheme_byte b }
 {

@@ -1,4 +1,4 @@
-//! What a line says.
+//! The program on a line.
 ghost use Rattle.std.specs.Prelude.{◌≡◌, IfOk, map};
 ghost use Rattle.program_lists.specs.ProgramLines.{words_of, said_by, listed_in, program_in, word_in, begins_remark, as_filter, as_backend, as_side};
 
@@ -13,7 +13,7 @@ const BACKEND: &[u8] = b"backend";
 
 const SIDE: &[u8] = b"side";
 
-/// A program: where it lies, and the word that comes before the words of a job, if there is one.
+/// A program: its path, and the word that precedes the words of a job, if any.
 #[derive(Drop)]
 pub struct ListedProgram {
     pub path: ProgramPath,
@@ -33,15 +33,15 @@ pub type ListedFilter = Listed<FilterNameKind>;
 /// A backend of the file, under the scheme of the devices that it serves.
 pub type ListedBackend = Listed<BackendNameKind>;
 
-/// What a line says.
+/// The contents of a line.
 #[derive(Drop)]
 pub enum Said {
-    /// It has no words.
+    /// The line has no words.
     Nothing,
     Filter(ListedFilter),
     Backend(ListedBackend),
     Side(ListedProgram),
-    /// It doesn't read.
+    /// The line is invalid.
     Unread,
 }
 
@@ -64,7 +64,7 @@ pub fn read_line(alloc: Global, line: &[u8]) -> Result<Said, AllocError>
     }
 }
 
-// The words of a line before its remark.
+// Returns the words of a line before its comment.
 fn words_of<'a>(alloc: Global, line: &'a [u8]) -> Result<Vec<&'a [u8]>, AllocError>
     ensures { IfOk result (λ words. map (λ word. word.now) words.items ≡ words_of line.now) }
 {
@@ -80,7 +80,7 @@ fn begins_remark(word: &[u8]) -> bool
     word.first() == Some(&b'#')
 }
 
-// NAME PATH [WORD], if the words read so.
+// Reads NAME PATH [WORD]. Returns `None` if the words do not have this form.
 fn read_listed<K: TextKind>(alloc: Global, words: &[&[u8]]) -> Result<Option<Listed<K>>, AllocError>
     ensures { IfOk result (λ listed. listed ≡ listed_in K.allowed (map (λ word. word.now) words.now)) }
 {
@@ -96,7 +96,7 @@ fn read_listed<K: TextKind>(alloc: Global, words: &[&[u8]]) -> Result<Option<Lis
     Ok(Some(Listed { name, program }))
 }
 
-// PATH [WORD], if the words read so.
+// Reads PATH [WORD]. Returns `None` if the words do not have this form.
 fn read_program(alloc: Global, words: &[&[u8]]) -> Result<Option<ListedProgram>, AllocError>
     ensures { IfOk result (λ program. program ≡ program_in (map (λ word. word.now) words.now)) }
 {
@@ -112,7 +112,7 @@ fn read_program(alloc: Global, words: &[&[u8]]) -> Result<Option<ListedProgram>,
     Ok(Some(ListedProgram { path, word }))
 }
 
-// [WORD], if the words read so.
+// Reads [WORD]. Returns `None` if the words do not have this form.
 fn read_word(alloc: Global, words: &[&[u8]]) -> Result<Option<Option<ProgramWord>>, AllocError>
     ensures { IfOk result (λ word. word ≡ word_in (map (λ word. word.now) words.now)) }
 {

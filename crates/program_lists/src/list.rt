@@ -10,12 +10,12 @@ use spool_types::TextKind;
 use std::alloc::{AllocError, Global};
 use std::marker::Model;
 
-/// Why a text is no list of programs.
+/// Why a text is not a list of programs.
 #[derive(Clone, Copy, Debug, PartialEq, Eq)]
 pub enum ListFault {
-    /// A line doesn't read, a name stands twice in its kind, or there are two lines of the side channel.
+    /// A line is invalid, a name occurs twice in its kind, or two lines are of the side channel.
     Unread,
-    /// No memory was found.
+    /// Out of memory.
     Memory,
 }
 
@@ -29,7 +29,7 @@ impl From<AllocError> for ListFault {
     }
 }
 
-/// The programs that a file names, each kind in the order of its lines.
+/// The programs of a file, each kind in the order of its lines.
 #[derive(Drop)]
 pub struct ProgramList {
     filters: Vec<ListedFilter>,
@@ -48,7 +48,7 @@ impl Model for ProgramList {
 }
 
 impl ProgramList {
-    /// No programs. It takes no memory.
+    /// Returns a list without programs. Allocates nothing.
     pub fn empty(alloc: Global) -> ProgramList
         ensures value { result ≡ no_programs }
     {
@@ -59,7 +59,7 @@ impl ProgramList {
         }
     }
 
-    /// Reads the text of a file. A text with a line that doesn't read is refused whole.
+    /// Reads the text of a file. If any line is invalid, the whole text is rejected.
     pub fn read(alloc: Global, text: &str) -> Result<ProgramList, ListFault>
         ensures value { IfOk result (λ list. list ≡ programs_in text.now) }
         ensures reads { OnOk result (IsTrue (reads text.now)) }
@@ -74,7 +74,7 @@ impl ProgramList {
         Ok(list)
     }
 
-    // Adds what a line says, and answers false where the line doesn't read or is one too many.
+    // Adds the program of a line. Returns false if the line is invalid or one too many.
     fn add(&mut self, said: Said) -> Result<bool, AllocError>
         ensures fits { IfOk result (λ fitting. fitting ≡ fits self.old said) }
         ensures added { IfOk result (λ fitting. IsTrue fitting → self.new ≡ with_said self.old said) }
@@ -94,35 +94,35 @@ impl ProgramList {
         }
     }
 
-    /// The program of the filter with this name.
+    /// Returns the program of the filter with this name.
     pub fn filter(&self, name: &str) -> Option<&ListedProgram>
         ensures value { option_map (λ program. program.now) result ≡ program_named name.now self.now.filters }
     {
         find(&self.filters, name)
     }
 
-    /// The program of the backend with this name, a scheme without its colon and with small letters.
+    /// Returns the program of the backend with this name, a scheme in lower case and without its colon.
     pub fn backend(&self, name: &str) -> Option<&ListedProgram>
         ensures value { option_map (λ program. program.now) result ≡ program_named name.now self.now.backends }
     {
         find(&self.backends, name)
     }
 
-    /// The filters in the order of their lines.
+    /// Returns the filters in the order of their lines.
     pub fn filters(&self) -> &[ListedFilter]
         ensures value { result.now ≡ self.now.filters }
     {
         &self.filters
     }
 
-    /// The backends in the order of their lines.
+    /// Returns the backends in the order of their lines.
     pub fn backends(&self) -> &[ListedBackend]
         ensures value { result.now ≡ self.now.backends }
     {
         &self.backends
     }
 
-    /// The program that ends a session of the side channel.
+    /// Returns the program that ends a session of the side channel.
     pub fn side(&self) -> Option<&ListedProgram>
         ensures value { option_map (λ program. program.now) result ≡ self.now.side }
     {
@@ -130,14 +130,14 @@ impl ProgramList {
     }
 }
 
-// The lines of a text, of which the last may be empty.
+// Returns the lines of a text. The last may be empty.
 fn lines_of<'a>(alloc: Global, text: &'a str) -> Result<Vec<&'a str>, AllocError>
     ensures { IfOk result (λ lines. map (λ line. line.now) lines.items ≡ lines_of text.now) }
 {
     text.split('\n').collect(alloc)
 }
 
-// The program of this name.
+// Returns the program with this name.
 fn find<'a, K: TextKind>(list: &'a [Listed<K>], name: &str) -> Option<&'a ListedProgram>
     ensures { option_map (λ program. program.now) result ≡ program_named name.now list.now }
 {
@@ -145,7 +145,7 @@ fn find<'a, K: TextKind>(list: &'a [Listed<K>], name: &str) -> Option<&'a Listed
     Some(&listed.program)
 }
 
-// Adds a program, and answers false where its name is there already.
+// Adds a program. Returns false if its name exists already.
 fn add_listed<K: TextKind>(list: &mut Vec<Listed<K>>, listed: Listed<K>) -> Result<bool, AllocError>
     ensures fits { IfOk result (λ fitting. fitting ≡ not (list_any (is_named listed.name) list.old.items)) }
     ensures added { IfOk result (λ fitting. IsTrue fitting → list.new.items ≡ list.old.items ++ listed ∷ []) }

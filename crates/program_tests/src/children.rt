@@ -10,10 +10,10 @@ use std::{fs, thread};
 
 const DIR: &str = "program_tests.children";
 
-// A backend that does what the word of a job says.
+// A backend that runs the first argument of a job.
 const PROGRAMS: &str = "backend s /bin/sh -c\n";
 
-// The order of a job whose backend does this.
+// Returns the order of a job whose backend runs `word`.
 fn order_of(alloc: Global, job: u32, word: &str) -> Result<Order, Fail> {
     let (Some(job), Some(attempt), Some(stage)) = (
         JobId::new(job),
@@ -46,7 +46,7 @@ fn started<C: Children>(
     }
 }
 
-// Whether looks see the end of a child within ten seconds.
+// Returns whether polls see the end of a child within ten seconds.
 fn ends_soon<C: Children, R: Clock>(rt: &R, children: &mut C, ticket: &mut C::Ticket) -> bool {
     for _ in 0..1_000 {
         if children.has_ended(ticket) {
@@ -57,7 +57,7 @@ fn ends_soon<C: Children, R: Clock>(rt: &R, children: &mut C, ticket: &mut C::Ti
     false
 }
 
-// Whether a child ends with this status.
+// Returns whether a child ends with this status.
 fn ends_with<C: Children>(children: &mut C, ticket: C::Ticket, status: u8) -> bool {
     match children.finish(ticket) {
         Ok(finish) => finish.exit == Exit::Code(status),
@@ -65,12 +65,12 @@ fn ends_with<C: Children>(children: &mut C, ticket: C::Ticket, status: u8) -> bo
     }
 }
 
-// Whether four children may be started.
+// Returns whether four children may be started.
 fn has_room_for_four<C: Children>(children: &mut C) -> bool {
     matches!(children.start_room(), Some(start_room) if start_room.count == 4)
 }
 
-// Whether a look at a child waits for nobody, and looks then see its end.
+// Returns whether a poll of a child returns at once, and later polls see its end.
 fn is_seen_to_end<C: Children, R: Clock>(
     rt: &R,
     alloc: Global,
@@ -82,7 +82,7 @@ fn is_seen_to_end<C: Children, R: Clock>(
     Ok(!waits && ends && ends_with(children, looked, 3))
 }
 
-// The same, beside a child at which nobody looks.
+// The same, while another child runs that nobody polls.
 fn two_are_seen_to_end<C: Children, R: Clock>(
     rt: &R,
     alloc: Global,
@@ -93,7 +93,7 @@ fn two_are_seen_to_end<C: Children, R: Clock>(
     Ok(seen && ends_with(children, unseen, 4))
 }
 
-// The same of the launcher, which has four places before and behind it.
+// The same for the launcher, which allows four starts before and after it.
 fn launcher_is_looked_at(rt: HostRuntime) -> Result<bool, Fail> {
     let logged = Logged::new(
         rt,

@@ -7,7 +7,7 @@ use std::io::Write;
 use std::test::Fail;
 use std::{fs, io};
 
-// Standard error, kept.
+// Stores the text that is written to standard error.
 #[derive(Drop)]
 struct Kept {
     text: RefCell<Vec<u8>>,
@@ -32,7 +32,7 @@ impl Eprint for Kept {
 // The folder, and the files of types, conversions and programs.
 type Named = [Option<&'static str>; 4];
 
-// What a run over the command `queues` tells: its reply, and then what stands on standard error.
+// Returns the reply of a run to the command `queues`, followed by the text on standard error.
 fn told(rt: HostRuntime, named: Named) -> Result<Vec<u8>, Fail> {
     let [root, types, convs, programs] = named;
     let words = ShellWords {
@@ -70,14 +70,14 @@ const PROGRAMS: &str = "program_tests.files/a.programs";
 
 const ABSENT: &str = "program_tests.files/absent";
 
-// No line can be read, and the third goes on in the fourth.
+// Each line is invalid, and the third continues on the fourth.
 const BAD_TYPES: &[u8] =
     b"a/a regex(0,\"x\")\nimage gif\na/b \\\npriority(201)\na/c string(0,<F>)\na/d (x\n";
 
-// No line can be read.
+// Each line is invalid.
 const BAD_CONVS: &[u8] = b"a/a b/b 10001 f\na/a b/b 10\na/a b/* 10 f\n";
 
-// What is told of both.
+// The warnings for both files.
 const WARNINGS: &str = concat!(
     "ok 0\n",
     "spool: warning 1 UnknownRule\n",
@@ -92,9 +92,9 @@ const WARNINGS: &str = concat!(
 
 const ALL: Named = [Some(ABSENT), Some(TYPES), Some(CONVS), Some(PROGRAMS)];
 
-// A file that is written first, what is named then, and what is told.
+// A file that is written first, the arguments of the run, and its output.
 const RUNS: [(&str, &[u8], Named, &str); 10] = [
-    // They are looked for in their order, before the folder is.
+    // The files are read in order, before the folder is opened.
     (
         "program_tests.files/other",
         b"",
@@ -125,7 +125,7 @@ const RUNS: [(&str, &[u8], Named, &str); 10] = [
         [None, None, None, Some(PROGRAMS)],
         "ok 0\n",
     ),
-    // Lines that don't read are warned of, before the folder is looked for.
+    // Invalid lines are reported before the folder is opened.
     (
         PROGRAMS,
         b"",
@@ -138,7 +138,7 @@ const RUNS: [(&str, &[u8], Named, &str); 10] = [
         [Some(ABSENT), None, Some(CONVS), None],
         "spool: warning 2 BadLine\nspool: disk\nspool: cause: absent\n",
     ),
-    // They are text.
+    // The files must be UTF-8.
     (
         TYPES,
         b"text/plain txt\n",
@@ -171,7 +171,7 @@ fn files_are_read_in_their_order(rt: HostRuntime) -> Result<(), Fail> {
     Ok(())
 }
 
-// What is told of a spool file with these bytes, which stay as they are.
+// Returns the output of a run over a spool file with these bytes, which must not change.
 fn told_of(rt: HostRuntime, bytes: &[u8]) -> Result<Vec<u8>, Fail> {
     let file = "program_tests.held/spool.disk";
     fs::create_dir(&rt, "program_tests.held")?;
@@ -197,7 +197,7 @@ fn a_file_that_is_no_whole_spool_stays(rt: HostRuntime) -> Result<(), Fail> {
     }
     let mut disk = memory_device(rt.alloc(), 4_096)?;
     assert_eq!(rt; told_of(rt, disk.bytes())?.as_slice(), b"ok 0\n".as_slice());
-    // The record of an event that there isn't, and then the next closed gate.
+    // The record of an event that does not exist, followed by the next closed gate.
     assert!(rt; disk.write(16, &[0xA5, 0, 0, 0, 1, 0x7F, 0]).is_ok());
     assert_eq!(rt;
         told_of(rt, disk.bytes())?.as_slice(),

@@ -6,7 +6,7 @@ use std::os::unix::fs::{MetadataExt, PermissionsExt, symlink};
 use std::test::Fail;
 use std::time::Clock;
 
-// How the device of a folder is opened: with this length, or with this fault.
+// Opens the device of a folder, and returns its length or the fault.
 fn opened<R: Files<File = File> + Clock + AllocGlobal>(
     rt: &R,
     dir: &str,
@@ -45,7 +45,7 @@ fn a_device_of_two_folders_has_one_owner(rt: HostRuntime) -> Result<(), Fail> {
         "../program_tests.one/spool.disk",
         "program_tests.other/spool.disk",
     )?;
-    // The link leads nowhere yet, and nothing is made behind it.
+    // The link refers to nothing yet, and no file is made there.
     assert!(rt; is_disk(&opened(&rt, other, 4_096)));
     assert!(rt; !fs::exists(&rt, "program_tests.one/spool.disk")?);
     let folder = SpoolFolder::own(&rt, one)?;
@@ -86,7 +86,7 @@ fn a_device_is_made_once(rt: HostRuntime) -> Result<(), Fail> {
 #[test]
 fn a_device_needs_its_folder(rt: HostRuntime) -> Result<(), Fail> {
     assert!(rt; is_disk(&opened(&rt, "program_tests.absent", 4_096)));
-    // A folder is in the place of the file, and then in that of the unfinished one.
+    // A folder has the name of the file, and then the name of the unfinished file.
     for (dir, taken) in [
         ("program_tests.taken", "program_tests.taken/spool.disk"),
         (

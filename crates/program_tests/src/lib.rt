@@ -1,4 +1,5 @@
-//! The tests of the two programs' libraries: words, faults, folders, files, children and runs of the spooler, and the small tools.
+//! Tests of `spool_runtime` and `builtin_stages`: arguments, errors, folders, files, children and runs of the spooler,
+//! and the small filters and backends.
 #![tactic(auto)]
 
 #[cfg(test)]

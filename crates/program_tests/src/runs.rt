@@ -17,7 +17,7 @@ const SCRIPT: &str = concat!(
     "cancel 1\n",
 );
 
-// No rules and no conversions.
+// Returns empty rules of types and no conversions.
 fn no_rules(alloc: Global) -> Result<(Types, Convs), AllocError> {
     let (types, warnings) = Types::read(alloc, "")?;
     drop(warnings);
@@ -25,7 +25,7 @@ fn no_rules(alloc: Global) -> Result<(Types, Convs), AllocError> {
     Ok((types, convs))
 }
 
-// Serves the script over a disk in memory that breaks after so many calls, and tells its end by a word.
+// Serves the script over a disk in memory that fails after `calls` calls, and returns a word for the result.
 fn end_after(alloc: Global, calls: u64, told: &mut Vec<u8>) -> Result<&'static str, Fail> {
     let disk = FuseDisk::new(memory_device(alloc, 4_096)?, calls);
     let place = place_in(alloc, "", false)?;
@@ -38,7 +38,7 @@ fn end_after(alloc: Global, calls: u64, told: &mut Vec<u8>) -> Result<&'static s
     }
 }
 
-// Its replies, and then that word.
+// Returns the replies, followed by that word.
 fn broken_after(alloc: Global, calls: u64) -> Result<Vec<u8>, Fail> {
     let mut told = Vec::new(alloc);
     push_end(&mut told, alloc, calls)?;
@@ -50,7 +50,7 @@ fn push_end(told: &mut Vec<u8>, alloc: Global, calls: u64) -> Result<(), Fail> {
     Ok(told.extend_from_slice(word.as_bytes())?)
 }
 
-// What is told in turn of disks that break after more and more calls.
+// The replies of disks that fail after more and more calls, in order.
 const TOLD: [&str; 5] = [
     "disk\n",
     "error disk\nerror dead\nerror dead\ndisk\n",
@@ -59,7 +59,7 @@ const TOLD: [&str; 5] = [
     "ok\nok job 1\nok\nserved\n",
 ];
 
-// The number of what is told after so many calls: the one of fewer calls, or the next.
+// Returns the index of the replies after `calls` calls: `number`, which is that of fewer calls, or the next.
 fn number_after(alloc: Global, calls: u64, number: usize) -> Result<usize, Fail>
     ensures { IfOk result (λ n. n < 5) }
 {
@@ -83,7 +83,7 @@ fn a_run_whose_disk_fails_ends_with_disk(rt: HostRuntime) -> Result<(), Fail> {
     Ok(())
 }
 
-// A reader whose bytes are lost.
+// A reader that fails.
 #[derive(Drop)]
 struct Broken;
 
@@ -93,7 +93,7 @@ impl Read for Broken {
     }
 }
 
-// What no word asks for.
+// The values without any option, except for the size.
 const NOTHING: ShellWords<'static> = ShellWords {
     root: None,
     types: None,
@@ -103,7 +103,7 @@ const NOTHING: ShellWords<'static> = ShellWords {
     devices: false,
 };
 
-// Whether a run whose reader fails behind the first command ends so, with its reply.
+// Returns whether a run whose reader fails after the first command ends with `Read`, after the reply.
 fn reader_fails(rt: HostRuntime) -> bool {
     let logged = Logged::new(
         rt,
@@ -119,7 +119,7 @@ fn reader_fails(rt: HostRuntime) -> bool {
     matches!(ended, Err(ShellFault::Read)) && told.as_slice() == b"ok 0\n".as_slice()
 }
 
-// Whether a run whose writer takes seven bytes ends so, with them.
+// Returns whether a run whose writer takes seven bytes ends with `Write`, after these bytes.
 fn writer_fails(rt: HostRuntime) -> bool {
     let logged = Logged::new(
         rt,

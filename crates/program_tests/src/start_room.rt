@@ -21,7 +21,7 @@ const SCRIPT: &str = concat!(
     "create c ann x 1 50 \"\"\nclose 6 x\n",
 );
 
-// Children that have one place, and have ended when they are looked at. They keep the jobs in the order of the starts.
+// Allows one start at a time. Each child has ended at its first poll. Stores the jobs in the order of their starts.
 #[derive(Drop)]
 struct OneByOne {
     alloc: Global,
@@ -69,7 +69,7 @@ impl Children for OneByOne {
     }
 }
 
-// The jobs that are started in so many ticks, in that order.
+// Returns the jobs that are started in this number of ticks, in order.
 fn started_in(alloc: Global, ticks: usize) -> Result<Vec<u32>, Fail> {
     let disk = memory_device(alloc, 65_536)?;
     let children = OneByOne {

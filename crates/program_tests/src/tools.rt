@@ -23,7 +23,7 @@ impl<'a> Source for Memory<'a> {
     }
 }
 
-// A document that comes byte by byte, each after an interruption, and then ends or fails.
+// A document that is read byte by byte, with an interruption before each, and then ends or fails.
 #[derive(Drop)]
 struct Slow<'a> {
     rest: &'a [u8],
@@ -57,7 +57,7 @@ impl Read for Slow<'_> {
     }
 }
 
-// A writer that takes so many bytes, and then fails.
+// A writer that takes `room` bytes, and then fails.
 #[derive(Drop)]
 struct Full {
     room: usize,
@@ -82,7 +82,7 @@ impl Write for Full {
 
 const TEXT: &[u8] = b"a\n\x0cb\n";
 
-// How a document's copies are written to a writer with so much room.
+// Writes the copies of a document to a writer with this room. Returns the result and the bytes.
 fn written<S: Source>(
     alloc: Global,
     form: Form,
@@ -98,7 +98,7 @@ fn written<S: Source>(
     (counted, writer.written)
 }
 
-// Whether the copies of a document in memory are these bytes, with so many form feeds.
+// Returns whether the copies of a document in memory are these bytes, with this number of form feeds.
 fn copies_are(alloc: Global, form: Form, copies: u32, wanted: &[u8], feeds: u64) -> bool {
     let (counted, bytes) = written(alloc, form, &Memory(TEXT), copies, 100);
     counted == Ok(feeds) && bytes.as_slice() == wanted
@@ -120,7 +120,8 @@ fn each_copy_is_written(rt: HostRuntime) {
     }
 }
 
-// Whether two copies of lines of a slow document end so in so much room.
+// Returns whether two copies of a slow document in the form `Lines`, written to this room, end with this result and
+// these bytes.
 fn copies_end(
     alloc: Global,
     fails: bool,
@@ -157,7 +158,7 @@ fn a_reader_or_a_writer_may_fail(rt: HostRuntime) {
     }
 }
 
-// Whether a backend is told this path, this status, so many turns and this partner by a URI.
+// Returns whether the URI of a backend has this path, status, number of turns and partner.
 fn tells(
     alloc: Global,
     uri: &str,
@@ -205,7 +206,7 @@ fn other_devices_have_none(rt: HostRuntime) {
     assert!(rt; is_no_device(rt.alloc(), "/out"));
 }
 
-// Whether the device's id is asked for, and an answer tells this one, or none.
+// Returns whether the device's id is requested, and the answer contains this id, or none.
 fn asks(alloc: Global, answer: &[u8], wanted: Option<&[u8]>) -> bool {
     let mut asked = Vec::new(alloc);
     let mut reader = answer;

@@ -6,7 +6,7 @@ const MOST: &str = "012345678901234567890123456789012345678901234567890123456789
 
 const MORE: &str = "01234567890123456789012345678901234567890123456789012345678901234";
 
-// What no word asks for.
+// The values without any option.
 const NOTHING: ShellWords<'static> = ShellWords {
     root: None,
     types: None,
@@ -25,13 +25,13 @@ fn ask_the_same(a: &ShellWords<'_>, b: &ShellWords<'_>) -> bool {
         && a.devices == b.devices
 }
 
-// Adds the words of a run: the program's name, and those given.
+// Adds the arguments of a run: the program's name, and the given ones.
 fn push_words<'a>(words: &mut Vec<&'a str>, given: &[&'a str]) -> Result<(), AllocError> {
     words.extend_from_slice(&["spool_shell"])?;
     words.extend_from_slice(given)
 }
 
-// Whether the words given ask for this.
+// Returns whether the given arguments have these values.
 fn ask_for(alloc: Global, given: &[&str], wanted: &ShellWords<'_>) -> Result<bool, Fail> {
     let mut words = Vec::new(alloc);
     push_words(&mut words, given)?;

@@ -1,4 +1,4 @@
--- Until when the same entries may be started.
+-- The moment until which the same entries may be started.
 use Rattle.std.proofs.Common.{◌≡◌, ℕ, ◌<◌, ◌≤◌, ◌⊎◌, true, false, nat_le, List, [], ◌∷◌, ◌++◌, length, Option, None, Some, MatchOption, inl, inr, refl, sym, ap, subst, ◌∙◌, append_assoc, arith}
 use Rattle.std.proofs.Math.Logic.{⊎_elim}
 use Rattle.std.proofs.lemmas.Bool.{both_ways}
@@ -14,31 +14,31 @@ use Rattle.queue_sched.specs.Lists.{IsBefore, IsSameUntil}
 use Rattle.queue_sched.specs.declared.entry.Entry.{Entry}
 use Rattle.queue_sched.proofs.More.{agreed}
 
--- what may be started now, may be started later
+-- An entry that may be started now may be started later.
 still : (now m : ℕ) (hold : Hold) (not_before : ℕ) → now ≤ m → may_start now hold not_before ≡ true → may_start m hold not_before ≡ true
 still now m Free not_before le starts = grind (arith, nat_tests)
 still now m (Indefinite reason) not_before le starts = absurd (both_ways false refl starts)
 still now m (Until moment) not_before le starts = grind (arith, nat_tests)
 
--- before its start, one that may not be started now may not be started yet
+-- An entry that may not be started now may not be started before its start.
 not_yet : (start now m : ℕ) → m < start → nat_le start m ≡ false
 not_yet start now m lt = grind (arith, nat_tests)
 
--- when the entry may be started, if ever
+-- The moment from which the entry may be started, if ever.
 abbrev pub IsStart : Entry → Option ℕ → Type 0
 IsStart e start = MatchOption start ((m : ℕ) → is_startable m e ≡ false) (λ s. (m : ℕ) → is_startable m e ≡ nat_le s m)
 
 module _ (e : Entry) (now : ℕ) where
-  -- one that may be started now stays so
+  -- An entry that may be started now may still be started later.
   pub stays : is_startable now e ≡ true → (m : ℕ) → now ≤ m → is_startable m e ≡ is_startable now e
   stays so m le = still now m e.hold e.not_before le so ∙ sym so
 
-  -- one that may not be started now stays so until its start
+  -- An entry that may not be started now may not be started until its start.
   pub waits : (start : Option ℕ) → IsStart e start → is_startable now e ≡ false → (m : ℕ) → IsBefore m start → is_startable m e ≡ is_startable now e
   waits None never not_so m before = never m ∙ sym (never now)
   waits (Some s) starts not_so m before = starts m ∙ not_yet s now m before ∙ sym not_so
 
--- with one entry more
+-- With one more entry.
 module _ (old new : List Entry) (e : Entry) (now : ℕ) (cases : (f : Entry) → Contains new f → Contains old f ⊎ (f ≡ e)) (due : Option ℕ) (same : IsSameUntil old now due) where
   pub with_ready : is_startable now e ≡ true → IsSameUntil new now due
   with_ready so f there m le before =
@@ -48,7 +48,7 @@ module _ (old new : List Entry) (e : Entry) (now : ℕ) (cases : (f : Entry) →
   with_waiting start due' starts not_so sooner f there m le before =
       ⊎_elim (λ (was : Contains old f). same f was m le (sooner m before).0) (λ (is : f ≡ e). subst (λ g. is_startable m g ≡ is_startable now g) (sym is) (waits e now start starts not_so m (sooner m before).1)) (cases f there)
 
--- at a later moment before the due one, the same entries may be started
+-- At a later moment before the due one, the same entries may be started.
 pub same_later : (xs : List Entry) (now m : ℕ) (due : Option ℕ) → IsSameUntil xs now due → now ≤ m → IsBefore m due → filter (is_startable now) xs ≡ filter (is_startable m) xs
 same_later xs now m due same le before = agreed (is_startable now) (is_startable m) xs (λ e there. sym (same e there m le before))
 
@@ -56,7 +56,7 @@ pub until_later : (xs : List Entry) (now m : ℕ) (due : Option ℕ) → IsSameU
 until_later xs now m due same le before e there m' le' before' =
     same e there m' (omega (arith, le, le')) before' ∙ sym (same e there m le before)
 
--- in a loop that has passed some entries, and has these left
+-- The state of a loop after some entries, with the others left.
 pub record IsSameSoFar (xs left : List Entry) (now : ℕ) (due : Option ℕ) : Type 0 where
   pub done : List Entry
   pub rest : done ++ left ≡ xs

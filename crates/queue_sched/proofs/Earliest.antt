@@ -1,4 +1,4 @@
--- The order of deadlines: by the moment, and then by the number.
+-- The order of deadlines: by the moment, then by the number.
 use Rattle.std.proofs.Common.{◌≡◌, ℕ, ◌<◌, ◌≤◌, Bool, true, false, cond, ◌==◌, nat_lt, List, get_or, sym, ap, subst, ◌∙◌, arith}
 use Rattle.std.proofs.Math.Logic.{⊎_elim}
 use Rattle.std.proofs.lemmas.Bool.{cases_order}
@@ -38,7 +38,7 @@ other_way d e = comes_other_way d.by d.id e.by e.id
 comes_no_later : (a i b j : ℕ) → comes a i b j ≡ true → a ≤ b
 comes_no_later a i b j h = grind (arith, nat_tests)
 
--- none is earlier than the first one
+-- No deadline is earlier than the first one.
 pub first_is_least : (xs : List Deadline) (first : Deadline) → InTurn xs → get_or xs 0 first ≡ first → (d : Deadline) → Contains xs d → first.by ≤ d.by
 first_is_least xs first order here d there =
     ⊎_elim

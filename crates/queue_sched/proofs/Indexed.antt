@@ -17,7 +17,7 @@ use Rattle.queue_sched.specs.declared.entry.Entry.{Entry}
 use Rattle.queue_sched.proofs.More.{has_passed}
 use Rattle.queue_sched.proofs.TurnOrder.{itself, onward}
 
--- a waiting job is ready where its entry may be started
+-- A waiting job is ready if its entry may be started.
 same_test : (now : ℕ) (phase : Phase) → IsTrue (is_waiting phase) → may_start now (hold_of phase) (not_before_of phase) ≡ is_ready now phase
 same_test now (Waiting hold not_before first) waits = refl
 same_test now (Incoming hold) waits = absurd (both_ways false refl waits)
@@ -35,7 +35,7 @@ ready_waits now Canceled ready = absurd (both_ways false refl ready)
 ready_waits now (Aborted reason) ready = absurd (both_ways false refl ready)
 
 module _ (jobs : List Job) (name : List ℕ) (stopped : Bool) (w : Waits) (index : IsIndexOf jobs name w.items) where
-  -- an eligible job has an entry, which may be started
+  -- An eligible job has an entry, which may be started.
   entered : (q : Job) → Contains jobs q → IsTrue (is_eligible jobs name stopped w.moment q) → Contains w.items (entry_of q) × IsTrue (is_startable w.moment (entry_of q))
   entered q there eligible =
       let ready_of = (and_parts (is_free jobs name stopped) (is_ready_of name w.moment q) eligible).1 in
@@ -65,7 +65,7 @@ module _ (jobs : List Job) (name : List ℕ) (stopped : Bool) (w : Waits) (index
       false_from_ne_true (is_eligible jobs name stopped w.moment r)
       (λ eligible. let own = entered r there eligible in both_ways (is_startable w.moment (entry_of r)) (none (entry_of r) own.0) own.1)
 
--- the first of those that may be started
+-- The first of the startable entries.
 pub first_of : (w : Waits) (e : Entry) → InOrder w.items → 0 < length (filter (is_startable w.moment) w.items) → get_or (filter (is_startable w.moment) w.items) 0 e ≡ e → IsFirstStartable w e
 first_of w e order inside here =
     let p = is_startable w.moment in
@@ -90,13 +90,13 @@ first_of w e order inside here =
           (cases_order 0 own.0);
     }
 
--- none of none
+-- If no entry passes, none may be started.
 pub none_of : (w : Waits) → length (filter (is_startable w.moment) w.items) ≡ 0 → NoneIsStartable w
 none_of w empty e there =
     false_from_ne_true (is_startable w.moment e)
     (λ starts. let own = (has_passed (is_startable w.moment) w.items e).1 (there, starts) in absurd (omega (arith, empty, own.1)))
 
--- what the first of a list is
+-- The first element of a list.
 pub head_is : (xs : List Entry) (e : Entry) → Some e ≡ slice_get xs 0 → (0 < length xs) × (get_or xs 0 e ≡ e)
 head_is [] e is = absurd (cc)
 head_is (x ∷ xs) e is = (omega arith, sym (cc))

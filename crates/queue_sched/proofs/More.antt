@@ -1,4 +1,4 @@
--- A list with an entry more: what it has, and what of it may be started.
+-- A list with one more entry: its entries, and its startable entries.
 use Rattle.std.proofs.Common.{◌≡◌, zero, suc, ◌+◌, ◌-◌, ◌<◌, ◌≤◌, ◌⊎◌, ◌↔◌, Bool, true, false, cond, List, [], ◌∷◌, ◌++◌, length, inl, inr, refl, sym, ap, subst, ◌∙◌, arith, length-append, IsTrue}
 use Rattle.std.proofs.Math.Logic.{⊎_elim}
 use Rattle.std.proofs.lemmas.Bool.{both_ways}
@@ -14,7 +14,7 @@ use Rattle.queue_sched.specs.declared.entry.Entry.{Entry}
 use Rattle.queue_sched.proofs.Ordered.{single}
 use Rattle.queue_sched.proofs.TurnOrder.{itself, onward, has_more, has_less, in_order_remove}
 
--- an entry put or taken between two parts
+-- An entry is inserted or removed between two parts.
 put_between : (fs gs : List Entry) (e : Entry) → insert (fs ++ gs) (length fs) e ≡ fs ++ e ∷ gs
 put_between fs gs e =
     let none : length fs - length fs ≡ 0 = omega arith in
@@ -50,7 +50,7 @@ module _ (e : Entry) (less more : List Entry) (is : IsMore e less more) where
   pub counts_one_more : length more ≡ length less + 1
   counts_one_more = omega (arith, ap length is.less_is, ap length is.more_is, length-append is.front is.back, length-append is.front (e ∷ is.back))
 
--- what passes is kept
+-- An entry that passes is in the filtered list.
 kept : (p : Entry → Bool) (xs : List Entry) (e : Entry) → Contains xs e → p e ≡ true → Contains (filter p xs) e
 kept p [] e there passes = absurd (omega (arith, there.1))
 kept p (x ∷ xs) e there passes =
@@ -65,7 +65,7 @@ kept p (x ∷ xs) e there passes =
     either true old = Contains-append_right (x ∷ []) (filter p xs) e old
     either false old = old
 
--- and nothing else
+-- Only entries that pass are in the filtered list.
 pub has_passed : (p : Entry → Bool) (xs : List Entry) (e : Entry) → Contains (filter p xs) e ↔ (Contains xs e × (p e ≡ true))
 has_passed p xs e = (
   λ there. (All-contains (Contains xs) (filter p xs) e (All-filter p (Contains xs) xs (All-contains_itself xs)) there, All-contains (λ f. p f ≡ true) (filter p xs) e (filter_passes p xs) there),
@@ -78,7 +78,7 @@ fewer p xs = omega (arith, length-filter p xs, count_by-le-length p xs)
 pub in_order_passed : (p : Entry → Bool) (xs : List Entry) → InOrder xs → InOrder (filter p xs)
 in_order_passed p xs order = AllPairs-filter (λ f g. IsTrue (goes_before f g)) p xs order
 
--- the parts of an ordered list
+-- The parts of a list in order.
 later : (x : Entry) (xs : List Entry) → InOrder (x ∷ xs) → (f : Entry) → Contains xs f → goes_before x f ≡ true
 later x xs order f there = subst (λ g. goes_before x g ≡ true) there.2 (order zero (suc there.0) f (omega arith) (omega (arith, there.1)))
 
@@ -88,7 +88,7 @@ rest_in_order x xs order i j d lt inside = order (suc i) (suc j) d (omega (arith
 first_there : (x : Entry) (xs : List Entry) → Contains (x ∷ xs) x
 first_there x xs = Contains-append_left (x ∷ []) xs x (Contains-push [] x)
 
--- ordered lists that have the same entries are the same
+-- Lists in order with the same entries are equal.
 pub same_list : (xs ys : List Entry) → InOrder xs → InOrder ys → ((e : Entry) → Contains xs e → Contains ys e) → ((e : Entry) → Contains ys e → Contains xs e) → xs ≡ ys
 same_list [] [] o o' to from = refl
 same_list [] (y ∷ ys) o o' to from = absurd (omega (arith, (from y (first_there y ys)).1))
@@ -121,9 +121,9 @@ same_list (x ∷ xs) (y ∷ ys) o o' to from =
         (λ (rest : Contains xs e). rest)
         (Contains-append_cases (x ∷ []) xs e (from e (Contains-append_right (y ∷ []) ys e there)))
 
--- what may be started of a list with an entry more
+-- The startable entries of a list with one more entry.
 module _ (p : Entry → Bool) (e : Entry) (less more : List Entry) (is : IsMore e less more) (order : InOrder more) where
-  -- an entry that doesn't pass
+  -- An entry that does not pass.
   pub passed_over : p e ≡ false → filter p less ≡ filter p more
   passed_over fails =
       ap (filter p) is.less_is
@@ -132,7 +132,7 @@ module _ (p : Entry → Bool) (e : Entry) (less more : List Entry) (is : IsMore 
       ∙ sym (filter-append p is.front (e ∷ is.back))
       ∙ ap (filter p) (sym is.more_is)
 
-  -- the list of those that pass has it more too
+  -- The filtered list has one more entry, too.
   pub put_among : (ready ready' : List Entry) → ready ≡ filter p less → IsMore e ready ready' → InOrder ready' → p e ≡ true → ready' ≡ filter p more
   put_among ready ready' step is' order' passes = same_list ready' (filter p more) order' (in_order_passed p more order) to from
     where
@@ -153,7 +153,7 @@ module _ (p : Entry → Bool) (e : Entry) (less more : List Entry) (is : IsMore 
           (λ (same : f ≡ e). inr same)
           ((has_one_more e less more is f).0 both.0))
 
-  -- and without it the list of those that pass lacks it too
+  -- The filtered list has one less entry, too.
   pub take_among : (ready ready' : List Entry) → ready ≡ filter p more → IsMore e ready' ready → InOrder ready → InOrder ready' → ready' ≡ filter p less
   take_among ready ready' step is' was order' = same_list ready' (filter p less) order' (in_order_passed p less (in_order_less e less more is order)) to from
     where
@@ -169,7 +169,7 @@ module _ (p : Entry → Bool) (e : Entry) (less more : List Entry) (is : IsMore 
           let old = (has_one_less e less more is order f).0 both.0 in
           (has_one_less e ready' ready is' was f).1 (subst (λ l. Contains l f) (sym step) ((has_passed p more f).1 (old.0, both.1)), old.1)
 
-  -- the same where it is known of each case
+  -- The same, if it is known for both cases.
   pub drop_among : (ready ready' : List Entry) → ready ≡ filter p more → (p e ≡ true → IsMore e ready' ready) → (p e ≡ false → ready' ≡ ready) → InOrder ready' → ready' ≡ filter p less
   drop_among ready ready' step taken same order' = by (p e) refl
     where
@@ -177,7 +177,7 @@ module _ (p : Entry → Bool) (e : Entry) (less more : List Entry) (is : IsMore 
       by true passes = take_among ready ready' step (taken passes) (subst InOrder (sym step) (in_order_passed p more order)) order'
       by false fails = same fails ∙ step ∙ sym (passed_over fails)
 
--- an entry that takes the place of another one of the same job
+-- An entry is replaced by another one of the same job.
 module _ (from to : Entry) (old new : List Entry) (is : IsExchange from to old new) where
   pub has_exchanged : InOrder old → (f : Entry) → Contains new f ↔ ((Contains old f × ¬ (f ≡ from)) ⊎ (f ≡ to))
   has_exchanged order f = (
@@ -188,7 +188,7 @@ module _ (from to : Entry) (old new : List Entry) (is : IsExchange from to old n
   pub as_many : length new ≡ length old
   as_many = counts_one_more to is.rest new is.is ∙ sym (counts_one_more from is.rest old is.was)
 
--- tests that agree on each element keep the same ones
+-- Two tests that agree on each element result in the same filtered list.
 pub agreed : (p q : Entry → Bool) (xs : List Entry) → ((e : Entry) → Contains xs e → p e ≡ q e) → filter p xs ≡ filter q xs
 agreed p q [] same = refl
 agreed p q (x ∷ xs) same =

@@ -1,4 +1,4 @@
--- Items that are sorted by an order and numbered apart.
+-- Items that are sorted by an order and have different numbers.
 use Rattle.std.proofs.Common.{◌≡◌, ℕ, ◌<◌, ◌↔◌, eqb, Bool, true, false, List, [], ◌∷◌, length, map, get_or, sym, ◌∙◌, arith, IsTrue}
 use Rattle.std.proofs.lemmas.Bool.{both_ways, false_from_ne_true}
 use Rattle.std.proofs.lemmas.Bool.Decides.{Decides-eqb, nat_tests}
@@ -13,7 +13,7 @@ use Rattle.std.specs.List.Sorted.{IsPermutation, IsSortedBy}
 eqb_flips : (j k : ℕ) → eqb j k ≡ eqb k j
 eqb_flips j k = grind (arith, nat_tests)
 
--- the same items
+-- The same items.
 pub same_items : {A : Type 0} (xs ys : List A) → IsPermutation xs ys → (e : A) → Contains ys e ↔ Contains xs e
 same_items xs ys moved e = (Contains-permutation ys xs e (IsPermutation-sym xs ys moved), Contains-permutation xs ys e moved)
 
@@ -21,7 +21,7 @@ module _ {A : Type 0} (number : A → ℕ) where
   abbrev pub HasEachOnce : List A → Type 0
   HasEachOnce xs = AllPairs (λ e f. ¬ (number e ≡ number f)) xs
 
-  -- items differ where their numbers do
+  -- Items with different numbers are different.
   numbers_differ : (xs : List A) → HasEachOnce xs → AllPairs (λ j k. ¬ (j ≡ k)) (map number xs)
   numbers_differ [] once = λ i j d lt inside. absurd (omega (arith, inside))
   numbers_differ (x ∷ xs) once = λ i j d lt inside same.
@@ -35,7 +35,7 @@ module _ {A : Type 0} (number : A → ℕ) where
       once i j (number d) lt (omega (arith, inside, length-map xs number))
       (get_or-map number xs i d (number d) (omega arith) ∙ same ∙ sym (get_or-map number xs j d (number d) inside))
 
-  -- in another order each is still there once
+  -- In any order each item occurs once.
   pub once_moved : (xs ys : List A) → IsPermutation xs ys → HasEachOnce xs → HasEachOnce ys
   once_moved xs ys moved once =
       items_differ ys
@@ -51,7 +51,7 @@ module _ {A : Type 0} (number : A → ℕ) where
       chain = not_onward;
     }
 
-    -- where no item comes before one that stands before it, each comes before all later ones
+    -- If no item comes before an earlier one of the list, each comes before all later ones.
     pub in_order : (xs : List A) → HasEachOnce xs → IsSortedBy before_it xs → AllPairs (λ e f. IsTrue (before_it e f)) xs
     in_order xs once sorted = λ i j d lt inside.
         other_way (get_or xs i d) (get_or xs j d) (once i j d lt inside) (sorted_far before_it ranked xs sorted i j d (omega arith) inside)

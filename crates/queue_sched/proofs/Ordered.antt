@@ -1,4 +1,4 @@
--- Items in an order, with one more and with one less.
+-- Items in an order, with one more and with one less item.
 use Rattle.std.proofs.Common.{◌≡◌, ℕ, ◌+◌, ◌-◌, ◌<◌, ◌≤◌, ◌⊎◌, ◌↔◌, Bool, true, false, List, [], ◌∷◌, length, get_or, inl, inr, refl, sym, subst, ◌∙◌, arith, IsTrue}
 use Rattle.std.proofs.Math.Logic.{⊎_elim}
 use Rattle.std.proofs.lemmas.Bool.{both_ways, cases_lt, cases_order}
@@ -9,12 +9,12 @@ use Rattle.std.proofs.lemmas.List.Sorted.{IsPermutation-insert, IsPermutation-re
 use Rattle.std.specs.List.{Contains, AllPairs, AllWithin, insert, remove}
 use Rattle.std.specs.List.Sorted.{IsPartitionedBy}
 
--- the only item of a list of one
+-- The only item of a list of one.
 pub single : {A : Type 0} (e f : A) → Contains (e ∷ []) f → f ≡ e
 single e f there = ⊎_elim (λ (none : Contains [] f). absurd (omega (arith, none.1))) (λ (same : e ≡ f). sym same) (Contains-push_cases [] e f there)
 
 module _ {A : Type 0} (before_it : A → A → Bool) (itself : (e : A) → before_it e e ≡ false) (onward : (e f g : A) → before_it e f ≡ true → before_it f g ≡ true → before_it e g ≡ true) where
-  -- each one comes before all later ones
+  -- Each item comes before all later ones.
   abbrev pub InOrder : List A → Type 0
   InOrder xs = AllPairs (λ e f. IsTrue (before_it e f)) xs
 
@@ -25,14 +25,14 @@ module _ {A : Type 0} (before_it : A → A → Bool) (itself : (e : A) → befor
     abbrev pub AreBehind : ℕ → Type 0
     AreBehind at = AllWithin (λ f. before_it f e ≡ false) xs at (length xs)
 
-    -- what goes before an entry stands before what doesn't
+    -- Items that come before an entry are before the others.
     pub parted : InOrder xs → IsPartitionedBy (λ f. before_it f e) xs
     parted order i j d le inside passes =
         ⊎_elim (λ (same : i ≡ j). subst (λ k. before_it (get_or xs k d) e ≡ true) (sym same) passes)
         (λ other. ⊎_elim (λ (lt : i < j). onward (get_or xs i d) (get_or xs j d) e (order i j d lt inside) passes) (λ (gt : j < i). absurd (omega arith)) other)
         (cases_order i j)
 
-    -- an entry of the list stands where it would go
+    -- An item of the list is at the position at which it would be inserted.
     pub place_at : InOrder xs → (at : ℕ) → at ≤ length xs → AreBefore at → AreBehind at → (there : Contains xs e) → at ≡ there.0
     place_at order at le before behind there =
         ⊎_elim (λ (same : at ≡ there.0). same)
@@ -47,7 +47,7 @@ module _ {A : Type 0} (before_it : A → A → Bool) (itself : (e : A) → befor
         (cases_order at there.0)
 
     module _ (at : ℕ) (le : at ≤ length xs) where
-      -- where an entry of the longer list comes from
+      -- The origin of an item of the longer list.
       abbrev Comes : ℕ → Type 0
       Comes k = ((k < at) × ((d : A) → get_or (insert xs at e) k d ≡ get_or xs k d))
           ⊎ (((k ≡ at) × ((d : A) → get_or (insert xs at e) k d ≡ e))
@@ -110,7 +110,7 @@ module _ {A : Type 0} (before_it : A → A → Bool) (itself : (e : A) → befor
           rest)
           (comes i)
 
-    -- what the longer list has
+    -- The items of the longer list.
     pub has_more : (at : ℕ) (f : A) → Contains (insert xs at e) f ↔ (Contains xs f ⊎ (f ≡ e))
     has_more at f = (
       λ there. ⊎_elim (λ (one : Contains (e ∷ []) f). inr (single e f one)) (λ rest. inl rest)
@@ -138,7 +138,7 @@ module _ {A : Type 0} (before_it : A → A → Bool) (itself : (e : A) → befor
           (subst (λ f. before_it f (get_or xs (k + 1) e) ≡ true) here (order at (k + 1) e (omega arith) (omega (arith, short, there.1))))))
           (cases_lt k at)
 
-      -- what the shorter list has
+      -- The items of the shorter list.
       pub has_less : InOrder xs → (f : A) → Contains (remove xs at) f ↔ (Contains xs f × ¬ (f ≡ e))
       has_less order f = (
         λ there. (

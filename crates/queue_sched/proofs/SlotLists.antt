@@ -1,4 +1,4 @@
--- Slots in the order of their turns, and the entries that are there.
+-- Slots in order, and the entries that were not removed.
 use Rattle.std.proofs.Common.{◌≡◌, ℕ, zero, suc, ◌<◌, ◌≤◌, ◌⊎◌, Bool, true, false, not, cond, ◌&&◌, List, [], ◌∷◌, ◌++◌, length, map, set, take, drop, get_or, Some, None, slice_get, refl, sym, ap, subst, ◌∙◌, arith, drop-cons, IsTrue}
 use Rattle.std.proofs.Math.Logic.{⊎_elim}
 use Rattle.std.proofs.lemmas.Bool.{both_ways, cases_order, true_from_ne_false}
@@ -21,7 +21,7 @@ use Rattle.queue_sched.proofs.TurnOrder.{itself, onward, not_onward, other_way}
 abbrev entry_in : Slot → Entry
 entry_in s = s.entry
 
--- the slot of an entry that was taken away
+-- The slot of a removed entry.
 abbrev pub gone_of : Entry → Slot
 gone_of e = record { entry = e; gone = true }
 
@@ -35,11 +35,11 @@ module _ (s : Slot) (ss : List Slot) where
   pub items_there : s.gone ≡ false → items_of (s ∷ ss) ≡ s.entry ∷ items_of ss
   items_there g = ap (λ b. map entry_in (cond (not b) (s ∷ filter is_there ss) (filter is_there ss))) g
 
-  -- a slot whose entry is there
+  -- A slot with an entry that was not removed.
   pub is_that : s.gone ≡ false → (e : Entry) → e ≡ s.entry → s ≡ there_of e
   is_that g e same = ap (λ b. record { entry = s.entry; gone = b }) g ∙ ap there_of (sym same)
 
--- an entry that is there has a slot
+-- An entry that was not removed has a slot.
 pub slot_of : (ss : List Slot) (e : Entry) → Contains (items_of ss) e → Contains ss (there_of e)
 slot_of [] e there = absurd (omega (arith, there.1))
 slot_of (s ∷ ss) e there = by (slot_of ss e) s.gone refl
@@ -52,7 +52,7 @@ slot_of (s ∷ ss) e there = by (slot_of ss e) s.gone refl
         (λ (rest : Contains (items_of ss) e). Contains-append_right (s ∷ []) ss (there_of e) (again rest))
         (Contains-append_cases (s.entry ∷ []) (items_of ss) e (subst (λ l. Contains l e) (items_there s ss g) there))
 
--- the entries before and behind a slot
+-- The entries before and after a slot.
 module _ (ss : List Slot) (at : ℕ) (inside : at < length ss) where
   items_at : (s : Slot) → get_or ss at s ≡ s → items_of ss ≡ items_of (take at ss) ++ items_of (s ∷ drop (suc at) ss)
   items_at s here =
@@ -85,7 +85,7 @@ module _ (ss : List Slot) (at : ℕ) (inside : at < length ss) where
     is = record { front = items_of (take at ss); back = items_of (drop (suc at) ss); less_is = refl; more_is = items_set (there_of to) };
   }
 
-  -- one that is there is among the entries
+  -- A slot that is not gone has an entry of the list.
   pub has_item : (s : Slot) → get_or ss at s ≡ s → s.gone ≡ false → Contains (items_of ss) s.entry
   has_item s here g =
       subst (λ l. Contains l s.entry) (sym (items_at s here ∙ ap (λ l. items_of (take at ss) ++ l) (items_there s (drop (suc at) ss) g)))
@@ -100,7 +100,7 @@ put_open ss at e = record {
   more_is = items_append (take at ss) (there_of e ∷ drop at ss);
 }
 
--- the order of the slots
+-- The order of the slots.
 abbrev goes : Slot → Slot → Bool
 goes s t = goes_before s.entry t.entry
 
@@ -117,18 +117,18 @@ module _ (ss : List Slot) (e : Entry) where
   abbrev pub AreBehind : ℕ → Type 0
   AreBehind at = AllWithin (λ s. goes_before s.entry e ≡ false) ss at (length ss)
 
-  -- what goes before an entry stands before what doesn't
+  -- Slots that come before an entry are before the others.
   pub parted : InSlotOrder ss → IsPartitionedBy (λ s. goes_before s.entry e) ss
   parted = ordered.parted goes goes_itself goes_on ss (there_of e)
 
-  -- an entry that is there stands where it would go
+  -- An entry that was not removed is at the position at which it would be inserted.
   pub stands : InSlotOrder ss → (at : ℕ) → at ≤ length ss → AreBefore at → AreBehind at → Contains (items_of ss) e → (at < length ss) × (get_or ss at (there_of e) ≡ there_of e)
   stands order at le before behind there =
       let slot = slot_of ss e there in
       let same : at ≡ slot.0 = ordered.place_at goes goes_itself goes_on ss (there_of e) order at le before behind slot in
       (omega (arith, same, slot.1), subst (λ n. get_or ss n (there_of e) ≡ there_of e) (sym same) slot.2)
 
-  -- where the entry goes before the slot at its place, it goes before all behind it
+  -- If the entry comes before the slot at its position, it comes before all later slots.
   pub goes_before_rest : InSlotOrder ss → (at : ℕ) → AreBefore at → (at < length ss → (d : Slot) → goes_before e (get_or ss at d).entry ≡ true) → (f : Slot) → Contains ss f → goes_before f.entry e ≡ false → goes_before e f.entry ≡ true
   goes_before_rest order at before next f there not_so =
       let k = there.0 in
@@ -148,7 +148,7 @@ module _ (ss : List Slot) (e : Entry) where
   order_open order at le before behind next =
       ordered.in_order_insert goes goes_itself goes_on ss (there_of e) at le order (goes_before_rest order at before next) before behind
 
--- another slot in the place of one
+-- The slot at a position is replaced.
 module _ (ss : List Slot) (at : ℕ) (s : Slot) (inside : at < length ss) (order : InSlotOrder ss) where
   pub order_set : ((k : ℕ) (d : Slot) → k < at → goes (get_or ss k d) s ≡ true) → ((k : ℕ) (d : Slot) → at < k → k < length ss → goes s (get_or ss k d) ≡ true) → InSlotOrder (set ss at s)
   order_set lower upper i j d lt within =
@@ -178,7 +178,7 @@ module _ (ss : List Slot) (at : ℕ) (s : Slot) (inside : at < length ss) (order
       apart : (k : ℕ) → (k < at) ⊎ (at < k) → ¬ (k ≡ at)
       apart k differs same = ⊎_elim (λ (lt : k < at). absurd (omega (arith, lt, same))) (λ (gt : at < k). absurd (omega (arith, gt, same))) differs
 
-  -- where the two have the same turn
+  -- The two entries have the same order.
   pub order_same_turn : (t : Slot) → get_or ss at t ≡ t → s.entry.first ≡ t.entry.first → s.entry.priority ≡ t.entry.priority → s.entry.id ≡ t.entry.id → InSlotOrder (set ss at s)
   order_same_turn t here first priority id =
       order_set
@@ -198,7 +198,7 @@ module _ (ss : List Slot) (at : ℕ) (s : Slot) (inside : at < length ss) (order
           ∙ ap (λ n. goes_first s.entry.first n t.entry.id f.first f.priority f.id) (sym priority)
           ∙ ap (λ n. goes_first s.entry.first s.entry.priority n f.first f.priority f.id) (sym id)
 
-  -- where an entry takes the slot of one that it doesn't go before
+  -- An entry takes the slot at its position, if it does not come before it.
   pub order_held : AreBefore ss s.entry at → AreBehind ss s.entry at → InSlotOrder (set ss at s)
   order_held before behind =
       order_set
@@ -206,7 +206,7 @@ module _ (ss : List Slot) (at : ℕ) (s : Slot) (inside : at < length ss) (order
       (λ k d gt within. true_from_ne_false (goes s (get_or ss k d))
       (λ not_so. both_ways (goes (get_or ss at d) (get_or ss k d)) (not_onward (get_or ss at d).entry s.entry (get_or ss k d).entry (behind at d (omega arith) inside) not_so) (order at k d gt within)))
 
--- the slot at an entry's place, if the entry doesn't go before it, is that of a gone one with its turn
+-- If an entry does not come before the slot at its position, that slot is gone and its entry has the same order.
 pub is_gone : (ss : List Slot) (e : Entry) (at : ℕ) → at < length ss → LacksJob (items_of ss) e.id → AreBehind ss e at → ((d : Slot) → goes_before e (get_or ss at d).entry ≡ false) → (s : Slot) → get_or ss at s ≡ s → s.gone ≡ true
 is_gone ss e at inside lacks behind not_so s here = by s.gone refl
   where
@@ -216,7 +216,7 @@ is_gone ss e at inside lacks behind not_so s here = by s.gone refl
         absurd (both_ways (goes_before e s.entry) (subst (λ (t : Slot). goes_before e t.entry ≡ false) here (not_so s))
         (other_way e s.entry (λ same. lacks s.entry (has_item ss at inside s here g) (sym same)) (subst (λ (t : Slot). goes_before t.entry e ≡ false) here (behind at s (omega arith) inside))))
 
--- the entries that are there stand in order
+-- The entries that were not removed are in order.
 pub items_in_order : (ss : List Slot) → InSlotOrder ss → InOrder (items_of ss)
 items_in_order ss order i j d lt inside =
     let there = filter is_there ss in
@@ -225,7 +225,7 @@ items_in_order ss order i j d lt inside =
     (subst (λ f. goes_before (get_or there i (there_of d)).entry f ≡ true) (sym (get_or-map entry_in there j (there_of d) d within))
     (AllPairs-filter (λ s t. goes s t ≡ true) is_there ss order i j (there_of d) lt within))
 
--- the slots of a list of entries
+-- The slots of a list of entries.
 pub filled : (es : List Entry) → items_of (map there_of es) ≡ es
 filled [] = refl
 filled (e ∷ es) = ap (λ l. e ∷ l) (filled es)
@@ -240,7 +240,7 @@ pub filled_first : (es : List Entry) → IsFirstThere (map there_of es)
 filled_first [] = tt
 filled_first (e ∷ es) = refl
 
--- what a pass over the gone ones leaves
+-- The slots after all gone ones were deleted.
 pub sweeps_twice : (ss : List Slot) → filter is_there (filter is_there ss) ≡ filter is_there ss
 sweeps_twice [] = refl
 sweeps_twice (s ∷ ss) = by (sweeps_twice ss) s.gone refl
@@ -258,7 +258,7 @@ swept_in_order ss order = AllPairs-filter (λ s t. IsTrue (goes s t)) is_there s
 pub swept_count : (ss : List Slot) → length (filter is_there ss) ≡ length (items_of ss)
 swept_count ss = sym (length-map (filter is_there ss) entry_in)
 
--- there are no more than slots
+-- There are no more entries than slots.
 pub few_items : (ss : List Slot) → length (items_of ss) ≤ length ss
 few_items ss = omega (arith, length-map (filter is_there ss) entry_in, length-filter is_there ss, count_by-le-length is_there ss)
 
@@ -270,7 +270,7 @@ swept_first (s ∷ ss) = by (swept_first ss) s.gone refl
     by again true g = again
     by again false g = g
 
--- the slots of those that pass
+-- The slots with entries that pass.
 module _ (p : Entry → Bool) where
   abbrev pub passes : Slot → Bool
   passes s = is_there s && p s.entry
@@ -310,7 +310,7 @@ module _ (p : Entry → Bool) where
   pub picked_in_order : (ss : List Slot) → InSlotOrder ss → InSlotOrder (filter passes ss)
   picked_in_order ss order = AllPairs-filter (λ s t. IsTrue (goes s t)) passes ss order
 
--- the first slot
+-- The first slot.
 pub first_set : (ss : List Slot) (at : ℕ) (s : Slot) → s.gone ≡ false → IsFirstThere ss → IsFirstThere (set ss at s)
 first_set [] at s g first = tt
 first_set (t ∷ ss) zero s g first = g
@@ -325,7 +325,7 @@ pub first_none : (ss : List Slot) → length ss ≡ 0 → None ≡ slice_get (it
 first_none [] none = refl
 first_none (s ∷ ss) none = absurd (omega (arith, none))
 
--- in a loop that lets go the gone ones in front
+-- The state of the loop that deletes the gone slots at the front.
 pub record IsTrimmed (old new : List Slot) : Type 0 where
   pub items : items_of new ≡ items_of old
   pub order : InSlotOrder old → InSlotOrder new
@@ -338,7 +338,8 @@ not_trimmed ss = record {
   few = omega arith;
 }
 
--- in a loop that looks for a job: all that are left are of the list, and of the list all that are the job's are left
+-- The state of the loop that searches for a job: the remaining entries are entries of the list, and the entries of the
+-- job are among them.
 pub record IsSought (all left : List Entry) (id : ℕ) : Type 0 where
   pub only : (e : Entry) → Contains left e → Contains all e
   pub each : (e : Entry) → Contains all e → e.id ≡ id → Contains left e

@@ -1,4 +1,4 @@
--- Loops over slots: the entries that are left of a slot and those behind it.
+-- Loops over slots: the entries of a slot and of those after it.
 use Rattle.std.proofs.Common.{◌≡◌, ℕ, Bool, true, false, not, ◌&&◌, ◌==◌, eq-eqb, List, [], ◌∷◌, length, Option, refl, sym, ap, subst, ◌∙◌, arith}
 use borrow.Author.Tests.{eqb-true}
 use Rattle.std.proofs.Math.Logic.{⊎_elim}
@@ -14,12 +14,12 @@ use Rattle.queue_sched.proofs.Due.{IsSameSoFar, IsStart, one_ready, one_waiting}
 use Rattle.queue_sched.proofs.Ordered.{single}
 use Rattle.queue_sched.proofs.SlotLists.{IsSought, items_gone, items_there}
 
--- no slot has no entry
+-- No slots have no entries.
 pub no_items : (rest : List Slot) → length rest ≡ 0 → length (items_of rest) ≡ 0
 no_items [] none = refl
 no_items (s ∷ rest) none = absurd (omega (arith, none))
 
--- until when the same entries may be started
+-- The moment until which the same entries may be started.
 module _ (xs : List Entry) (left : List Slot) (s : Slot) (rest : List Slot) (now : ℕ) (due : Option ℕ) (is : left ≡ s ∷ rest) (before : IsSameSoFar xs (items_of left) now due) where
   so_far : IsSameSoFar xs (items_of (s ∷ rest)) now due
   so_far = subst (λ l. IsSameSoFar xs (items_of l) now due) is before
@@ -40,7 +40,7 @@ module _ (xs : List Entry) (left : List Slot) (s : Slot) (rest : List Slot) (now
       by false true g h t = absurd (both_ways false refl t)
       by false false g h t = one_waiting xs (items_of (s ∷ rest)) s.entry (items_of rest) now due so_far (items_there s rest g) start due' starts h sooner
 
--- where a job is
+-- The search for a job.
 module _ (all : List Entry) (left : List Slot) (s : Slot) (rest : List Slot) (id : ℕ) (is : left ≡ s ∷ rest) (before : IsSought all (items_of left) id) where
   sought : IsSought all (items_of (s ∷ rest)) id
   sought = subst (λ l. IsSought all (items_of l) id) is before

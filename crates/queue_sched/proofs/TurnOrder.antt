@@ -1,4 +1,4 @@
--- Entries in the order of their turns, with one more and with one less.
+-- Entries in order, with one more and with one less entry.
 use Rattle.std.proofs.Common.{◌≡◌, ℕ, ◌<◌, ◌⊎◌, ◌↔◌, true, false, List, length, get_or}
 use Rattle.std.specs.List.{Contains, insert, remove}
 use Rattle.queue_sched.specs.WaitingIndex.{goes_before, InOrder}
@@ -19,7 +19,7 @@ pub other_way : (e f : Entry) → ¬ (e.id ≡ f.id) → goes_before f e ≡ fal
 other_way e f = first_other_way e.first e.priority e.id f.first f.priority f.id
 
 module _ (xs : List Entry) (e : Entry) where
-  -- what the longer list has
+  -- The entries of the longer list.
   pub has_more : (at : ℕ) (f : Entry) → Contains (insert xs at e) f ↔ (Contains xs f ⊎ (f ≡ e))
   has_more = ordered.has_more goes_before itself onward xs e
 
@@ -27,6 +27,6 @@ module _ (xs : List Entry) (e : Entry) where
     pub in_order_remove : InOrder xs → InOrder (remove xs at)
     in_order_remove = ordered.in_order_remove goes_before itself onward xs e at inside here
 
-    -- what the shorter list has
+    -- The entries of the shorter list.
     pub has_less : InOrder xs → (f : Entry) → Contains (remove xs at) f ↔ (Contains xs f × ¬ (f ≡ e))
     has_less = ordered.has_less goes_before itself onward xs e at inside here

@@ -1,4 +1,4 @@
--- What an iterator over the numbers of waiting jobs has left.
+-- The remaining items of an iterator over the numbers of waiting jobs.
 use Rattle.std.specs.Prelude.{ℕ, List, map}
 use Rattle.std.specs.VecDeque.Iter.{deque_iter_rest}
 use Rattle.queue_sched.specs.OrderSlots.{items_of}

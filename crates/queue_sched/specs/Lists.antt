@@ -1,4 +1,4 @@
--- What the fields of an index mean.
+-- The meaning of the fields of an index.
 use Rattle.std.specs.Prelude.{◌≡◌, ℕ, ◌<◌, ◌≤◌, List, length, Option, None, Some}
 use Rattle.std.specs.List.{Contains, filter}
 use Rattle.queue_sched.specs.WaitingIndex.{Waits, InOrder, is_startable}
@@ -12,16 +12,16 @@ waits_of a = record {
   room = a.room;
 }
 
--- the moment is before this one, if there is one
+-- The moment is before this one, if there is one.
 abbrev pub IsBefore : ℕ → Option ℕ → Type 0
 IsBefore m None = Unit {0}
 IsBefore m (Some due) = m < due
 
--- until this moment, if there is one, the same entries may be started as now
+-- Until this moment, if there is one, the same entries may be started as now.
 abbrev pub IsSameUntil : List Entry → ℕ → Option ℕ → Type 0
 IsSameUntil items now due = (e : Entry) → Contains items e → (m : ℕ) → now ≤ m → IsBefore m due → is_startable m e ≡ is_startable now e
 
--- the entries stand in order, the ready ones are those that may be started now, and each list has the room
+-- The entries are in order, the ready entries are exactly the startable ones, and each list has the room.
 pub record IsInStep (a : Inside) : Type 0 where
   pub order : InOrder a.entries.items
   pub ready : a.ready.items ≡ filter (is_startable a.moment) a.entries.items

@@ -1,20 +1,20 @@
--- A list of entries in the order of their turns, as its callers see it.
+-- A list of entries in order, as its callers see it.
 use Rattle.std.specs.Prelude.{◌≡◌, ℕ, List, ◌∷◌, ◌++◌}
 use Rattle.queue_sched.specs.declared.entry.Entry.{Entry}
 
--- the entries, and how many fit with no further memory
+-- The entries, and the number that fit without allocating.
 pub record OrderedEntries : Type 0 where
   pub items : List Entry
   pub room : ℕ
 
--- one list is the other with this entry more, wherever it stands
+-- One list is the other with one more entry, at any position.
 pub record IsMore (e : Entry) (less more : List Entry) : Type 0 where
   pub front : List Entry
   pub back : List Entry
   pub less_is : less ≡ front ++ back
   pub more_is : more ≡ front ++ e ∷ back
 
--- one entry stands where the other one stood
+-- One entry is at the position of the other.
 pub record IsExchange (from to : Entry) (old new : List Entry) : Type 0 where
   pub rest : List Entry
   pub was : IsMore from rest old

@@ -9,12 +9,12 @@ use Rattle.spool_types.specs.State.{Job}
 use Rattle.queue_sched.specs.Next.{may_start, is_marked, goes_first}
 use Rattle.queue_sched.specs.declared.entry.Entry.{Entry}
 
--- the moment before which a waiting job isn't tried
+-- A waiting job is not tried before this moment.
 abbrev pub not_before_of : Phase → ℕ
 not_before_of (Waiting hold not_before first) = not_before
 not_before_of phase = 0
 
--- what decides on a waiting job's turn
+-- The fields of a waiting job that determine its order and its start.
 abbrev pub entry_of : Job → Entry
 entry_of r = record {
   id = r.id;
@@ -30,25 +30,25 @@ goes_before e f = goes_first e.first e.priority e.id f.first f.priority f.id
 abbrev pub is_startable : ℕ → Entry → Bool
 is_startable now e = may_start now e.hold e.not_before
 
--- the waiting jobs in the order of their turns, the moment now, and how many jobs fit with no further memory
+-- The waiting jobs in order, the current moment, and the number of jobs that fit without allocating.
 pub record Waits : Type 0 where
   pub items : List Entry
   pub moment : ℕ
   pub room : ℕ
 
--- each one goes before all later ones
+-- Each entry comes before all later ones.
 abbrev pub InOrder : List Entry → Type 0
 InOrder items = AllPairs (λ e f. IsTrue (goes_before e f)) items
 
--- none is this job's
+-- No entry is that of this job.
 abbrev pub LacksJob : List Entry → ℕ → Type 0
 LacksJob items j = (e : Entry) → Contains items e → ¬ (e.id ≡ j)
 
--- no two are the same job's
+-- No two entries are those of the same job.
 abbrev pub HasEachOnce : List Entry → Type 0
 HasEachOnce items = AllPairs (λ e f. ¬ (e.id ≡ f.id)) items
 
--- the first that may be started now
+-- The first entry that may be started now.
 pub record IsFirstStartable (w : Waits) (e : Entry) : Type 0 where
   pub there : Contains w.items e
   pub startable : IsTrue (is_startable w.moment e)
@@ -57,11 +57,11 @@ pub record IsFirstStartable (w : Waits) (e : Entry) : Type 0 where
 abbrev pub NoneIsStartable : Waits → Type 0
 NoneIsStartable w = (e : Entry) → Contains w.items e → is_startable w.moment e ≡ false
 
--- a waiting job of the queue
+-- A waiting job of the queue.
 abbrev pub is_waiting_of : List ℕ → Job → Bool
 is_waiting_of name r = is_of name r && is_waiting r.phase
 
--- the entries are those of the queue's waiting jobs, and no others
+-- The entries are exactly those of the queue's waiting jobs.
 pub record IsIndexOf (jobs : List Job) (name : List ℕ) (items : List Entry) : Type 0 where
   pub only : (e : Entry) → Contains items e → (r : Job) × Contains jobs r × IsTrue (is_waiting_of name r) × (e ≡ entry_of r)
   pub each : (r : Job) → Contains jobs r → IsTrue (is_waiting_of name r) → Contains items (entry_of r)

@@ -1,4 +1,4 @@
--- What the fields of a list of turns mean.
+-- The meaning of the fields of a list of entries in order.
 use Rattle.std.specs.Prelude.{◌≡◌, ◌*◌, ◌≤◌, length}
 use Rattle.std.specs.VecDeque.{deque_capacity}
 use Rattle.queue_sched.specs.OrderSlots.{items_of, InSlotOrder, IsFirstThere}
@@ -8,7 +8,8 @@ use Rattle.queue_sched.specs.declared.waiting_entries.WaitingEntries.TheInside.{
 abbrev pub turned_of : Inside → OrderedEntries
 turned_of a = record { items = items_of a.slots.items; room = deque_capacity a.slots }
 
--- the slots stand in order, those that are there are counted, no more are gone than are there, and the first is there
+-- The slots are in order, `len` is the number of slots that are not gone, at most half of the slots are gone, and the
+-- first slot is not gone.
 pub record IsKept (a : Inside) : Type 0 where
   pub order : InSlotOrder a.slots.items
   pub count : length (items_of a.slots.items) ≡ a.len

@@ -1,4 +1,4 @@
-//! The waiting jobs of a queue that are to start by a moment.
+//! The deadlines of waiting jobs that must start by a moment.
 ghost use Rattle.std.specs.Prelude.{◌≡◌, ◌<◌, ◌≤◌, ◌+◌, ◌↔◌, ◌⊎◌, ℕ, true, false, [], length, slice_index_or, vec_capacity, IsOk, OnOk, OnErr, IfSome};
 ghost use Rattle.std.specs.Option.{IsNone};
 ghost use Rattle.std.specs.List.{AllWithin, Contains, insert, remove};
@@ -14,7 +14,7 @@ use std::cmp::Ordering;
 use std::collections::VecDeque;
 use std::marker::Model;
 
-/// A waiting job, and the moment by which it is to start.
+/// A waiting job and its deadline: the moment by which it must start.
 #[derive(Clone, Copy, PartialEq, Eq)]
 pub struct Deadline {
     pub by: Moment,
@@ -22,7 +22,7 @@ pub struct Deadline {
 }
 
 impl Deadline {
-    // The order of the deadlines. Only one and itself are equal in it.
+    // Compares two deadlines. Only equal deadlines compare as equal.
     fn turn(&self, other: &Deadline) -> Ordering
         ensures { is_lt result ≡ comes_before self.now other.now }
     {
@@ -35,7 +35,7 @@ impl Deadline {
         }
     }
 
-    // Whether it comes before the other: by the moment, and then by the number.
+    // Returns whether this deadline comes before the other: by the moment, then by the number.
     fn comes_before(&self, other: &Deadline) -> bool
         ensures { result ≡ comes_before self.now other.now }
     {
@@ -47,11 +47,11 @@ impl Deadline {
     }
 }
 
-/// The deadlines of one queue's waiting jobs, the earliest first.
+/// The deadlines of the waiting jobs of a table, of all its queues, the earliest first.
 #[derive(Drop)]
 pub struct Deadlines {
     items: VecDeque<Deadline>,
-    // There is room for so many.
+    // The list has room for this number of deadlines.
     room: usize,
 }
 
@@ -68,7 +68,7 @@ impl Model for Deadlines {
 }
 
 impl Deadlines {
-    /// None. It takes no memory.
+    /// Returns a list without deadlines. Does not allocate.
     pub fn new(alloc: Global) -> Deadlines
         ensures items { result.items ≡ [] }
         ensures room { result.room ≡ 0 }
@@ -79,8 +79,8 @@ impl Deadlines {
         }
     }
 
-    /// Those of a list, in whatever order they come, with as much room as the list has. It sorts them once, and takes no
-    /// memory.
+    /// Returns the list of these deadlines, which may be in any order. It has the room of the given list. Sorts once,
+    /// and does not allocate.
     pub fn of_items(mut items: Vec<Deadline>) -> Deadlines
         requires { HasEachDeadlineOnce items.items }
         ensures items { (d : AnyDeadline) → Contains result.items d ↔ Contains items.items d }
@@ -93,7 +93,7 @@ impl Deadlines {
         Deadlines { items, room }
     }
 
-    /// How many there are.
+    /// Returns the number of deadlines.
     pub fn len(&self) -> usize
         ensures count { result ≡ length self.now.items }
         ensures order { InTurn self.now.items }
@@ -101,22 +101,22 @@ impl Deadlines {
         self.items.len()
     }
 
-    /// How many fit with no further memory.
+    /// Returns the number of deadlines that fit without allocating.
     pub fn room(&self) -> usize
         ensures { result ≡ self.now.room }
     {
         self.room
     }
 
-    /// Makes room for so many in all. The list is doubled at least where it grows, as `VecDeque::reserve` does it. A fault
-    /// changes nothing.
+    /// Reserves room for `count` deadlines in total. A list that grows at least doubles, as in `VecDeque::reserve`. An
+    /// error changes nothing.
     pub fn reserve(&mut self, count: usize) -> Result<(), AllocError>
         ensures room { OnOk result (count ≤ self.new.room) }
         ensures kept { self.old.room ≤ self.new.room }
         ensures items { self.new.items ≡ self.old.items }
         ensures same { OnErr result (self.new ≡ self.old) }
 
-        // Memory is asked for only where the room is missing.
+        // Allocates only if room is missing.
         ensures ready { count ≤ self.old.room → IsOk result }
     {
         if count <= self.room {
@@ -127,7 +127,7 @@ impl Deadlines {
         Ok(())
     }
 
-    /// Adds that of a job that has none here. It takes no memory.
+    /// Adds the deadline of a job that has none in the list. Does not allocate.
     pub fn insert(&mut self, deadline: Deadline)
         requires room { length self.old.items < self.old.room }
         requires absent { LacksDeadline self.old.items deadline.id }
@@ -138,7 +138,7 @@ impl Deadlines {
         put(&mut self.items, deadline);
     }
 
-    /// Takes one away that is there.
+    /// Removes an existing deadline.
     pub fn remove(&mut self, deadline: Deadline)
         requires there { Contains self.old.items deadline }
         ensures items { (d : AnyDeadline) → Contains self.new.items d ↔ (Contains self.old.items d × ¬ (d ≡ deadline)) }
@@ -148,7 +148,7 @@ impl Deadlines {
         take(&mut self.items, &deadline);
     }
 
-    /// The job of the earliest deadline, if that is before this moment. No other one is looked at.
+    /// Returns the job of the earliest deadline, if that is before `moment`. Inspects no other deadline.
     pub fn first_before(&self, moment: Moment) -> Option<JobId>
         ensures found { IfSome result (λ j. (d : AnyDeadline) × Contains self.now.items d × (d.id ≡ j) × (d.by < moment)) }
         ensures none { IsNone result → (d : AnyDeadline) → Contains self.now.items d → moment ≤ d.by }
@@ -162,7 +162,7 @@ impl Deadlines {
     }
 }
 
-// Puts the deadlines in their order.
+// Sorts the deadlines.
 fn sort(items: &mut Vec<Deadline>)
     requires { HasEachDeadlineOnce items.old.items }
     ensures order { InTurn items.new.items }
@@ -172,7 +172,7 @@ fn sort(items: &mut Vec<Deadline>)
     items.sort_unstable_by(|deadline, other| deadline.turn(other));
 }
 
-// Where a deadline stands, or would go.
+// Returns the position of a deadline, or the position for a new one.
 fn place_of(items: &VecDeque<Deadline>, deadline: &Deadline) -> usize
     requires { InTurn items.now.items }
     ensures in_range { result ≤ length items.now.items }
@@ -182,7 +182,7 @@ fn place_of(items: &VecDeque<Deadline>, deadline: &Deadline) -> usize
     items.partition_point(|other| other.comes_before(deadline))
 }
 
-// Adds a deadline where it goes, and answers where. There is room.
+// Inserts a deadline in order, and returns its position. The list has room.
 fn put(items: &mut VecDeque<Deadline>, deadline: Deadline) -> usize
     requires order { InTurn items.old.items }
     requires room { length items.old.items < deque_capacity items.old }
@@ -197,7 +197,7 @@ fn put(items: &mut VecDeque<Deadline>, deadline: Deadline) -> usize
     at
 }
 
-// Takes away a deadline that is there, and answers where it stood.
+// Removes an existing deadline, and returns its position.
 fn take(items: &mut VecDeque<Deadline>, deadline: &Deadline) -> usize
     requires order { InTurn items.old.items }
     requires there { Contains items.old.items deadline.now }

@@ -1,4 +1,4 @@
-//! What decides on the turn of a waiting job.
+//! The order of waiting jobs, and when they may be started.
 ghost use Rattle.std.specs.Prelude.{◌≡◌, ◌↔◌, ℕ, false, nat_le, IsTrue, IsSome, IfSome, MatchOption};
 ghost use Rattle.std.specs.Ordering.{is_lt};
 ghost use Rattle.spool_types.specs.Phases.{is_waiting};
@@ -7,11 +7,11 @@ ghost use Rattle.queue_sched.specs.WaitingIndex.{entry_of, goes_before, is_start
 use spool_types::{Hold, Job, JobId, Moment, Phase, Priority};
 use std::cmp::Ordering;
 
-/// A waiting job, as far as its turn goes.
+/// The fields of a waiting job that determine its order and its start.
 #[derive(Clone, Copy, Debug, PartialEq, Eq)]
 pub struct Entry {
     pub id: JobId,
-    /// Whether it goes before all that aren't marked.
+    /// Whether it comes before all jobs that are not marked.
     pub first: bool,
     pub priority: Priority,
     pub hold: Hold,
@@ -19,7 +19,7 @@ pub struct Entry {
 }
 
 impl Entry {
-    /// The entry of a waiting job; no other job has one.
+    /// Returns the entry of a waiting job, and None for any other job.
     pub fn of_job(job: &Job) -> Option<Entry>
         ensures waiting { IsSome result ↔ IsTrue (is_waiting job.now.phase) }
         ensures value { IfSome result (λ e. e ≡ entry_of job.now) }
@@ -40,7 +40,7 @@ impl Entry {
         }
     }
 
-    /// Whether its turn is before the other's: by the mark, the priority and the number.
+    /// Returns whether this job comes before the other: by the mark, then by the priority, then by the number.
     pub fn goes_before(&self, other: &Entry) -> bool
         ensures { result ≡ goes_before self.now other.now }
     {
@@ -53,14 +53,14 @@ impl Entry {
         }
     }
 
-    // Whether the two have the same turn, but for their numbers.
+    // Returns whether the two have the same mark and priority.
     pub(crate) fn has_turn_of(&self, other: &Entry) -> bool
         ensures { IsTrue result ↔ ((self.now.first ≡ other.now.first) × (self.now.priority ≡ other.now.priority)) }
     {
         self.first == other.first && self.priority == other.priority
     }
 
-    // The order of the turns. Only a job and itself are equal in it.
+    // Compares two entries by the order. Only entries of the same job are equal.
     pub(crate) fn turn(&self, other: &Entry) -> Ordering
         ensures { is_lt result ≡ goes_before self.now other.now }
     {
@@ -73,14 +73,15 @@ impl Entry {
         }
     }
 
-    /// Whether nothing holds it at the moment now, and its own moment has come.
+    /// Returns whether the job may be started at this moment: no hold is in force, and its not-before moment has
+    /// passed.
     pub fn is_startable(&self, now: Moment) -> bool
         ensures { result ≡ is_startable now self.now }
     {
         !self.hold.is_in_force(now) && self.not_before <= now
     }
 
-    // The moment from which on it may be started. One that is held until it is released has none.
+    // Returns the moment from which the job may be started, or None for a job that is held until it is released.
     pub(crate) fn start(&self) -> Option<Moment>
         ensures { MatchOption result ((m : ℕ) → is_startable m self.now ≡ false) (λ start. (m : ℕ) → is_startable m self.now ≡ nat_le start m) }
     {

@@ -13,15 +13,15 @@ use spool_types::{JobId, Moment};
 use std::alloc::{AllocError, Global};
 use std::marker::Model;
 
-/// The waiting jobs of one queue in the order of their turns, at a moment.
+/// The waiting jobs of one queue in order, at a moment.
 #[derive(Drop)]
 pub struct Index {
     entries: WaitingEntries,
-    // Those that may be started now.
+    // The entries that may be started now.
     ready: WaitingEntries,
-    // Each of the two has room for so many, the ready ones too: all could be ready.
+    // Each of the two lists has room for this number of entries. All entries may become ready.
     room: usize,
-    // Until this moment no other one may be started.
+    // Before this moment no other entry may be started.
     due: Option<Moment>,
     moment: Moment,
 }
@@ -39,7 +39,7 @@ impl Model for Index {
 }
 
 impl Index {
-    /// An index without jobs, at the moment 0. It takes no memory.
+    /// Returns an index without jobs, at the moment 0. Does not allocate.
     pub fn new(alloc: Global) -> Index
         ensures items { result.items ≡ [] }
         ensures moment { result.moment ≡ 0 }
@@ -54,8 +54,8 @@ impl Index {
         }
     }
 
-    /// An index of these jobs, in whatever order they come, with as much room as the list has. It sorts them once, which
-    /// is faster than adding each.
+    /// Returns an index of these entries, which may be in any order. It has the room of the given list. Sorts once,
+    /// which is faster than adding each entry.
     pub fn of_entries(mut entries: Vec<Entry>, moment: Moment) -> Result<Index, AllocError>
         requires { HasEachOnce entries.items }
         ensures items { IfOk result (λ w. (e : Entry) → Contains w.items e ↔ Contains entries.items e) }
@@ -80,7 +80,7 @@ impl Index {
         })
     }
 
-    /// The numbers of the waiting jobs, in the order of their turns.
+    /// Returns the numbers of the waiting jobs in order.
     pub fn jobs(&self) -> Jobs<'_>
         ensures numbers { result ≡ map (λ e. e.id) self.now.items }
         ensures order { InOrder self.now.items }
@@ -88,7 +88,7 @@ impl Index {
         self.entries.jobs()
     }
 
-    /// How many jobs wait.
+    /// Returns the number of waiting jobs.
     pub fn len(&self) -> usize
         ensures count { result ≡ length self.now.items }
         ensures order { InOrder self.now.items }
@@ -96,14 +96,14 @@ impl Index {
         self.entries.len()
     }
 
-    /// The moment now.
+    /// Returns the current moment in seconds.
     pub fn moment(&self) -> Moment
         ensures { result ≡ self.now.moment }
     {
         self.moment
     }
 
-    /// The entry of the job of this number, if there is one. It reads one after another.
+    /// Returns the entry of the job of this number, if it is in the index. Searches all entries.
     pub fn entry(&self, id: JobId) -> Option<&Entry>
         ensures found { IfSome (option_copied result) (λ e. Contains self.now.items e × (e.id ≡ id)) }
         ensures absent { IsNone result → LacksJob self.now.items id }
@@ -111,7 +111,7 @@ impl Index {
         self.entries.find(id)
     }
 
-    /// The job whose turn is first, among those that may be started now. No other job is looked at.
+    /// Returns the first job that may be started now. Inspects no other job.
     pub fn next(&self) -> Option<JobId>
         ensures chosen { IfSome result (λ j. (e : Entry) × (e.id ≡ j) × IsFirstStartable self.now e) }
         ensures none { IsNone result → NoneIsStartable self.now }
@@ -120,7 +120,7 @@ impl Index {
         Some(entry.id)
     }
 
-    /// Makes room for so many jobs in all. A list that has to grow is doubled at least, as `Vec::reserve` does it. A fault
+    /// Reserves room for `count` jobs in total. A list that grows at least doubles, as in `Vec::reserve`. An error
     /// changes nothing.
     pub fn reserve(&mut self, count: usize) -> Result<(), AllocError>
         ensures room { OnOk result (count ≤ self.new.room) }
@@ -129,7 +129,7 @@ impl Index {
         ensures moment { self.new.moment ≡ self.old.moment }
         ensures same { OnErr result (self.new ≡ self.old) }
 
-        // Memory is asked for only where the room is missing.
+        // Allocates only if room is missing.
         ensures ready { count ≤ self.old.room → IsOk result }
     {
         if count <= self.room {
@@ -141,8 +141,8 @@ impl Index {
         Ok(())
     }
 
-    /// Adds a job that isn't there. Its place is found by binary search, and an entry that goes first or last moves no
-    /// other. It takes no memory.
+    /// Adds a job that is not in the index. Its position is found by binary search, and an entry that comes first or
+    /// last moves no other. Does not allocate.
     pub fn insert(&mut self, entry: Entry)
         requires room { length self.old.items < self.old.room }
         requires absent { LacksJob self.old.items entry.id }
@@ -160,7 +160,7 @@ impl Index {
         }
     }
 
-    /// Takes away a job that is there. It is found by binary search.
+    /// Removes a job that is in the index. It is found by binary search.
     pub fn remove(&mut self, entry: Entry)
         requires there { Contains self.old.items entry }
         ensures gone { ¬ (Contains self.new.items entry) }
@@ -174,8 +174,8 @@ impl Index {
         self.ready.take_ready(&entry, self.moment);
     }
 
-    /// Puts another entry of a job in the place of the one that is there. Where its turn stays, nothing moves but the jobs
-    /// that may be started now; else it is taken away and added. It takes no memory.
+    /// Replaces the entry of a job. If the mark and the priority are the same, only the list of ready entries changes.
+    /// Otherwise the old entry is removed and the new one is added. Does not allocate.
     pub fn replace(&mut self, from: Entry, to: Entry)
         requires there { Contains self.old.items from }
         requires only { (e : Entry) → Contains self.old.items e → e.id ≡ from.id → e ≡ from }
@@ -194,7 +194,7 @@ impl Index {
         }
     }
 
-    // Puts an entry in the place of the one that has the same turn.
+    // Replaces an entry by one with the same mark and priority.
     fn put_in_place(&mut self, from: Entry, to: Entry)
         requires there { Contains self.old.items from }
         requires only { (e : Entry) → Contains self.old.items e → e.id ≡ from.id → e ≡ from }
@@ -214,8 +214,8 @@ impl Index {
         }
     }
 
-    /// Brings a moment that isn't earlier. Where no job may be started by it that couldn't before, no job is looked at. It
-    /// takes no memory.
+    /// Sets the current moment, which must not be earlier than the previous one. If no other job may be started by
+    /// then, inspects no job. Does not allocate.
     pub fn advance(&mut self, moment: Moment)
         requires { self.old.moment ≤ moment }
         ensures moment { self.new.moment ≡ moment }

@@ -1,4 +1,3 @@
-//! The numbers of a queue's waiting jobs.
 ghost use Rattle.std.specs.Prelude.{◌≡◌, map};
 ghost use Rattle.std.specs.Iterator.{item_count, YieldsFirst};
 ghost use Rattle.queue_sched.specs.OrderSlots.{items_of};
@@ -9,7 +8,7 @@ use std::collections::VecDeque;
 use std::collections::vec_deque::Iter;
 use std::marker::Model;
 
-/// The numbers of waiting jobs, in the order of their turns.
+/// An iterator over the numbers of waiting jobs in order.
 #[derive(Drop)]
 pub struct Jobs<'a> {
     slots: Iter<'a, Slot>,
@@ -42,7 +41,7 @@ impl<'a> Iterator for Jobs<'a> {
 
     ghost remaining = { item_count (λ numbers. numbers) };
 
-    // Those that are gone are passed over.
+    // Skips the slots that are gone.
     fn next(&mut self) -> Option<JobId> {
         while let Some(slot) = self.slots.next() {
             if !slot.gone {

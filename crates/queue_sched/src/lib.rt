@@ -1,59 +1,81 @@
-//! Which job of a queue is to be started next, and which can't be started in time any more.
+//! The choice of the next job of a queue, and the waiting jobs that cannot be started in time.
 //!
-//! [`next_job`] chooses among the rows of all jobs, at a moment, for one queue. An [`Index`] keeps the waiting jobs of one
-//! queue in the order of their turns, and chooses among them. [`Deadlines`] keep those that are to start by a moment, the
-//! earliest moment first.
+//! [`next_job`] chooses for one queue among the rows of all jobs, at a moment. An [`Index`] stores the waiting jobs of
+//! one queue in order, and chooses among them. [`Deadlines`] stores the waiting jobs of a table that must start by a
+//! moment, the earliest moment first.
 //!
 //! # The rule
 //!
-//! A job is *eligible* where it is a waiting job of the queue, no hold of it is in force, its not-before moment has come,
-//! and the queue is neither stopped nor has a processing job. One job *beats* another if it alone is marked first; else
-//! by the higher priority; else by the lower number. The *next* job is the eligible one that no other eligible one
-//! beats; where none is eligible, there is no next job.
+//! A job is *eligible* if it is a waiting job of the queue, no hold of it is in force, its not-before moment has
+//! passed, and the queue is neither stopped nor has a processing job. One job *beats* another if only it is marked
+//! first, else by the higher priority, else by the lower number. The *next* job is the eligible job that no other
+//! eligible job beats. If no job is eligible, there is no next job.
 //!
 //! # Promises
 //!
-//! - *ExactChoice* for a queue: [`next_job`] names the next job (`IsNextJob`), and none exactly where none is eligible.
-//!   [`beats`] is the order of the rule (`beats_job`).
-//! - [`order_law`]: the order is strict, and of two jobs with different numbers one beats the other. So there is one next
-//!   job at most, and a test of a single job (`next_in`) tells whether it is the one.
-//! - *ExactChoice* by an index: `jobs` are the numbers of its entries, each of which goes before all later ones
-//!   (`InOrder`), and `next` is the first that may be started. [`index_law`]: the order is that of the rule, and where the
-//!   entries are those of a queue's waiting jobs (`IsIndexOf`), the first that may be started is the next job of the queue,
-//!   if the queue is free; where there is none, none is eligible.
-//! - The deadlines of a queue: [`Deadlines::first_before`] names a job whose moment is below the given one (`found`), and none
-//!   exactly where no moment is (`none`). Adding and taking away change what is there by that one (`items`).
+//! - *ExactChoice* for a queue: [`next_job`] returns the next job (`chosen`, by `IsNextJob`), and None exactly if no
+//!   job is eligible (`none`). [`beats`] is the order of the rule (`beats_job`). Neither requires that the rows are
+//!   sorted or that their numbers differ.
+//! - [`order_law`]: the order is strict (`irreflexive`, `transitive`), and of two jobs with different numbers one beats
+//!   the other (`connected`). So at most one next job exists (`only`), and a test of a single job (`next_in`)
+//!   identifies it (`tested`). The test reads all jobs for each job that it tests, so programs call [`next_job`] or
+//!   [`Index::next`] instead.
+//! - *ExactChoice* by an index: [`Index::jobs`] yields the numbers of the entries (`numbers`), each of which comes
+//!   before all later ones (`order`, by `InOrder`). [`Index::next`] is the first one that may be started (`chosen`,
+//!   `none`). [`index_law`]: the order is that of the rule (`order`, `startable`). If the entries are those of a
+//!   queue's waiting jobs (`IsIndexOf`) and the queue is free, the first one that may be started is the next job of the
+//!   queue (`next`). If there is none, no job is eligible (`none`).
+//! - The entries of an index are exactly those added and not removed: `items` of [`Index::insert`], [`Index::remove`]
+//!   and [`Index::replace`]. [`Index::new`] has no entries, and [`Index::of_entries`] has the given ones.
+//!   [`Index::advance`] changes only the moment (`items`). [`Index::len`] and [`Index::moment`] return its parts, and
+//!   [`Index::entry`] the entry of a job (`found`, `absent`). [`Entry::of_job`] is the entry of a waiting job,
+//!   [`Entry::goes_before`] the order, and [`Entry::is_startable`] whether the job may be started.
+//! - [`Deadlines::first_before`] returns a job whose moment is before the given one (`found`), and None exactly if no
+//!   deadline is (`none`). The deadlines are exactly those added and not removed: `items` of [`Deadlines::insert`],
+//!   [`Deadlines::remove`] and [`Deadlines::of_items`]. [`Deadlines::new`] has none. [`Deadlines::len`] and
+//!   [`Deadlines::room`] return its parts.
 //!
-//! # What an index keeps
+//! # Not proved
 //!
-//! 1. Its entries stand in the order of their turns. One that is taken away is marked where it stands, as gone.
-//! 2. Those that may be started now stand in a list of their own, in the same order and the same way.
-//! 3. Until the due moment no other entry may be started, and where there is no due moment, none ever will. So a moment
-//!    before it changes no list.
-//! 4. Each of the two lists has the index's room, since all entries may come to be ones that may be started.
-//! 5. In neither list more are gone than there, and the first isn't gone.
+//! - That [`Index::of_entries`] is out of memory only if memory ran out: a body that always reports it meets its
+//!   clauses. Tests refuse such a body.
 //!
-//! # What deadlines keep
+//! # Invariants
 //!
-//! 1. Each comes before all later ones: by the moment, and of one moment by the number of the job (`InTurn`).
-//! 2. The list has the room that is told.
+//! Of an index:
 //!
-//! # Cost and faults
+//! 1. The entries are in order. A removed entry keeps its slot, which is marked as gone. An entry that is added again
+//!    with the same order takes its old slot.
+//! 2. The entries that may be started now are in a second list of the same kind, in the same order. A hold or a release
+//!    replaces the entry in its slot ([`Index::replace`]), and changes only the second list.
+//! 3. Before the due moment no other entry may be started. If there is no due moment, no other entry ever may. So a
+//!    moment before it changes no list.
+//! 4. Each of the two lists has the room of the index, because all entries may become startable.
+//! 5. In each list at most half of the slots are gone, and the first slot is not.
 //!
-//! The choice among rows reads each row at most twice and takes no memory. It can't fail. It asks nothing of the rows:
-//! neither their order nor that their numbers differ.
+//! Of deadlines:
 //!
-//! The choice of an index looks at one entry. Adding and taking away find their place by binary search. Adding moves the
-//! entries before it or behind it, whichever are fewer. Taking away moves none, and an entry whose job keeps its turn is
-//! replaced where it stands. The gone ones are let go in one pass once they are more than the others, or where a new entry finds
-//! no free slot. Each list has half as many slots more than its room, so either comes only after many have gone, and each of
-//! these bears a few moves. A moment before the due one looks at none, and any other goes through all.
-//! [`Index::of_entries`] sorts its entries once. Only that and [`Index::reserve`] take memory, and where `reserve` fails, the
-//! index is as before.
+//! 1. Each deadline comes before all later ones: by the moment, and for the same moment by the number of the job
+//!    (`InTurn`).
+//! 2. The list has the room that it reports.
 //!
-//! To tell whether a deadline has passed, the first one alone is looked at. Adding and taking away find their place by binary
-//! search and move the deadlines before it or behind it, whichever are fewer. [`Deadlines::of_items`] sorts them once. Only
-//! [`Deadlines::reserve`] takes memory, and where it fails, the deadlines are as before.
+//! # Errors
+//!
+//! Only [`Index::of_entries`], [`Index::reserve`] and [`Deadlines::reserve`] allocate, the last two only if room is
+//! missing (`ready`). They fail if memory runs out. After an error of `reserve` nothing has changed (`same`). Nothing
+//! else fails.
+//!
+//! # Cost
+//!
+//! - [`next_job`] reads each row at most twice and does not allocate.
+//! - [`Index::next`] reads one entry. Adding and removing find the position by binary search. Adding moves the entries
+//!   before it or after it, whichever are fewer. Removing moves none, and an entry with the same order is replaced in
+//!   its slot. All gone slots are deleted in one pass when they outnumber the others, or when a new entry finds no free
+//!   slot. Each list has 50 % more slots than its room, so either happens only after many removals, and a removal costs
+//!   a few moves on average. [`Index::advance`] reads no entry if the moment is before the due one, and all entries
+//!   otherwise. [`Index::of_entries`] sorts its entries once.
+//! - [`Deadlines::first_before`] reads only the first deadline. Adding and removing find the position by binary search,
+//!   and move the deadlines before it or after it, whichever are fewer. [`Deadlines::of_items`] sorts once.
 #![tactic(auto)]
 
 mod choice;

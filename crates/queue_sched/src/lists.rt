@@ -1,4 +1,4 @@
-//! What the lists of an index share.
+//! Functions that the lists of an index share.
 ghost use Rattle.std.specs.Prelude.{◌≡◌, ◌↔◌, ℕ, IsTrue, vec_capacity};
 ghost use Rattle.std.specs.List.Sorted.{IsPermutation};
 ghost use Rattle.queue_sched.specs.WaitingIndex.{HasEachOnce, InOrder};
@@ -7,7 +7,7 @@ ghost use Rattle.queue_sched.specs.Lists.{IsBefore};
 use crate::entry::Entry;
 use spool_types::Moment;
 
-// Puts the entries in the order of their turns.
+// Sorts the entries.
 pub(crate) fn sort(entries: &mut Vec<Entry>)
     requires { HasEachOnce entries.old.items }
     ensures order { InOrder entries.new.items }
@@ -17,7 +17,7 @@ pub(crate) fn sort(entries: &mut Vec<Entry>)
     entries.sort_unstable_by(|entry, other| entry.turn(other));
 }
 
-// Whether the moment is before the due one, if there is one.
+// Returns whether the moment is before the due one, or there is no due one.
 pub(crate) fn is_before(moment: Moment, due: Option<Moment>) -> bool
     ensures { IsTrue result ↔ IsBefore moment due }
 {
@@ -27,7 +27,7 @@ pub(crate) fn is_before(moment: Moment, due: Option<Moment>) -> bool
     }
 }
 
-// What is before the result is before both.
+// Every moment before the result is before both.
 pub(crate) fn sooner(due: Option<Moment>, start: Option<Moment>) -> Option<Moment>
     ensures { (m : ℕ) → IsBefore m result → IsBefore m due × IsBefore m start }
 {

@@ -1,4 +1,5 @@
-//! The slots of a list of turns. An entry that was taken away keeps its slot until the gone ones are let go together.
+//! The slots of a list of entries in order. An entry that was removed keeps its slot until all gone slots are deleted
+//! together.
 ghost use Rattle.std.specs.Prelude.{◌≡◌, ◌<◌, ◌≤◌, ◌+◌, ◌*◌, ◌&&◌, ◌==◌, true, false, not, length, map, slice_index_or, IfSome};
 ghost use Rattle.std.specs.Option.{IsNone, option_copied};
 ghost use Rattle.std.specs.List.{filter, AllWithin, Contains};
@@ -15,30 +16,30 @@ use crate::lists::sooner;
 use spool_types::{JobId, Moment};
 use std::collections::VecDeque;
 
-/// An entry in its place.
+/// An entry at its position.
 #[derive(Clone, Copy)]
 pub(crate) struct Slot {
     pub entry: Entry,
-    /// Whether the entry was taken away.
+    /// Whether the entry was removed.
     pub gone: bool,
 }
 
 impl Slot {
-    // Whether its entry is there and may be started now.
+    // Returns whether the slot is not gone and its entry may be started now.
     fn is_ready(&self, now: Moment) -> bool
         ensures { result ≡ (is_there self.now && is_startable now self.now.entry) }
     {
         !self.gone && self.entry.is_startable(now)
     }
 
-    // Whether its entry is there and may not be started now.
+    // Returns whether the slot is not gone and its entry may not be started now.
     fn is_waiting(&self, now: Moment) -> bool
         ensures { result ≡ (is_there self.now && not (is_startable now self.now.entry)) }
     {
         !self.gone && !self.entry.is_startable(now)
     }
 
-    // Whether its entry is there and is this job's.
+    // Returns whether the slot is not gone and its entry is that of this job.
     fn is_of(&self, id: JobId) -> bool
         ensures { result ≡ (is_there self.now && (self.now.entry.id == id)) }
     {
@@ -46,7 +47,7 @@ impl Slot {
     }
 }
 
-// How many slots come before the entry's place.
+// Returns the position of the entry: the number of slots that come before it.
 fn place_of(slots: &VecDeque<Slot>, entry: &Entry) -> usize
     requires { InSlotOrder slots.now.items }
     ensures in_range { result ≤ length slots.now.items }
@@ -56,7 +57,7 @@ fn place_of(slots: &VecDeque<Slot>, entry: &Entry) -> usize
     slots.partition_point(|slot| slot.entry.goes_before(entry))
 }
 
-// Whether there is a slot at the place before which the entry doesn't go.
+// Returns whether the slot at the position exists and the entry does not come before it.
 fn is_held(slots: &VecDeque<Slot>, at: usize, entry: &Entry) -> bool
     ensures held { result ≡ true → (at < length slots.now.items) × ((d : Slot) → goes_before entry.now (slice_index_or slots.now.items at d).entry ≡ false) }
     ensures open { result ≡ false → at < length slots.now.items → (d : Slot) → goes_before entry.now (slice_index_or slots.now.items at d).entry ≡ true }
@@ -67,7 +68,8 @@ fn is_held(slots: &VecDeque<Slot>, at: usize, entry: &Entry) -> bool
     }
 }
 
-// Adds an entry where it goes. Where the slot of a gone one has its turn, that one takes it, and no other moves.
+// Inserts an entry in order. If a gone slot has the same mark, priority and number, the entry takes that slot again,
+// and no other slot moves.
 pub(crate) fn put_slot(slots: &mut VecDeque<Slot>, entry: Entry)
     requires order { InSlotOrder slots.old.items }
     requires room { length slots.old.items < deque_capacity slots.old }
@@ -83,13 +85,13 @@ pub(crate) fn put_slot(slots: &mut VecDeque<Slot>, entry: Entry)
     if is_held(slots, at, &entry) {
         slots[at] = slot;
     } else {
-        // The prover gives the deque an entry only where the type of each field is seen.
+        // The prover passes the entry to the deque only if it sees the type of each field.
         let _hold = entry.hold;
         slots.insert(at, slot).unwrap();
     }
 }
 
-// Marks the slot of an entry that is there. No slot moves.
+// Marks the slot of an existing entry as gone. No slot moves.
 pub(crate) fn take_slot(slots: &mut VecDeque<Slot>, entry: &Entry)
     requires order { InSlotOrder slots.old.items }
     requires there { Contains (items_of slots.old.items) entry.now }
@@ -105,7 +107,7 @@ pub(crate) fn take_slot(slots: &mut VecDeque<Slot>, entry: &Entry)
     };
 }
 
-// Puts an entry in the slot of one that has the same turn. No slot moves.
+// Replaces an entry by one with the same order. No slot moves.
 pub(crate) fn exchange_slot(slots: &mut VecDeque<Slot>, from: &Entry, to: Entry)
     requires order { InSlotOrder slots.old.items }
     requires there { Contains (items_of slots.old.items) from.now }
@@ -123,7 +125,7 @@ pub(crate) fn exchange_slot(slots: &mut VecDeque<Slot>, from: &Entry, to: Entry)
     };
 }
 
-// Lets go the slots at the front whose entries are gone, so that the first one's entry is there.
+// Deletes the gone slots at the front, so that the first slot is not gone.
 fn trim(slots: &mut VecDeque<Slot>)
     ensures items { items_of slots.new.items ≡ items_of slots.old.items }
     ensures order { InSlotOrder slots.old.items → InSlotOrder slots.new.items }
@@ -139,7 +141,7 @@ fn trim(slots: &mut VecDeque<Slot>)
     }
 }
 
-// Lets go all slots whose entries are gone.
+// Deletes all gone slots.
 fn sweep(slots: &mut VecDeque<Slot>)
     ensures items { slots.new.items ≡ filter is_there slots.old.items }
     ensures capacity { deque_capacity slots.new ≡ deque_capacity slots.old }
@@ -147,7 +149,7 @@ fn sweep(slots: &mut VecDeque<Slot>)
     slots.retain(|slot| !slot.gone);
 }
 
-// Where no slot is free, lets go those of gone ones. It takes no memory.
+// Deletes the gone slots if no slot is free. Does not allocate.
 pub(crate) fn free_slot(slots: &mut VecDeque<Slot>)
     ensures items { items_of slots.new.items ≡ items_of slots.old.items }
     ensures order { InSlotOrder slots.old.items → InSlotOrder slots.new.items }
@@ -161,7 +163,7 @@ pub(crate) fn free_slot(slots: &mut VecDeque<Slot>)
     }
 }
 
-// Lets go those of gone ones at the front, and all of them where they are more than the others.
+// Deletes the gone slots at the front, and all gone slots if they outnumber the others.
 pub(crate) fn let_go(slots: &mut VecDeque<Slot>, len: usize)
     requires { length (items_of slots.old.items) ≡ len }
     ensures items { items_of slots.new.items ≡ items_of slots.old.items }
@@ -176,7 +178,7 @@ pub(crate) fn let_go(slots: &mut VecDeque<Slot>, len: usize)
     }
 }
 
-// The slots of these entries.
+// Replaces the slots by those of these entries.
 pub(crate) fn fill_slots(slots: &mut VecDeque<Slot>, entries: &[Entry])
     requires { length entries.now ≤ deque_capacity slots.old }
     ensures items { slots.new.items ≡ map there_of entries.now }
@@ -191,7 +193,7 @@ pub(crate) fn fill_slots(slots: &mut VecDeque<Slot>, entries: &[Entry])
     }
 }
 
-// The slots of those that are there and may be started now.
+// Replaces the slots by those of the entries that may be started now.
 pub(crate) fn pick_ready(slots: &mut VecDeque<Slot>, all: &VecDeque<Slot>, now: Moment)
     requires { length (items_of all.now.items) ≤ deque_capacity slots.old }
     ensures items { slots.new.items ≡ filter (λ s. is_there s && is_startable now s.entry) all.now.items }
@@ -205,7 +207,7 @@ pub(crate) fn pick_ready(slots: &mut VecDeque<Slot>, all: &VecDeque<Slot>, now: 
     }
 }
 
-// The moment until which no other one may be started, if there are others that will be.
+// Returns the moment until which no other entry may be started, or None if no other entry ever will be.
 pub(crate) fn due_of(slots: &VecDeque<Slot>, now: Moment) -> Option<Moment>
     ensures { IsSameUntil (items_of slots.now.items) now result }
 {
@@ -218,7 +220,7 @@ pub(crate) fn due_of(slots: &VecDeque<Slot>, now: Moment) -> Option<Moment>
     due
 }
 
-// The entry of the job of this number, if it is there.
+// Returns the entry of the job of this number, if it is in the list.
 pub(crate) fn find(slots: &VecDeque<Slot>, id: JobId) -> Option<&Entry>
     ensures found { IfSome (option_copied result) (λ e. Contains (items_of slots.now.items) e × (e.id ≡ id)) }
     ensures absent { IsNone result → LacksJob (items_of slots.now.items) id }

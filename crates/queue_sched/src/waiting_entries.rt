@@ -1,4 +1,3 @@
-//! Entries in the order of their turns.
 ghost use Rattle.std.specs.Prelude.{◌≡◌, ◌<◌, ◌≤◌, true, false, [], length, map, slice_get, OnOk, IfOk, IfSome};
 ghost use Rattle.std.specs.Option.{IsNone, option_copied};
 ghost use Rattle.std.specs.List.{filter, Contains};
@@ -17,12 +16,12 @@ use std::alloc::{AllocError, Global};
 use std::collections::VecDeque;
 use std::marker::Model;
 
-/// Entries in the order of their turns, of which any may be taken away without a move of the others.
+/// Entries in order. Removing an entry moves no other.
 #[derive(Drop)]
 pub(crate) struct WaitingEntries {
-    // Those that were taken away too, but never more of them than are there, and none in front.
+    // Includes gone slots. At most half of the slots are gone, and the first one is not.
     slots: VecDeque<Slot>,
-    // How many are there.
+    // The number of entries.
     len: usize,
 }
 
@@ -39,7 +38,7 @@ impl Model for WaitingEntries {
 }
 
 impl WaitingEntries {
-    // None. It takes no memory.
+    // Returns a list without entries. Does not allocate.
     pub(crate) fn new(alloc: Global) -> WaitingEntries
         ensures { result.items ≡ [] }
     {
@@ -49,7 +48,7 @@ impl WaitingEntries {
         }
     }
 
-    // None, with room for so many.
+    // Returns a list without entries, with room for `room` entries.
     pub(crate) fn with_room(alloc: Global, room: usize) -> Result<WaitingEntries, AllocError>
         ensures items { IfOk result (λ t. t.items ≡ []) }
         ensures room { IfOk result (λ t. room ≤ t.room) }
@@ -58,7 +57,7 @@ impl WaitingEntries {
         Ok(WaitingEntries { slots, len: 0 })
     }
 
-    // Makes it these, which are in order.
+    // Replaces the entries by these, which are in order.
     pub(crate) fn fill(&mut self, entries: &[Entry])
         requires order { InOrder entries.now }
         requires room { length entries.now ≤ self.old.room }
@@ -69,7 +68,7 @@ impl WaitingEntries {
         self.len = entries.len();
     }
 
-    // Makes it those of another list that may be started now.
+    // Replaces the entries by the entries of another list that may be started now.
     pub(crate) fn fill_ready(&mut self, all: &WaitingEntries, now: Moment)
         requires { length all.now.items ≤ self.old.room }
         ensures items { self.new.items ≡ filter (is_startable now) all.now.items }
@@ -79,21 +78,21 @@ impl WaitingEntries {
         self.len = self.slots.len();
     }
 
-    // The numbers of their jobs, in their order.
+    // Returns the numbers of the jobs in order.
     pub(crate) fn jobs(&self) -> Jobs<'_>
         ensures { result ≡ map (λ e. e.id) self.now.items }
     {
         Jobs::of_slots(&self.slots)
     }
 
-    // How many there are.
+    // Returns the number of entries.
     pub(crate) fn len(&self) -> usize
         ensures { result ≡ length self.now.items }
     {
         self.len
     }
 
-    // The one whose turn is first. No other is looked at.
+    // Returns the first entry. Inspects no other.
     pub(crate) fn front(&self) -> Option<&Entry>
         ensures { option_copied result ≡ slice_get self.now.items 0 }
     {
@@ -101,7 +100,7 @@ impl WaitingEntries {
         Some(&slot.entry)
     }
 
-    // The entry of the job of this number, if it is there.
+    // Returns the entry of the job of this number, if it is in the list.
     pub(crate) fn find(&self, id: JobId) -> Option<&Entry>
         ensures found { IfSome (option_copied result) (λ e. Contains self.now.items e × (e.id ≡ id)) }
         ensures absent { IsNone result → LacksJob self.now.items id }
@@ -109,15 +108,15 @@ impl WaitingEntries {
         find(&self.slots, id)
     }
 
-    // The moment until which no other one may be started, if there are others that will be.
+    // Returns the moment until which no other entry may be started, or None if no other entry ever will be.
     pub(crate) fn due(&self, now: Moment) -> Option<Moment>
         ensures { IsSameUntil self.now.items now result }
     {
         due_of(&self.slots, now)
     }
 
-    // Makes room for so many in all, and for half as many slots more: gone ones are let go for want of a slot only after
-    // that many more have gone.
+    // Reserves room for `count` entries in total, with 50 % more slots. So gone slots are deleted for lack of a free
+    // slot only after that many more removals.
     pub(crate) fn reserve(&mut self, count: usize) -> Result<(), AllocError>
         ensures room { OnOk result (count ≤ self.new.room) }
         ensures kept { self.old.room ≤ self.new.room }
@@ -127,7 +126,7 @@ impl WaitingEntries {
         self.slots.reserve(missing)
     }
 
-    // Adds one that isn't there. It takes no memory: where no slot is free, those that are gone are let go.
+    // Adds an entry that is not in the list. Does not allocate: if no slot is free, the gone slots are deleted.
     pub(crate) fn put(&mut self, entry: Entry)
         requires room { length self.old.items < self.old.room }
         requires absent { LacksJob self.old.items entry.id }
@@ -140,8 +139,8 @@ impl WaitingEntries {
         self.len += 1;
     }
 
-    // Takes away one that is there. No other moves, until those that are gone are more than those that are there: then
-    // they are let go together.
+    // Removes an existing entry. No other entry moves until more slots are gone than not. Then all gone slots are
+    // deleted.
     pub(crate) fn take(&mut self, entry: &Entry)
         requires { Contains self.old.items entry.now }
         ensures items { IsMore entry.now self.new.items self.old.items }
@@ -153,7 +152,7 @@ impl WaitingEntries {
         let_go(&mut self.slots, self.len);
     }
 
-    // Takes one away, if it may be started now and so is there.
+    // Removes an entry if it may be started now, which means that it is in the list.
     pub(crate) fn take_ready(&mut self, entry: &Entry, now: Moment)
         requires { is_startable now entry.now ≡ true → Contains self.old.items entry.now }
         ensures taken { is_startable now entry.now ≡ true → IsMore entry.now self.new.items self.old.items }
@@ -166,7 +165,7 @@ impl WaitingEntries {
         }
     }
 
-    // Puts another entry of a job in the place of the one that is there. Its turn stays, and no other moves.
+    // Replaces the entry of a job by one with the same order. No other entry moves.
     pub(crate) fn exchange(&mut self, from: &Entry, to: Entry)
         requires there { Contains self.old.items from.now }
         requires turn { (to.first ≡ from.now.first) × (to.priority ≡ from.now.priority) × (to.id ≡ from.now.id) }
@@ -178,7 +177,7 @@ impl WaitingEntries {
     }
 }
 
-// How many slots there are to be for so many entries.
+// Returns the number of slots for this number of entries.
 fn with_spare(count: usize) -> usize
     ensures { count ≤ result }
 {

@@ -1,4 +1,4 @@
--- Which value a name has once an attribute is set.
+-- The value of a name after an attribute is set.
 use Rattle.std.proofs.Common.{◌≡◌, ◌≢◌, ℕ, ◌<◌, Bool, true, false, cond, ◌||◌, List, [], ◌∷◌, length, Some, refl, sym, ap, ◌∙◌}
 use Rattle.std.specs.Prelude.{nat_lt}
 use Rattle.std.specs.declared.cmp.Ordering.TheVariants.{Less, Equal, Greater}
@@ -13,7 +13,7 @@ use Rattle.row_effects.specs.QueueAttributes.{name_of, set_attribute, value_at}
 use Rattle.row_effects.proofs.Keys.{compare, same, one_key, apart}
 use Rattle.row_effects.proofs.Kept.{kept_there, kept_below}
 
--- the first attribute has the name, or hasn't
+-- Whether the first attribute has the name.
 own : (a : Attribute) (kept : List Attribute) → value_at a.name (a ∷ kept) ≡ Some a.value
 own a kept = ap (λ b. option_map (λ (x : Attribute). x.value) (cond b (Some a) (find (λ (x : Attribute). same x.name a.name) kept))) ((bytes_eq-Decides a.name a.name).1 refl)
 
@@ -36,7 +36,7 @@ replaced kept a there = ap (value_at a.name) (kept_there name_of a kept there) �
 pub added : (kept : List Attribute) (a : Attribute) → length kept < most_kept → value_at a.name (set_attribute kept a) ≡ Some a.value
 added kept a lt = ap (value_at a.name) (kept_below name_of a kept lt) ∙ value_with a kept
 
--- the name of one attribute only was asked
+-- Only the name of one attribute was compared.
 asked : (z : Attribute) (name : List ℕ) (kept left : List Attribute) → value_at name kept ≡ value_at name left → value_at name (z ∷ kept) ≡ value_at name (z ∷ left)
 asked z name kept left e = by (same z.name name) e
   where

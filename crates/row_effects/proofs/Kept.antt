@@ -1,4 +1,4 @@
--- What is kept of a list in ascending order when an item is put in its place, where there are as many as are kept or not.
+-- The result of inserting an item into a list in ascending order, whether or not the list is full.
 use Rattle.std.proofs.Common.{◌≡◌, ℕ, suc, ◌<◌, ◌≤◌, Bool, true, false, cond, ◌||◌, List, [], ◌∷◌, length, set, refl, sym, ap, subst, ◌∙◌, arith}
 use Rattle.std.specs.Prelude.{nat_lt}
 use Rattle.std.specs.List.{insert, filter}
@@ -28,7 +28,7 @@ module _ {Y : Type 0} (key : Y → List ℕ) where
   pub kept_dropped : (ys : List Y) (y : Y) (i : ℕ) → IsGap key ys (key y) i → most_kept ≤ length ys → with_kept key y ys ≡ ys
   kept_dropped ys y i gap le = kept_full y ys (has_gap key ys (key y) i gap) le
 
-  -- the order is kept
+  -- The order is preserved.
   pub ascends_kept : (y : Y) (ys : List Y) → is_ascending key ys ≡ true → is_ascending key (with_kept key y ys) ≡ true
   ascends_kept y ys h = elim (has_key key (key y) ys || nat_lt (length ys) most_kept) as (λ b. is_ascending key (chosen y ys b) ≡ true) [ true ↦ ascends_with key y ys h | false ↦ h ]
 
@@ -36,7 +36,7 @@ module _ {Y : Type 0} (key : Y → List ℕ) where
   few_of true n le room = le
   few_of false n le room = let lt = ltb-true n most_kept room in omega arith
 
-  -- there are no more than are kept
+  -- The list has at most 64 items.
   pub few_kept : (y : Y) (ys : List Y) → is_ascending key ys ≡ true → length ys ≤ most_kept → length (with_kept key y ys) ≤ most_kept
   few_kept y ys h le = elim (has_key key (key y) ys || nat_lt (length ys) most_kept) as (λ b. (has_key key (key y) ys || nat_lt (length ys) most_kept) ≡ b → length (chosen y ys b) ≤ most_kept) [
     | true ↦ λ room. subst (λ n. n ≤ most_kept) (sym (length_with key y ys h)) (few_of (has_key key (key y) ys) (length ys) le room)

@@ -1,5 +1,4 @@
--- Lists in ascending order of their keys: what a search finds in one, and what an item that is put in its place or left out
--- changes.
+-- Lists in ascending order of their keys: the result of a search, and the effect of inserting or removing an item.
 use Rattle.std.proofs.Common.{◌≡◌, ℕ, zero, suc, ◌+◌, ◌<◌, ◌≤◌, Bool, true, false, cond, not, ◌||◌, List, [], ◌∷◌, length, get_or, set, Result, Ok, Err, IfOk, IfErr, inl, inr, refl, sym, ap, subst, ◌∙◌, arith}
 use Rattle.std.specs.Prelude.{nat_eq}
 use Rattle.std.specs.declared.cmp.Ordering.{Ordering}
@@ -31,7 +30,7 @@ less_from Greater h = absurd (cc)
 turned : (a b : List ℕ) (r : Ordering) → compare a b ≡ r → compare b a ≡ ordering_reverse r
 turned a b r e = nat_list_cmp_total.antisymm b a ∙ ap ordering_reverse e
 
--- keys that tie are one
+-- Keys that compare as equal are equal.
 pub one_key : (a b : List ℕ) → compare a b ≡ Equal → a ≡ b
 one_key a b e = (bytes_eq-Decides a b).0 (texts_ties a b ∙ ap is_eq e)
 
@@ -86,7 +85,7 @@ module _ {Y : Type 0} (key : Y → List ℕ) where
         | Greater ↦ and_from _ _ both.0 rest
       ]
 
-  -- an item in its place keeps the order
+  -- Inserting an item preserves the order.
   pub ascends_with : (y : Y) (ys : List Y) → is_ascending key ys ≡ true → is_ascending key (with_item key y ys) ≡ true
   ascends_with y [] h = refl
   ascends_with y (z ∷ zs) h =
@@ -105,7 +104,7 @@ module _ {Y : Type 0} (key : Y → List ℕ) where
       let rest = below_filter k p zs both.1 in
       elim (p z) as (λ b. below k (cond b (z ∷ filter p zs) (filter p zs)) ≡ true) [ true ↦ and_from _ _ both.0 rest | false ↦ rest ]
 
-  -- so does leaving items out
+  -- Removing items preserves the order.
   pub ascends_filter : (p : Y → Bool) (ys : List Y) → is_ascending key ys ≡ true → is_ascending key (filter p ys) ≡ true
   ascends_filter p [] h = refl
   ascends_filter p (z ∷ zs) h =
@@ -113,11 +112,11 @@ module _ {Y : Type 0} (key : Y → List ℕ) where
       let rest = ascends_filter p zs both.1 in
       elim (p z) as (λ b. is_ascending key (cond b (z ∷ filter p zs) (filter p zs)) ≡ true) [ true ↦ and_from _ _ (below_filter (key z) p zs both.0) rest | false ↦ rest ]
 
-  -- a key below all is not there
+  -- A key below all keys does not occur.
   pub absent_below : (k : List ℕ) (ys : List Y) → below k ys ≡ true → has_key key k ys ≡ false
   absent_below k ys h = list_any_none (λ y. same (key y) k) ys (λ j d lt. apart k _ Less (below_each k ys h j d lt))
 
-  -- one more, where the key is new
+  -- One more item, if the key is new.
   pub length_with : (y : Y) (ys : List Y) → is_ascending key ys ≡ true → length (with_item key y ys) ≡ cond (has_key key (key y) ys) (length ys) (suc (length ys))
   length_with y [] h = refl
   length_with y (z ∷ zs) h =
@@ -131,7 +130,7 @@ module _ {Y : Type 0} (key : Y → List ℕ) where
         | Greater ↦ λ p. ap suc rest ∙ lifted there (length zs) ∙ sym (ap (λ b. long b there) (apart (key y) (key z) Greater p))
       ] refl
 
-  -- the keys that were there, and the new one
+  -- The old keys and the new one.
   pub has_with : (y : Y) (ys : List Y) (k : List ℕ) → has_key key k (with_item key y ys) ≡ (has_key key k ys || same (key y) k)
   has_with y [] k = or_turned (same (key y) k) false false
   has_with y (z ∷ zs) k =
@@ -142,18 +141,18 @@ module _ {Y : Type 0} (key : Y → List ℕ) where
         | Greater ↦ λ p. ap (λ b. same (key z) k || b) rest ∙ or_joined (same (key z) k) (has_key key k zs) (same (key y) k)
       ] refl
 
-  -- the keys rise
+  -- The keys are in ascending order.
   rise : (ys : List Y) → is_ascending key ys ≡ true → (i j : ℕ) (d : Y) → i < j → j < length ys → compare (key (get_or ys i d)) (key (get_or ys j d)) ≡ Less
   rise [] h i j d lt in_range = absurd (omega arith)
   rise (y ∷ ys) h i zero d lt in_range = absurd (omega arith)
   rise (y ∷ ys) h zero (suc j) d lt in_range = below_each (key y) ys (and_parts _ _ h).0 j d (omega arith)
   rise (y ∷ ys) h (suc i) (suc j) d lt in_range = rise ys (and_parts _ _ h).1 i j d (omega arith) (omega arith)
 
-  -- so a binary search may look for any key
+  -- So binary search works for every key.
   searchable : (ys : List Y) → is_ascending key ys ≡ true → (k : List ℕ) → IsNonDecreasingBy (λ y. ordering_index (compare (key y) k)) ys
   searchable ys h k = searchable_from_sorted nat_list_cmp_total key ys k (λ i d low high. ap is_lt (turned (key (get_or ys i d)) (key (get_or ys (i + 1) d)) Less (rise ys h i (i + 1) d (omega arith) high)))
 
-  -- what it answers is the key's place, or the gap for it
+  -- Binary search returns the key's position, or the gap for it.
   pub searched : (ys : List Y) → is_ascending key ys ≡ true → (k : List ℕ) (r : Result ℕ ℕ) → IsSearchInRange r (length ys) → IsBinarySearchResult (λ y. compare (key y) k) ys r → record { found : IfOk r (IsPosition key ys k); absent : IfErr r (IsGap key ys k) }
   searched ys h k (Ok at) in_range equal = record { found = record { in_range = in_range; same = λ d. one_key _ _ (equal d) }; absent = tt }
   searched ys h k (Err at) in_range parted = record {
@@ -163,12 +162,12 @@ module _ {Y : Type 0} (key : Y → List ℕ) where
         record { in_range = in_range; before = λ j d lt. p.0 j d (omega arith) lt; behind = λ j d le lt. p.1 j d le lt };
   }
 
-  -- a key that has a place is there
+  -- A key with a position occurs.
   pub has_place : (ys : List Y) (k : List ℕ) (i : ℕ) → IsPosition key ys k i → has_key key k ys ≡ true
   has_place [] k i at = absurd (omega (arith, at.in_range))
   has_place (y ∷ ys) k i at = list_any_at (λ z. same (key z) k) (y ∷ ys) i y at.in_range ((bytes_eq-Decides _ _).1 (at.same y))
 
-  -- one that has a gap isn't
+  -- A key with a gap does not occur.
   pub has_gap : (ys : List Y) (k : List ℕ) (i : ℕ) → IsGap key ys k i → has_key key k ys ≡ false
   has_gap ys k i gap = list_any_none (λ y. same (key y) k) ys (λ j d lt. elim (cases_lt j i) [
     | inl under ↦ texts_ties (key (get_or ys j d)) k ∙ ap is_eq (gap.before j d under)
@@ -183,7 +182,7 @@ module _ {Y : Type 0} (key : Y → List ℕ) where
       ap (λ r. by_order r (y ∷ z ∷ zs) (y ∷ zs) (z ∷ with_item key y zs)) (before 0 z (omega arith))
       ∙ ap (λ ws. z ∷ ws) (gap_from zs y i (omega arith) (λ j d lt. before (suc j) d (omega arith)) (λ j d le lt. behind (suc j) d (omega arith) (omega arith)))
 
-  -- a new item goes into its gap
+  -- A new item is inserted at its gap.
   pub with_gap : (ys : List Y) (y : Y) (i : ℕ) → IsGap key ys (key y) i → with_item key y ys ≡ insert ys i y
   with_gap ys y i gap = gap_from ys y i gap.in_range (λ j d lt. turned (key (get_or ys j d)) (key y) Less (gap.before j d lt)) (λ j d le lt. turned (key (get_or ys j d)) (key y) Greater (gap.behind j d le lt))
 
@@ -194,11 +193,11 @@ module _ {Y : Type 0} (key : Y → List ℕ) where
       ap (λ r. by_order r (y ∷ z ∷ zs) (y ∷ zs) (z ∷ with_item key y zs)) (before 0 (omega arith))
       ∙ ap (λ ws. z ∷ ws) (place_from zs y i d (omega arith) is (λ j l. before (suc j) (omega arith)))
 
-  -- an item whose key is there takes its place
+  -- An item with an existing key replaces the item at its position.
   pub with_place : (ys : List Y) → is_ascending key ys ≡ true → (y : Y) (i : ℕ) → IsPosition key ys (key y) i → with_item key y ys ≡ set ys i y
   with_place ys h y i at = place_from ys y i y at.in_range (at.same y) (λ j lt. turned (key (get_or ys j y)) (key y) Less (subst (λ k. compare (key (get_or ys j y)) k ≡ Less) (at.same y) (rise ys h j i y lt at.in_range)))
 
-  -- leaving out a key that isn't there changes nothing
+  -- Removing a key that does not occur changes nothing.
   pub without_absent : (k : List ℕ) (ys : List Y) → has_key key k ys ≡ false → filter (λ y. not (same (key y) k)) ys ≡ ys
   without_absent k [] h = refl
   without_absent k (z ∷ zs) h =
@@ -206,7 +205,7 @@ module _ {Y : Type 0} (key : Y → List ℕ) where
       ap (λ b. cond (not b) (z ∷ filter (λ y. not (same (key y) k)) zs) (filter (λ y. not (same (key y) k)) zs)) both.0
       ∙ ap (λ ws. z ∷ ws) (without_absent k zs both.1)
 
-  -- leaving out one that is there removes the item at its place
+  -- Removing a key that occurs removes the item at its position.
   pub without_place : (ys : List Y) → is_ascending key ys ≡ true → (k : List ℕ) (i : ℕ) → IsPosition key ys k i → filter (λ y. not (same (key y) k)) ys ≡ remove ys i
   without_place [] h k i at = absurd (omega (arith, at.in_range))
   without_place (y ∷ ys) h k zero at =

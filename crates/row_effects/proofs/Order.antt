@@ -1,4 +1,4 @@
--- A queue stays in order, whatever effects come.
+-- A queue stays in order, whatever the effects.
 use Rattle.std.proofs.Common.{◌≡◌, ℕ, ◌≤◌, true, List, [], ◌∷◌, length, refl, arith}
 use Rattle.spool_types.specs.declared.effect.Attribute as attributes
 use Rattle.spool_types.specs.declared.effect.Effect.{Effect}

@@ -1,4 +1,4 @@
--- Pages that are added up.
+-- The sum of pages.
 use Rattle.std.proofs.Common.{◌≡◌, ℕ, ◌+◌, ◌≤◌, min, true, List, [], ◌∷◌, refl, sym, ap, ◌∙◌, arith, zero-add}
 use Rattle.std.proofs.lemmas.List.Sums.{sum_by-cons}
 use Rattle.std.specs.List.{list_all, sum_by}
@@ -12,7 +12,7 @@ summed effects pages = min (pages + sum_by copies_of effects) greatest_pages
 capped : (pages copies more most : ℕ) → min (min (pages + copies) most + more) most ≡ min (pages + (copies + more)) most
 capped pages copies more most = omega arith
 
--- the copies of one effect and of the others
+-- The copies of one effect and of the others.
 one_more : (effect : Effect) (effects : List Effect) (pages : ℕ) → min (pages + (copies_of effect + sum_by copies_of effects)) greatest_pages ≡ summed (effect ∷ effects) pages
 one_more effect effects pages = ap (λ n. min (pages + n) greatest_pages) (sym (sum_by-cons copies_of effect effects))
 

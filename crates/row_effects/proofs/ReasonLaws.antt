@@ -1,4 +1,4 @@
--- Which words are among the reasons once words are added or dropped.
+-- The words among the reasons after words were added or dropped.
 use Rattle.std.proofs.Common.{◌≡◌, ℕ, zero, suc, ◌-◌, Bool, true, false, cond, not, ◌&&◌, ◌||◌, List, [], ◌∷◌, length, take, inl, inr, refl, sym, ap, ◌∙◌, arith}
 use Rattle.std.specs.declared.cmp.Ordering.TheVariants.{Less, Equal, Greater}
 use Rattle.std.specs.FinMap.Entries.{by_order}
@@ -10,7 +10,7 @@ use Rattle.row_effects.specs.QueueReasons.{word_of, has_word, add_reasons, drop_
 use Rattle.row_effects.proofs.Keys.{compare, same, one_key, apart, below_less, absent_below, has_with, length_with, ascends_with}
 use Rattle.row_effects.proofs.Kept.{kept_there, kept_below, kept_full}
 
--- a word that is there changes nothing
+-- An existing word changes nothing.
 with_known : (word : List ℕ) (words : List (List ℕ)) → is_ascending word_of words ≡ true → has_word word words ≡ true → with_item word_of word words ≡ words
 with_known word [] h there = absurd (cc)
 with_known word (z ∷ zs) h there =
@@ -22,7 +22,7 @@ with_known word (z ∷ zs) h there =
       | Greater ↦ λ p. ap (λ ws. z ∷ ws) (rest (sym (ap (λ b. b || has_word word zs) (apart word z Greater p)) ∙ there))
     ] refl
 
--- only which words were seen counts
+-- Only the set of words seen matters.
 new_alike : (seen known : List (List ℕ)) → ((word : List ℕ) → has_word word seen ≡ has_word word known) → (words : List (List ℕ)) → new_words seen words ≡ new_words known words
 new_alike seen known alike [] = refl
 new_alike seen known alike (word ∷ words) =
@@ -45,7 +45,7 @@ and_swapped true false = refl
 and_swapped false true = refl
 and_swapped false false = refl
 
--- among the first so many of the words
+-- The word is among the first `count` words.
 abbrev is_first : List ℕ → ℕ → List (List ℕ) → Bool
 is_first word count words = has_word word (take count words)
 

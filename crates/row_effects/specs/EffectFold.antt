@@ -1,4 +1,4 @@
--- What the effects of a child's standard error (filter(7)) make of a job's pages and of its queue, one after another.
+-- The effects of a child's standard error (filter(7)) on a job's pages and on its queue, in order.
 use Rattle.std.specs.Prelude.{ℕ, ◌+◌, ◌≤◌, Bool, true, false, min, IsTrue, List, length, fold}
 use Rattle.spool_types.specs.declared.effect.Attribute as attributes
 use Rattle.spool_types.specs.declared.effect.Effect.{Effect}
@@ -8,7 +8,7 @@ use Rattle.row_effects.specs.Keys.{is_ascending, most_kept}
 use Rattle.row_effects.specs.QueueReasons.{word_of, add_reasons, set_reasons, drop_reasons}
 use Rattle.row_effects.specs.QueueAttributes.{name_of, set_attribute}
 
--- the pages of a job
+-- The greatest number of pages of a job.
 abbrev pub greatest_pages : ℕ
 greatest_pages = 4294967295
 
@@ -17,7 +17,7 @@ pages_by pages (Pages page copies) = min (pages + copies) greatest_pages
 pages_by pages (TotalPages total) = total
 pages_by pages effect = pages
 
--- what adds pages, and how many
+-- Whether the effect is not a total, and the copies that an effect adds.
 abbrev pub is_pages : Effect → Bool
 is_pages (TotalPages total) = false
 is_pages effect = true
@@ -52,7 +52,7 @@ attributes_after effects kept = fold attributes_by kept effects
 abbrev pub message_after : List Effect → List ℕ → List ℕ
 message_after effects message = fold message_by message effects
 
--- nothing else of the queue changes
+-- Nothing else of the queue changes.
 abbrev pub queue_after : List Effect → QueueRow → QueueRow
 queue_after effects q = record q {
   reasons = reasons_after effects q.reasons;
@@ -60,7 +60,7 @@ queue_after effects q = record q {
   message = message_after effects q.message;
 }
 
--- reasons and attributes ascend, and are no more than are kept
+-- The reasons and the attributes are in ascending order, at most 64 of each.
 pub record IsInOrder (q : QueueRow) : Type 0 where
   pub reasons : IsTrue (is_ascending word_of q.reasons)
   pub few_reasons : length q.reasons ≤ most_kept

@@ -1,4 +1,4 @@
--- A queue's reasons, attributes and message while effects are folded into it.
+-- A queue's reasons, attributes and message while effects are folded in.
 use Rattle.std.specs.Prelude.{IsTrue, vec_capacity}
 use Rattle.row_effects.specs.declared.draft.Draft.{Draft}
 use Rattle.row_effects.specs.Keys.{is_ascending}
@@ -9,7 +9,7 @@ use Rattle.row_effects.specs.Room.{Room}
 abbrev pub room_of : Draft → Room
 room_of a = record { reasons = vec_capacity a.reasons; attributes = vec_capacity a.attributes }
 
--- reasons and attributes ascend
+-- The reasons and the attributes are in ascending order.
 pub record IsAscendingDraft (a : Draft) : Type 0 where
   pub reasons : IsTrue (is_ascending word_of a.reasons.items)
   pub attributes : IsTrue (is_ascending name_of a.attributes.items)

@@ -1,4 +1,4 @@
-//! Changes of reasons and of attributes, in place.
+//! Changes of reasons and of attributes in place.
 ghost use Rattle.std.specs.Prelude.{◌≡◌, ◌≤◌, [], ◌∷◌, IsTrue, IfOk, IfErr, vec_capacity};
 ghost use Rattle.row_effects.specs.Keys.{IsPosition, IsGap, is_ascending, most_kept};
 ghost use Rattle.row_effects.specs.QueueReasons.{word_of, set_reasons, add_reason, add_reasons, drop_reasons};
@@ -6,7 +6,7 @@ ghost use Rattle.row_effects.specs.QueueAttributes.{name_of, set_attribute};
 
 use spool_types::{Attribute, AttributeName, MOST_KEPT, Reason, Words};
 
-// Where the reason stands, or would go.
+// Returns the position of the reason, or as an error the position for a new one.
 fn reason_position(reasons: &[Reason], word: &Reason) -> Result<usize, usize>
     requires { IsTrue (is_ascending word_of reasons.now) }
     ensures found { IfOk result (IsPosition word_of reasons.now word.now) }
@@ -15,7 +15,7 @@ fn reason_position(reasons: &[Reason], word: &Reason) -> Result<usize, usize>
     reasons.binary_search(word)
 }
 
-// Where the attribute of this name stands, or would go.
+// Returns the position of the attribute of this name, or as an error the position for a new one.
 fn attribute_position(attributes: &[Attribute], name: &AttributeName) -> Result<usize, usize>
     requires { IsTrue (is_ascending name_of attributes.now) }
     ensures found { IfOk result (IsPosition name_of attributes.now name.now) }
@@ -24,7 +24,8 @@ fn attribute_position(attributes: &[Attribute], name: &AttributeName) -> Result<
     attributes.binary_search_by(|attribute| attribute.name.as_str().cmp(name.as_str()))
 }
 
-/// Adds the words in turn to no reasons. There is room for all that are kept, so it takes no memory.
+/// Replaces the reasons by the words, which are added in order. The vector has room for 64 reasons, so nothing is
+/// allocated.
 pub(super) fn set_reasons(reasons: &mut Vec<Reason>, words: Words)
     requires { most_kept ≤ vec_capacity reasons.old }
     ensures items { reasons.new.items ≡ set_reasons words }
@@ -35,7 +36,7 @@ pub(super) fn set_reasons(reasons: &mut Vec<Reason>, words: Words)
     add_reasons(reasons, words);
 }
 
-/// Adds the words in turn. There is room for all that are kept, so it takes no memory.
+/// Adds the words in order. The vector has room for 64 reasons, so nothing is allocated.
 pub(super) fn add_reasons(reasons: &mut Vec<Reason>, words: Words)
     requires ascending { IsTrue (is_ascending word_of reasons.old.items) }
     requires room { most_kept ≤ vec_capacity reasons.old }
@@ -62,7 +63,7 @@ fn add_reason(reasons: &mut Vec<Reason>, word: Reason)
     }
 }
 
-/// Drops the words from the reasons. Each is found by binary search.
+/// Drops the words from the reasons. Each word is found by binary search.
 pub(super) fn drop_reasons(reasons: &mut Vec<Reason>, words: &[Reason])
     requires { IsTrue (is_ascending word_of reasons.old.items) }
     ensures items { reasons.new.items ≡ drop_reasons words.now reasons.old.items }
@@ -85,7 +86,7 @@ fn drop_reason(reasons: &mut Vec<Reason>, word: &Reason)
     }
 }
 
-/// Sets the attribute. There is room for all that are kept, so it takes no memory.
+/// Sets the attribute. The vector has room for 64 attributes, so nothing is allocated.
 pub(super) fn set_attribute(attributes: &mut Vec<Attribute>, attribute: Attribute)
     requires ascending { IsTrue (is_ascending name_of attributes.old.items) }
     requires room { most_kept ≤ vec_capacity attributes.old }

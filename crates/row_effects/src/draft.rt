@@ -1,4 +1,4 @@
-//! What effects change of a queue, while they are folded into it.
+//! The parts of a queue that change while effects are folded in.
 ghost use Rattle.std.specs.Prelude.{◌≡◌, ◌≤◌, [], ◌∷◌};
 ghost use Rattle.row_effects.specs.EffectFold.{reasons_by, attributes_by, message_by, reasons_after, attributes_after, message_after};
 ghost use Rattle.row_effects.specs.Room.{HasRoom};
@@ -16,7 +16,7 @@ pub(super) struct Draft {
 }
 
 impl Draft {
-    /// Folds the effects into it, and takes no memory.
+    /// Folds in the effects. Does not allocate.
     pub(super) fn apply_all(&mut self, effects: Vec<Effect>)
         requires ascending { IsAscendingDraft self.old }
         requires room { HasRoom (room_of self.old) effects.items }

@@ -1,10 +1,9 @@
-//! The pages of a job.
 ghost use Rattle.std.specs.Prelude.{◌≡◌};
 ghost use Rattle.row_effects.specs.EffectFold.{pages_after, pages_by};
 
 use spool_types::Effect;
 
-/// The pages of a job that had so many before these effects.
+/// Returns the pages of a job after these effects. `pages` is the number before them.
 pub fn pages_after(pages: u32, effects: &[Effect]) -> u32
     ensures { result ≡ pages_after effects.now pages }
 {

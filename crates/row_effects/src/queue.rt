@@ -1,4 +1,4 @@
-//! The queue of a job.
+//! The effects on the queue of a job.
 ghost use Rattle.std.specs.Prelude.{◌≡◌, ◌≤◌, [], vec_len, vec_capacity};
 ghost use Rattle.row_effects.specs.Keys.{most_kept};
 ghost use Rattle.row_effects.specs.EffectFold.{queue_after, IsInOrder};
@@ -9,14 +9,14 @@ use crate::spare::Spare;
 use spool_types::{Effect, Items, MOST_KEPT, Message, QueueRow};
 use std::mem;
 
-/// Folds the effects into the queue, one after another. It takes no memory: words, names, values and texts are moved out
-/// of the effects, and the lists grow in what `spare` has set aside, for which the queue may give it a smaller one.
+/// Folds the effects into the queue, in order. Does not allocate: words, names, values and texts are moved out of the
+/// effects, and the lists grow in the memory of `spare`. `spare` may get a smaller vector of the queue in exchange.
 pub fn fold_queue(row: &mut QueueRow, spare: &mut Spare, effects: Vec<Effect>)
     requires order { IsInOrder row.old }
     requires room { HasRoom spare.old effects.items }
     ensures row { row.new ≡ queue_after effects.items row.old }
 
-    // No more is set aside than before.
+    // The spare room does not grow.
     ensures reasons { spare.new.reasons ≤ spare.old.reasons }
     ensures attributes { spare.new.attributes ≤ spare.old.attributes }
 {
@@ -34,7 +34,8 @@ pub fn fold_queue(row: &mut QueueRow, spare: &mut Spare, effects: Vec<Effect>)
     row.message = draft.message;
 }
 
-// The items in a vector with room for all that are kept, where theirs or the spare one has it. The other is spare then.
+// Returns the items in a vector with room for 64, if their own vector or the spare one has it. The other vector becomes
+// the spare one.
 fn roomy<T>(spare: &mut Vec<T>, items: Vec<T>) -> Vec<T>
     requires empty { vec_len spare.old ≡ 0 }
     requires few { vec_len items ≤ most_kept }

@@ -1,4 +1,4 @@
-//! The memory that effects take.
+//! The memory for effects.
 ghost use Rattle.std.specs.Prelude.{◌≡◌, ◌≤◌, true, OnOk, IsOk, vec_len, vec_capacity};
 ghost use Rattle.std.specs.List.{list_any};
 ghost use Rattle.row_effects.specs.Keys.{most_kept};
@@ -8,7 +8,7 @@ use spool_types::{Attribute, Effect, MOST_KEPT, Reason};
 use std::alloc::{AllocError, Global};
 use std::marker::Model;
 
-/// Memory that is set aside for effects: seen as for how many reasons, and for how many attributes.
+/// Memory reserved for effects. Callers see its room, in reasons and in attributes.
 #[derive(Drop)]
 pub struct Spare {
     pub(super) reasons: Vec<Reason>,
@@ -27,7 +27,7 @@ impl Model for Spare {
 }
 
 impl Spare {
-    /// No memory yet.
+    /// Returns a `Spare` without memory. Does not allocate.
     pub fn new(alloc: Global) -> Spare
         ensures reasons { result.reasons ≡ 0 }
         ensures attributes { result.attributes ≡ 0 }
@@ -38,14 +38,14 @@ impl Spare {
         }
     }
 
-    /// Sets aside what the effects may take.
+    /// Reserves the memory that the effects may need.
     pub fn reserve(&mut self, effects: &[Effect]) -> Result<(), AllocError>
         ensures room { OnOk result (HasRoom self.new effects.now) }
 
-        // Memory is asked for only where the room is missing.
+        // Allocates only if room is missing.
         ensures ready { HasRoom self.old effects.now → IsOk result }
 
-        // What was set aside stays, whatever the answer.
+        // Keeps the memory reserved before, whatever the result.
         ensures reasons { self.old.reasons ≤ self.new.reasons }
         ensures attributes { self.old.attributes ≤ self.new.attributes }
     {
@@ -55,7 +55,7 @@ impl Spare {
     }
 }
 
-// Room for all that are kept, where it is wanted.
+// Reserves room for 64 items, if it is needed.
 fn make_room<T>(items: &mut Vec<T>, is_wanted: bool) -> Result<(), AllocError>
     requires { vec_len items.old ≡ 0 }
     ensures room { OnOk result (is_wanted ≡ true → most_kept ≤ vec_capacity items.new) }

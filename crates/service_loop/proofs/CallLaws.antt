@@ -1,4 +1,4 @@
--- The engine of a service goes on by calls.
+-- The engine of a service changes by calls.
 use Rattle.std.proofs.Common.{◌≡◌, ℕ, zero, suc, List, [], ◌∷◌, ◌++◌, Option, None, Some, Result, refl, ap, sym, ◌∙◌, subst}
 use Rattle.std.specs.Prelude.{Ok, Err, OnOk}
 use Rattle.std.specs.declared.alloc.AllocError.{AllocError}
@@ -37,7 +37,7 @@ module _ {D : Type 0} (device : DiskView D) where
   last_then s [] later mid is = ap (λ (x : RunState D). last_by x later) is
   last_then s (c ∷ first) later mid is = last_then (left_by s c) first later mid is
 
-  -- calls, and then further ones
+  -- Calls, followed by further calls.
   pub calls_then : (e e1 e2 : Engine D) → GoesByCalls device e e1 → GoesByCalls device e1 e2 → GoesByCalls device e e2
   calls_then e e1 e2 one other = record {
     mime = other.mime ∙ one.mime;
@@ -50,20 +50,20 @@ module _ {D : Type 0} (device : DiskView D) where
     last = last_then e.run_state one.calls other.calls e1.run_state one.last ∙ other.last;
   }
 
-  -- what a turn of the loop does with its engine: nothing before its clients, and then three rows of calls
+  -- The engine in a turn of the loop: unchanged before the clients' turns, then three lists of calls.
   pub turn_calls : (e e1 e2 e3 e4 e5 : Engine D) → e1 ≡ e → e2 ≡ e1 → GoesByCalls device e2 e3 → GoesByCalls device e3 e4 → GoesByCalls device e4 e5 → GoesByCalls device e e5
   turn_calls e e1 e2 e3 e4 e5 waited entered clients ticked kept =
       calls_then e e4 e5 (calls_then e e3 e4 (subst (λ (x : Engine D). GoesByCalls device x e3) (entered ∙ waited) clients) ticked) kept
 
-  -- calls, and an engine that is as they left it
+  -- Calls, and an engine that is as they left it.
   pub calls_kept : (e e1 e2 : Engine D) → GoesByCalls device e e1 → e2 ≡ e1 → GoesByCalls device e e2
   calls_kept e e1 e2 goes same = subst (λ (x : Engine D). GoesByCalls device e x) (sym same) goes
 
-  -- an engine that is as it was
+  -- An unchanged engine.
   pub calls_none : (e e1 : Engine D) → e1 ≡ e → GoesByCalls device e e1
   calls_none e e1 same = subst (λ (x : Engine D). GoesByCalls device e x) (sym same) (no_calls e)
 
-  -- a command that was answered
+  -- A command that was answered.
   pub by_turn : (e e1 : Engine D) (command : Command) (t : CommandStep D) (result : Result (Unit {0}) RunFault) (before after : Option (List ℕ)) → e1.mime ≡ e.mime → e1.place ≡ e.place →
       Serves (setting device e.mime e.place) e.run_state command t e1.run_state result before after → GoesByCalls device e e1
   by_turn e e1 command t result before after mime place served = record {
@@ -74,11 +74,11 @@ module _ {D : Type 0} (device : DiskView D) where
     last = served.next;
   }
 
-  -- a tick
+  -- A tick.
   pub by_tick : (e e1 : Engine D) (t : Ticked D) → e1.mime ≡ e.mime → e1.place ≡ e.place → IsTicked (setting device e.mime e.place) e.run_state t → t.next ≡ e1.run_state → GoesByCalls device e e1
   by_tick e e1 t mime place ticked next = record { mime = mime; place = place; calls = tick_call t ∷ []; are = (ticked, tt); last = next }
 
-  -- a command was answered as it is served
+  -- A command that was served was answered.
   pub answered_by : (e e1 : Engine D) (command : Command) (t : CommandStep D) (result : Result (Unit {0}) RunFault) (before after : Option (List ℕ)) → GoesByCalls device e e1 →
       Serves (setting device e.mime e.place) e.run_state command t e1.run_state result before after → HasAnswered device e command e1
   answered_by e e1 command t result before after goes served = record {
@@ -88,13 +88,13 @@ module _ {D : Type 0} (device : DiskView D) where
     takes = record { legal = served.legal; command = served.command; next = served.next };
   }
 
-  -- so it was, if there was memory
+  -- The same, unless memory ran out.
   pub answered_as : (e e1 : Engine D) (command : Command) (result : Result (Unit {0}) AllocError) (before after : List ℕ) → GoesByCalls device e e1 →
       OnOk result ((t : CommandStep D) × Serves (setting device e.mime e.place) e.run_state command t e1.run_state (Ok tt) (Some before) (Some after)) → OnOk result (HasAnswered device e command e1)
   answered_as e e1 command (Ok done) before after goes served = answered_by e e1 command served.0 (Ok tt) (Some before) (Some after) goes served.1
   answered_as e e1 command (Err error) before after goes served = tt
 
-  -- a job was purged, and then the others
+  -- A job was purged, and then the others.
   pub purged_next : (e e1 e2 : Engine D) (jobs : List ℕ) (job : ℕ) (others : List ℕ) → jobs ≡ job ∷ others → HasAnswered device e (Apply (Purge job)) e1 → HasAnsweredAll device e1 (purges others) e2 →
       HasAnsweredAll device e (purges jobs) e2
   purged_next e e1 e2 jobs job others is answered all = subst (λ (js : List ℕ). HasAnsweredAll device e (purges js) e2) (sym is) (e1, answered, all)
@@ -114,9 +114,9 @@ module _ {D : Type 0} (device : DiskView D) where
     by_turns e slots (suc n) e1 left (between, mid, turn, so_far, next) =
         calls_then e between e1 (by_turns e slots n between mid so_far) (by_place between (get mid n) turn e1 (get left n) next.own)
 
-  -- ## What a crash leaves
+  -- ## The table after a crash
 
-  -- what is so of the disk after the last call is so of the one that is left
+  -- A property of the disk after the last call holds of the disk that is left.
   pub along_service : (e e1 : Engine D) (goes : GoesByCalls device e e1) →
       LeavesOnly device e.run_state.spool.disk (last_by e.run_state goes.calls).spool.disk (IsAlongCalls e.mime e.run_state goes.calls) →
       LeavesOnly device e.run_state.spool.disk e1.run_state.spool.disk (IsAlongCalls e.mime e.run_state goes.calls)
@@ -125,7 +125,7 @@ module _ {D : Type 0} (device : DiskView D) where
 
   -- ## Lives
 
-  -- A service's engine has a life: a run of no command, and its calls.
+  -- The engine of a service has a life: a run of no command, and its calls.
   as_engine : (l : ServiceLife D) → IsServiceLife device l → EngineLife D
   as_engine l is = record {
     mime = (l.start).mime;

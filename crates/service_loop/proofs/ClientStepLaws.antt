@@ -1,4 +1,4 @@
--- One visit of a client and then another are one.
+-- Two client steps in order are one client step.
 use Rattle.std.proofs.Common.{◌≡◌, ◌⊎◌, inl, inr, Result, ℕ, ◌+◌, ◌-◌, ◌≤◌, take, List, [], ◌∷◌, ◌++◌, length, drop, Option, None, Some, Ok, true, false, refl, ap, sym, ◌∙◌, subst, append_assoc, arith}
 use Rattle.std.specs.Io.KnownBytes.{Appends, Consumes, Keeps, append_known}
 use Rattle.std.proofs.lemmas.List.Concat.{flat_map-cons}
@@ -97,11 +97,11 @@ appends_moved (Some said) (Some now) untaken count wrote =
     ap (λ l. l ++ drop count untaken) wrote ∙ append_assoc said (take count untaken) (drop count untaken)
     ∙ ap (λ l. said ++ l) (take-append-drop count untaken) ∙ sym (append-nil (said ++ untaken))
 
--- what is given to the line to write are all bytes that weren't taken
+-- The connection is given all bytes that were not taken.
 pub unwritten : (given items : List ℕ) (taken : ℕ) → given ≡ items → take (length given - taken) (drop taken given) ≡ drop taken items
 unwritten given items taken same = take_all (length given - taken) (drop taken given) (omega (arith, length-drop taken given)) ∙ ap (drop taken) same
 
--- so many of the bytes were written that weren't taken yet
+-- This number of the bytes not yet taken was written.
 pub record IsWritten {L : Type 0} (view : ConnectionView L) (old : Client L) (count : ℕ) (new : Client L) : Type 0 where
   pub kept : Keeps (view.remaining old.connection) (view.remaining new.connection)
   pub wrote : Appends (view.contents old.connection) (view.contents new.connection) (take count (drop old.taken old.replies.items))
@@ -144,7 +144,7 @@ goes_read view old piece new read = record {
   };
 }
 
--- ## What is asked for next is given
+-- ## The next request is returned
 
 goes_asked : {L : Type 0} (view : ConnectionView L) (old : Client L) (asks : List Ask) (new : Client L) → Asks view old asks new → new.connection ≡ old.connection → new.taken ≡ old.taken → new.replies.items ≡ old.replies.items →
     Goes view old asks [] new
@@ -167,14 +167,14 @@ gives_next view old nexts.Again new gives connection taken replies =
 gives_next view old nexts.Text new gives connection taken replies =
     goes_asked view old [] new (λ awaited awaits. (awaited, gives awaited awaits, rw connection (asks_none (view.remaining old.connection) awaited))) connection taken replies
 
--- nothing was added
+-- Nothing was added.
 pub added_none : {L : Type 0} (a b : Client L) → b.connection ≡ a.connection → b.reader ≡ a.reader → b.taken ≡ a.taken → b.replies.items ≡ a.replies.items → IsAdded a [] b
 added_none a b connection reader taken replies = record { connection = connection; reader = reader; taken = taken; replies = replies ∙ sym (append-nil a.replies.items) }
 
 pub goes_none : {L : Type 0} (view : ConnectionView L) (c : Client L) → Goes view c [] [] c
 goes_none view c = goes_added view c [] c (added_none c c refl refl refl refl)
 
--- ## Deeds
+-- ## Actions
 
 module _ {D : Type 0} where
   text_of_one : (t : CommandStep D) → texts_of (t ∷ []) ≡ t.text
@@ -193,10 +193,10 @@ module _ {D : Type 0} where
   texts_in-append [] ys = refl
   texts_in-append (x ∷ xs) ys = ap (λ l. text_by x ++ l) (texts_in-append xs ys) ∙ sym (append_assoc (text_by x) (texts_in xs) (texts_in ys))
 
--- ## What was asked for was done
+-- ## A request was answered
 
 module _ {D L : Type 0} (device : DiskView D) where
-  -- the engine answered a command
+  -- The engine answered a command.
   pub answered_by_turn : (e e1 : Engine D) (c c1 : Client L) (command : Command) (t : CommandStep D) → e1.mime ≡ e.mime → e1.place ≡ e.place → is_round command ≡ false →
       Serves (setting device e.mime e.place) e.run_state command t e1.run_state (Ok tt) (Some c.replies.items) (Some c1.replies.items) →
       c1.connection ≡ c.connection → c1.reader ≡ c.reader → c1.taken ≡ c.taken → c.waits ≡ None → c1.waits ≡ c.waits → IsAnswered device e c (asking.Command command) e1 c1
@@ -212,7 +212,7 @@ module _ {D L : Type 0} (device : DiskView D) where
     added = record { connection = connection; reader = reader; taken = taken; replies = served.wrote ∙ ap (λ l. c.replies.items ++ l) (text_of_one t) };
   }
 
-  -- a round was answered by a tick
+  -- A round was answered by a tick.
   pub answered_by_tick : (e e1 : Engine D) (c c1 : Client L) (command : Command) (counts : Result Round RoundFault) (text : List ℕ) (t : Ticked D) →
       t.next ≡ e1.run_state → t.result ≡ counts → e1.mime ≡ e.mime → e1.place ≡ e.place → is_round command ≡ true →
       IsTicked (setting device e.mime e.place) e.run_state t → text ≡ round_line counts → IsAdded c text c1 → c.waits ≡ None → c1.waits ≡ c.waits → IsAnswered device e c (asking.Command command) e1 c1
@@ -228,7 +228,7 @@ module _ {D L : Type 0} (device : DiskView D) where
     added = added;
   }
 
-  -- a word of the service was answered
+  -- A word of the service was answered.
   pub answered_by_word : (e : Engine D) (c c1 : Client L) (word : OwnWord) (text : List ℕ) → IsSaid e.run_state.spool.state word text → IsAdded c text c1 →
       c.waits ≡ None → wait_after {D = D} c.waits (says word text) ≡ c1.waits → IsAnswered device e c (asking.Own word) e c1
   answered_by_word e c c1 word text said added none waits = record {
@@ -243,10 +243,10 @@ module _ {D L : Type 0} (device : DiskView D) where
     added = added;
   }
 
--- ## Visits
+-- ## Client steps
 
 module _ {D L : Type 0} (device : DiskView D) (view : ConnectionView L) where
-  -- some deeds were done
+  -- Some actions were done.
   abbrev pub Stepped : Engine D → Client L → Engine D → Client L → Type 0
   Stepped old c new c' = (actions : List (Action D)) × IsClientStep device view old c actions new c'
 
@@ -262,7 +262,7 @@ module _ {D L : Type 0} (device : DiskView D) (view : ConnectionView L) where
     client = rw (asks_in-append xs ys, texts_in-append xs ys) (goes_then view c c1 c2 (asks_in xs) (asks_in ys) (texts_in xs) (texts_in ys) one.client two.client);
   }
 
-  -- a client that asked for nothing and was told nothing, of an engine that is as it was
+  -- A client that requested nothing and was sent nothing, with an unchanged engine.
   pub step_none : (e : Engine D) (c c1 : Client L) → Goes view c [] [] c1 → c1.waits ≡ c.waits → Stepped e c e c1
   step_none e c c1 goes waits = ([], record { mime = refl; place = refl; actions = (refl, waits); client = goes })
 
@@ -270,7 +270,7 @@ module _ {D L : Type 0} (device : DiskView D) (view : ConnectionView L) where
       Stepped e c e1 c1 → Stepped e1 c1 e2 c2 → Stepped e c e2 c2
   stepped_then e c e1 c1 e2 c2 one two = (one.0 ++ two.0, client_step_then e c one.0 e1 c1 two.0 e2 c2 one.1 two.1)
 
-  -- what was asked for was done
+  -- A request was answered.
   pub step_answered : (e : Engine D) (c c1 : Client L) (ask : Ask) (e1 : Engine D) (c2 : Client L) → Goes view c (ask ∷ []) [] c1 → c1.waits ≡ c.waits →
       IsAnswered device e c1 ask e1 c2 → Stepped e c e1 c2
   step_answered e c c1 ask e1 c2 asked waits done = (
@@ -287,7 +287,7 @@ module _ {D L : Type 0} (device : DiskView D) (view : ConnectionView L) where
     },
   )
 
-  -- the end of a job was told
+  -- The end of a job was reported.
   pub step_ended : (e : Engine D) (c c1 : Client L) (job : ℕ) (text : List ℕ) → IsEndReported e.run_state.spool.state job text → IsAdded c text c1 → c.waits ≡ Some job → c1.waits ≡ None → Stepped e c e c1
   step_ended e c c1 job text told added waits over = (
     ends job text ∷ [],
@@ -308,7 +308,7 @@ is_no_round commands.Round not_round not_drain = absurd (not_round refl)
 is_no_round (commands.Drain n) not_round not_drain = absurd (not_drain n refl)
 is_no_round command not_round not_drain = refl
 
--- ## All that becomes of a client
+-- ## All steps of a client
 
 first_of : (known left : Option (List ℕ)) (text : List ℕ) (f g : List ℕ → List Ask) (asks : List Ask) → known ≡ Some text → AsksFirst known f asks left g → AreFirstOf asks (f text)
 first_of None left text f g asks e first = absurd (cc)

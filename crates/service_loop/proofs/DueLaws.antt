@@ -1,4 +1,4 @@
--- Up to a moment at which nothing is due, the clock changes nothing.
+-- Before the next due moment a Clock changes nothing but the moment.
 use Rattle.std.proofs.Common.{◌≡◌, ⊎_elim, ℕ, ◌+◌, ◌<◌, ◌≤◌, max, Bool, true, false, cond, not, ◌&&◌, ◌||◌, nat_lt, nat_le, List, [], ◌∷◌, codes, Option, Some, None, Ok, refl, ap, subst, ◌∙◌, arith}
 use Rattle.std.specs.Prelude.{IfSome}
 use Rattle.std.specs.List.{Contains}
@@ -28,7 +28,7 @@ use Rattle.service_loop.specs.Due.{due_among, due_in, due_of, end_of_hold, next_
 abbrev IsLater : ℕ → Option ℕ → Type 0
 IsLater m due = IfSome due (λ d. m < d)
 
--- both of two are later where the earlier one is
+-- Both moments are later if the earlier one is.
 both_later : (m : ℕ) (a b : Option ℕ) → IsLater m (earlier a b) → IsLater m a × IsLater m b
 both_later m None b later = (tt, later)
 both_later m (Some a) None later = (later, tt)
@@ -55,7 +55,7 @@ hold_stays known m (Until until) lt later = either (nat_lt known until) refl lat
     either false is later = grind (arith, nat_tests)
 
 module _ (s : State) (m : ℕ) (quiet : IsQuietUntil s m) where
-  -- a retry that was to come is still to come
+  -- A retry in the future is still in the future.
   retry_stays : (r : Job) (hold : Hold) (not_before : ℕ) → IsLater m (start_of s r hold not_before) → nat_lt m not_before ≡ nat_lt s.moment not_before
   retry_stays r hold not_before = either (nat_lt s.moment not_before) refl
     where
@@ -65,7 +65,7 @@ module _ (s : State) (m : ℕ) (quiet : IsQuietUntil s m) where
       either true is later = grind (arith, nat_tests, quiet.later)
       either false is later = grind (arith, nat_tests, quiet.later)
 
-  -- a job that isn't held, of a queue that goes on, waits for its retry
+  -- A job that is not held, in a queue that is not stopped, waits for its retry.
   waits_for_retry : (r : Job) (hold : Hold) (not_before : ℕ) → IsLater m (start_of s r hold not_before)
       → is_in_force s.moment hold ≡ false → is_stopped s r ≡ false → nat_lt s.moment not_before ≡ true
   waits_for_retry r hold not_before later free goes = either (nat_lt s.moment not_before) refl later
@@ -79,7 +79,7 @@ module _ (s : State) (m : ℕ) (quiet : IsQuietUntil s m) where
           let at : IsLater m (next_moment s.moment) = subst (λ (b : Bool). IsLater m (cond b None (next_moment s.moment))) held later in
           absurd (omega (arith, next_later m s.moment quiet.at_most at, quiet.later))
 
-  -- what isn't due of a waiting job
+  -- A waiting job that is not due.
   module _ (r : Job) (hold : Hold) (not_before : ℕ) (later : IsLater m (earlier (earlier (late_from r.by) (end_of_hold hold s.moment)) (start_of s r hold not_before))) where
     ends_later : IsLater m (earlier (late_from r.by) (end_of_hold hold s.moment))
     ends_later = (both_later m (earlier (late_from r.by) (end_of_hold hold s.moment)) (start_of s r hold not_before) later).0
@@ -189,7 +189,7 @@ module _ (s : State) (m : ℕ) (quiet : IsQuietUntil s m) where
   pub reason_stays : (j : ℕ) (r : Job) → job_at s j ≡ Some r → job_reason m r.phase ≡ job_reason s.moment r.phase
   reason_stays j r there = reason_in r r.phase (quiet.none_due j r there)
 
--- ## What a look finds
+-- ## Due moments found by examining all jobs
 
 before_all : (s : State) (m : ℕ) (due : Option ℕ) (rs : List Job) → IsLater m (due_among s due rs) → IsLater m due × ((r : Job) → Contains rs r → IsLater m (due_of s r))
 before_all s m due [] later = (later, λ r there. absurd (omega (arith, there.1)))

@@ -1,4 +1,4 @@
--- The first of some children were sent what is due.
+-- The first of some children were sent their due signals.
 use Rattle.std.proofs.Common.{◌≡◌, ℕ, zero, suc, ◌+◌, ◌<◌, ◌≤◌, List, [], ◌∷◌, ◌++◌, length, get_or, take, drop, map, Option, None, Some, slice_set, refl, ap, sym, ◌∙◌, append_assoc, add-one, arith}
 use Rattle.std.proofs.Math.Seq.{take-suc}
 use Rattle.std.proofs.lemmas.List.{append-nil, drop_all, take_all}
@@ -7,20 +7,20 @@ use Rattle.service_loop.specs.Endings.{Sends, due_to, signals_due}
 use Rattle.service_loop.specs.declared.endings.Ending.{Ending}
 use Rattle.service_loop.specs.declared.signals.Signal.{Signal}
 
--- the first so many elements have changed
+-- The first `n` elements have changed.
 abbrev pub part : {A : Type 0} → (A → A) → ℕ → List A → List A
 part f zero xs = xs
 part f (suc i) [] = []
 part f (suc i) (x ∷ xs) = f x ∷ part f i xs
 
--- all have
+-- All have changed.
 part-all : {A : Type 0} (f : A → A) (i : ℕ) (xs : List A) → length xs ≤ i → part f i xs ≡ map f xs
 part-all f zero [] le = refl
 part-all f zero (x ∷ xs) le = absurd (omega arith)
 part-all f (suc i) [] le = refl
 part-all f (suc i) (x ∷ xs) le = ap (λ ys. f x ∷ ys) (part-all f i xs (omega arith))
 
--- the next one hasn't
+-- The next one has not.
 part-next : {A : Type 0} (f : A → A) (i : ℕ) (xs : List A) (d : A) → get_or (part f i xs) i d ≡ get_or xs i d
 part-next f zero xs d = refl
 part-next f (suc i) [] d = refl
@@ -31,7 +31,7 @@ part-length f zero xs = refl
 part-length f (suc i) [] = refl
 part-length f (suc i) (x ∷ xs) = ap suc (part-length f i xs)
 
--- it changes then
+-- Then it changes.
 part-suc : {A : Type 0} (f : A → A) (i : ℕ) (xs : List A) (x y : A) → i < length xs → x ≡ get_or xs i x → y ≡ f x → slice_set (part f i xs) i y ≡ part f (suc i) xs
 part-suc f zero [] x y lt is new = absurd (omega arith)
 part-suc f zero (x0 ∷ xs) x y lt is new = ap (λ z. z ∷ xs) (new ∙ ap f is)
@@ -43,7 +43,7 @@ part-step f i items xs x y same lt is new =
     let fits : i < length xs = rw (← part-length f i xs, ← same) lt in
     rw (same, add-one) (part-suc f i xs x y fits (is ∙ ap (λ l. get_or l i x) same ∙ part-next f i xs x) new)
 
--- what is written back of a whole list
+-- The list written back after all elements changed.
 pub part-whole : {A : Type 0} (f : A → A) (i n : ℕ) (items xs : List A) → items ≡ part f i xs → length items ≤ i → n ≡ length xs → take n (items ++ drop (length items) xs) ≡ map f xs
 part-whole f i n items xs same le len =
     let long : length items ≡ length xs = ap length same ∙ part-length f i xs in
@@ -57,7 +57,7 @@ sends_then (Some r) None c xs ys p q = absurd p
 sends_then (Some r) (Some s) None xs ys p q = q
 sends_then (Some r) (Some s) (Some t) xs ys p q = q ∙ ap (λ l. l ++ ys) p ∙ append_assoc r xs ys
 
--- the signals of one child more
+-- The signals of one more child.
 pub due-step : (now i : ℕ) (items xs : List Ending) (f : Ending → Ending) (x : Ending) → items ≡ part f i xs → i < length items → x ≡ get_or items i x →
     signals_due now (take (i + 1) xs) ≡ signals_due now (take i xs) ++ signals_due now (x ∷ [])
 due-step now i items xs f x same lt is =

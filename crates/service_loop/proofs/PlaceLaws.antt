@@ -1,4 +1,4 @@
--- What becomes of each client in the turns of all.
+-- The effect of all clients' turns on each client.
 use Rattle.std.proofs.Common.{◌≡◌, ◌⊎◌, inl, inr, ℕ, zero, suc, ◌+◌, ◌<◌, ◌≤◌, List, Option, None, Some, IfSome, true, false, is_some, refl, ap, sym, ◌∙◌, subst, add-one, arith}
 use Rattle.slab.specs.Slab.{Slab, Updates, get, with_value}
 use Rattle.slab.proofs.SlabLemmas.{Updates-with_value}
@@ -35,7 +35,7 @@ module _ {D L : Type 0} (device : DiskView D) (view : ConnectionView L) where
   untouched e slots (suc n) new left (between, mid, turn, so_far, next) key le =
       next.others key (omega arith) ∙ untouched e slots n between mid so_far key (omega arith)
 
-  -- a place below the last one had its turn before, and the last one just now
+  -- A slot below the last one had its turn before, and the last one just now.
   own_of : (slots mid left : Slab (Client L)) (n : ℕ) → KeepsOthers n mid left → get mid n ≡ get slots n → HadOwnTurn device view (get mid n) (get left n) →
       (key : ℕ) → (key < n → HadOwnTurn device view (get slots key) (get mid key)) → (key < n) ⊎ (key ≡ n) → HadOwnTurn device view (get slots key) (get left key)
   own_of slots mid left n others before own key earlier (inl below) =
@@ -52,7 +52,7 @@ module _ {D L : Type 0} (device : DiskView D) (view : ConnectionView L) where
       own_of slots mid left n next.others (untouched e slots n between mid so_far n (omega arith)) (between, turn, new, next.own) key
       (each_own e slots n between mid so_far key) (either key n (omega arith))
 
--- ## One place
+-- ## One slot
 
 pub updates_then : {T : Type 0} (a b c : Slab T) (key : ℕ) (one two : Option T) → Updates a b key one → Updates b c key two → Updates a c key two
 updates_then a b c key one two first then = record { changed = then.changed; others = λ other ne. then.others other ne ∙ first.others other ne }
@@ -85,7 +85,7 @@ stayed : {L : Type 0} (disconnect : Option Disconnect) (c : Client L) → is_som
 stayed None c stays = refl
 stayed (Some disconnect) c stays = cc
 
--- who had a turn is found in its place, or has gone
+-- A client that had a turn is in its slot, or has left.
 pub has_gone : {L : Type 0} (slots left : Slab (Client L)) (key : ℕ) (was is : Client L) (disconnect : Option Disconnect) → get slots key ≡ Some was → is_some disconnect ≡ true →
     Updates (with_value slots key is) left key None → Updates slots left key (unless_parted disconnect is)
 has_gone {L} slots left key was is disconnect there parts removed =
@@ -97,7 +97,7 @@ pub has_stayed : {L : Type 0} (slots : Slab (Client L)) (key : ℕ) (was is : Cl
 has_stayed {L} slots key was is disconnect there stays =
     subst (λ (slot : Option (Client L)). Updates slots (with_value slots key is) key slot) (stayed disconnect is stays) (written slots key was is there)
 
--- ## Who stays
+-- ## Clients that stay
 
 who_stays : {L : Type 0} (P : Client L → Type 0) (disconnect : Option Disconnect) (c : Client L) → (disconnect ≡ None → P c) → IfSome (unless_parted disconnect c) P
 who_stays P None c holds = holds refl
@@ -109,14 +109,14 @@ has_none_now s c (inl (inr none)) = inr (inl none)
 has_none_now s c (inr full) = inr (inr full)
 
 module _ {D L : Type 0} (device : DiskView D) (view : ConnectionView L) where
-  -- who stays was given what its line takes
+  -- A client that stays was sent what its connection takes.
   pub given_there : (e : Engine D) (was : Option (Client L)) (turn : Option Turn) (e' : Engine D) (left : Option (Client L)) → SlotHadTurn device view e was turn e' left → IfSome left IsGiven
   given_there e None None e' left had = subst (λ (c : Option (Client L)). IfSome c IsGiven) (sym had.1) tt
   given_there e None (Some turn) e' left had = absurd had
   given_there e (Some was) None e' left had = absurd had
   given_there e (Some was) (Some turn) e' left had = subst (λ (c : Option (Client L)). IfSome c IsGiven) (sym had.stays) (who_stays IsGiven turn.disconnect had.is had.ends.given)
 
-  -- and nothing can be done for it now, unless its turn left more
+  -- Nothing can be done for it now, unless its turn left more.
   pub rests_there : (e : Engine D) (was : Option (Client L)) (turn : Option Turn) (e' : Engine D) (left : Option (Client L)) → SlotHadTurn device view e was turn e' left →
       leaves_more turn ≡ false → IfSome left HasNoneNow
   rests_there e None None e' left had none = subst (λ (c : Option (Client L)). IfSome c HasNoneNow) (sym had.1) tt
@@ -131,7 +131,7 @@ each_of : {L : Type 0} (P : Client L → Type 0) (slots left : Slab (Client L)) 
 each_of {L} P slots left key others below here k (inl lt) = subst (λ (c : Option (Client L)). IfSome c P) (sym (others k (omega arith))) (below k lt)
 each_of {L} P slots left key others below here k (inr same) = subst (λ (j : ℕ). IfSome (get left j) P) (sym same) here
 
--- what holds of each place below a key, and of the one that had its turn, holds of each below the next key
+-- A property of each slot below a key, and of the slot that had its turn, holds of each slot below the next key.
 pub each_more : {L : Type 0} (P : Client L → Type 0) (slots left : Slab (Client L)) (key : ℕ) → KeepsOthers key slots left →
     ((k : ℕ) → k < key → IfSome (get slots k) P) → IfSome (get left key) P → (k : ℕ) → k < key + 1 → IfSome (get left k) P
 each_more {L} P slots left key others below here k lt = each_of P slots left key others below here k (either k key lt)

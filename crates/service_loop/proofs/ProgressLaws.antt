@@ -1,4 +1,4 @@
--- What is left as it was, and when something was taken, over two calls.
+-- The end of a client's turn: its unchanged fields, and when it was heard, over two calls.
 use Rattle.std.proofs.Common.{◌≡◌, ◌⊎◌, inl, inr, ℕ, ◌<◌, ◌≤◌, Bool, true, false, ◌&&◌, ◌||◌, cond, nat_lt, ap, refl, ◌∙◌, arith}
 use Rattle.std.proofs.lemmas.Bool.Decides.{nat_tests}
 use Rattle.spool_types.specs.State.{State}
@@ -47,13 +47,13 @@ no_more : (more other : Bool) → (more || other) ≡ false → more ≡ false
 no_more false other none = refl
 no_more true other none = cc
 
--- where there is nothing more to be done behind what was written, there was nothing before that
+-- If nothing more can be done after the replies were written, nothing could be done before.
 pub ends_at_rest : {L : Type 0} (s : State) (mid new : Client L) (more is_backlogged : Bool) → new ≡ as_given mid new → (more ≡ false → IsAtRest s mid ⊎ (is_backlogged ≡ true)) →
     (more || (is_backlogged && nat_lt (unread new) most_unread)) ≡ false → IsAtRest s new ⊎ IsBacklogged new
 ends_at_rest s mid new more is_backlogged kept rests none =
     rests_by s mid new is_backlogged more kept (rests (no_more more (is_backlogged && nat_lt (unread new) most_unread) none)) none
 
--- it goes behind what was written for the same causes
+-- After its replies were written it leaves for the same reasons.
 pub has_left : {L : Type 0} (view : ConnectionView L) (c : Client L) → IsUnheard view c ⊎ ((c.over ≡ true) × (unread c ≡ 0)) → HasLeft view c
 has_left view c (inl unheard) = inl unheard
 has_left view c (inr ended) = inr (inr (inr ended))

@@ -1,4 +1,4 @@
--- What the service did for a client, one thing after the other, and what it said at each.
+-- The actions that the service did for a client, in order, and the text of each.
 use Rattle.std.specs.Prelude.{◌≡◌, ◌⊎◌, ℕ, true, false, List, [], ◌∷◌, ◌++◌, Option, None, Some, codes}
 use Rattle.spool_types.specs.State.{State}
 use Rattle.command_lines.specs.declared.command.Command.{Command}
@@ -14,18 +14,18 @@ use Rattle.spool_engine.specs.EngineRuns.{CommandStep, IsCommandStep, is_round}
 use Rattle.spool_engine.specs.EngineTicks.{Ticked, IsTicked}
 
 pub data Action (D : Type 0) : Type 0 where
-  -- a command was answered by the engine
+  -- A command, answered by the engine.
   answers : CommandStep D → Action D
-  -- a round or a drain was answered by a tick, with this text
+  -- A round or a drain, answered by a tick with this text.
   ticks : Command → Ticked D → List ℕ → Action D
-  -- a word of the service was answered with this text
+  -- A word of the service, answered with this text.
   says : OwnWord → List ℕ → Action D
-  -- the end of this job was told, with this text
+  -- The end of this job was reported with this text.
   ends : ℕ → List ℕ → Action D
-  -- what has changed was told, unasked: never in a turn of it
+  -- A change was sent without a request. This is never part of the client's turn.
   tells : List ℕ → Action D
 
--- what was asked for
+-- The request that an action answers.
 abbrev pub asks_by : {D : Type 0} → Action D → List Ask
 asks_by (answers t) = asking.Command t.command ∷ []
 asks_by (ticks command t text) = asking.Command command ∷ []
@@ -33,7 +33,7 @@ asks_by (says word text) = asking.Own word ∷ []
 asks_by (ends job text) = []
 asks_by (tells text) = []
 
--- what was said
+-- The text that an action sent.
 abbrev pub text_by : {D : Type 0} → Action D → List ℕ
 text_by (answers t) = t.text
 text_by (ticks command t text) = text
@@ -48,7 +48,7 @@ after_action s (says word text) = s
 after_action s (ends job text) = s
 after_action s (tells text) = s
 
--- a word of the service is answered so, over a table
+-- The answer to a word of the service, over a table.
 abbrev pub IsSaid : State → OwnWord → List ℕ → Type 0
 IsSaid s (Job j) text = text ≡ shown_job s j
 IsSaid s (Wait j) text = text ≡ []
@@ -56,18 +56,18 @@ IsSaid s (End j) text = (text ≡ codes "ok\n") ⊎ (text ≡ codes "error job\n
 IsSaid s Watch text = text ≡ codes "ok\n"
 IsSaid s Shutdown text = text ≡ codes "ok\n"
 
--- a job has ended, or there is none, and this tells it
+-- The job has ended or does not exist, and the text reports this.
 pub record IsEndReported (s : State) (job : ℕ) (text : List ℕ) : Type 0 where
   pub settled : has_settled s job ≡ true
   pub told : text ≡ told_job s job
 
--- a round is answered by a tick, whose counts are told
+-- A round is answered by a tick, and the text is its counts.
 pub record IsTickedFor {D : Type 0} (v : Setting D) (s : RunState D) (command : Command) (t : Ticked D) (text : List ℕ) : Type 0 where
   pub round : is_round command ≡ true
   pub tick : IsTicked v s t
   pub told : text ≡ round_line t.result
 
--- any other command has a turn of the engine
+-- Any other command is a command step of the engine.
 pub record IsServed {D : Type 0} (v : Setting D) (s : RunState D) (t : CommandStep D) : Type 0 where
   pub command : is_round t.command ≡ false
   pub turn : IsCommandStep v s t
@@ -79,28 +79,28 @@ IsAction v s (says word text) = IsSaid s.spool.state word text
 IsAction v s (ends job text) = IsEndReported s.spool.state job text
 IsAction v s (tells text) = ⊥
 
--- the job that it waits for behind a deed
+-- The job that the client waits for after an action.
 abbrev pub wait_after : {D : Type 0} → Option ℕ → Action D → Option ℕ
 wait_after waits (says (Wait j) text) = Some j
 wait_after waits (ends job text) = None
 wait_after waits d = waits
 
--- it is told the end that it waits for, and nothing else is done for it until then
+-- Only the end of the job that the client waits for is reported. Until then nothing else is done for it.
 abbrev pub IsTimely : {D : Type 0} → Option ℕ → Action D → Type 0
 IsTimely waits (ends job text) = waits ≡ Some job
 IsTimely waits d = waits ≡ None
 
--- each deed is one on what the deeds before it left, of a client that waits for a job or for none
+-- Each action continues from the state that the previous ones left, for a client that waits for a job or for none.
 abbrev pub AreActions : {D : Type 0} → Setting D → RunState D → Option ℕ → List (Action D) → RunState D → Option ℕ → Type 0
 AreActions v s waits [] s' waits' = (s' ≡ s) × (waits' ≡ waits)
 AreActions v s waits (d ∷ ds) s' waits' = IsAction v s d × IsTimely waits d × AreActions v (after_action s d) (wait_after waits d) ds s' waits'
 
--- what was asked for, in order
+-- The requests that were answered, in order.
 abbrev pub asks_in : {D : Type 0} → List (Action D) → List Ask
 asks_in [] = []
 asks_in (d ∷ ds) = asks_by d ++ asks_in ds
 
--- what was said, in order
+-- The texts that were sent, in order.
 abbrev pub texts_in : {D : Type 0} → List (Action D) → List ℕ
 texts_in [] = []
 texts_in (d ∷ ds) = text_by d ++ texts_in ds

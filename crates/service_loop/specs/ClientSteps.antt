@@ -1,4 +1,4 @@
--- What a turn of a client, or a word to it, makes of that client.
+-- The effect of a client's turn, of a notice and of readiness on that client.
 use Rattle.std.specs.Prelude.{◌≡◌, ◌⊎◌, ℕ, ◌≤◌, Bool, true, false, List, [], ◌∷◌, ◌++◌, drop, length, codes, ⊤, Option, None, Some}
 use Rattle.std.specs.Io.KnownBytes.{Appends, append_known}
 use Rattle.spool_disk.specs.Disk.{DiskView}
@@ -15,50 +15,50 @@ use Rattle.service_loop.specs.declared.client.Client.{Client}
 use Rattle.service_loop.specs.declared.client.Disconnect.{Disconnect}
 use Rattle.service_loop.specs.declared.client.Disconnect.TheVariants.{Memory}
 
--- it has taken no more than there is
+-- It has taken no more bytes than its replies have.
 abbrev pub IsWithin : {L : Type 0} → Client L → Type 0
 IsWithin c = c.taken ≤ length c.replies.items
 
--- what it was told so far, also what it hasn't taken, where its line tells
+-- All texts sent to it so far, including the replies that it has not taken, if its connection reports the written bytes.
 abbrev pub told_to : {L : Type 0} → ConnectionView L → Client L → Option (List ℕ)
 told_to view c = append_known (view.contents c.connection) (drop c.taken c.replies.items)
 
--- where the line tells what it will bring, this was asked for first of what was awaited, and the rest is awaited now
+-- These are the first of the awaited requests, and the rest is awaited now, if the connection reports the bytes that it will bring.
 abbrev pub AsksFirst : Option (List ℕ) → (List ℕ → List Ask) → List Ask → Option (List ℕ) → (List ℕ → List Ask) → Type 0
 AsksFirst None old asks known new = ⊤
 AsksFirst (Some rest) old asks None new = ⊥
 AsksFirst (Some rest) old asks (Some left) new = old rest ≡ asks ++ new left
 
--- what was asked for came first of all that was to be asked for, and each of these was asked for once
+-- The requests were the first of those awaited, each once.
 abbrev pub Asks : {L : Type 0} → ConnectionView L → Client L → List Ask → Client L → Type 0
 Asks view old asks new = (awaited : List ℕ → List Ask) → Awaits old.reader awaited →
     (left : List ℕ → List Ask) × Awaits new.reader left × AsksFirst (view.remaining old.connection) awaited asks (view.remaining new.connection) left
 
--- it was told this text, behind what it was told before
+-- This text follows all that was sent to it before.
 pub record IsSent {L : Type 0} (view : ConnectionView L) (old : Client L) (text : List ℕ) (new : Client L) : Type 0 where
   pub within : IsWithin new
   pub told : Appends (told_to view old) (told_to view new) text
 
--- a client asked for this, and was told this
+-- A client made these requests, and was sent this text.
 pub record Goes {L : Type 0} (view : ConnectionView L) (old : Client L) (asks : List Ask) (text : List ℕ) (new : Client L) : Type 0 where
   pub asked : Asks view old asks new
   pub told : IsWithin old → IsSent view old text new
 
--- a text was added to its replies, and nothing was read or taken
+-- A text was appended to its replies; nothing was read or taken.
 pub record IsAdded {L : Type 0} (old : Client L) (text : List ℕ) (new : Client L) : Type 0 where
   pub connection : new.connection ≡ old.connection
   pub reader : new.reader ≡ old.reader
   pub taken : new.taken ≡ old.taken
   pub replies : new.replies.items ≡ old.replies.items ++ text
 
--- a client of this line, of which nothing was read and to which nothing was said
+-- A client with this connection. Nothing was read from it and nothing sent to it.
 pub record IsEntry {L : Type 0} (given : L) (c : Client L) : Type 0 where
   pub connection : c.connection ≡ given
   pub reader : Awaits c.reader asks_of
   pub taken : c.taken ≡ 0
   pub replies : c.replies.items ≡ []
 
--- what it asked for was done, and the text of that deed added
+-- Its request was answered by an action, whose text was appended.
 pub record IsAnswered {D L : Type 0} (device : DiskView D) (old : Engine D) (c : Client L) (ask : Ask) (new : Engine D) (c' : Client L) : Type 0 where
   pub mime : new.mime ≡ old.mime
   pub place : new.place ≡ old.place
@@ -70,37 +70,36 @@ pub record IsAnswered {D L : Type 0} (device : DiskView D) (old : Engine D) (c :
   pub waits : wait_after c.waits action ≡ c'.waits
   pub added : IsAdded c (text_by action) c'
 
--- These deeds were done for a client, and no others: what it asked for is what they answer, one for one, and what it was told
--- are their texts, in order.
+-- These actions, and no others, were done for a client: they answer its requests, one for one, and it was sent their texts, in order.
 pub record IsClientStep {D L : Type 0} (device : DiskView D) (view : ConnectionView L) (old : Engine D) (c : Client L) (done : List (Action D)) (new : Engine D) (c' : Client L) : Type 0 where
   pub mime : new.mime ≡ old.mime
   pub place : new.place ≡ old.place
   pub actions : AreActions (setting device old.mime old.place) old.run_state c.waits done new.run_state c'.waits
   pub client : Goes view c (asks_in done) (texts_in done) c'
 
--- what came next of its reader
+-- The result of its reader: a request, or none yet.
 abbrev pub GivesNext : {L : Type 0} → ConnectionView L → Client L → Next → Client L → Type 0
 GivesNext view old (nexts.Asked ask) new = Goes view old (ask ∷ []) [] new
 GivesNext view old nexts.Again new = Goes view old [] [] new
 GivesNext view old nexts.Text new = Goes view old [] [] new
 
--- What one is told of a text that tells what has changed: nothing, or that text. A line stands before it where some was missed.
+-- A notice sends nothing, or its text, or its text after the line `missed` if earlier notices were dropped.
 abbrev pub IsNotified : List ℕ → List ℕ → Type 0
 IsNotified text told = (told ≡ []) ⊎ (told ≡ text) ⊎ (told ≡ codes "missed\n" ++ text)
 
--- whether a client went for want of memory
+-- Whether a client was disconnected because memory ran out.
 abbrev pub is_starved : Option Disconnect → Bool
 is_starved (Some Memory) = true
 is_starved disconnect = false
 
--- ## All that becomes of a client
+-- ## All events of a client
 
 pub data ClientStep (D L : Type 0) : Type 0 where
-  -- it had a turn, between these engines
+  -- It had a turn, between these engines.
   turns : Engine D → List (Action D) → Engine D → Client L → ClientStep D L
-  -- a text came that tells what has changed, and it was told this of it
+  -- There was a notice, and it was sent this part of it.
   changes : List ℕ → List ℕ → Client L → ClientStep D L
-  -- there was a sign of it
+  -- Its connection was ready.
   signs : Client L → ClientStep D L
 
 abbrev pub client_after : {D L : Type 0} → ClientStep D L → Client L
@@ -113,23 +112,23 @@ actions_by (turns old done new c) = done
 actions_by (changes text told c) = tells told ∷ []
 actions_by (signs c) = []
 
--- as the functions of the loop say of each
+-- The contracts of the loop state this of each event.
 abbrev pub IsClientStepBy : {D L : Type 0} → DiskView D → ConnectionView L → Client L → ClientStep D L → Type 0
 IsClientStepBy device view c (turns old done new c') = IsClientStep device view old c done new c'
 IsClientStepBy device view c (changes text told c') = IsNotified text told × IsAdded c told c' × (c'.waits ≡ c.waits)
 IsClientStepBy device view c (signs c') = Goes view c [] [] c' × (c'.waits ≡ c.waits)
 
--- each is a visit of what the one before it left; meanwhile the engine serves others
+-- Each is a step of the client that the previous one left; in between the engine serves others.
 abbrev pub AreClientSteps : {D L : Type 0} → DiskView D → ConnectionView L → Client L → List (ClientStep D L) → Client L → Type 0
 AreClientSteps device view c [] c' = c' ≡ c
 AreClientSteps device view c (x ∷ xs) c' = IsClientStepBy device view c x × AreClientSteps device view (client_after x) xs c'
 
--- what was done for it, in order
+-- All actions that were done for it, in order.
 abbrev pub actions_of : {D L : Type 0} → List (ClientStep D L) → List (Action D)
 actions_of [] = []
 actions_of (x ∷ xs) = actions_by x ++ actions_of xs
 
--- its line has this text behind what was said before, but for what it hasn't taken
+-- The bytes written to its connection, followed by the replies not taken, are the earlier texts and then this text.
 pub record HasAll {L : Type 0} (view : ConnectionView L) (said text : List ℕ) (c : Client L) : Type 0 where
   pub written : List ℕ
   pub contents : view.contents c.connection ≡ Some written

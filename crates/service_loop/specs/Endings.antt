@@ -1,4 +1,4 @@
--- The children that somebody wants to end, and when each is sent which signal. Moments are in milliseconds.
+-- The children that must end, and when each is sent which signal. Moments are in milliseconds.
 use Rattle.std.specs.Prelude.{◌≡◌, ℕ, ◌-◌, ◌==◌, Bool, cond, filter_map, is_some, nat_le, List, [], ◌∷◌, ◌++◌, Option, None, Some}
 use Rattle.std.specs.List.{list_any}
 use Rattle.std.specs.Option.{option_map}
@@ -6,37 +6,37 @@ use Rattle.service_loop.specs.declared.endings.Ending.{Ending}
 use Rattle.service_loop.specs.declared.signals.Signal.{Signal}
 use Rattle.service_loop.specs.declared.signals.Signal.TheVariants.{Terminate, Kill}
 
--- how long a child has that was asked to end
+-- How long a child has after SIGTERM.
 abbrev pub grace : ℕ
 grace = 10000
 
--- it is asked first, and killed once its grace is over
+-- It is sent SIGTERM first, and SIGKILL once its grace period is over.
 abbrev pub signal_of : Option ℕ → ℕ → Option Signal
 signal_of None now = Some Terminate
 signal_of (Some sent) now = cond (nat_le grace (now - sent)) (Some Kill) None
 
--- a child of this group is listed
+-- A child of this group is listed.
 abbrev pub is_listed : ℕ → List Ending → Bool
 is_listed group endings = list_any (λ ending. ending.group == group) endings
 
--- the child of a job is listed behind the others, unless its group is listed already
+-- The child of a job is listed last, unless its group is already listed.
 abbrev pub with_ending : ℕ → ℕ → List Ending → List Ending
 with_ending job group endings =
     cond (is_listed group endings) endings (endings ++ record { job = job; group = group; sent = None } ∷ [])
 
--- a child that is to end, once it was sent what is due to it
+-- A child that must end, after it was sent the signal that was due.
 abbrev pub signalled : ℕ → Ending → Ending
 signalled now e = record e { sent = cond (is_some (signal_of e.sent now)) (Some now) e.sent }
 
--- the signal that is due to it, with its group
+-- The signal that is due, with its group.
 abbrev pub due_to : ℕ → Ending → Option (ℕ × Signal)
 due_to now e = option_map (λ signal. (e.group, signal)) (signal_of e.sent now)
 
--- the signals that are due to these, in order
+-- The signals that are due to these children, in order.
 abbrev pub signals_due : ℕ → List Ending → List (ℕ × Signal)
 signals_due now endings = filter_map (due_to now) endings
 
--- these signals were sent behind those before, where that is told
+-- These signals follow those sent before, if they are reported.
 abbrev pub Sends : Option (List (ℕ × Signal)) → Option (List (ℕ × Signal)) → List (ℕ × Signal) → Type 0
 Sends None new signals = Unit {0}
 Sends (Some sent) None signals = ⊥

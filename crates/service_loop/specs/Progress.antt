@@ -1,4 +1,4 @@
--- What is done for a client: what it was told is written, and what it sent is read and served, unless its line says that it can't be.
+-- Progress of a client: its replies are written, and its text is read and served, unless its connection reports that this is impossible.
 use Rattle.std.specs.Prelude.{◌≡◌, ◌⊎◌, ℕ, ◌<◌, ◌≤◌, Bool, true, false, cond, nat_le, nat_lt, ◌&&◌, ◌||◌, List, [], ◌++◌, length, codes, None, Some, Ok, IfSome, is_some}
 use Rattle.std.specs.Io.KnownBytes.{Consumes, Keeps}
 use Rattle.spool_types.specs.State.{State}
@@ -16,52 +16,52 @@ use Rattle.service_loop.specs.declared.client.Step.{Step}
 use Rattle.service_loop.specs.declared.client.Step.TheVariants.{Served, Goes, Rests, Lost}
 use Rattle.service_loop.specs.declared.client.Turn.{Turn}
 
--- ## What is left as it was
+-- ## Unchanged fields
 
--- a client, with what writing to its line made of another
+-- A client, with the fields that writing to its connection may change taken from another.
 abbrev pub as_given : {L : Type 0} → Client L → Client L → Client L
 as_given old new = record old { connection = new.connection; replies = new.replies; taken = new.taken; writable = new.writable; last_active = new.last_active }
 
--- a client, with what reading of its line made of another
+-- A client, with the fields that reading its connection may change taken from another.
 abbrev pub as_read : {L : Type 0} → Client L → Client L → Client L
 as_read old new = record old { connection = new.connection; reader = new.reader; readable = new.readable; over = new.over; last_active = new.last_active }
 
--- a client, with what telling it something made of another
+-- A client, with the fields that a notice may change taken from another.
 abbrev pub as_told : {L : Type 0} → Client L → Client L → Client L
 as_told old new = record old { replies = new.replies; missed = new.missed }
 
--- ## Its line
+-- ## Its connection
 
--- a client of which there is a sign
+-- A client whose connection is ready.
 abbrev pub signed : {L : Type 0} → Client L → Bool → Bool → Client L
 signed c writable gone = record c { readable = true; writable = c.writable || writable; gone = c.gone || gone }
 
--- It isn't read, or not written to, only where its line has said last that nothing comes now, or ever, or that it takes nothing now.
+-- Its connection is not read, or not written, only if it reported last that nothing comes now or ever, or that it takes nothing now.
 pub record IsMarked {L : Type 0} (view : ConnectionView L) (c : Client L) : Type 0 where
   pub readable : c.readable ≡ false → IfSome (view.gave c.connection) (λ last. has_no_more last ≡ true)
   pub writable : c.writable ≡ false → IfSome (view.took c.connection) (λ last. takes_later last ≡ true)
 
--- its line has said that it takes nothing any more
+-- Its connection reported that it takes nothing any more.
 abbrev pub IsUnheard : {L : Type 0} → ConnectionView L → Client L → Type 0
 IsUnheard view c = IfSome (view.took c.connection) (λ last. takes_no_more last ≡ true)
 
--- its line has said that it can't be read
+-- Its connection reported that it cannot be read.
 abbrev pub IsCut : {L : Type 0} → ConnectionView L → Client L → Type 0
 IsCut view c = IfSome (view.gave c.connection) (λ last. is_cut last ≡ true)
 
--- ## What it was told is written
+-- ## Its replies are written
 
--- all of it, or as much as its line takes now
+-- All of them, or as much as its connection takes now.
 abbrev pub IsGiven : {L : Type 0} → Client L → Type 0
 IsGiven c = (unread c ≡ 0) ⊎ (c.writable ≡ false)
 
--- it was heard now if it has taken something
+-- It was heard now if it has taken something.
 abbrev pub heard_after : {L : Type 0} → Client L → ℕ → Client L → ℕ
 heard_after old now new = cond (nat_lt (unread new) (unread old)) now old.last_active
 
--- ## What it sent is read
+-- ## Its text is read
 
--- a piece came of its line, and its reader took it
+-- Its connection brought a piece, and its reader took it.
 pub record IsRead {L : Type 0} (view : ConnectionView L) (old : Client L) (piece : List ℕ) (new : Client L) : Type 0 where
   pub consumed : Consumes (view.remaining old.connection) (view.remaining new.connection) piece
   pub kept : Keeps (view.contents old.connection) (view.contents new.connection)
@@ -69,7 +69,7 @@ pub record IsRead {L : Type 0} (view : ConnectionView L) (old : Client L) (piece
   pub taken : new.taken ≡ old.taken
   pub replies : new.replies.items ≡ old.replies.items
 
--- some bytes came, and it was heard now
+-- Some bytes came, and it was heard now.
 pub record HasPiece {L : Type 0} (view : ConnectionView L) (old : Client L) (now : ℕ) (new : Client L) : Type 0 where
   pub piece : List ℕ
   pub some : 0 < length piece
@@ -77,37 +77,37 @@ pub record HasPiece {L : Type 0} (view : ConnectionView L) (old : Client L) (now
   pub over : new.over ≡ old.over
   pub heard : new.last_active ≡ now
 
--- nothing comes now, or its text has ended
+-- Nothing comes now, or its text has ended.
 pub record HasNoMore {L : Type 0} (view : ConnectionView L) (old new : Client L) : Type 0 where
   pub readable : new.readable ≡ false
   pub reader : new.reader ≡ old.reader
   pub over : (new.over ≡ old.over) ⊎ ((new.over ≡ true) × IfSome (view.gave new.connection) (λ last. last ≡ Ok 0))
   pub heard : new.last_active ≡ old.last_active
 
--- what a read came to
+-- The result of a read.
 abbrev pub HasRead : {L : Type 0} → ConnectionView L → Client L → ℕ → Client L → Type 0
 HasRead view old now new = HasPiece view old now new ⊎ HasNoMore view old new
 
--- and where there is nothing to be read there was none
+-- The result of a step that reads. If nothing can be read, nothing was.
 abbrev pub IsReadAs : {L : Type 0} → ConnectionView L → Client L → ℕ → Step → Client L → Type 0
 IsReadAs view old now Served new = ⊥
 IsReadAs view old now Goes new = HasRead view old now new
 IsReadAs view old now Rests new = (new ≡ old) × (old.readable ≡ false)
 IsReadAs view old now Lost new = IsCut view new
 
--- ## What has changed
+-- ## Notices
 
--- what it is told of a text that tells that: nothing where it doesn't watch, or left too much unread
+-- The part of a notice that it is sent: nothing if it does not watch or left too much unread.
 abbrev pub text_for : {L : Type 0} → Client L → List ℕ → List ℕ
 text_for c text = cond (watches c && nat_lt (unread c) most_unread) (cond c.missed (codes "missed\n" ++ text) text) []
 
--- whether it wasn't told all then
+-- Whether it missed some of it then.
 abbrev pub misses : {L : Type 0} → Client L → Bool
 misses c = cond (watches c) (nat_le most_unread (unread c)) c.missed
 
 -- ## A turn
 
--- the word that asks to be told what changes, and the one that ends the service
+-- The word that requests notices, and the word that ends the service.
 abbrev pub is_watch : OwnWord → Bool
 is_watch Watch = true
 is_watch word = false
@@ -116,24 +116,24 @@ abbrev pub is_shutdown : OwnWord → Bool
 is_shutdown Shutdown = true
 is_shutdown word = false
 
--- a turn in which something was served, and perhaps an end asked for
+-- A turn that served something, and perhaps saw a request to end.
 abbrev pub as_served : Turn → Turn → Turn
 as_served old new = record old { served = new.served; shutdown = new.shutdown }
 
--- nothing can be done for it now: the end that it waits for hasn't come, or nothing more of its text comes now
+-- Nothing can be done for it now: the end that it waits for has not come, or nothing more of its text comes now.
 abbrev pub IsAtRest : {L : Type 0} → State → Client L → Type 0
 IsAtRest s c = ((job : ℕ) × (c.waits ≡ Some job) × (has_settled s job ≡ false)) ⊎ (c.readable ≡ false)
 
--- it has left too much unread
+-- It left too much unread.
 abbrev pub IsBacklogged : {L : Type 0} → Client L → Type 0
 IsBacklogged c = most_unread ≤ unread c
 
--- its line is lost, or it has gone and waits for an end, or its text has ended and it has all replies
+-- Its connection is lost, or it hung up while it waited for an end, or its text has ended and it has all replies.
 abbrev pub HasLeft : {L : Type 0} → ConnectionView L → Client L → Type 0
 HasLeft view c = IsUnheard view c ⊎ IsCut view c ⊎ ((c.gone ≡ true) × (is_some c.waits ≡ true)) ⊎ ((c.over ≡ true) × (unread c ≡ 0))
 
--- How a turn ends, over the table that it leaves. One who stays was given what its line takes, and unless there is more to be
--- done at once it is at rest, or has left too much unread.
+-- How a turn ends, over the table that it leaves. A client that stays was sent what its connection takes. Unless there is more to do at
+-- once, it is at rest or left too much unread.
 pub record EndsTurn {L : Type 0} (view : ConnectionView L) (s : State) (was : Client L) (turn : Turn) (is : Client L) : Type 0 where
   pub given : turn.disconnect ≡ None → IsGiven is
   pub rests : turn.disconnect ≡ None → turn.more ≡ false → IsAtRest s is ⊎ IsBacklogged is

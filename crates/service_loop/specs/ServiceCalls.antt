@@ -1,4 +1,4 @@
--- What the service does with its engine: calls, each on what the one before it left.
+-- The calls of the service to its engine, each on the run state that the previous one left.
 use Rattle.std.specs.Prelude.{◌≡◌, ℕ, List, [], ◌∷◌, ◌++◌, map, Some}
 use Rattle.std.specs.FinMap as finite
 use Rattle.spool_types.specs.declared.event.Event.{Event}
@@ -19,7 +19,7 @@ use Rattle.spool_engine.specs.EngineCalls.{Call, AreCalls, last_by}
 use Rattle.spool_engine.specs.EventSteps.{setting}
 use Rattle.spool_engine.specs.EngineRuns.{Engine, TakesStep, CommandStep}
 
--- an engine went on by calls alone, and kept its rules and its place
+-- An engine changed by calls alone, and kept its rules and its place.
 pub record GoesByCalls {D : Type 0} (device : DiskView D) (old new : Engine D) : Type 0 where
   pub mime : new.mime ≡ old.mime
   pub place : new.place ≡ old.place
@@ -27,35 +27,35 @@ pub record GoesByCalls {D : Type 0} (device : DiskView D) (old new : Engine D) :
   pub are : AreCalls (setting device old.mime old.place) old.run_state calls
   pub last : last_by old.run_state calls ≡ new.run_state
 
--- ## What the house says to it
+-- ## Commands of maintenance
 
--- an engine answered a command, in a turn of it
+-- An engine answered a command, in a command step.
 pub record HasAnswered {D : Type 0} (device : DiskView D) (old : Engine D) (command : Command) (new : Engine D) : Type 0 where
   pub mime : new.mime ≡ old.mime
   pub place : new.place ≡ old.place
   pub turn : CommandStep D
   pub takes : TakesStep (setting device old.mime old.place) old.run_state command turn new.run_state
 
--- it answered these, one after the other, and nothing else was done
+-- It answered these commands in order, and did nothing else.
 abbrev pub HasAnsweredAll : {D : Type 0} → DiskView D → Engine D → List Command → Engine D → Type 0
 HasAnsweredAll device old [] new = new ≡ old
 HasAnsweredAll {D} device old (c ∷ cs) new = (mid : Engine D) × HasAnswered device old c mid × HasAnsweredAll device mid cs new
 
--- these jobs are to be purged
+-- The commands that purge these jobs.
 abbrev pub purges : List ℕ → List Command
 purges jobs = map (λ job. Apply (Purge job)) jobs
 
--- ## Services, one after the other
+-- ## Several services in order
 
--- a service: its engine as it was made and as it was left, what its children had told by then, and the orders that came in it
+-- A service: its engine as made and as left, the trace of its children at its start, and the orders since then.
 pub record ServiceLife (D : Type 0) : Type 0 where
   pub start : Engine D
   pub last : Engine D
   pub told : ChildTrace
   pub orders : List Placed
 
--- Its engine was made on a legal table without a processing job, as an opening leaves it, and went on by calls. It held no slot, its
--- children tell, and none was running.
+-- Its engine was made on a legal table without a processing job, as an opening leaves it, and changed by calls. It held no slot, its
+-- children report their trace, and none was running.
 pub record IsServiceLife {D : Type 0} (device : DiskView D) (l : ServiceLife D) : Type 0 where
   pub legal : IsLegal (l.start).run_state.spool.state
   pub idle : HasNoProcessing (l.start).run_state.spool.state
@@ -67,7 +67,8 @@ pub record IsServiceLife {D : Type 0} (device : DiskView D) (l : ServiceLife D) 
   pub tells_then : (l.last).run_state.told ≡ Some now
   pub added : now.orders ≡ (l.told).orders ++ l.orders
 
--- Each is made on the table that the one before left, and some further events: the one in hand, and the opening's Reopen.
+-- Each is made on the table that the previous one left, plus some further events: the event that was being written, and the Reopen of the
+-- opening.
 abbrev pub AreServiceLives : {D : Type 0} → DiskView D → State → List (ServiceLife D) → Type 0
 AreServiceLives device s [] = Unit {0}
 AreServiceLives device s (l ∷ ls) =
@@ -77,7 +78,7 @@ abbrev pub IsServiceHistory : {D : Type 0} → DiskView D → List (ServiceLife 
 IsServiceHistory device [] = Unit {0}
 IsServiceHistory device (l ∷ ls) = IsServiceLife device l × AreServiceLives device (l.last).run_state.spool.state ls
 
--- the stages of all orders
+-- The stages of all orders.
 abbrev pub keys_ordered : {D : Type 0} → List (ServiceLife D) → List Key
 keys_ordered [] = []
 keys_ordered (l ∷ ls) = keys_in l.orders ++ keys_ordered ls

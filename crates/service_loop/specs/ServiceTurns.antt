@@ -1,4 +1,4 @@
--- What a turn of the loop does, and that it leaves nothing undone unless it says that there is more.
+-- A turn of the loop: its calls, and that it leaves nothing undone unless it reports that there is more.
 use Rattle.std.specs.Prelude.{◌≡◌, ◌⊎◌, ℕ, ◌<◌, ◌≤◌, ◌/◌, Bool, false, not, ◌&&◌, ◌||◌, nat_lt, [], Option, None, Some, Result, Ok, Err, IfSome, is_some}
 use Rattle.slab.specs.Slab.{Slab, get}
 use Rattle.spool_types.specs.Limits.{greatest_moment}
@@ -19,22 +19,22 @@ use Rattle.service_loop.specs.Progress.{IsGiven}
 use Rattle.service_loop.specs.declared.client.Client.{Client}
 use Rattle.service_loop.specs.declared.maintenance.Maintenance.{Maintenance}
 
--- each client was given what its line takes, and nothing can be done for it now
+-- Each client was sent what its connection takes, and nothing can be done for it now.
 abbrev pub AreAtRest : {L : Type 0} → Slab (Client L) → Type 0
 AreAtRest slots = (key : ℕ) → key < most_clients → IfSome (get slots key) (λ c. IsGiven c × HasNoneNow c)
 
--- somebody may want to come in, and can: the last one could, and no end was asked for
+-- A new client may be connecting and can be accepted: the last one could, and no end was requested.
 abbrev pub has_new_client_waiting : Bool → Bool → Option ℕ → Bool
 has_new_client_waiting has_new_client barred ends = has_new_client && (not barred && not (is_some ends))
 
 -- ## A tick
 
--- a child was started in it, or the end of one was told
+-- A stage was started or finished in it.
 abbrev pub has_moved : Result Round RoundFault → Bool
 has_moved (Ok counts) = nat_lt 0 counts.started || nat_lt 0 counts.finished
 has_moved (Err fault) = false
 
--- an engine ticked, and this tells whether something moved
+-- An engine ticked, and `has` says whether a stage was started or finished.
 pub record HasTicked {D : Type 0} (device : DiskView D) (old : Engine D) (has : Bool) (new : Engine D) : Type 0 where
   pub mime : new.mime ≡ old.mime
   pub place : new.place ≡ old.place
@@ -43,36 +43,36 @@ pub record HasTicked {D : Type 0} (device : DiskView D) (old : Engine D) (has : 
   pub next : ticked.next ≡ new.run_state
   pub moved : has_moved ticked.result ≡ has
 
--- ## The house
+-- ## Maintenance
 
--- no more jobs have ended than are kept, or none of them is listed
+-- No more jobs have ended than are retained, or none of them is listed.
 abbrev pub HasNoneToPurge : Maintenance → Type 0
 HasNoneToPurge maintenance = (maintenance.listed.items ≡ []) ⊎ (maintenance.ended ≤ maintenance.keep)
 
--- what the system's clock told last, if it could be read, is nothing that is still to be said over a table
+-- The last result of the system's clock, if it could be read, leaves no due time to send over a table.
 abbrev pub IsTimely : Maintenance → State → Option ℕ → Type 0
 IsTimely maintenance s None = Unit {0}
 IsTimely maintenance s (Some millis) = millis / 1000 ≤ greatest_moment → clock_to_announce (clocks_of maintenance s (millis / 1000)) ≡ None
 
--- the time was told where it was due, and further things were said behind it
+-- The time was sent if it was due, and further commands followed.
 pub record HasKeptTime {D : Type 0} (device : DiskView D) (old : Engine D) (maintenance : Maintenance) (last : Option ℕ) (new : Engine D) : Type 0 where
   pub between : Engine D
   pub time : GoesByCalls device old between
   pub timely : IsTimely maintenance between.run_state.spool.state last
   pub others : GoesByCalls device between new
 
--- where the clock tells what it told last
+-- The same, if the clock reports its last result.
 abbrev pub KeepsTime : {D : Type 0} → DiskView D → Engine D → Maintenance → Option (Option ℕ) → Engine D → Type 0
 KeepsTime device old maintenance told new = IfSome told (λ last. HasKeptTime device old maintenance last new)
 
--- nothing was said, or a checkpoint was tried
+-- No command was sent, or a checkpoint was tried.
 abbrev pub HasTriedAtMost : {D : Type 0} → DiskView D → Engine D → Engine D → Type 0
 HasTriedAtMost device old new = (new ≡ old) ⊎ HasAnswered device old Checkpoint new
 
--- ## All of it
+-- ## The whole turn
 
--- The clients' commands, a tick, and what the house said. Unless there is more to be done at once nothing moved in the tick, and the
--- house said nothing, or tried a checkpoint in vain.
+-- The clients' commands, a tick, and the commands of maintenance. Unless there is more to do at once, the tick started and finished
+-- nothing, and maintenance sent no command or tried a checkpoint in vain.
 pub record HasTurned {D : Type 0} (device : DiskView D) (old : Engine D) (maintenance : Maintenance) (told : Option (Option ℕ)) (more : Bool) (new : Engine D) : Type 0 where
   pub before : Engine D
   pub behind : Engine D

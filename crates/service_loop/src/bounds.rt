@@ -1,16 +1,17 @@
-//! The bounds of the loop that no rule of `service_rules` names.
+//! Bounds of the loop that `service_rules` does not define.
 
-/// How many bytes are read of a client before the others have their turn.
+/// The most bytes that one read of a client takes.
 pub const PIECE: usize = 16_384;
 
-/// How many steps a client's turn has at most: a line that says nothing takes one too.
+/// The most steps in a client's turn. A blank line takes a step too.
 pub const MOST_STEPS: usize = 256;
 
-/// How many connections are taken before the clients have their turn.
+/// The most connections accepted in a turn.
 pub const MOST_ACCEPTED: usize = 64;
 
-/// How long a turn without children waits at most, in microseconds, so that the clock of the system is seen.
+/// The longest wait of a turn without children, in microseconds, if the system's clock cannot be read, an end was requested, the journal is
+/// full, or a client could not be accepted.
 pub const LONGEST_IDLE: u64 = 1_000_000;
 
-/// For how many milliseconds an end that was asked for waits for jobs that are processing.
+/// How long a requested end waits for processing jobs, in milliseconds.
 pub const LONGEST_END: u64 = 60_000;

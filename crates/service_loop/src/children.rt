@@ -1,4 +1,4 @@
-//! Children of which no more than so many run at once, and whose starts and ends are told.
+//! Children with a limit on how many run at once, whose starts and ends are logged.
 ghost use Rattle.std.specs.Prelude.{◌≡◌, ◌≤◌, ◌+◌, ◌-◌, None, IsSomeAnd, OnOk, OnErr};
 
 use child_pipeline::{ChildFault, Children, Finish, Grouped, Order, Program, StartRoom};
@@ -8,30 +8,30 @@ use spool_types::{Exit, JobId};
 use std::alloc::{AllocError, Global};
 use std::cell::{Cell, RefCell};
 
-// How many bytes of what a child told last are shown.
+// How many bytes of the end of a child's standard error are logged.
 const LAST_BYTES: usize = 400;
 
-/// A child that runs: its job, and the group of its processes.
+/// A running child: its job, and the group of its processes.
 #[derive(Clone, Copy, Debug)]
 pub struct Run {
     pub job: JobId,
     pub group: u32,
 }
 
-/// Which children run, and how many more the loop lets start. The loop and the children have it in common.
+/// Which children run, and how many more the loop lets start. The loop and the children share it.
 #[derive(Drop)]
 pub struct Watch {
     runs: RefCell<Vec<Run>>,
     starts: Cell<usize>,
-    // Whether a child was started since somebody asked.
+    // Whether a child was started since the last `take_started`.
     started: Cell<bool>,
-    // The jobs that were begun since the turn of the queues was passed on, and the place of the queue whose turn it is.
+    // The jobs that were started since the queue order advanced, and the position of the first queue in this order.
     begun: RefCell<Vec<JobId>>,
     first: Cell<usize>,
 }
 
 impl Watch {
-    /// No child runs. Room for so many is taken.
+    /// No child runs. Reserves memory for `most` children.
     pub fn new(alloc: Global, most: usize) -> Result<Watch, AllocError> {
         Ok(Watch {
             runs: RefCell::new(Vec::with_capacity(alloc, most)?),
@@ -42,7 +42,7 @@ impl Watch {
         })
     }
 
-    /// How many children run.
+    /// The number of running children.
     pub fn running(&self) -> usize {
         match self.runs.try_borrow() {
             Ok(runs) => runs.len(),
@@ -50,7 +50,7 @@ impl Watch {
         }
     }
 
-    /// The group of a job's child, if one runs.
+    /// The process group of a job's child, if one runs.
     pub fn group_of(&self, job: JobId) -> Option<u32> {
         match self.runs.try_borrow() {
             Ok(runs) => {
@@ -61,7 +61,7 @@ impl Watch {
         }
     }
 
-    /// Lets the next tick start no more than so many children.
+    /// Lets the next tick start at most this number of children.
     pub fn bound_starts(&self, starts: usize) {
         self.starts.set(starts);
     }
@@ -71,17 +71,17 @@ impl Watch {
         self.started.replace(false)
     }
 
-    /// The place among the queues of the one whose turn it is.
+    /// The position of the queue that is first in the queue order.
     pub fn first(&self) -> usize {
         self.first.get()
     }
 
-    /// The turn is passed on to the queue at this place.
+    /// Makes the queue at this position the first in the order.
     pub fn pass_to(&self, place: usize) {
         self.first.set(place);
     }
 
-    /// A job that was begun since the turn was passed on, each once.
+    /// Returns one of the jobs that were started since the queue order advanced, each once.
     pub fn next_begun(&self) -> Option<JobId> {
         match self.begun.try_borrow_mut() {
             Ok(mut begun) => begun.pop(),
@@ -95,14 +95,14 @@ impl Watch {
         }
     }
 
-    // So many, or as many as the loop lets start.
+    // The lesser of `count` and the number that the loop lets start.
     fn bounded(&self, count: usize) -> usize
         ensures { result ≤ count }
     {
         count.min(self.starts.get())
     }
 
-    // Sees that there is room for one child more.
+    // Reserves memory for one more child. Returns whether it could.
     fn reserve(&self) -> bool {
         match self.runs.try_borrow_mut() {
             Ok(mut runs) => runs.reserve(1).is_ok(),
@@ -126,7 +126,7 @@ impl Watch {
     }
 }
 
-/// Children of which no more than so many run at once.
+/// Children, at most a given number at once.
 #[derive(Drop)]
 pub struct WatchedChildren<'a, L, C: Children> {
     log: &'a L,
@@ -138,7 +138,7 @@ pub struct WatchedChildren<'a, L, C: Children> {
     pub running: usize,
 }
 
-/// A child that runs, with its job, and its name for the log.
+/// A running child, with its job and its name for the log.
 #[derive(Drop)]
 pub struct WatchedTicket<T: Drop> {
     inner: T,
@@ -147,7 +147,7 @@ pub struct WatchedTicket<T: Drop> {
 }
 
 impl<'a, L: Log, C: Children> WatchedChildren<'a, L, C> {
-    /// Children of which no more than so many run at once. None runs yet.
+    /// Children, at most `most` at once. None runs yet.
     pub fn new(
         log: &'a L,
         alloc: Global,
@@ -172,7 +172,7 @@ impl<'a, L: Log, C: Children> WatchedChildren<'a, L, C> {
         match finish.exit {
             Exit::Code(0) => info!(self.log; "{name}: ended"),
             Exit::Code(code) => error!(self.log; "{name}: ended with status {code}"),
-            Exit::Signal => error!(self.log; "{name}: ended by a signal"),
+            Exit::Signal => error!(self.log; "{name}: killed by a signal"),
             Exit::NoStart | Exit::Lost => {}
         }
         if finish.exit != Exit::Code(0) {
@@ -181,7 +181,7 @@ impl<'a, L: Log, C: Children> WatchedChildren<'a, L, C> {
     }
 }
 
-// Shows the last lines of what a child told.
+// Logs the last lines of a child's standard error.
 fn log_last_lines<L: Log>(log: &L, name: &str, errors: &[u8]) {
     let from = errors.len().saturating_sub(LAST_BYTES);
     for line in errors[from..].split(|b| *b == b'\n') {
@@ -214,7 +214,7 @@ where
 
     ghost number = { λ _. 0 };
 
-    // There are no more places than there are children fewer than the most.
+    // No more can be started than are missing from the limit.
     ghost rooms = { λ old start_room new. IsSomeAnd start_room (λ p. p.count ≤ old.most - old.running) × (new.most ≡ old.most) × (new.running ≡ old.running) };
 
     fn start(&mut self, order: Order) -> Result<WatchedTicket<C::Ticket>, ChildFault>
@@ -261,7 +261,7 @@ where
         self.inner.has_ended(&mut ticket.inner)
     }
 
-    // Those that the others have, as far as so many may run. The queues take turns as the loop says.
+    // The number that the inner children can start, within the limits. The loop sets the queue order.
     fn start_room(&mut self) -> Option<StartRoom> {
         let left = self
             .watch

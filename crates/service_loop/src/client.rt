@@ -1,7 +1,6 @@
-//! A client: what came of its text, and what it hasn't taken of its replies.
+//! A client: its unserved text, and the replies that it has not taken.
 //!
-//! Of its text no more is read than a piece beyond a line's beginning. What it asks for is what its reader gives
-//! (`client_reader`), in order.
+//! At most a piece beyond the beginning of a line is read of its text. Its reader (`client_reader`) returns its requests in order.
 ghost use Rattle.std.specs.Prelude.{◌≡◌, ◌⊎◌, ◌<◌, ◌&&◌, ◌||◌, ℕ, nat_lt, vec_len, is_some, true, false, List, [], None, Some, IfOk, OnOk};
 ghost use Rattle.service_rules.specs.Bounds.{most_unread};
 ghost use Rattle.service_loop.specs.ServiceCalls.{GoesByCalls};
@@ -25,29 +24,29 @@ use spool_types::JobId;
 use std::alloc::{AllocError, Global};
 use std::io::ErrorKind;
 
-// What one is told who asks for what isn't there.
+// The reply to `end` if no child of the job runs.
 const NO_JOB: &[u8] = b"error job\n";
 
 const DONE: &[u8] = b"ok\n";
 
-// What a watching client is told that left too much unread.
+// Sent to a watching client that left too much unread.
 const MISSED: &[u8] = b"missed\n";
 
-/// Why a client goes.
+/// Why a client is disconnected.
 #[derive(Clone, Copy, Debug, PartialEq, Eq)]
 pub enum Disconnect {
-    /// It has gone, or its text has ended and it has all replies.
+    /// It hung up, or its text has ended and it has all replies.
     Left,
-    /// There was no memory for its text or a reply.
+    /// Memory ran out for its text or a reply.
     Memory,
-    /// Its place was wanted.
+    /// A new client got its slot.
     Idle,
 }
 
-/// Why a client can't be served.
+/// Why a client cannot be served.
 #[derive(Clone, Copy, Debug, PartialEq, Eq)]
 enum ClientFault {
-    /// There was no memory for its text or a reply.
+    /// Memory ran out for its text or a reply.
     Memory,
 }
 
@@ -61,16 +60,16 @@ impl From<AllocError> for ClientFault {
     }
 }
 
-/// What came of a client's turn.
+/// The result of a client's turn.
 #[derive(Clone, Copy)]
 pub struct Turn {
-    /// Whether a command was served.
+    /// Whether a request was served.
     pub served: bool,
-    /// Whether there is more to be served at once.
+    /// Whether more can be served at once.
     pub more: bool,
-    // Whether nothing more was served because too much of its replies was unread.
+    // Whether serving stopped because too much of its replies was unread.
     is_backlogged: bool,
-    /// Whether it said that the service is to end.
+    /// Whether it requested the end of the service.
     pub shutdown: bool,
     pub disconnect: Option<Disconnect>,
 }
@@ -89,43 +88,43 @@ impl Turn {
     }
 }
 
-// What a step of a client's turn came to.
+// The result of a step of a client's turn.
 #[derive(Clone, Copy)]
 enum Step {
-    // Something that it asked for was done.
+    // A request was served.
     Served,
     // There may be more.
     Goes,
     // There is nothing more now.
     Rests,
-    // Its line is lost.
+    // Its connection is lost.
     Lost,
 }
 
 #[derive(Drop)]
 pub struct Client<L: Connection> {
     connection: L,
-    // Of what was read of it.
+    // Reads its requests from the text that was read.
     reader: Reader,
-    // The replies, of which so many bytes were taken.
+    // The replies, and how many of their bytes the client has taken.
     replies: Vec<u8>,
     taken: usize,
     readable: bool,
     writable: bool,
-    // Its text has ended, and nobody reads its replies any more.
+    // Whether its text has ended, and whether it has hung up and reads no replies any more.
     over: bool,
     gone: bool,
     // The job whose end it waits for.
     waits: Option<JobId>,
-    // Whether it is told what changes, and whether it wasn't told all.
+    // Whether it is sent what changes, and whether it missed some of that.
     watches: bool,
     missed: bool,
-    // When something of it came or went.
+    // When bytes were last read from it or written to it, in milliseconds.
     last_active: u64,
 }
 
 impl<L: Connection> Client<L> {
-    /// A client of this line.
+    /// A client with this connection.
     pub fn new(alloc: Global, connection: L, now: u64) -> Client<L>
         ensures entry { IsEntry connection result }
         ensures connection { (result.readable ≡ true) × (result.writable ≡ true) × (result.over ≡ false) × (result.gone ≡ false) }
@@ -148,21 +147,21 @@ impl<L: Connection> Client<L> {
         }
     }
 
-    /// When something of it came or went last.
+    /// When bytes were last read from it or written to it, in milliseconds.
     pub fn last_active(&self) -> u64
         ensures { result ≡ self.now.last_active }
     {
         self.last_active
     }
 
-    /// Whether it waits for a job's end, or watches, and has taken all that it was told.
+    /// Whether it waits for a job's end or watches, and has taken all that it was sent.
     pub fn listens(&self) -> bool
         ensures { result ≡ listens self.now }
     {
         (self.waits.is_some() || self.watches()) && self.unread() == 0
     }
 
-    /// There may be something to read, and perhaps it takes more, or has gone.
+    /// Notes that the connection may be readable, and whether it may take more (`writable`) or has hung up (`gone`).
     pub fn signal(&mut self, writable: bool, gone: bool)
         ensures goes { Goes L.view self.old [] [] self.new }
         ensures waits { self.new.waits ≡ self.old.waits }
@@ -179,13 +178,13 @@ impl<L: Connection> Client<L> {
         self.replies.len().saturating_sub(self.taken)
     }
 
-    /// Serves some commands of it.
+    /// Gives the client a turn: writes pending replies, serves some requests and writes their replies.
     pub fn serve<D: Disk, C: Children>(&mut self, shared: &mut Shared<'_, D, C>, now: u64) -> Turn
-        // Unless there was no memory for it, what it asked for was done, and it was told that, in order, and nothing else.
+        // Unless memory ran out for it, its next requests were answered in order, and it was sent nothing else.
         ensures client_step { is_starved result.disconnect ≡ false → (actions : List (Action D)) ×
             IsClientStep D.device L.view shared.old.engine self.old actions shared.new.engine self.new }
 
-        // What its line takes was written to it, and unless there is more to be done at once nothing can be done for it now.
+        // What its connection takes was written. Unless there is more to do at once, nothing can be done for it now.
         ensures ends { EndsTurn L.view shared.new.engine.run_state.spool.state self.old result self.new }
         ensures calls { GoesByCalls D.device shared.old.engine shared.new.engine }
     {
@@ -198,7 +197,7 @@ impl<L: Connection> Client<L> {
         turn
     }
 
-    // The same. Whether it is still there.
+    // Does the same. Returns whether the client stays.
     fn try_serve<D: Disk, C: Children>(
         &mut self,
         shared: &mut Shared<'_, D, C>,
@@ -227,14 +226,14 @@ impl<L: Connection> Client<L> {
         Ok(self.end_turn(now, turn))
     }
 
-    // Whether it has gone while it waits: of one that waits nothing is read, so that its end isn't found.
+    // Whether it has hung up while it waits. A waiting client is not read, so the end of its text is not seen.
     fn has_left_waiting(&self) -> bool
         ensures { result ≡ (self.now.gone && is_some self.now.waits) }
     {
         self.gone && self.waits.is_some()
     }
 
-    // Gives it what it takes of its replies, behind what was served. Whether it is still there.
+    // Writes the replies that its connection takes, after its requests were served. Returns whether the client stays.
     fn end_turn(&mut self, now: u64, turn: &mut Turn) -> bool
         ensures goes { Goes L.view self.old [] [] self.new }
         ensures waits { self.new.waits ≡ self.old.waits }
@@ -244,15 +243,15 @@ impl<L: Connection> Client<L> {
         ensures marked { IsMarked L.view self.old → IsMarked L.view self.new }
         ensures kept { self.new ≡ as_given self.old self.new }
     {
-        // A line that its text ends in is no command: a client that was killed may have been in the middle of another one.
+        // A last line without line feed is no command: the client may have been killed in the middle of it.
         let ended = self.over && !turn.more && !turn.is_backlogged && self.waits.is_none();
         let there = self.give(now);
-        // It took so much that there is something to be served again, and perhaps no sign of it comes.
+        // It took so much that it can be served again, and its connection may report no readiness for that.
         turn.more = turn.more || turn.is_backlogged && self.unread() < MOST_UNREAD;
         there && (!ended || 0 < self.unread())
     }
 
-    // Serves the commands that are whole, up to the bounds. Whether it is still there.
+    // Serves complete requests, up to the bounds of a turn. Returns whether the client stays.
     fn serve_some<D: Disk, C: Children>(
         &mut self,
         shared: &mut Shared<'_, D, C>,
@@ -289,7 +288,7 @@ impl<L: Connection> Client<L> {
         Ok(true)
     }
 
-    // Tells it the end that it waits for, or does what it asks for next, or reads more of it.
+    // Reports the end that it waits for, or serves its next request, or reads more of its text.
     fn step<D: Disk, C: Children>(
         &mut self,
         shared: &mut Shared<'_, D, C>,
@@ -317,7 +316,7 @@ impl<L: Connection> Client<L> {
         }
     }
 
-    // What it asks for next.
+    // The next request of its reader.
     fn next_asked(&mut self) -> Result<Next, AllocError>
         ensures next { IfOk result (λ next. GivesNext L.view self.old next self.new) }
         ensures waits { self.new.waits ≡ self.old.waits }
@@ -328,7 +327,7 @@ impl<L: Connection> Client<L> {
         Ok(next)
     }
 
-    // Tells it the end of the job that it waits for, if that has come. Whether it waits for none then.
+    // Reports the end of the job that it waits for, if the job has ended. Returns whether it waits for no job now.
     fn has_reported_end<D: Disk, C: Children>(
         &mut self,
         shared: &Shared<'_, D, C>,
@@ -353,7 +352,7 @@ impl<L: Connection> Client<L> {
         Ok(true)
     }
 
-    // Serves what it asked for.
+    // Serves a request.
     fn answer<D: Disk, C: Children>(
         &mut self,
         shared: &mut Shared<'_, D, C>,
@@ -374,7 +373,7 @@ impl<L: Connection> Client<L> {
         }
     }
 
-    // Serves a command of the engine. A round is a tick here: it would wait for the children, and all others with it.
+    // Serves a command of the engine. A `round` or `drain` is one tick: a round would wait for the children, and block all other clients.
     fn answer_command<D: Disk, C: Children>(
         &mut self,
         shared: &mut Shared<'_, D, C>,
@@ -437,15 +436,14 @@ impl<L: Connection> Client<L> {
         Ok(())
     }
 
-    /// Whether it is told what changes.
+    /// Whether it is sent what changes.
     pub fn watches(&self) -> bool
         ensures { result ≡ watches self.now }
     {
         self.watches && !self.over
     }
 
-    /// Tells it what changed, if it watches. One that left too much unread is told later that it wasn't told all. Whether there
-    /// was memory for it.
+    /// Sends it what changed, if it watches. If it left too much unread, it gets `missed` later. Returns false if memory ran out.
     pub fn notify(&mut self, text: &[u8]) -> bool
         ensures told { result ≡ true → IsAdded self.old (text_for self.old text.now) self.new }
         ensures of { IsNotified text.now (text_for self.old text.now) }
@@ -469,7 +467,7 @@ impl<L: Connection> Client<L> {
         self.add(text).is_ok()
     }
 
-    // Adds a text to its replies.
+    // Appends a text to its replies.
     fn add(&mut self, text: &[u8]) -> Result<(), AllocError>
         ensures added { OnOk result (IsAdded self.old text.now self.new) }
         ensures waits { self.new.waits ≡ self.old.waits }
@@ -479,7 +477,7 @@ impl<L: Connection> Client<L> {
         Ok(())
     }
 
-    // Gives it what it takes of its replies. Whether it is still there.
+    // Writes the replies that its connection takes. Returns whether the connection still takes replies.
     fn give(&mut self, now: u64) -> bool
         ensures goes { Goes L.view self.old [] [] self.new }
         ensures waits { self.new.waits ≡ self.old.waits }
@@ -501,7 +499,7 @@ impl<L: Connection> Client<L> {
         true
     }
 
-    // Writes some of its replies. Whether it is still there.
+    // Writes some of its replies. Returns whether the connection still takes replies.
     fn write_some(&mut self, now: u64) -> bool
         requires unread { self.old.taken < vec_len self.old.replies }
         requires writable { self.old.writable ≡ true }
@@ -528,8 +526,8 @@ impl<L: Connection> Client<L> {
         }
     }
 
-    // Lets go of the replies that were taken, once they are as much as may be unread: of a client that reads on and on, and
-    // always leaves something, no more is kept.
+    // Releases the replies that were taken once they reach the limit of unread bytes. Otherwise the buffer of a client that always leaves
+    // something unread would grow.
     fn forget_taken(&mut self)
         ensures goes { Goes L.view self.old [] [] self.new }
         ensures unread { unread self.new ≡ unread self.old }
@@ -542,7 +540,7 @@ impl<L: Connection> Client<L> {
         }
     }
 
-    // Reads a piece of its text, if there may be one.
+    // Reads a piece of its text, if the connection may have one.
     fn read_more(&mut self, now: u64) -> Result<Step, ClientFault>
         ensures goes { OnOk result (Goes L.view self.old [] [] self.new) }
         ensures waits { self.new.waits ≡ self.old.waits }
@@ -560,7 +558,7 @@ impl<L: Connection> Client<L> {
         }
     }
 
-    // Reads a piece of its text. Whether it is still there.
+    // Reads a piece of its text. Returns false if the connection is lost.
     fn read(&mut self, now: u64) -> Result<bool, AllocError>
         requires { self.old.readable ≡ true }
         ensures goes { OnOk result (Goes L.view self.old [] [] self.new) }

@@ -1,4 +1,4 @@
-//! The clients, each at a place of its own.
+//! The clients, each in its own slot.
 ghost use Rattle.std.specs.Prelude.{◌≡◌, ◌+◌, ◌<◌, ◌≤◌, ◌||◌, ℕ, cond, true, false, None, IfOk, IfSome, OnOk};
 ghost use Rattle.service_rules.specs.ClientAdmission.{IsAdmission};
 ghost use Rattle.slab.specs.Slab.{get, slab_len};
@@ -19,21 +19,21 @@ use slab::Slab;
 use spool_disk::Disk;
 use std::alloc::{AllocError, Global};
 
-// What one is told for whom there is no place.
+// Sent to a client without a slot.
 const BUSY: &[u8] = b"error busy\n";
 
-/// What the turns of all clients came to.
+/// The result of the turns of all clients.
 #[derive(Clone, Copy)]
 pub struct Turns {
     pub served: bool,
     pub more: bool,
     pub shutdown: bool,
-    /// How many clients went for want of memory.
+    /// How many clients were disconnected because memory ran out.
     pub starved: usize,
 }
 
 impl Turns {
-    // Adds what one turn came to.
+    // Adds the result of one turn.
     fn add(&mut self, turn: Turn)
         requires { self.old.starved < MOST_CLIENTS }
         ensures { self.new ≡ record {
@@ -56,7 +56,7 @@ impl Turns {
 pub struct Clients<L: Connection> {
     alloc: Global,
     slots: Slab<Client<L>>,
-    // When each was heard last, listed where a newcomer wants a place.
+    // When each client was heard last, listed when a new client needs a slot.
     heard: Vec<Heard>,
 }
 
@@ -77,7 +77,7 @@ impl<L: Connection> Clients<L> {
         self.slots.len()
     }
 
-    /// There is a sign of the client at this place.
+    /// Notes readiness of the client in this slot.
     pub fn signal(&mut self, key: usize, writable: bool, gone: bool)
         ensures own { IsSlotSignaled L.view writable gone (get self.old.slots key) (get self.new.slots key) }
         ensures others { KeepsOthers key self.old.slots self.new.slots }
@@ -87,8 +87,8 @@ impl<L: Connection> Clients<L> {
         }
     }
 
-    /// Lets a client in, or tells it that there is no place. Where none is left the client goes that was idle longest, if it
-    /// was long enough; one that listens isn't idle. What became of it.
+    /// Admits a client, or sends it `error busy`. If no slot is free, it replaces the client that has been idle longest, if that was long
+    /// enough; a client that listens is not idle. Returns the decision.
     pub fn admit<R: Listener<Stream = L>>(
         &mut self,
         listener: &mut R,
@@ -114,7 +114,7 @@ impl<L: Connection> Clients<L> {
         Ok(admission)
     }
 
-    // Gives a newcomer a place, unless there are no signs of its line.
+    // Puts a new client into a slot, unless its connection cannot report its readiness.
     fn enter<R: Listener<Stream = L>>(
         &mut self,
         listener: &mut R,
@@ -146,7 +146,7 @@ impl<L: Connection> Clients<L> {
         false
     }
 
-    // Whether there is a client at this place who watches.
+    // Whether the slot has a client that watches.
     fn is_watched(&self, key: usize) -> bool
         ensures { result ≡ is_watched (get self.now.slots key) }
     {
@@ -156,7 +156,7 @@ impl<L: Connection> Clients<L> {
         }
     }
 
-    /// Tells those that watch what changed. How many went for want of memory.
+    /// Sends the watching clients what changed. Returns how many were disconnected because memory ran out.
     pub fn notify(&mut self, text: &[u8]) -> usize
         ensures told { (key : ℕ) → key < MOST_CLIENTS → IsSlotNotified text.now (get self.old.slots key) (get self.new.slots key) }
         ensures others { (key : ℕ) → MOST_CLIENTS ≤ key → get self.new.slots key ≡ get self.old.slots key }
@@ -170,7 +170,7 @@ impl<L: Connection> Clients<L> {
         starved
     }
 
-    // Tells the client at this place, and lets it go where there is no memory for it. Whether there was.
+    // Sends a text to the client in this slot, and disconnects it if memory runs out. Returns whether memory sufficed.
     fn notify_at(&mut self, key: usize, text: &[u8]) -> bool
         ensures own { IsSlotNotified text.now (get self.old.slots key) (get self.new.slots key) }
         ensures others { KeepsOthers key self.old.slots self.new.slots }
@@ -187,14 +187,14 @@ impl<L: Connection> Clients<L> {
 
     /// Gives each client a turn.
     pub fn serve<D: Disk, C: Children>(&mut self, shared: &mut Shared<'_, D, C>, now: u64) -> Turns
-        // One place after the other had its turn, on the engine that the one before it left.
+        // The slots had their turns in order, each on the engine that the previous one left.
         ensures turns { HaveTurns D.device L.view shared.old.engine self.old.slots MOST_CLIENTS shared.new.engine self.new.slots }
         ensures calls { GoesByCalls D.device shared.old.engine shared.new.engine }
-        // So each client had a turn of its own, and was touched by nothing else.
+        // Each client had its own turn, and nothing else changed it.
         ensures own { (key : ℕ) → key < MOST_CLIENTS → HadOwnTurn D.device L.view (get self.old.slots key) (get self.new.slots key) }
         ensures others { (key : ℕ) → MOST_CLIENTS ≤ key → get self.new.slots key ≡ get self.old.slots key }
 
-        // Each one that stayed was given what its line takes, and unless there is more nothing can be done for it now.
+        // Each remaining client was sent what its connection takes. Unless there is more, nothing can be done for it now.
         ensures given { (key : ℕ) → key < MOST_CLIENTS → IfSome (get self.new.slots key) IsGiven }
         ensures rests { result.more ≡ false → (key : ℕ) → key < MOST_CLIENTS → IfSome (get self.new.slots key) HasNoneNow }
     {
@@ -212,7 +212,7 @@ impl<L: Connection> Clients<L> {
         turns
     }
 
-    // Gives the client at this place a turn, and lets it go where it has gone.
+    // Gives the client in this slot a turn, and frees the slot if the client is disconnected.
     fn serve_at<D: Disk, C: Children>(
         &mut self,
         shared: &mut Shared<'_, D, C>,
@@ -230,7 +230,7 @@ impl<L: Connection> Clients<L> {
     }
 }
 
-// Tells one for whom there is no place.
+// Sends `error busy` to a client without a slot.
 fn send_busy<L: Connection>(connection: L) {
     let mut connection = connection;
     let _ = connection.write(BUSY);

@@ -1,4 +1,4 @@
-//! A client's line.
+//! A client's connection.
 ghost use Rattle.std.specs.Prelude.{◌≡◌};
 ghost use Rattle.std.specs.Io.{ReadsAtMost, WritesAtMost};
 ghost use Rattle.std.specs.Io.KnownBytes.{Keeps, ReadConsumes, WriteAppends};
@@ -7,16 +7,16 @@ ghost use Rattle.service_loop.specs.ConnectionViews.{CameTo, ConnectionView};
 use std::io;
 use std::io::ErrorKind;
 
-/// A client's line. What it can't do at once is the error `WouldBlock`.
+/// A client's connection. A call that would wait fails with `WouldBlock`.
 ///
-/// Its written meaning is what it tells: the bytes that will still come, those that were written to it, and what its last read
-/// and its last write came to. A read takes from the first and leaves the second, and a write the other way round. A line may tell
-/// nothing; the clauses then say nothing of it.
+/// Its contract is about the reports of the connection: the bytes that it will still bring, the bytes that were written to it, and the
+/// results of its last read and its last write. A read takes from the first and leaves the second; a write appends to the second and leaves
+/// the first. A connection may report nothing; the clauses then say nothing of it.
 pub trait Connection: Drop {
-    /// What is seen of it.
+    /// The reports of the connection.
     ghost view: { ConnectionView Self };
 
-    /// Reads what has come, as much as fits.
+    /// Reads the bytes that have arrived, up to the length of `piece`.
     fn read(&mut self, piece: &mut [u8]) -> io::Result<usize>
         ensures bound { ReadsAtMost result piece.new }
         ensures bytes { ReadConsumes (view.remaining self.old) (view.remaining self.new) result piece.new }
@@ -24,7 +24,7 @@ pub trait Connection: Drop {
         ensures came { CameTo (view.gave self.new) result }
         ensures other { view.took self.new ≡ view.took self.old };
 
-    /// Writes some of a text, from its beginning.
+    /// Writes part of a text, from its beginning.
     fn write(&mut self, text: &[u8]) -> io::Result<usize>
         ensures bound { WritesAtMost result text.now }
         ensures bytes { WriteAppends (view.contents self.old) (view.contents self.new) result text.now }
@@ -33,7 +33,7 @@ pub trait Connection: Drop {
         ensures other { view.gave self.new ≡ view.gave self.old };
 }
 
-/// Reads what has come, and again where that is interrupted.
+/// Reads the bytes that have arrived. An interrupted read is repeated.
 pub(crate) fn read_of<L: Connection>(connection: &mut L, piece: &mut [u8]) -> io::Result<usize>
     ensures bound { ReadsAtMost result piece.new }
     ensures bytes { ReadConsumes (L.view.remaining connection.old) (L.view.remaining connection.new) result piece.new }
@@ -50,7 +50,7 @@ pub(crate) fn read_of<L: Connection>(connection: &mut L, piece: &mut [u8]) -> io
     connection.read(piece)
 }
 
-/// Writes some of a text, and again where that is interrupted.
+/// Writes part of a text. An interrupted write is repeated.
 pub(crate) fn write_to<L: Connection>(connection: &mut L, text: &[u8]) -> io::Result<usize>
     ensures bound { WritesAtMost result text.now }
     ensures bytes { WriteAppends (L.view.contents connection.old) (L.view.contents connection.new) result text.now }

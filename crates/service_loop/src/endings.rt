@@ -1,4 +1,4 @@
-//! The children that somebody wants to be ended: each is sent SIGTERM, and SIGKILL ten seconds later.
+//! The children that clients want ended: each is sent SIGTERM, and SIGKILL 10 s later.
 ghost use Rattle.std.specs.Prelude.{◌≡◌, ◌↔◌, ℕ, ◌+◌, ◌≤◌, true, false, List, [], ◌∷◌, Some, IsNone, IfOk, IsTrue, OnOk, OnErr, map, vec_len};
 ghost use Rattle.service_loop.specs.Endings.{Sends, grace, is_listed, signal_of, signalled, signals_due, with_ending};
 ghost use Rattle.service_loop.specs.declared.endings.Ending.{Ending as AnyEnding};
@@ -8,19 +8,19 @@ use crate::signals::{Signal, Signals};
 use spool_types::JobId;
 use std::alloc::{AllocError, Global};
 
-/// After how many milliseconds a child is killed that was asked to end and didn't.
+/// How long a child has after SIGTERM before it is killed, in milliseconds.
 pub const GRACE: u64 = 10_000;
 
-// A child that is to end.
+// A child that must end.
 #[derive(Clone, Copy)]
 struct Ending {
     job: JobId,
     group: u32,
-    // When it was sent the last signal, if it was sent one.
+    // When it was sent the last signal, if any.
     sent: Option<u64>,
 }
 
-/// The children that are to end, each once.
+/// The children that must end, each once.
 #[derive(Drop)]
 pub(crate) struct Endings {
     list: Vec<Ending>,
@@ -35,7 +35,7 @@ impl Endings {
         }
     }
 
-    /// Somebody wants the child of a job to end. Whether one runs.
+    /// Notes that the child of a job must end. Returns whether one runs.
     pub fn ask(&mut self, watch: &Watch, job: JobId) -> Result<bool, AllocError>
         ensures runs { IfOk result (λ runs. runs ≡ true → (group : ℕ) × (self.new.list.items ≡ with_ending job group self.old.list.items)) }
         ensures none { IfOk result (λ runs. runs ≡ false → self.new.list.items ≡ self.old.list.items) }
@@ -48,7 +48,7 @@ impl Endings {
         Ok(true)
     }
 
-    // Notes a child that is to end, unless its group is noted already.
+    // Notes a child that must end, unless its group is already noted.
     fn note(&mut self, job: JobId, group: u32) -> Result<(), AllocError>
         ensures ok { OnOk result (self.new.list.items ≡ with_ending job group self.old.list.items) }
         ensures err { OnErr result (self.new.list.items ≡ self.old.list.items) }
@@ -66,17 +66,17 @@ impl Endings {
         self.list.iter().any(|ending| ending.group == group)
     }
 
-    /// Whether no child is to end.
+    /// Whether no child must end.
     pub fn is_empty(&self) -> bool
         ensures { IsTrue result ↔ (self.now.list.items ≡ []) }
     {
         self.list.is_empty()
     }
 
-    /// Asks those to end that weren't asked yet, kills those whose grace is over, and forgets those that have ended.
+    /// Sends SIGTERM to the new ones, kills those whose grace period is over, and forgets those that have ended.
     pub fn act<S: Signals>(&mut self, watch: &Watch, signals: &mut S, now: u64)
         ensures few { vec_len self.new.list ≤ vec_len self.old.list }
-        // Those that are kept were sent what was due to them, and nobody else was sent anything.
+        // The children still noted were sent their due signals, and nothing else was sent.
         ensures sent { (kept : List AnyEnding) × (self.new.list.items ≡ map (signalled now) kept) × Sends (S.sent signals.old) (S.sent signals.new) (signals_due now kept) }
     {
         self.list
@@ -84,7 +84,7 @@ impl Endings {
         self.send_due(signals, now);
     }
 
-    // Sends each what is due to it.
+    // Sends each child the signal that is due.
     fn send_due<S: Signals>(&mut self, signals: &mut S, now: u64)
         ensures list { self.new.list.items ≡ map (signalled now) self.old.list.items }
         ensures sent { Sends (S.sent signals.old) (S.sent signals.new) (signals_due now self.old.list.items) }
@@ -95,7 +95,7 @@ impl Endings {
     }
 }
 
-// Sends a child what is due to it.
+// Sends a child the signal that is due.
 fn send_one<S: Signals>(ending: &mut Ending, signals: &mut S, now: u64)
     ensures ending { ending.new ≡ signalled now ending.old }
     ensures sent { Sends (S.sent signals.old) (S.sent signals.new) (signals_due now (ending.old ∷ [])) }
@@ -106,7 +106,7 @@ fn send_one<S: Signals>(ending: &mut Ending, signals: &mut S, now: u64)
     }
 }
 
-// What a child that is to end is sent now, where its last signal was sent at a moment, if one was.
+// The signal that is due now for a child whose last signal was sent at `sent`, if any was.
 fn signal_of(sent: Option<u64>, now: u64) -> Option<Signal>
     ensures value { result ≡ signal_of sent now }
     ensures asked_first { IsNone sent → result ≡ Some Signal.Terminate }

@@ -4,16 +4,16 @@ ghost use Rattle.std.specs.Prelude.{◌≡◌};
 use std::alloc::AllocError;
 use thiserror::Error;
 
-/// Why a service ends before somebody asks for it.
+/// Why a service ends without a `shutdown`.
 #[derive(Clone, Copy, Debug, Drop, Error, PartialEq, Eq)]
 pub enum ServiceFault {
-    /// There was no memory for the service's own.
+    /// Memory ran out for the service's own data.
     #[error("memory")]
     Memory,
     /// The disk has failed.
     #[error("disk")]
     Disk,
-    /// The wait for signs has failed.
+    /// The wait for readiness has failed.
     #[error("socket")]
     Socket,
 }

@@ -1,4 +1,4 @@
-//! What is so of the service's clock, of its clients, and of its engine. The functions do nothing: their clauses are the laws.
+//! Laws on the service's clock, its clients and its engine. The functions do nothing: their clauses are the laws.
 ghost use Rattle.std.specs.Prelude.{◌≡◌, ◌<◌, ◌≤◌, ℕ, List, false, Some, Ok, IfSome, IsSome};
 ghost use Rattle.std.specs.FinMap as finite;
 ghost use Rattle.spool_types.specs.Limits.{greatest_moment};
@@ -26,49 +26,49 @@ use crate::connection::Connection;
 use spool_disk::Disk;
 use spool_engine::{crashes_between_calls, no_stage_is_ordered_twice};
 
-/// A clock that comes before anything is due is worth nothing, so the service tells none.
+/// A Clock before the next due time changes nothing but the moment, so the service sends none.
 pub fn nothing_is_due_before()
-    // Nothing is due before the moment that a look at all jobs finds (`Maintenance::look`).
+    // Nothing is due before the moment that `Maintenance::look` finds over all jobs.
     ensures found { (s : State) (m : ℕ) → s.moment < m → m ≤ greatest_moment → IfSome (next_due s) (λ due. m < due) → IsQuietUntil s m }
 
-    // It changes no row, and says nothing else than that it was told.
+    // It changes no row, and its reply is `Done`.
     ensures rows { (s : State) (m : ℕ) → IsQuietUntil s m → step s (Clock m) ≡ Ok (record s { moment = m }, Done) }
 
     // No job may be started then.
     ensures starts { (s : State) (m : ℕ) → IsQuietUntil s m → (name : List ℕ) (q : QueueRow) → queue_at s name ≡ Some q →
         (j : ℕ) (r : Job) → job_at s j ≡ Some r → is_eligible (finite.values s.jobs) name q.stopped m r ≡ false }
 
-    // Each job is shown as it was.
+    // Each job's shown state and reason stay the same.
     ensures state { (s : State) (m : ℕ) → IsQuietUntil s m → (j : ℕ) (r : Job) → job_at s j ≡ Some r →
         job_state m r.phase ≡ job_state s.moment r.phase }
     ensures reason { (s : State) (m : ℕ) → IsQuietUntil s m → (j : ℕ) (r : Job) → job_at s j ≡ Some r →
         job_reason m r.phase ≡ job_reason s.moment r.phase }
 {}
 
-/// *ClientsApart*, through the loop: over any row of visits of a client from its entry on, each as the functions of the loop say of it
-/// (a turn, a text that tells what has changed, a sign), and whatever the engine does for others between them.
+/// *ClientsApart*, through the loop: over any list of a client's steps since its admission (a turn, a text of changes, readiness), whatever
+/// the engine does for others between them.
 pub fn clients_of_the_loop_stay_apart<L: Connection, D: Disk>()
-    // What was done for it is, one for one, what came first of all that its line brings, in order and once.
+    // Its actions answer, one for one and in order, the first of the requests in the text of its connection.
     ensures asks { (own : L) (c : Client L) (client_steps : List (ClientStep D L)) (last : Client L) →
         IsEntry own c → AreClientSteps D.device L.view c client_steps last →
         (text : List ℕ) → L.view.remaining own ≡ Some text → AreFirstOf (asks_in (actions_of client_steps)) (asks_of text) }
-    // What was written to its line, and what it hasn't taken yet, are the texts of these deeds, in order and each byte once.
+    // The bytes written to its connection, followed by the replies not taken, are the texts of these actions, in order and each byte once.
     ensures texts { (own : L) (c : Client L) (client_steps : List (ClientStep D L)) (last : Client L) →
         IsEntry own c → AreClientSteps D.device L.view c client_steps last →
         (said : List ℕ) → L.view.contents own ≡ Some said → HasAll L.view said (texts_in (actions_of client_steps)) last }
 {}
 
-/// *NoStageTwice*, through the service: over any number of services, each made on what the one before left and perhaps some further
-/// events, as an opening finds it, no stage of an attempt is ordered twice. Whoever says what a service did says that its engine
-/// went on by calls (`calls` of [`crate::Service::serve`]).
+/// *NoStageTwice*, through the service: over any number of services, each made on the table that the previous one left and perhaps some
+/// further events, as an opening finds it, no stage of an attempt is ordered twice. `calls` of [`crate::Service::serve`] shows that a
+/// service's engine changes by calls.
 pub fn services_order_no_stage_twice<D: Disk>()
     ensures { (lives : List (ServiceLife D)) → IsServiceHistory D.device lives → AreOnce (keys_ordered lives) }
 {
     no_stage_is_ordered_twice::<D>();
 }
 
-/// *A crash*, through the service: at any moment from which on the engine goes on by calls a crash leaves the table that it had
-/// then, or the one after some of the events since, the first of them.
+/// *A crash*, through the service: from any moment on, as long as the engine changes by calls, a crash leaves the table of that moment or
+/// the table after a prefix of the events since then.
 pub fn crashes_lose_no_call<D: Disk>()
     ensures { (old new : Engine D) (goes : GoesByCalls D.device old new) → IsKept D.device old.run_state.spool →
         old.run_state.spool.dead ≡ false → IsSome (D.device.bytes old.run_state.spool.disk) →

@@ -1,64 +1,145 @@
-//! The loop of the service: it serves an engine to many clients while children run.
+//! The loop of the service: serves one engine to many clients while children run.
 //!
-//! What the system does comes by traits: [`Listener`] for the socket, [`Connection`] for a client's line, [`Times`] for the clocks,
-//! [`Signals`] for the children that are to end, and `Children` for those that print. So nothing here knows a socket, a
-//! clock or a process; `spool_service` has them. What is decided by numbers alone is decided by `service_rules`.
+//! The crate reaches the system through traits: [`Listener`] is the listening socket, [`Connection`] a client's connection, [`Times`] the
+//! clocks, [`Signals`] sends signals to the children that must end, and `Children` starts the children that print. So this crate knows no
+//! socket, clock or process; `spool_service` implements the traits. `service_rules` makes the decisions that depend on numbers alone.
 //!
 //! # A turn of the loop
 //!
-//! [`Service::serve`] waits for a sign of a client, lets in who comes, gives each client a turn, sees to the children that are
-//! to end, ticks, and keeps house. It serves until a client says `shutdown`, or until the disk or the wait fails; nothing rests
-//! on the bound of its loop. No step waits for a client or for a child: only the disk's syncs take time.
+//! [`Service::serve`] repeats `Service::turn` (`service.rt`) until the end that a client requested with `shutdown` is reached, the disk
+//! fails, the wait fails, or the service itself runs out of memory. No promise depends on the bound of its loop. A turn has these steps:
 //!
-//! - `client`: what came of a client's text and what it hasn't taken of its replies. `clients`: their places.
-//! - `office`: what clients and house share. The words of the service alone, and their replies, are `service_texts`'. `round`
-//!   and `drain` are one tick here, answered at once with its counts: they would wait for the children, and all other clients
-//!   with them.
-//! - `house`: the clock, the purge of ended jobs and the checkpoint, which the service says to its own engine.
-//! - [`Watch`], [`WatchedChildren`]: how many children may run, which do, and the log of their starts and ends. `endings`: those
-//!   that somebody wants to be ended.
+//! 1. `Service::wait` waits until a connection is ready, but at most until the next check of the children or the next due time
+//!    (`Service::pause`), and marks the clients that are ready.
+//! 2. `Service::let_in` accepts up to 64 new clients.
+//! 3. `Service::serve_clients` gives each client a turn (`Client::serve`, `client.rt`), handles `shutdown`, and sends signals to the
+//!    children that must end (`Endings::act`, `endings.rt`).
+//! 4. `Service::tick` makes one tick of the engine (`Shared::tick`, `shared.rt`).
+//! 5. `Service::maintain` sends the engine commands: the time, purges of ended jobs, and a checkpoint (`maintenance.rt`), each only if it
+//!    is due.
+//! 6. `Service::notify_changes` sends the watching clients what changed.
 //!
-//! # What one client may have
+//! After a `shutdown` no client is accepted and no job is started. The loop ends when no job is processing and no child runs, or 60 s after
+//! the request.
+//!
+//! # Where a reply is made
+//!
+//! `Client::serve` writes pending replies and then makes up to 256 steps (`Client::step`). A step takes the next request from the client's
+//! reader (`client_reader`) and answers it, or reads more text. Each reply is appended to the client's buffer; only `Client::write_some`
+//! writes the buffer to the connection.
+//!
+//! | Reply to | Made by |
+//! |---|---|
+//! | a command | `Client::answer_command`: the engine appends it (`Shared::answer`) |
+//! | `round`, `drain` | `Client::answer_command`: one tick, and its counts at once; no client waits for the children |
+//! | `job`, `watch`, `end`, `shutdown` | `Client::answer_own`; texts of `service_texts` |
+//! | `wait` | `Client::has_reported_end`, in the first step after the job's end |
+//! | nothing: a notice to a watching client | `Client::notify` |
+//! | a connection without a slot | `send_busy` (`clients.rt`), written at once |
+//!
+//! # Limits of a client
 //!
 //! | A client that | Then | Bound |
 //! |---|---|---|
-//! | sends in pieces | its text is read by pieces, and a line or a send is kept | 65,537 bytes, and a piece and a line |
-//! | stalls in a send | nothing is applied, and nobody waits | one of 64 places |
-//! | never reads | nothing more of it is served or read | 65,536 bytes and one reply |
-//! | floods | 32 commands a turn, then the others | |
-//! | is the 65th | the one that was idle longest goes, from 10 s on, or it is told `error busy` and goes | |
-//! | waits for a job | nothing more of it is read until then, and nobody else waits; where it leaves its place is free | |
-//! | watches and doesn't read | it is told `missed` later | 65,536 bytes and the lines of a turn |
-//! | leaves | what it asked for whole is done, and no line that has no line feed; its incoming jobs stay | |
+//! | sends in pieces | is read by pieces; an incomplete line or send is retained | 65,537 bytes, plus a piece and a line |
+//! | stalls in a send | nothing is applied, and no other client waits | one of 64 slots |
+//! | never reads | is not served or read further | 65,536 bytes and one reply |
+//! | floods | is served 32 commands, then the other clients have their turn | 32 commands a turn |
+//! | is the 65th | replaces the client that has been idle longest, if that is at least 10 s; otherwise it gets `error busy` | 64 clients |
+//! | waits for a job | is not read until the job ends, and no other client waits; if it hangs up, its slot is freed | |
+//! | watches and does not read | gets `missed` later | 65,536 bytes and the lines of a turn |
+//! | leaves | its complete requests are served, a last line without line feed is not; its incoming jobs remain | |
+//!
+//! If all 64 clients listen, the 65th gets `error busy`: it knows and may try again, but a client that was dropped would have lost its
+//! answer.
 //!
 //! # Promises
 //!
-//! - A command is served, and a tick is made, as the engine does it (`Serves`, `IsTicked`): the service adds nothing.
-//! - Whatever comes, and however it ends, its engine goes on by calls alone (`calls` of [`Service::serve`], `GoesByCalls`). So what
-//!   is so of calls is so of the service: no stage of an attempt is ordered twice, over any number of services
-//!   ([`services_order_no_stage_twice`]), and a crash loses nothing that was acknowledged ([`crashes_lose_no_call`]).
-//! - What is due is said to the engine as commands: the time, the purges and the checkpoint (`HasAnswered`).
-//! - Clients are kept apart, on lines that tell what comes and what goes ([`Connection`]). `Deeds` says what is done for a client,
-//!   and `Visits` what a turn makes of it (`IsClientStep`): what was done is what its own line asked for, one for one and in order, and
-//!   the texts go to the same line, each byte once. `StartRoom` says it of all clients: each has a turn of its own, on the engine that
-//!   the one before it left, and nothing else touches it (`HaveTurns`, `HadOwnTurn`). So it is over any row of visits from its
-//!   entry on ([`clients_of_the_loop_stay_apart`]). Of a client that goes for want of memory nothing is said in that turn.
-//! - Clients get on (`Progress`; what is marked is true on lines that tell). Behind a turn one that stays was given what its line
-//!   takes, and unless the turn says that there is more nothing can be done for it now (`EndsTurn`). So it is behind the turns of
-//!   all (`given`, `rests` of `Clients::serve`). Who watches is told exactly `text_for` of each text.
-//! - A turn that doesn't say that there is more leaves nothing undone (`Turns`): no client could be served further, the tick moved
-//!   nothing, the house said nothing but a checkpoint that failed, no listed job is to be purged, and nobody waits to come in. So no
-//!   wait keeps anybody waiting.
-//! - [`nothing_is_due_before`]: before something comes due (`due_of`) the clock changes no row, starts no job and shows none
-//!   otherwise. So an idle service tells none.
-//! - A newcomer is let in by when each client was heard last (`IsAdmission`, `heard_of`).
-//! - A child that is to end is asked first, and is killed no sooner than ten seconds later (`signal_of`). No group is listed twice
-//!   (`with_ending`).
+//! The clauses on connections hold if the connections report the bytes that they will bring and the bytes written to them ([`Connection`]).
 //!
-//! # Faults
+//! - **Engine calls only.** However [`Service::serve`] ends, its engine changed by an engine's calls alone, with the same MIME rules and
+//!   the same `Place` of the children (`calls`, `GoesByCalls`). The calls are a list, not a life of an engine, so each law of calls holds
+//!   for the service. The list does not say why a call was made: the client steps say so for clients, and `HasAnswered` for maintenance.
+//!   `serve` fails with `Disk` only if the disk has failed (`disk`).
+//! - [`services_order_no_stage_twice`]: over any number of services, each made on the state that the previous one left plus perhaps further
+//!   events, no stage of an attempt is ordered twice. A life of a service may have no call, if its first wait fails; as a life of an engine
+//!   it has a run of no commands.
+//! - [`crashes_lose_no_call`]: for each moment when the disk has not failed, a later crash leaves the table of that moment, or the table
+//!   after a prefix of the events since then.
+//! - **Commands and ticks.** `Shared::answer` serves a command as the engine does (`served`, `Serves`). `Shared::tick` is one tick of the
+//!   engine (`tick`, `IsTicked`). A `round` or a `drain` is answered with one tick.
+//! - **Isolation.** A client's turn is a client step (`client_step` of `Client::serve`, `IsClientStep`): actions that answer, one for one
+//!   and in order, the first requests of its own connection. Their texts, each byte once, follow the texts sent before (`Goes`). An action
+//!   is a command served by the engine, one tick for a `round` or a `drain`, a word of the service answered from the current table, or the
+//!   end of the job that the client waits for (`IsAction`). While a client waits for a job's end nothing else is done for it. Each action
+//!   continues from the run state that the previous one left (`AreActions`).
+//! - **All clients.** Each slot has its turn, on the engine that the previous slot left (`turns` of `Clients::serve`, `HaveTurns`), and
+//!   only its own turn changes a client (`own`, `others`, `HadOwnTurn`). No other client changes when a watching client is sent what
+//!   changed (`told` of `Clients::notify`: that text, with or without `missed` before it, or none of it), when a connection is ready
+//!   (`Clients::signal`), or when a client is admitted; nothing has been read from the new connection then (`lets_in` of `Clients::admit`).
+//! - [`clients_of_the_loop_stay_apart`]: over any list of a client's steps since its admission, its actions answer the first of the
+//!   requests in its connection's bytes (`asks`). The bytes written to its connection, followed by the replies not taken, are the texts of
+//!   those actions (`texts`).
+//! - **A turn** (`turned` of `Service::turn`, `HasTurned`) is the clients' commands, one tick, and the commands of maintenance. **Nothing
+//!   is left undone** unless the turn reports that there is more to do at once: each client was sent all that its connection takes and
+//!   cannot be served further (`clients`, `AreAtRest`); the tick started and ended nothing, and maintenance sent no command or tried a
+//!   checkpoint in vain (`still`); no listed job remains to be purged (`maintenance`, `HasNoneToPurge`); and no client waits to be admitted
+//!   (`listener`). So no wait begins while one of these is left. A tick that ran out of memory or of room is repeated after the wait. If
+//!   the clock reports its last result, no due time is left unsent (`KeepsTime`, `IsTimely`).
+//! - **Progress.** After the turns each remaining client was sent all that its connection takes: nothing is unread, or its connection is
+//!   marked as taking nothing now (`given` of `Clients::serve`, `IsGiven`). Unless the turn reports that there is more to do at once,
+//!   nothing can be done for the client now: it waits for a job's end, its connection is marked as having nothing to read now, or it left
+//!   too much unread (`rests` of `Clients::serve`, `HasNoneNow`; `ends` of `Client::serve`, `EndsTurn`).
+//! - On connections that report the result of their last read and write the marks are true: a connection that is not read or not written
+//!   reported last that nothing comes or that it takes nothing now (`IsMarked`). A client is disconnected in its turn only if its
+//!   connection is lost, it hung up while it waited, its text has ended and it has taken all replies, or memory ran out (`leaves`). A read
+//!   takes a piece, finds none now, or finds the end (`HasRead`). Readiness sets the marks of the connection (`signed`).
+//! - **Watching clients.** Each text is sent to each watching client, or nothing if too much is unread, and then `missed` before the next
+//!   text (`told` of `Clients::notify`, `text_for`, `misses`).
+//! - [`WatchedChildren`]: at most the given number of children run at once (`most`, `counted`, `bound`).
+//! - **Due times.** `due_of` is the earliest moment that changes something about a job; `Maintenance::look` finds the earliest of all jobs
+//!   (`due`, `next_due`). [`nothing_is_due_before`]: before it the clock changes no row, starts no job and changes no shown state, so an
+//!   idle service sends no clock. A due time is sent to the engine as a Clock command, and the engine answers it (`said` and `found` of
+//!   `Maintenance::announce_time`, `HasAnswered`).
+//! - **Purges.** `Maintenance::look` lists the first 1,024 ended jobs (`listed`, `AreListed`). A purged job is removed from the list and no
+//!   longer counted (`crossed`, `counted` of `Maintenance::purge`). Each purge is a command that the engine answers (`purged`).
+//! - **Checkpoints.** A checkpoint is wanted by the room that the last one left (`wants_checkpoint`, `left` of `checkpoint`), before the
+//!   first one by half of the disk (`keeping_of` of `spool_service`). It is a command that the engine answers (`answered`).
+//! - **Admission.** A new client is admitted according to when each client was heard last and which clients listen (`admission` of
+//!   `Clients::admit`, `IsAdmission`, `heard_of`, `listens`).
+//! - **Children to end.** A child that must end is noted by its process group, once (`with_ending`). It is sent SIGTERM, and SIGKILL no
+//!   sooner than 10 s later (`signal_of`). If [`Signals`] reports the signals that it sends, the children still noted were sent their due
+//!   signals, and nothing else was sent (`sent` of `Endings::act`).
 //!
-//! [`ServiceFault`]: a disk that fails ends the service, so that it is started again; so does a want of memory of its own. A
-//! client for whose text or reply there is no memory goes. A want of room for events doesn't end it: a checkpoint is tried.
+//! # Not proved
+//!
+//! - That the loop requests the right decision, with the right values, at the right moment: a turn waits at most as long as `pause`
+//!   returns, makes a checkpoint when one is wanted, ends children, and sends watching clients what changed. That is read in the code.
+//!   `tests/service.py` shows it for the program: clients that stall, flood, never read, or are too many; slow children and children that
+//!   must end; kills; a requested end.
+//! - The sockets of the program report nothing (`SocketConnection` of `spool_service`), so the clauses on connections say nothing of their
+//!   bytes. The code is the same.
+//! - If a client is disconnected because memory ran out, no clause states its replies or its calls in that turn, only that no other client
+//!   is changed.
+//! - No clause states that a turn that leaves more to do has done something, or that a new client gets a slot. So these bodies meet their
+//!   clauses: a `serve_clients` that serves no client and reports that there is more; a `wait` that fails at once; a `note_readiness`,
+//!   `let_in`, `handle_turns`, `make_checkpoint`, `note_stages` or `notify_changes` that does nothing; a `note_due` and an `end_children`
+//!   of `Shared` that do nothing.
+//! - No clause states which marks a command or a tick leaves (`full`, `active`, `watched` of `Shared`), which queues are at rest
+//!   (`at_rest`), or which children stay noted: an `act` that forgets all meets its clauses.
+//! - No clause states the contents of cells ([`Watch`]: which children run), or what sockets, clocks and signals do. The service itself
+//!   advances the queue order, after the last queue that started a job, because the launcher does not know the queues.
+//!
+//! # Errors
+//!
+//! [`ServiceFault`]: a failed disk, a failed wait, or lack of memory for its own data ends the service, so that its supervisor can restart
+//! it. If memory runs out for a client's text or reply, the service disconnects that client. Lack of room for events does not end the
+//! service: it tries a checkpoint.
+//!
+//! # Cost
+//!
+//! No step of a turn waits for a client or a child; only the disk's syncs take time. The table is examined for due times at most once a
+//! second, and only if something was done.
 #![tactic(auto)]
 
 mod bounds;

@@ -1,15 +1,16 @@
-//! Where clients come in.
+//! The listening socket.
 ghost use Rattle.service_loop.specs.ConnectionViews.{IsUntouched};
 
 use crate::connection::Connection;
 use std::io;
 
-/// What a wait has found.
+/// A connection that a wait has found ready.
 #[derive(Clone, Copy, Debug)]
 pub enum Readiness {
-    /// Somebody comes.
+    /// A new client is connecting.
     NewClient,
-    /// Something may be read of the client under this key, or written to it, or it has gone: it reads nothing any more.
+    /// The client under this key may have sent something, or may take more (`writable`), or has hung up and reads nothing any more
+    /// (`gone`).
     Client {
         key: usize,
         writable: bool,
@@ -17,30 +18,30 @@ pub enum Readiness {
     },
 }
 
-/// What is found where a client comes in.
+/// The result of accepting a client.
 #[derive(Drop)]
 pub enum AcceptOutcome<L> {
     Client(L),
     Nobody,
-    /// Somebody is there who can't be let in now.
+    /// A client is connecting but cannot be accepted now.
     Failed,
 }
 
-/// Where clients come in. No call but `wait` waits, nor does a call of a line.
+/// The listening socket. Only `wait` waits; no other call does, nor does a call of a connection.
 pub trait Listener {
-    /// The line to a client.
+    /// The connection to a client.
     type Stream: Connection;
 
-    /// Waits until there is a sign, or for so many milliseconds; with `None` until there is one.
+    /// Waits until something is ready, or for this number of milliseconds; with `None` until something is ready.
     fn wait(&mut self, millis: Option<u64>) -> io::Result<()>;
 
-    /// The next sign that the last wait has found.
+    /// The next readiness that the last wait found.
     fn next_readiness(&mut self) -> Option<Readiness>;
 
-    /// Lets the next client in.
+    /// Accepts the next client.
     fn accept(&mut self) -> AcceptOutcome<Self::Stream>;
 
-    /// Gives the signs of this line from now on, under a key. Whether it could.
+    /// Reports the readiness of this connection from now on, under a key. Returns whether it can.
     fn watch(&mut self, connection: &mut Self::Stream, key: usize) -> bool
         ensures { IsUntouched Self.Stream.view connection.old connection.new };
 }

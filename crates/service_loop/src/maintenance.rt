@@ -1,7 +1,7 @@
-//! The service's own clock and housekeeping: it is a client of its own engine.
+//! Maintenance: the time, the purge of ended jobs and the checkpoint, which the service sends to its own engine as commands.
 //!
-//! The table is looked at once a second at most, and only where something was done since ([`Maintenance::look`]): then it is known
-//! what comes due next, and which ended jobs are to go. So an idle service looks at nothing, and tells nothing.
+//! The table is examined at most once a second, and only if something was done since ([`Maintenance::look`]). This finds the next due
+//! moment and the ended jobs to purge. So an idle service examines no table and sends no command.
 ghost use Rattle.std.specs.Prelude.{◌≡◌, ◌≢◌, ◌<◌, ◌≤◌, ◌-◌, ◌/◌, ◌%◌, true, false, [], None, Some, cond, length, IfOk, IfSome, OnErr, OnOk, Ok};
 ghost use Rattle.std.specs.FinMap as finite;
 ghost use Rattle.spool_types.specs.Limits.{greatest_moment};
@@ -37,17 +37,17 @@ const DONE: &[u8] = b"ok\n";
 #[derive(Drop)]
 pub(crate) struct Maintenance {
     alloc: Global,
-    // How many ended jobs are kept.
+    // How many ended jobs are retained.
     keep: usize,
-    // Of how many ended jobs was known at the last look, and the oldest of them that weren't purged since.
+    // How many jobs had ended at the last check, less those purged since, and the oldest of them.
     ended: usize,
     listed: Vec<Candidate>,
-    // The second of the last look, the moment that was told last, and the one by which something comes due.
+    // The second of the last check, the moment that was sent last, and the next due moment.
     looked: Option<Moment>,
     told: Option<Moment>,
     due: Option<Moment>,
-    // A checkpoint is made where less than so many hundredths are left of the room behind the last one, which is known of one
-    // that this service has made. Before it the area counts.
+    // A checkpoint is made if the free room is below this percentage of the room that the last checkpoint of this service left (`left`),
+    // before the first one of the area.
     percent: u8,
     area: u64,
     left: Option<u64>,
@@ -55,7 +55,7 @@ pub(crate) struct Maintenance {
 }
 
 impl Maintenance {
-    /// A house of an engine whose journal is in an area of so many bytes.
+    /// Maintenance of an engine whose journal is in areas of this number of bytes.
     pub fn new(
         alloc: Global,
         keep: usize,
@@ -85,24 +85,25 @@ impl Maintenance {
         })
     }
 
-    /// Looks at the table and tells the system's time, in milliseconds, where that is wanted. Whether it was told.
+    /// Examines the table and sends the engine the system's time, given in milliseconds, if something is due. Returns whether the time was
+    /// sent.
     pub fn announce_time<D: Disk, C: Children>(
         &mut self,
         shared: &mut Shared<'_, D, C>,
         millis: u64,
     ) -> Result<bool, AllocError>
-        // Where nothing was done since the last look, and nothing has come due, nothing is done.
+        // If nothing was done since the last check and nothing is due, nothing changes.
         ensures idle { shared.old.active ≡ false → clock_to_announce (clocks_of self.old shared.old.engine.run_state.spool.state (millis / 1000)) ≡ None →
             (shared.new ≡ shared.old) × (self.new ≡ self.old) }
         ensures told { OnOk result (shared.old.active ≡ false → IfSome (clock_to_announce (clocks_of self.old shared.old.engine.run_state.spool.state (millis / 1000)))
             (λ moment. moment ≤ greatest_moment → self.new.told ≡ Some moment)) }
         ensures said { OnOk result (shared.old.active ≡ false → IfSome (clock_to_announce (clocks_of self.old shared.old.engine.run_state.spool.state (millis / 1000)))
             (λ moment. moment ≤ greatest_moment → HasAnswered D.device shared.old.engine (Command.Apply (Event.Clock moment)) shared.new.engine)) }
-        // Where something was done, what comes due is found in the table, once a second.
+        // If something was done, the due moment is taken from the table, once a second.
         ensures found { OnOk result (shared.old.active ≡ true → millis / 1000 ≤ greatest_moment → self.old.looked ≢ Some (millis / 1000) →
             IfSome (clock_to_announce (clocks_found self.old shared.old.engine.run_state.spool.state (millis / 1000)))
             (λ moment. moment ≤ greatest_moment → HasAnswered D.device shared.old.engine (Command.Apply (Event.Clock moment)) shared.new.engine)) }
-        // Behind it no time is left to be told, and unless it was told nothing was said.
+        // Afterwards no due time is left unsent. If it returns false, no command was sent.
         ensures timely { OnOk result (IsTimely self.new shared.new.engine.run_state.spool.state (Some millis)) }
         ensures silent { result ≡ Ok false → shared.new.engine ≡ shared.old.engine }
         ensures calls { GoesByCalls D.device shared.old.engine shared.new.engine }
@@ -121,7 +122,7 @@ impl Maintenance {
         Ok(true)
     }
 
-    // Looks at the table where something was done since the last look, and that wasn't in this second.
+    // Examines the table if something was done since the last check, and the last check was not in this second.
     fn look_anew<D: Disk, C: Children>(
         &mut self,
         shared: &mut Shared<'_, D, C>,
@@ -151,7 +152,7 @@ impl Maintenance {
         }
     }
 
-    /// How many milliseconds it is until the time is to be told or the table looked at, if it is.
+    /// The milliseconds until the time must be sent or the table examined, if either is due.
     pub fn wait<D: Disk, C: Children>(&self, shared: &Shared<'_, D, C>, millis: u64) -> Option<u64>
         ensures active { shared.now.active ≡ true → result ≡ Some (1000 - millis % 1000) }
         ensures due { shared.now.active ≡ false → millis / 1000 ≤ greatest_moment →
@@ -166,7 +167,7 @@ impl Maintenance {
         clock_wait(&self.clocks(shared.engine.table(), system), part)
     }
 
-    // Looks at all jobs.
+    // Examines all jobs.
     fn look<D: Disk, C: Children>(&mut self, shared: &Shared<'_, D, C>) -> Result<(), AllocError>
         ensures due { OnOk result (self.new.due ≡ next_due shared.now.engine.run_state.spool.state) }
         ensures ended { OnOk result (self.new.ended ≡ ended_among 0 (finite.values shared.now.engine.run_state.spool.state.jobs)) }
@@ -184,7 +185,7 @@ impl Maintenance {
         Ok(())
     }
 
-    // Counts a job, if it has ended, and lists it among the oldest.
+    // Counts a job if it has ended, and lists it among the oldest.
     fn note_ended(&mut self, job: &Job, watch: &Watch) -> Result<(), AllocError>
         ensures ended { OnOk result (self.new.ended ≡ with_ended self.old.ended job.now) }
         ensures listed { OnOk result (IsListed (is_to_list self.old.listed.items job.now) self.old.listed.items job.now self.new.listed.items) }
@@ -193,7 +194,7 @@ impl Maintenance {
         if !job.phase.has_ended() {
             return Ok(());
         }
-        // No memory holds more jobs than a count does.
+        // Memory cannot hold more jobs than the counter counts.
         self.ended = self.ended.saturating_add(1);
         if self.listed.len() < MOST_LISTED {
             self.listed.push(Candidate {
@@ -205,14 +206,15 @@ impl Maintenance {
         Ok(())
     }
 
-    /// Purges the oldest ended jobs beyond those that are kept, a few at once. Whether some may have been on the list.
+    /// Purges the oldest ended jobs beyond those to retain, a few at a time. Returns whether some may have been on the list.
     pub fn purge<D: Disk, C: Children>(
         &mut self,
         shared: &mut Shared<'_, D, C>,
     ) -> Result<bool, AllocError>
-        // Where there are no more than are kept nothing is done.
+        // If at most that number has ended, nothing changes.
         ensures within { self.old.ended ≤ self.old.keep → (result ≡ Ok false) × (shared.new ≡ shared.old) × (self.new ≡ self.old) }
-        // Where it says no there is none left, and nothing was said. Those that were purged, and those before them, are crossed off.
+        // If it returns false, none is left to purge and no command was sent. The purged jobs, and those before them, are removed from the
+        // list.
         ensures none { result ≡ Ok false → HasNoneToPurge self.new × (shared.new.engine ≡ shared.old.engine) }
         ensures crossed { OnOk result (self.old.keep < self.old.ended → self.new.listed.items ≡
             above (swept_to 0 (purge_count self.old.ended self.old.keep) self.old.listed.items) self.old.listed.items) }
@@ -237,7 +239,7 @@ impl Maintenance {
         Ok(true)
     }
 
-    /// Whether a checkpoint is to be made at a moment in milliseconds.
+    /// Whether a checkpoint is wanted at a moment in milliseconds.
     pub fn wants_checkpoint<D: Disk, C: Children>(
         &self,
         shared: &Shared<'_, D, C>,
@@ -249,7 +251,7 @@ impl Maintenance {
         is_wanted(room, self.percent, shared.full, self.last, now)
     }
 
-    /// Makes a checkpoint. Whether it was made.
+    /// Makes a checkpoint. Returns whether it was made.
     pub fn checkpoint<D: Disk, C: Children>(
         &mut self,
         shared: &mut Shared<'_, D, C>,
@@ -269,7 +271,7 @@ impl Maintenance {
         Ok(made)
     }
 
-    /// A checkpoint was made, or tried, between these moments, in milliseconds. None of the room that it left is used.
+    /// Notes that a checkpoint was made or tried between these moments, in milliseconds, and that none of the room that it left is used.
     pub fn note_checkpoint(&mut self, began: u64, ended: u64, made: bool)
         ensures { self.new ≡ record self.old { last = Some (record { began = began; ended = ended; left = cond made (Some 0) None }) } }
     {
@@ -278,7 +280,7 @@ impl Maintenance {
     }
 }
 
-// Says a command to the engine.
+// Sends the engine a command.
 fn say<D: Disk, C: Children>(
     alloc: Global,
     shared: &mut Shared<'_, D, C>,
@@ -291,7 +293,7 @@ fn say<D: Disk, C: Children>(
     shared.answer(command, &mut reply)
 }
 
-// The earlier of two moments that may come.
+// The earlier of two moments, if there is one.
 fn earlier(one: Option<Moment>, other: Option<Moment>) -> Option<Moment>
     ensures { result ≡ earlier one other }
 {
@@ -302,8 +304,8 @@ fn earlier(one: Option<Moment>, other: Option<Moment>) -> Option<Moment>
     }
 }
 
-// The least moment that would change something about a job if the clock brought it. A job that is processing, or is started as
-// soon as its queue is free, wants the next: an interval until a retry counts from the moment that the engine knows.
+// The least moment that changes something about a job if the clock reaches it. For a job that is processing, or that starts once its queue
+// is free, this is the next moment, because the time until a retry counts from the moment that the engine knows.
 fn due_of(table: &Table, job: &Job) -> Option<Moment>
     ensures { result ≡ due_of table.now.state job.now }
 {
@@ -330,7 +332,7 @@ fn due_of(table: &Table, job: &Job) -> Option<Moment>
     }
 }
 
-// The first moment at which a job is late that is to start by a moment.
+// The first moment when a job with this latest start is late.
 fn late_from(by: Option<Moment>) -> Option<Moment>
     ensures { result ≡ late_from by }
 {
@@ -346,7 +348,7 @@ fn next_moment(moment: Moment) -> Option<Moment>
     Moment::new(moment.get() + 1)
 }
 
-/// Whether the clock changes how a job is shown, or cancels it, if it brings a moment.
+/// Whether a Clock of this moment cancels the job or changes how it is shown.
 pub(crate) fn is_changed_by(job: &Job, known: Moment, moment: Moment) -> bool
     ensures { result ≡ is_changed_by job.now known moment }
 {

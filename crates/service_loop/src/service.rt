@@ -1,4 +1,4 @@
-//! The loop: clients are served while children run.
+//! The loop: serves clients while children run.
 ghost use Rattle.std.specs.Prelude.{◌≡◌, ◌*◌, ◌-◌, ◌^◌, ◌||◌, ℕ, min, true, false, None, IfOk, IfSome, OnErr, OnOk, Ok, Err};
 ghost use Rattle.slab.specs.Slab.{get};
 ghost use Rattle.std.specs.Option.{option_map};
@@ -25,15 +25,15 @@ use spool_engine::Engine;
 use std::alloc::{AllocError, Global};
 use std::io;
 
-/// How a service keeps house.
+/// The limits of maintenance.
 #[derive(Clone, Copy, Debug)]
 pub struct Keeping {
-    /// How many ended jobs are kept.
+    /// How many ended jobs are retained.
     pub jobs: usize,
-    /// A checkpoint is made where less than so many hundredths are left of the room behind the last one. Before the first one
-    /// they are of the area.
+    /// A checkpoint is made if the free room is below this percentage of the room that the last checkpoint left, before the first one of
+    /// the area.
     pub room: u8,
-    /// How many bytes an area of the disk has.
+    /// The size of an area of the disk in bytes.
     pub area: u64,
 }
 
@@ -45,15 +45,15 @@ pub struct Service<'a, L, D: Disk, C: Children, R: Listener> {
     shared: Shared<'a, D, C>,
     clients: Clients<R::Stream>,
     maintenance: Maintenance,
-    // When the youngest child was started, and how long it had run when the end of one was seen last, in microseconds.
+    // When the youngest child was started, and how long it had run when a child's end was last seen, in microseconds.
     begun: u64,
     lasted: u64,
-    // Whether there is more to be done at once.
+    // Whether there is more to do at once.
     more: bool,
-    // Whether somebody may want to come in, and whether the last one who came couldn't be let in, which is told once.
+    // Whether a new client may be connecting, and whether the last one could not be accepted, which is logged once.
     has_new_client: bool,
     barred: bool,
-    // When somebody has asked for the end, which waits for what is processing.
+    // When the end was requested. The service then waits for processing jobs.
     ends: Option<u64>,
 }
 
@@ -87,14 +87,14 @@ impl<'a, L: Log, D: Disk + Drop, C: Children + Drop, R: Listener> Service<'a, L,
         })
     }
 
-    /// Serves until somebody ends the service, or the disk or the wait for signs fails.
+    /// Serves until a client ends the service, or the disk or the wait for readiness fails.
     pub fn serve<T: Times, S: Signals>(
         &mut self,
         listener: &mut R,
         times: &mut T,
         signals: &mut S,
     ) -> Result<(), ServiceFault>
-        // However it ends, its engine went on by calls alone.
+        // However it ends, its engine changed by calls alone.
         ensures calls { GoesByCalls D.device self.old.shared.engine self.new.shared.engine }
         ensures disk { result ≡ Err ServiceFault.Disk → self.new.shared.engine.run_state.spool.dead ≡ true }
     {
@@ -103,11 +103,11 @@ impl<'a, L: Log, D: Disk + Drop, C: Children + Drop, R: Listener> Service<'a, L,
                 break;
             }
         }
-        info!(self.log; "ends");
+        info!(self.log; "stopped");
         Ok(())
     }
 
-    // One turn of the loop. Whether there is to be another.
+    // One turn of the loop. Returns whether another follows.
     fn turn<T: Times, S: Signals>(
         &mut self,
         listener: &mut R,
@@ -116,7 +116,7 @@ impl<'a, L: Log, D: Disk + Drop, C: Children + Drop, R: Listener> Service<'a, L,
     ) -> Result<bool, ServiceFault>
         ensures calls { GoesByCalls D.device self.old.shared.engine self.new.shared.engine }
         ensures turned { OnOk result (HasTurned D.device self.old.shared.engine self.new.maintenance (T.told times.new) self.new.more self.new.shared.engine) }
-        // Unless there is more to be done at once nothing is left undone: so the next wait keeps nobody waiting.
+        // Unless there is more to do at once, nothing is left undone, so no client waits for the next wait to end.
         ensures clients { OnOk result (self.new.more ≡ false → AreAtRest self.new.clients.slots) }
         ensures maintenance { OnOk result (self.new.more ≡ false → HasNoneToPurge self.new.maintenance) }
         ensures listener { OnOk result (self.new.more ≡ false → has_new_client_waiting self.new.has_new_client self.new.barred self.new.ends ≡ false) }
@@ -124,7 +124,7 @@ impl<'a, L: Log, D: Disk + Drop, C: Children + Drop, R: Listener> Service<'a, L,
     {
         self.wait(listener, times)?;
         let now = times.millis();
-        // Before the clients are served: so they are told what the last turn did.
+        // Before the clients are served, so that they are sent the changes of the last turn.
         let over = self.is_over(now);
         self.let_in(listener, now)?;
         let turns = self.serve_clients(signals, now);
@@ -139,8 +139,8 @@ impl<'a, L: Log, D: Disk + Drop, C: Children + Drop, R: Listener> Service<'a, L,
         Ok(!over)
     }
 
-    // Notes whether there is more to be done at once. Behind an end the next job of its queue is started, and of those who wait to
-    // come in no further sign comes.
+    // Notes whether there is more to do at once. After the end of an attempt the next job of its queue is started. New clients that are
+    // already waiting cause no further readiness.
     fn note_more(&mut self, turns: Turns, ticked: bool, kept: bool)
         ensures more { self.new.more ≡ (turns.more || (turns.served || (ticked || (kept || has_new_client_waiting self.old.has_new_client self.old.barred self.old.ends)))) }
         ensures kept { self.new ≡ record self.old { more = self.new.more } }
@@ -149,7 +149,7 @@ impl<'a, L: Log, D: Disk + Drop, C: Children + Drop, R: Listener> Service<'a, L,
         self.more = turns.more || turns.served || ticked || kept || has_new_client;
     }
 
-    // Gives each client a turn, and heeds what that came to.
+    // Gives each client a turn, and handles the results.
     fn serve_clients<S: Signals>(&mut self, signals: &mut S, now: u64) -> Turns
         ensures calls { GoesByCalls D.device self.old.shared.engine self.new.shared.engine }
         ensures rests { result.more ≡ false → AreAtRest self.new.clients.slots }
@@ -160,7 +160,7 @@ impl<'a, L: Log, D: Disk + Drop, C: Children + Drop, R: Listener> Service<'a, L,
         turns
     }
 
-    // Waits for a sign, and notes it.
+    // Waits until something is ready, and notes it.
     fn wait<T: Times>(&mut self, listener: &mut R, times: &mut T) -> Result<(), ServiceFault>
         ensures engine { self.new.shared.engine ≡ self.old.shared.engine }
         ensures fault { OnErr result (result ≡ Err ServiceFault.Socket) }
@@ -184,7 +184,7 @@ impl<'a, L: Log, D: Disk + Drop, C: Children + Drop, R: Listener> Service<'a, L,
         Ok(())
     }
 
-    // Notes the signs that the wait has found.
+    // Notes the readiness that the wait has found.
     fn note_readiness(&mut self, listener: &mut R)
         ensures { self.new.shared.engine ≡ self.old.shared.engine }
     {
@@ -203,8 +203,7 @@ impl<'a, L: Log, D: Disk + Drop, C: Children + Drop, R: Listener> Service<'a, L,
         }
     }
 
-    // How long the next wait is, at most, in microseconds: until the next look at the children, or until the house has something
-    // to do.
+    // How long the next wait is at most, in microseconds: until the next check of the children, or until maintenance has something to do.
     fn pause<T: Times>(&self, times: &mut T) -> Option<u64> {
         let ran = times.micros().saturating_sub(self.begun);
         let look = next_look(self.lasted, ran, self.shared.watch.running());
@@ -219,7 +218,7 @@ impl<'a, L: Log, D: Disk + Drop, C: Children + Drop, R: Listener> Service<'a, L,
         wait
     }
 
-    // Lets in who comes.
+    // Accepts new clients.
     fn let_in(&mut self, listener: &mut R, now: u64) -> Result<(), AllocError>
         ensures { self.new.shared.engine ≡ self.old.shared.engine }
     {
@@ -239,7 +238,7 @@ impl<'a, L: Log, D: Disk + Drop, C: Children + Drop, R: Listener> Service<'a, L,
                 }
                 AcceptOutcome::Failed => {
                     if !self.barred {
-                        error!(self.log; "a client can't be let in");
+                        error!(self.log; "cannot accept a client");
                     }
                     self.barred = true;
                     break;
@@ -253,21 +252,21 @@ impl<'a, L: Log, D: Disk + Drop, C: Children + Drop, R: Listener> Service<'a, L,
         match admission {
             Admission::Free => {}
             Admission::InsteadOf(_) => {
-                info!(self.log; "an idle client had to go for another one");
+                info!(self.log; "idle client disconnected to admit a new client");
             }
-            Admission::Busy => info!(self.log; "there is no place for a client"),
+            Admission::Busy => info!(self.log; "client rejected: too many clients"),
         }
         debug!(self.log; "clients: {}", self.clients.len());
     }
 
-    // Heeds what the clients' turns came to.
+    // Handles the result of the clients' turns: logs starved clients, notes a request to end, and whether a client watches.
     fn handle_turns(&mut self, turns: Turns, now: u64)
         ensures engine { self.new.shared.engine ≡ self.old.shared.engine }
         ensures clients { self.new.clients ≡ self.old.clients }
     {
         self.log_starved(turns.starved);
         if turns.shutdown && self.ends.is_none() {
-            info!(self.log; "is to end: {} children run", self.shared.watch.running());
+            info!(self.log; "shutting down: {} children running", self.shared.watch.running());
             self.ends = Some(now);
             self.shared.ends = true;
         }
@@ -276,12 +275,12 @@ impl<'a, L: Log, D: Disk + Drop, C: Children + Drop, R: Listener> Service<'a, L,
 
     fn log_starved(&self, starved: usize) {
         if 0 < starved {
-            error!(self.log; "memory: {starved} clients had to go");
+            error!(self.log; "out of memory: {starved} clients disconnected");
         }
     }
 
-    // One tick, so that clients have a turn behind it, and when a child was started in it. Whether something moved. Where the
-    // service is to end no job is started, and those that are processing go on.
+    // One tick, and when a child was started in it. Clients have a turn after each tick. Returns whether a stage was started or finished.
+    // After a request to end no job is started, and processing jobs continue.
     fn tick<T: Times>(&mut self, times: &mut T) -> bool
         ensures calls { GoesByCalls D.device self.old.shared.engine self.new.shared.engine }
         ensures ticked { HasTicked D.device self.old.shared.engine result self.new.shared.engine }
@@ -297,7 +296,7 @@ impl<'a, L: Log, D: Disk + Drop, C: Children + Drop, R: Listener> Service<'a, L,
         moved
     }
 
-    // Notes how long the youngest child had run at a look that saw the end of one, and when another one was started.
+    // Notes how long the youngest child had run at a check that saw a child's end, and when a child was started.
     fn note_times<T: Times>(
         &mut self,
         times: &mut T,
@@ -319,13 +318,13 @@ impl<'a, L: Log, D: Disk + Drop, C: Children + Drop, R: Listener> Service<'a, L,
     fn log_fault(&self, fault: RoundFault) {
         match fault {
             RoundFault::Full => {}
-            RoundFault::Memory => error!(self.log; "memory: a tick is made again"),
-            RoundFault::Dead | RoundFault::Disk => error!(self.log; "the disk has failed"),
+            RoundFault::Memory => error!(self.log; "out of memory: the tick will be retried"),
+            RoundFault::Dead | RoundFault::Disk => error!(self.log; "disk failed"),
         }
     }
 
-    // Tells the time, purges and makes a checkpoint, each where it is wanted. Whether it did one of these, so that there may be more
-    // to do: a time that is told may end a job that somebody waits for, or let one start, as may a checkpoint that made room.
+    // Sends the time, purges, and makes a checkpoint, each if it is due. Returns whether it did one of these, so that there may be more to
+    // do: a Clock may end a job that a client waits for, or let a job start, and so may a checkpoint that made room.
     fn maintain<T: Times>(&mut self, times: &mut T) -> Result<bool, AllocError>
         ensures calls { GoesByCalls D.device self.old.shared.engine self.new.shared.engine }
         ensures time { OnOk result (KeepsTime D.device self.old.shared.engine self.new.maintenance (T.told times.new) self.new.shared.engine) }
@@ -338,7 +337,7 @@ impl<'a, L: Log, D: Disk + Drop, C: Children + Drop, R: Listener> Service<'a, L,
         Ok(told || purged || made)
     }
 
-    // Tells the engine the system's time, where it is known and wanted. Whether it did.
+    // Sends the engine the system's time, if it can be read and something is due. Returns whether it did.
     fn announce_time<T: Times>(&mut self, times: &mut T) -> Result<bool, AllocError>
         ensures calls { GoesByCalls D.device self.old.shared.engine self.new.shared.engine }
         ensures timely { OnOk result (IfSome (T.told times.new) (λ last. IsTimely self.new.maintenance self.new.shared.engine.run_state.spool.state last)) }
@@ -351,7 +350,7 @@ impl<'a, L: Log, D: Disk + Drop, C: Children + Drop, R: Listener> Service<'a, L,
         }
     }
 
-    // Makes a checkpoint, where one is wanted. Whether it was made.
+    // Makes a checkpoint if one is wanted. Returns whether it was made.
     fn make_checkpoint<T: Times>(&mut self, times: &mut T) -> Result<bool, AllocError>
         ensures calls { GoesByCalls D.device self.old.shared.engine self.new.shared.engine }
         ensures told { T.told times.new ≡ T.told times.old }
@@ -368,14 +367,14 @@ impl<'a, L: Log, D: Disk + Drop, C: Children + Drop, R: Listener> Service<'a, L,
         self.maintenance.note_checkpoint(began, ended, made);
         let took = ended.saturating_sub(began);
         if made {
-            info!(self.log; "a checkpoint took {took} ms");
+            info!(self.log; "checkpoint took {took} ms");
         } else {
-            error!(self.log; "a checkpoint can't be made");
+            error!(self.log; "checkpoint failed");
         }
         Ok(made)
     }
 
-    // Notes what moved, where something did.
+    // Notes the stages that changed, if any may have.
     fn note_stages(&mut self, moved: bool) -> Result<(), AllocError>
         ensures engine { self.new.shared.engine ≡ self.old.shared.engine }
         ensures kept { self.new ≡ record self.old { shared = self.new.shared } }
@@ -386,7 +385,7 @@ impl<'a, L: Log, D: Disk + Drop, C: Children + Drop, R: Listener> Service<'a, L,
         Ok(())
     }
 
-    // Tells the clients that watch what changed.
+    // Sends the watching clients what changed.
     fn notify_changes(&mut self) -> Result<(), AllocError>
         ensures engine { self.new.shared.engine ≡ self.old.shared.engine }
         ensures still { OnOk result (self.new.more ≡ false → (self.old.more ≡ false) × (self.new.clients ≡ self.old.clients)) }
@@ -405,7 +404,7 @@ impl<'a, L: Log, D: Disk + Drop, C: Children + Drop, R: Listener> Service<'a, L,
         Ok(())
     }
 
-    // Whether the end that was asked for has come.
+    // Whether the requested end is reached.
     fn is_over(&self, now: u64) -> bool {
         match self.ends {
             Some(asked) => LONGEST_END <= now.saturating_sub(asked) || self.shared.is_quiet(),
@@ -414,7 +413,7 @@ impl<'a, L: Log, D: Disk + Drop, C: Children + Drop, R: Listener> Service<'a, L,
     }
 }
 
-// Whether something was started in a tick, or the end of something told.
+// Whether a tick started or finished a stage.
 fn has_moved(counts: &Result<Round, RoundFault>) -> bool
     ensures { result ≡ has_moved counts.now }
 {
@@ -424,7 +423,7 @@ fn has_moved(counts: &Result<Round, RoundFault>) -> bool
     }
 }
 
-// The microseconds of a wait in milliseconds.
+// Converts a wait in milliseconds to microseconds.
 fn micros_of(millis: Option<u64>) -> Option<u64>
     ensures { result ≡ option_map (λ m. min (m * millisecond) (2 ^ 64 - 1)) millis }
 {

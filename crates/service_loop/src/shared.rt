@@ -1,4 +1,4 @@
-//! What the clients and the house share: the engine, and what is told of what it did.
+//! State that clients and maintenance share: the engine, and the record of its changes.
 ghost use Rattle.std.specs.Prelude.{◌≡◌, ◌≤◌, ◌++◌, true, false, length, List, [], Ok, OnOk, Some};
 ghost use Rattle.std.specs.FinMap as finite;
 ghost use Rattle.service_texts.specs.Notices.{nothing_noted, told, with_stages};
@@ -22,10 +22,10 @@ use spool_engine::Engine;
 use spool_types::{Event, JobId, Moment};
 use std::alloc::{AllocError, Global};
 
-// The reply to an event that found no room.
+// The reply to an event that does not fit into the journal.
 const FULL: &[u8; 11] = b"error full\n";
 
-/// An engine, the children that run, those that are to end, and what changed since the watching clients were told.
+/// An engine, its running children, the children that must end, and the changes since the watching clients were last sent some.
 #[derive(Drop)]
 pub(crate) struct Shared<'a, D: Disk, C: Children> {
     pub engine: Engine<D, C>,
@@ -34,11 +34,11 @@ pub(crate) struct Shared<'a, D: Disk, C: Children> {
     pub changes: Changes,
     /// Whether a client watches.
     pub watched: bool,
-    /// Whether an event found no room since the last checkpoint.
+    /// Whether an event was refused as Full since the last checkpoint.
     pub full: bool,
-    /// Whether something was done since the house looked.
+    /// Whether something was done since maintenance last checked.
     pub active: bool,
-    /// Whether the service is to end: no further job is started then.
+    /// Whether the service must end: no further job is started then.
     pub ends: bool,
 }
 
@@ -60,7 +60,7 @@ impl<'a, D: Disk, C: Children> Shared<'a, D, C> {
         }
     }
 
-    /// Serves a command of the engine, and adds its reply.
+    /// Serves a command of the engine, and appends its reply.
     pub fn answer(&mut self, command: Command, replies: &mut Vec<u8>) -> Result<(), AllocError>
         ensures served { OnOk result ((t : CommandStep D) × Serves (setting D.device self.old.engine.mime self.old.engine.place)
             self.old.engine.run_state command t self.new.engine.run_state (Ok tt) (Some replies.old.items) (Some replies.new.items)) }
@@ -106,7 +106,7 @@ impl<'a, D: Disk, C: Children> Shared<'a, D, C> {
         counts
     }
 
-    /// Notes what the last ticks changed, where somebody watches.
+    /// Notes the changes of the last ticks, if a client watches.
     pub fn note_stages(&mut self) -> Result<(), AllocError>
         ensures watched { self.old.watched ≡ true → OnOk result (self.new.changes ≡ with_stages self.old.engine.run_state.spool.state self.old.changes) }
         ensures unwatched { self.old.watched ≡ false → self.new ≡ self.old }
@@ -119,7 +119,7 @@ impl<'a, D: Disk, C: Children> Shared<'a, D, C> {
         }
     }
 
-    /// Notes the jobs that a clock of this moment cancels, or whose hold it ends, where somebody watches.
+    /// Notes the jobs that a Clock of this moment cancels or whose hold it ends, if a client watches.
     pub fn note_due(&mut self, moment: Moment) -> Result<(), AllocError>
         ensures unwatched { self.old.watched ≡ false → self.new ≡ self.old }
         ensures kept { self.new ≡ record self.old { changes = self.new.changes } }
@@ -136,7 +136,7 @@ impl<'a, D: Disk, C: Children> Shared<'a, D, C> {
         Ok(())
     }
 
-    /// Adds a line for each thing that changed since the last call.
+    /// Appends a line for each change since the last call.
     pub fn notify_changes(&mut self, text: &mut Vec<u8>) -> Result<(), AllocError>
         ensures told { OnOk result (text.new.items ≡ text.old.items ++ told self.old.engine.run_state.spool.state self.old.changes.noted) }
         ensures none { OnOk result (self.new.changes.noted ≡ nothing_noted) }
@@ -145,7 +145,7 @@ impl<'a, D: Disk, C: Children> Shared<'a, D, C> {
         self.changes.append_notices(self.engine.table(), text)
     }
 
-    /// Sends the children that are to end the signals that they are to have now.
+    /// Sends the signals that are due now to the children that must end.
     pub fn end_children<S: Signals>(&mut self, signals: &mut S, now: u64)
         ensures { self.new ≡ record self.old { endings = self.new.endings } }
     {
@@ -153,7 +153,7 @@ impl<'a, D: Disk, C: Children> Shared<'a, D, C> {
         self.endings.act(watch, signals, now);
     }
 
-    /// How many jobs are processing without a child that runs.
+    /// The number of processing jobs without a running child.
     pub fn at_rest(&self) -> usize
         ensures { result ≤ length (finite.values self.now.engine.run_state.spool.state.queues) }
     {
@@ -169,8 +169,8 @@ impl<'a, D: Disk, C: Children> Shared<'a, D, C> {
         count
     }
 
-    // Lets the next tick start what is at rest and, unless the service is to end, the next job of each queue. Where nothing is
-    // to be started the children aren't asked for places, which takes a while.
+    // Lets the next tick start the stages at rest and, unless the service must end, the next job of each queue. If nothing can be started,
+    // the children are not asked how many they can start, which takes a while.
     fn bound_starts(&self) {
         let starts = if self.ends {
             self.at_rest()
@@ -180,7 +180,7 @@ impl<'a, D: Disk, C: Children> Shared<'a, D, C> {
         self.watch.bound_starts(starts);
     }
 
-    // Passes the turn on, behind the last queue in turn that has begun a job.
+    // Advances the queue order to the queue after the last one, in this order, that has started a job.
     fn pass_turn(&self) {
         let table = self.engine.table();
         let queues = table.queues().len();
@@ -200,7 +200,7 @@ impl<'a, D: Disk, C: Children> Shared<'a, D, C> {
         self.watch.pass_to(first.saturating_add(steps) % queues);
     }
 
-    // How many queues have a job that is at rest or, if none is processing, a next one.
+    // The number of queues with a processing job at rest or, if none is processing, with a next job.
     fn startable(&self) -> usize {
         let table = self.engine.table();
         let mut count = 0;
@@ -216,14 +216,14 @@ impl<'a, D: Disk, C: Children> Shared<'a, D, C> {
         count
     }
 
-    /// Whether no job is processing, and no child runs.
+    /// Whether no job is processing and no child runs.
     pub fn is_quiet(&self) -> bool {
         self.watch.running() == 0 && self.at_rest() == 0
     }
 }
 
-// Notes the job or the queue that a command is about, where somebody watches. A refused command changed nothing, and what is
-// told of it then is as it was.
+// Notes the job or the queue that a command names, if a client watches. A refused command changed nothing; the notice then shows the
+// unchanged state.
 fn note(changes: &mut Changes, watched: bool, command: &Command) -> Result<(), AllocError> {
     if !watched {
         return Ok(());
@@ -236,7 +236,7 @@ fn note(changes: &mut Changes, watched: bool, command: &Command) -> Result<(), A
     }
 }
 
-// Serves a command of an engine. The replies are in memory, so that nothing else can be wanted.
+// Serves a command of an engine. The replies are in memory, so the only error is out of memory.
 fn serve<D: Disk, C: Children>(
     engine: &mut Engine<D, C>,
     command: Command,
@@ -252,7 +252,7 @@ fn serve<D: Disk, C: Children>(
     }
 }
 
-// Where the queue of a job stands among the queues.
+// The position of a job's queue among the queues.
 fn place_of(table: &Table, job: JobId) -> Option<usize> {
     let row = table.job(job)?;
     table
@@ -261,7 +261,7 @@ fn place_of(table: &Table, job: JobId) -> Option<usize> {
         .position(|queue| queue.name == row.job.queue)
 }
 
-// How many steps it is from one queue to the place behind another, in turn. No sum here is too large for its type.
+// The number of steps from one queue to the position after another, cyclically. No sum here overflows.
 fn steps_behind(first: usize, at: usize, queues: usize) -> usize {
     let steps = if first <= at {
         at - first

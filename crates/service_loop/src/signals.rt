@@ -1,24 +1,24 @@
-//! How a child that hangs is ended.
+//! Signals to children that must end.
 ghost use Rattle.std.specs.Prelude.{ℕ, List, [], ◌∷◌, Option};
 ghost use Rattle.service_loop.specs.Endings.{Sends};
 
-/// A signal to end by.
+/// A signal that ends a process.
 #[derive(Clone, Copy, Debug, PartialEq, Eq)]
 pub enum Signal {
-    /// Asks for an end (SIGTERM).
+    /// Requests the end (SIGTERM).
     Terminate,
-    /// Ends (SIGKILL).
+    /// Forces the end (SIGKILL).
     Kill,
 }
 
-/// What sends signals.
+/// Sends signals.
 pub trait Signals {
     ghost use Rattle.service_loop.specs.declared.signals.Signal.{Signal};
 
-    /// What it was told to send, each signal with its group, or none where that isn't told.
+    /// The signals sent so far, each with its group, or none if they are not reported.
     ghost sent: { Self → Option (List (ℕ × Signal)) };
 
-    /// Sends a signal to all processes of a group. Whether it was sent.
+    /// Sends a signal to all processes of a group. Returns whether it was sent.
     fn send(&mut self, group: u32, signal: Signal) -> bool
         ensures { Sends (sent self.old) (sent self.new) ((group, signal) ∷ []) };
 }

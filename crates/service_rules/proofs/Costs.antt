@@ -1,4 +1,4 @@
--- What checkpoints cost that are made only when the one before has been paid for.
+-- The cost of checkpoints that are made only when the previous one is paid for.
 use Rattle.std.proofs.Common.{ℕ, ◌+◌, ◌-◌, ◌*◌, ◌≤◌, nat_le, List, [], ◌∷◌, IsTrue, arith}
 use Rattle.std.proofs.lemmas.Bool.Decides.{nat_tests}
 use Rattle.service_rules.specs.Checkpoints.{all_took, took, ArePaidFor}

@@ -1,4 +1,4 @@
--- The first client to go among some, and one more.
+-- The client that is replaced first, among some and one more.
 use Rattle.std.proofs.Common.{◌≡◌, ℕ, ◌+◌, ◌<◌, Bool, true, false, cond, ◌==◌, nat_lt, List, [], ◌∷◌, ◌++◌, length, take, get_or, Option, None, Some, sym, subst, ◌∙◌, IsTrue, MatchOption, arith}
 use Rattle.std.proofs.Math.Logic.{⊎_elim}
 use Rattle.std.proofs.lemmas.Bool.{both_ways}
@@ -9,7 +9,7 @@ use Rattle.std.specs.List.{Contains}
 use Rattle.service_rules.specs.declared.slots.Client.{Client}
 use Rattle.service_rules.specs.ClientAdmission.{is_idle, goes_before, IsFirstToGo, HasNoneIdle}
 
--- the first one to go, or none where none is idle
+-- The first one to be replaced, or none if none is idle.
 abbrev pub FirstOf : ℕ → List Client → Option Client → Type 0
 FirstOf now clients None = HasNoneIdle clients now
 FirstOf now clients (Some c) = IsFirstToGo clients now c
@@ -23,12 +23,12 @@ goes_on a i b j c k h g = grind (arith, nat_tests)
 transitive : (b c d : Client) → IsTrue (goes_before b c) → IsTrue (goes_before c d) → IsTrue (goes_before b d)
 transitive b c d = goes_on b.heard b.key c.heard c.key d.heard d.key
 
--- what is so of each client of the list and of one more is so of each client of the longer list
+-- A property of each client of the list and of one more is one of each client of the longer list.
 each_more : (P : Client → Type 0) (clients : List Client) (c : Client) → ((d : Client) → Contains clients d → P d) → P c → (d : Client) → Contains (clients ++ c ∷ []) d → P d
 each_more P clients c each here d there = ⊎_elim (each d) (λ e. subst P e here) (Contains-push_cases clients c d there)
 
 module _ (now : ℕ) (clients : List Client) (c : Client) where
-  -- an idle client that goes before the first one is the first
+  -- An idle client that precedes the first one is the first.
   pub taken : (first : Option Client) → FirstOf now clients first → IsTrue (is_idle now c)
       → (before : Bool) → MatchOption first (before ≡ true) (λ other. before ≡ goes_before c other) → before ≡ true → FirstOf now (clients ++ c ∷ []) (Some c)
   taken None none idle before is so = record {
@@ -46,7 +46,7 @@ module _ (now : ℕ) (clients : List Client) (c : Client) where
         (λ _. both_ways (goes_before c c) (irreflexive c));
   }
 
-  -- one that isn't idle changes nothing
+  -- A client that is not idle changes nothing.
   pub awake : (first : Option Client) → FirstOf now clients first → is_idle now c ≡ false → FirstOf now (clients ++ c ∷ []) first
   awake None none fails = each_more (λ d. is_idle now d ≡ false) clients c none fails
   awake (Some other) first fails = record {
@@ -56,7 +56,7 @@ module _ (now : ℕ) (clients : List Client) (c : Client) where
         (λ idle_too _. both_ways (is_idle now c) fails idle_too);
   }
 
-  -- nor does one that doesn't go before the first one
+  -- Nor does a client that does not precede the first one.
   pub behind : (first : Option Client) → FirstOf now clients first
       → (before : Bool) → MatchOption first (before ≡ true) (λ other. before ≡ goes_before c other) → before ≡ false → FirstOf now (clients ++ c ∷ []) first
   behind None none before is not_so = absurd (both_ways before not_so is)
@@ -67,7 +67,7 @@ module _ (now : ℕ) (clients : List Client) (c : Client) where
         (λ _. both_ways (goes_before c other) (sym is ∙ not_so));
   }
 
--- the clients up to one more
+-- The clients up to the next one.
 pub onward : (now : ℕ) (clients : List Client) (i : ℕ) (d : Client) (first : Option Client) → i < length clients
     → FirstOf now (take i clients ++ get_or clients i d ∷ []) first → FirstOf now (take (i + 1) clients) first
 onward now clients i d first inside = subst (λ cs. FirstOf now cs first) (sym (take_more clients i d inside))

@@ -8,7 +8,7 @@ use Rattle.service_rules.specs.declared.purges.Candidate.{Candidate}
 up_to : (cursor number : ℕ) → nat_lt cursor number ≡ false → number ≤ cursor
 up_to cursor number not_so = grind (arith, nat_tests)
 
--- one job more, which is above the number or may not be purged
+-- One more job, which is above the number or may not be purged.
 one_more : (job : Candidate) (high : Bool) (higher jobs : List Candidate) → (high ≡ false → is_purgeable job ≡ false) → filter is_purgeable higher ≡ filter is_purgeable jobs
     → filter is_purgeable (cond high (job ∷ higher) higher) ≡ filter is_purgeable (job ∷ jobs)
 one_more job true higher jobs low same = ap (λ (found : List Candidate). cond (is_purgeable job) (job ∷ found) found) same

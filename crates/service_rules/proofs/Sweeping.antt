@@ -1,17 +1,17 @@
--- How far a list of jobs has been looked at.
+-- How far a list of jobs was checked.
 use Rattle.std.proofs.Common.{◌≡◌, ℕ, ◌<◌, ◌≤◌, zero, suc, Bool, true, false, cond, List, [], ◌∷◌, length, drop, filter, nat_lt, refl, ap, ◌∙◌, arith}
 use Rattle.std.proofs.lemmas.Bool.Decides.{nat_tests}
 use Rattle.service_rules.specs.Purges.{above, is_purgeable, swept_to, RisesFrom}
 use Rattle.service_rules.specs.declared.purges.Candidate.{Candidate}
 
--- a test of two numbers by their order
+-- Comparing two numbers of known order.
 above_it : (cursor number : ℕ) → cursor < number → nat_lt cursor number ≡ true
 above_it cursor number so = grind (arith, nat_tests)
 
 up_to_it : (cursor number : ℕ) → number ≤ cursor → nat_lt cursor number ≡ false
 up_to_it cursor number so = grind (arith, nat_tests)
 
--- all of a list that rises from a lower number are above it
+-- All jobs of a list that ascends from a lower number are above it.
 rises_lower : (low cursor : ℕ) (jobs : List Candidate) → low ≤ cursor → RisesFrom cursor jobs → RisesFrom low jobs
 rises_lower low cursor [] lower rises = tt
 rises_lower low cursor (job ∷ jobs) lower rises = (omega (arith, rises.0), rises.1)
@@ -22,7 +22,7 @@ all_above cursor (job ∷ jobs) rises =
     ap (λ (b : Bool). cond b (job ∷ above cursor jobs) (above cursor jobs)) (above_it cursor job.id rises.0)
     ∙ ap (λ (js : List Candidate). job ∷ js) (all_above cursor jobs (rises_lower cursor job.id jobs (omega (arith, rises.0)) rises.1))
 
--- what has been looked at only grows
+-- The number of the last checked job only grows.
 by_test : (cursor low end : ℕ) (b : Bool) → cursor < low → low ≤ end → cursor ≤ cond b cursor end
 by_test cursor low end true up rest = omega arith
 by_test cursor low end false up rest = omega arith
@@ -35,7 +35,7 @@ no_lower cursor (suc count) (job ∷ jobs) rises =
     let up : cursor < job.id = rises.0 in
     omega arith
 
--- a job that has been looked at isn't above
+-- A checked job is not above it.
 skip_head : (end : ℕ) (job : Candidate) (jobs : List Candidate) → job.id ≤ end → above end (job ∷ jobs) ≡ above end jobs
 skip_head end job jobs low = ap (λ (b : Bool). cond b (job ∷ above end jobs) (above end jobs)) (up_to_it end job.id low)
 
@@ -57,7 +57,7 @@ module _ (cursor : ℕ) (job : Candidate) (jobs : List Candidate) (low : (n : �
   none_there_by rest true few = absurd (omega arith)
   none_there_by rest false few = skip_head (swept_to job.id 0 jobs) job jobs (low 0) ∙ rest
 
--- above what has been looked at are those that weren't given
+-- Above the checked jobs are the jobs not returned.
 pub rest_above : (cursor count : ℕ) (jobs : List Candidate) → RisesFrom cursor jobs → filter is_purgeable (above (swept_to cursor count jobs) jobs) ≡ drop count (filter is_purgeable jobs)
 rest_above cursor zero [] rises = refl
 rest_above cursor (suc count) [] rises = refl
@@ -74,7 +74,7 @@ none_by : (b : Bool) (job : Candidate) (found : List Candidate) → length (cond
 none_by true job found few = absurd (omega arith)
 none_by false job found few = few
 
--- none is above where all were given
+-- None is above if all were returned.
 pub none_above : (cursor count : ℕ) (jobs : List Candidate) → RisesFrom cursor jobs → length (filter is_purgeable jobs) ≤ count → above (swept_to cursor count jobs) jobs ≡ []
 none_above cursor count [] rises few = refl
 none_above cursor zero (job ∷ jobs) rises few =

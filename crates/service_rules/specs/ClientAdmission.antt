@@ -1,4 +1,4 @@
--- Which client has to go where a newcomer finds no place.
+-- Which client is replaced if a new client finds no free slot.
 use Rattle.std.specs.Prelude.{◌≡◌, ℕ, ◌-◌, ◌<◌, ◌≤◌, Bool, false, not, ◌&&◌, cond, ◌==◌, nat_lt, nat_le, List, length, IsTrue}
 use Rattle.std.specs.List.{Contains}
 use Rattle.service_rules.specs.declared.slots.Client.{Client}
@@ -6,25 +6,25 @@ use Rattle.service_rules.specs.declared.slots.Admission.{Admission}
 use Rattle.service_rules.specs.declared.slots.Admission.TheVariants.{Free, InsteadOf, Busy}
 use Rattle.service_rules.specs.Bounds.{most_clients, least_idle}
 
--- a client that has said nothing for so long that it may be dropped, and doesn't listen
+-- A client that has been silent long enough to be replaced, and does not listen.
 abbrev pub is_idle : ℕ → Client → Bool
 is_idle now c = not c.listens && nat_le least_idle (now - c.heard)
 
--- One client goes before another if it was heard earlier, or at the same moment and has the lower key.
+-- One client precedes another if it was heard earlier, or at the same moment and has the lower key.
 abbrev pub goes_before : Client → Client → Bool
 goes_before c d = cond (c.heard == d.heard) (nat_lt c.key d.key) (nat_lt c.heard d.heard)
 
--- the idle client that no other idle one goes before
+-- The idle client that no other idle client precedes.
 pub record IsFirstToGo (clients : List Client) (now : ℕ) (c : Client) : Type 0 where
   pub there : Contains clients c
   pub idle : IsTrue (is_idle now c)
   pub first : (d : Client) → Contains clients d → IsTrue (is_idle now d) → ¬ (IsTrue (goes_before d c))
 
--- no client has been idle so long
+-- No client is idle.
 abbrev pub HasNoneIdle : List Client → ℕ → Type 0
 HasNoneIdle clients now = (d : Client) → Contains clients d → is_idle now d ≡ false
 
--- what becomes of a newcomer beside these clients
+-- The decision on a new client, given the connected clients.
 abbrev pub IsAdmission : List Client → ℕ → Admission → Type 0
 IsAdmission clients now Free = length clients < most_clients
 IsAdmission clients now (InsteadOf key) = (most_clients ≤ length clients) × ((c : Client) × (c.key ≡ key) × IsFirstToGo clients now c)

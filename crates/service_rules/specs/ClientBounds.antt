@@ -2,6 +2,6 @@
 use Rattle.std.specs.Prelude.{ℕ, Bool, ◌&&◌, nat_lt}
 use Rattle.service_rules.specs.Bounds.{most_commands, most_unread}
 
--- fewer commands were served in this turn than may be, and fewer bytes are unread
+-- Fewer requests were served in this turn than allowed, and fewer bytes are unread.
 abbrev pub is_served_on : ℕ → ℕ → Bool
 is_served_on served unread = nat_lt served most_commands && nat_lt unread most_unread

@@ -1,4 +1,4 @@
-//! When a checkpoint is made, so that the journal doesn't fill up.
+//! When to make a checkpoint, so that the journal does not fill up.
 ghost use Rattle.std.specs.Prelude.{◌≡◌, ℕ, ◌+◌, ◌*◌, ◌≤◌, List, ◌∷◌};
 ghost use Rattle.service_rules.specs.Bounds.{checkpoint_parts};
 ghost use Rattle.service_rules.specs.Checkpoints.{all_took, ArePaidFor, is_paid_for, is_short, is_wanted, may_free, room_in};
@@ -6,16 +6,16 @@ ghost use Rattle.service_rules.specs.declared.checkpoints.Checkpoint.{Checkpoint
 
 use crate::bounds::CHECKPOINT_PARTS;
 
-/// How many bytes of the journal are used, and how many it has.
+/// How many bytes of the journal are used, and its size.
 #[derive(Clone, Copy)]
 pub struct Room {
     pub used: u64,
     pub size: u64,
 }
 
-/// The room of a journal in an area of so many bytes, of which so many are free, where so many were free behind the last
-/// checkpoint, if one was made. Before the first nobody knows what one would leave, and the whole area counts: what rows and
-/// documents take of it is a reason to make one, and what it leaves counts from then on.
+/// The room of a journal in an area of `area` bytes, with `free` bytes free. `left` is the number of bytes that were free after the last
+/// checkpoint, if one was made. Before the first checkpoint its result is unknown, so the whole area counts: rows and documents use some of
+/// it, which is a reason to make a checkpoint, and from then on the room that it left counts.
 pub fn room_in(area: u64, left: Option<u64>, free: u64) -> Room
     ensures { result ≡ room_in area left free }
 {
@@ -26,17 +26,17 @@ pub fn room_in(area: u64, left: Option<u64>, free: u64) -> Room
     }
 }
 
-/// A checkpoint that was made, or tried: when it began and when it ended, in milliseconds.
+/// A checkpoint that was made or tried: its beginning and its end in milliseconds.
 #[derive(Clone, Copy)]
 pub struct Checkpoint {
     pub began: u64,
     pub ended: u64,
-    /// How many bytes of the journal were used behind it, where it was made.
+    /// How many bytes of the journal were used after it, if it was made.
     pub left: Option<u64>,
 }
 
-/// Whether a checkpoint is made now, at a moment in milliseconds: less than this share of the journal is free, in hundredths,
-/// or an event was refused as Full; something was written behind the last checkpoint, or it failed; and it has been paid for.
+/// Whether to make a checkpoint now, at a moment in milliseconds: less than this percentage of the journal is free, or an event was refused
+/// as Full; something was written after the last checkpoint, or it failed; and the last one is paid for.
 pub fn is_wanted(
     room: Room,
     percent: u8,
@@ -56,7 +56,7 @@ fn is_short(room: Room, percent: u8) -> bool
     u128::from(free) * 100 < u128::from(room.size) * u128::from(percent)
 }
 
-// Where nothing was written behind a checkpoint another one frees nothing, and an idle service writes none.
+// If nothing was written after a checkpoint, another one frees nothing, and an idle service makes none.
 fn may_free(last: Option<Checkpoint>, used: u64) -> bool
     ensures { result ≡ may_free last used }
 {
@@ -69,7 +69,7 @@ fn may_free(last: Option<Checkpoint>, used: u64) -> bool
     }
 }
 
-// A moment before the end of the last checkpoint has paid for nothing.
+// A moment before the end of the last checkpoint pays for nothing.
 fn is_paid_for(last: Option<Checkpoint>, now: u64) -> bool
     ensures { result ≡ is_paid_for last now }
 {
@@ -82,8 +82,8 @@ fn is_paid_for(last: Option<Checkpoint>, now: u64) -> bool
     }
 }
 
-/// Checkpoints that are made only when the one before has been paid for take no more than one part of eleven of the time from
-/// the beginning of the first, and so less than a tenth.
+/// If each checkpoint is made only when the previous one is paid for, checkpoints take at most one eleventh of the time since the beginning
+/// of the first, so less than a tenth.
 pub fn checkpoints_cost_little()
     ensures { (c : AnyCheckpoint) (later : List AnyCheckpoint) (now : ℕ) → ArePaidFor (c ∷ later) now →
         c.began + (checkpoint_parts + 1) * all_took (c ∷ later) ≤ now }

@@ -1,4 +1,4 @@
-//! When the service tells its engine what time it is.
+//! When the service sends its engine the time.
 ghost use Rattle.std.specs.Prelude.{◌≡◌, ◌<◌, ◌≤◌, ◌+◌, ◌↔◌, IsSome, IfSome, None, Some};
 ghost use Rattle.spool_types.specs.Limits.{greatest_moment};
 ghost use Rattle.service_rules.specs.Clocks.{clock_to_announce, clock_wait, has_come, is_rested, second_behind, wait_for};
@@ -6,22 +6,22 @@ ghost use Rattle.service_rules.specs.Clocks.{clock_to_announce, clock_wait, has_
 use crate::bounds::{CLOCK_INTERVAL, LONGEST_WAIT};
 use spool_types::Moment;
 
-/// What is known of the time.
+/// The moments that the decision depends on.
 #[derive(Clone, Copy)]
 pub struct Clocks {
     /// The system's second.
     pub system: Moment,
-    /// The table's moment, the greatest that a clock has brought.
+    /// The table's moment, the greatest of all clocks so far.
     pub table: Moment,
-    /// The moment that was told last, whether or not it was accepted.
+    /// The moment that was sent last, whether or not it was accepted.
     pub told: Option<Moment>,
-    /// The least moment that would change something if the clock brought it: a hold or a retry that is over, or a job that
-    /// has to have started before.
+    /// The least moment that changes something if the clock reaches it: the end of a hold, a retry, or a job that should have started
+    /// before.
     pub due: Option<Moment>,
 }
 
-/// The moment that the service tells its engine before a tick, if any. Where nothing has come due, or the system's clock went
-/// back, it tells none, so that an idle service writes nothing.
+/// The moment that the service sends its engine before a tick, if any. If nothing is due, or the system's clock was set back, it sends
+/// none, so that an idle service writes nothing.
 pub fn clock_to_announce(clocks: &Clocks) -> Option<Moment>
     ensures value { result ≡ clock_to_announce clocks.now }
     ensures forward { IfSome result (λ moment. clocks.now.table < moment) }
@@ -39,12 +39,12 @@ pub fn clock_to_announce(clocks: &Clocks) -> Option<Moment>
     }
 }
 
-/// How long it is, in milliseconds, until the clock is to be told, where something is to come due. So many milliseconds have
-/// passed of the system's second. What lies far ahead is looked at again after the longest wait.
+/// The milliseconds until the clock must be sent, if something will be due. `millis` milliseconds of the system's second have passed. A due
+/// moment further ahead than the longest wait is checked again then.
 pub fn clock_wait(clocks: &Clocks, millis: u64) -> Option<u64>
     ensures value { result ≡ clock_wait clocks.now clocks.now.due millis }
 
-    // It is over exactly where there is something to tell, so the service doesn't turn without doing anything.
+    // It is over exactly if a clock must be sent, so the service does not loop without doing anything.
     ensures over { millis < 1000 → ((result ≡ Some 0) ↔ IsSome (clock_to_announce clocks.now)) }
 {
     let due = clocks.due?;
@@ -70,7 +70,7 @@ fn is_rested(told: Option<Moment>, system: Moment) -> bool
     }
 }
 
-// The first second after the last clock that was told.
+// The first second after the last clock that was sent.
 fn second_behind(told: Option<Moment>) -> u64
     ensures value { result ≡ second_behind told }
     ensures at_most { result ≤ greatest_moment + 1 }

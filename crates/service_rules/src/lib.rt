@@ -1,34 +1,51 @@
-//! What a service decides: who is connected, whose turn it is, how long it waits, what it tells its engine of the time, when
-//! it keeps house, and how many children it starts.
+//! The decisions of a service: which clients are connected and served, how long the service waits, when it sends its engine the time, when
+//! it purges jobs and makes checkpoints, and how many children it starts.
 //!
-//! Moments, counts and sizes come as values, so that nothing here knows a socket, a clock or a process. The loop that calls
-//! these functions is another crate's.
+//! Moments, counts and sizes are arguments, so this crate knows no socket, clock or process. `service_loop` calls these functions.
 //!
 //! # Promises
 //!
-//! - [`admit`]: a newcomer has a free place where one of 64 is free, else that of the client that has been idle longest
-//!   if it has been so for ten seconds (`IsFirstToGo`), and is turned away exactly where no client has. One that listens isn't
-//!   idle.
-//! - [`is_served_on`]: a command of a client is served in its turn exactly where fewer than 32 were and fewer than 65,536
-//!   bytes of its replies are unread.
-//! - [`next_look`]: the pause before the next look at children, a sixteenth of the time that the youngest has run, between 0.05 and
-//!   64 milliseconds, and none exactly where none runs. One that is alone is looked at first when about as long has passed as the one
-//!   before it ran, or 2 milliseconds. [`ends_are_seen_soon`]: so an end is seen after a sixteenth of the time that the child ran, or
-//!   0.05 ms, or at its first look. [`poll_wait`]: the earlier of two ends of a wait. [`pause_for`]: how it is waited.
-//! - [`clock_to_announce`]: the system's second exactly where something has come due, the table's moment is earlier, and no clock
-//!   was told in that second. [`clock_wait`]: the time until then; it is over exactly where there is a clock to tell (`over`).
-//! - [`is_wanted`]: a checkpoint is made exactly where the journal is short or an event was Full, another one may free something,
-//!   and the last one has been paid for. [`room_in`]: it is short by what the last one left, and before the first by its area.
-//!   [`checkpoints_cost_little`]: so checkpoints take less than a tenth of the time.
-//! - [`purge_count`]: as many of the ended jobs as are beyond those that are kept, at most 8 a turn. [`jobs_to_purge`]: the first so
-//!   many that have ended and no child of which runs. [`swept_to`]: the number up to which a list has been
-//!   looked at then. [`swept_jobs_are_skipped`]: above it are exactly those that are left.
-//! - [`starts_left`]: as many children as there are fewer than the most, and none while the launcher isn't ready.
+//! - [`admit`]: a new client gets a free slot exactly if fewer than 64 clients are connected; otherwise the slot of the client that was
+//!   heard least recently, if that was at least 10 s ago; otherwise it is rejected (`IsAdmission`, `IsFirstToGo`). [`first_to_go`] returns
+//!   that client. A client that listens (it waits for something to be sent, and has taken all that was sent) is not idle (`is_idle`). A
+//!   client that does not read its replies is not served further, so it becomes idle.
+//! - [`is_served_on`]: a request of a client is served exactly if fewer than 32 of its requests were served in this turn and fewer than
+//!   65,536 bytes of its replies are unread.
+//! - [`next_look`]: the pause before the next check of the children is one sixteenth of the time that the youngest child has run, from 0.05
+//!   ms to 64 ms; none exactly if no child runs. A child that is alone is first checked after fifteen sixteenths of the time that the
+//!   previous child ran, or after 2 ms, whichever is earlier.
+//! - [`ends_are_seen_soon`]: so a child's end is seen after at most one sixteenth of the time that it ran, or 0.05 ms, or at its first
+//!   check.
+//! - [`poll_wait`]: the earlier of the next check and the clock. [`pause_for`]: splits a wait into a nap and a poll, together at most as
+//!   long as the wait.
+//! - [`clock_to_announce`]: the system's second exactly if something is due, the table's moment is earlier, and no clock was sent in that
+//!   second (`forward`, `later`). The due moment is an argument; if it is too early, a Clock is applied without effect. A Clock that was
+//!   refused as Full is sent again one second later.
+//! - [`clock_wait`]: the time until then. The wait is over exactly if a clock must be sent (`over`), since the service would loop
+//!   otherwise. A wait ends after at most one minute, since a poll does not notice that the system's clock was set.
+//! - [`is_wanted`]: a checkpoint is wanted if less room is free than requested or an event was answered Full; and something was written
+//!   after the last checkpoint, or that one failed; and the last one took at most a tenth of the time since it. A journal of no bytes is
+//!   never short. [`room_in`]: the share is of the room that the last checkpoint left, before the first one of the area.
+//!   [`checkpoints_cost_little`]: so checkpoints take at most one eleventh of the time.
+//! - [`purge_count`]: the number of ended jobs beyond those to retain, at most 8 a turn. [`jobs_to_purge`]: the first jobs of a list that
+//!   have ended and have no running child. The list begins where its caller chooses. [`swept_to`]: a job number; jobs up to it need no
+//!   further check. [`swept_jobs_are_skipped`]: above it are exactly the jobs still to check. The caller remembers this number, and lowers
+//!   it if a job below it ends.
+//! - [`starts_left`]: the number of children still missing from the limit; none while the launcher is not ready.
+//! - [`bounds::defaults`]: 32 children, a quarter of the room, 500 ended jobs (`children`, `room`, `kept`).
 //!
-//! # Cost and faults
+//! # Not proved
 //!
-//! [`admit`] reads each client once where there is no free place. [`jobs_to_purge`] reads its jobs up to the last that it gives, or
-//! all where it gives fewer than were asked for. All others look at a few numbers. Nothing takes memory, and nothing fails.
+//! - That the service calls these functions with the right values at the right moments: see `service_loop`.
+//!
+//! # Errors
+//!
+//! No call fails or allocates.
+//!
+//! # Cost
+//!
+//! [`admit`] reads each client once if no slot is free. [`jobs_to_purge`] reads its jobs up to the last one that it returns, or all if it
+//! returns fewer than requested. All others read a few numbers.
 #![tactic(auto)]
 
 pub mod bounds;

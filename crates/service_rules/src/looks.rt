@@ -1,4 +1,4 @@
-//! How long the service waits: for its next look at children, and in its poll.
+//! How long the service waits: until its next check of the children, and in its poll.
 ghost use Rattle.std.specs.Prelude.{◌≡◌, ℕ, ◌+◌, ◌*◌, ◌/◌, ◌≤◌, ◌↔◌, max, min, IfSome};
 ghost use Rattle.std.specs.Option.{IsNone};
 ghost use Rattle.service_rules.specs.Bounds.{first_look, last_look, longest_first, look_parts, millisecond};
@@ -6,16 +6,16 @@ ghost use Rattle.service_rules.specs.ChildPolling.{first_after, next_look, pause
 
 use crate::bounds::{FIRST_LOOK, LAST_LOOK, LONGEST_FIRST, LOOK_PARTS, MILLISECOND};
 
-/// A wait: a nap, in microseconds, and then a poll, in milliseconds.
+/// A wait: a nap in microseconds, and then a poll in milliseconds.
 #[derive(Clone, Copy)]
 pub struct Pause {
     pub nap: u64,
     pub poll: u64,
 }
 
-/// The pause before the next look at children, in microseconds, where so many run and the youngest has run for so many
-/// microseconds. The child before it ran for `before` of them, as far as was seen: as each look takes a little of the time of the
-/// child that it looks at, one that is alone isn't looked at before it may have ended.
+/// The pause before the next check of the children, in microseconds, if `running` children run, the youngest for `ran` microseconds. The
+/// previous child ran for `before` microseconds, as far as was seen. Each check takes a little time from the child that it checks, so a
+/// child that is alone is not checked before it may have ended.
 pub fn next_look(before: u64, ran: u64, running: usize) -> Option<u64>
     ensures value { result ≡ next_look before ran running }
     ensures within { IfSome result (λ pause. (first_look ≤ pause) × (pause ≤ last_look)) }
@@ -28,7 +28,7 @@ pub fn next_look(before: u64, ran: u64, running: usize) -> Option<u64>
     }
 }
 
-// The pause where the only child has run so long.
+// The pause if the only child has run for `ran` microseconds.
 fn pause_alone(before: u64, ran: u64) -> u64
     ensures { result ≡ pause_alone before ran }
 {
@@ -40,15 +40,15 @@ fn pause_alone(before: u64, ran: u64) -> u64
     }
 }
 
-// The pause where the youngest child has run so long.
+// The pause if the youngest child has run for `ran` microseconds.
 fn pause_of(ran: u64) -> u64
     ensures { result ≡ pause_of ran }
 {
     (ran / LOOK_PARTS).min(LAST_LOOK).max(FIRST_LOOK)
 }
 
-/// How long the poll may wait; with no answer it waits until something comes. `has_more` tells whether there is more to do at
-/// once, `look` is the pause before the next look at children, and `clock` the time until the clock is due.
+/// How long the poll may wait; without a result it waits until something is ready. `has_more` says whether there is more to do at once,
+/// `look` is the pause before the next check of the children, and `clock` the time until the clock is due.
 pub fn poll_wait(has_more: bool, look: Option<u64>, clock: Option<u64>) -> Option<u64>
     ensures { result ≡ poll_wait has_more look clock }
 {
@@ -62,8 +62,8 @@ pub fn poll_wait(has_more: bool, look: Option<u64>, clock: Option<u64>) -> Optio
     }
 }
 
-/// How so many microseconds are waited for: a poll counts in milliseconds, and rounds up what it is given. During a nap no sign
-/// is seen, so it is shorter than that.
+/// Splits a wait in microseconds: a poll counts in milliseconds and rounds up. During a nap no readiness is seen, so a nap is shorter than
+/// a millisecond.
 pub fn pause_for(wait: u64) -> Pause
     ensures value { result ≡ pause_for wait }
     ensures no_longer { result.nap + result.poll * millisecond ≤ wait }
@@ -74,9 +74,9 @@ pub fn pause_for(wait: u64) -> Pause
     }
 }
 
-/// A child that has run for some time at a look, and for so long in all, is seen to have ended at the next look: after no
-/// more than a part of the time that it ran, or after the shortest pause. The youngest child has run no longer than it. One that is
-/// alone is seen to have ended then, or at its first look.
+/// A child that had run for `ran` at a check, and ran for `all` in total, is seen to have ended at the next check: after at most a
+/// sixteenth of the time that it ran, or after the shortest pause. The youngest child has not run longer than it. A child that is alone is
+/// seen to have ended then, or at its first check.
 pub fn ends_are_seen_soon()
     ensures beside { (youngest ran all : ℕ) → youngest ≤ ran → ran ≤ all →
         ran + pause_of youngest ≤ all + max first_look (min (all / look_parts) last_look) }

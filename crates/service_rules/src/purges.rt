@@ -1,4 +1,4 @@
-//! Which ended jobs are purged, so that the table doesn't grow for ever.
+//! Which ended jobs to purge, so that the table does not grow forever.
 ghost use Rattle.std.specs.Prelude.{◌≡◌, ℕ, ◌-◌, ◌≤◌, List, [], drop, filter, length};
 ghost use Rattle.std.specs.Iterator.{item_count, YieldsFirst};
 ghost use Rattle.service_rules.specs.Bounds.{most_purges};
@@ -9,7 +9,7 @@ use crate::bounds::MOST_PURGES;
 use spool_types::JobId;
 use std::marker::Model;
 
-/// A job: its number, whether it has ended, and whether a child of it still runs.
+/// A job: its number, whether it has ended, and whether its child still runs.
 #[derive(Clone, Copy)]
 pub struct Candidate {
     pub id: JobId,
@@ -17,7 +17,7 @@ pub struct Candidate {
     pub runs: bool,
 }
 
-/// How many jobs are purged in this turn, where so many have ended and so many are kept.
+/// How many jobs to purge in this turn, if `ended` jobs have ended and `keep` are retained.
 pub fn purge_count(ended: usize, keep: usize) -> usize
     ensures value { result ≡ purge_count ended keep }
     ensures few { result ≤ most_purges }
@@ -26,15 +26,15 @@ pub fn purge_count(ended: usize, keep: usize) -> usize
     ended.saturating_sub(keep).min(MOST_PURGES)
 }
 
-/// The jobs that are purged among these, which are in ascending order of number: the first so many that have ended and no
-/// child of which runs. It takes no memory.
+/// The jobs to purge among these, in ascending order of number: the first `count` that have ended and have no running child. Does not
+/// allocate.
 pub fn jobs_to_purge(jobs: &[Candidate], count: usize) -> Purges<'_>
     ensures { result ≡ purged count jobs.now }
 {
     Purges { jobs, left: count }
 }
 
-/// The numbers of the jobs that are purged, in the order of the jobs.
+/// The numbers of the jobs to purge, in the order of the jobs.
 #[derive(Drop)]
 pub struct Purges<'a> {
     jobs: &'a [Candidate],
@@ -73,8 +73,8 @@ impl<'a> Iterator for Purges<'a> {
     }
 }
 
-/// The number up to which these jobs have been looked at, which are in ascending order and above the cursor, when the first so many
-/// that may be purged were given. The next turn begins above it.
+/// The number of the last job that needs no further check after the first `count` purgeable ones were returned. The jobs are in ascending
+/// order and above the cursor. The next turn begins above this number.
 pub fn swept_to(jobs: &[Candidate], count: usize, cursor: u32) -> u32
     ensures { result ≡ swept_to cursor count jobs.now }
 {
@@ -98,18 +98,17 @@ fn is_purgeable(job: &Candidate) -> bool
     job.ended && !job.runs
 }
 
-/// What has been looked at needn't be looked at again. So the service keeps the number up to which it has looked, and goes back
-/// when a job at or below it ends, or the child of one.
+/// Jobs that were checked need no further check. So the service remembers the number of the last checked job, and lowers it if a job at or
+/// below it ends, or the child of one.
 pub fn swept_jobs_are_skipped()
-    // Where none may be purged up to a number, those above it give the same.
+    // If none may be purged up to a number, the jobs above it give the same result.
     ensures skipped { (cursor count : ℕ) (jobs : List AnyCandidate) → IsSweptTo cursor jobs → purged count (above cursor jobs) ≡ purged count jobs }
 
-    // In a list that rises from the cursor, exactly those that may be purged and weren't given are above the number up to which it
-    // has been looked at,
+    // In a list that ascends from the cursor, the purgeable jobs above the returned number are exactly those that were not returned.
     ensures rest { (cursor count : ℕ) (jobs : List AnyCandidate) → RisesFrom cursor jobs →
         filter is_purgeable (above (swept_to cursor count jobs) jobs) ≡ drop count (filter is_purgeable jobs) }
 
-    // and no job at all is where all of them were given.
+    // If all purgeable jobs were returned, no job is above it.
     ensures ended { (cursor count : ℕ) (jobs : List AnyCandidate) → RisesFrom cursor jobs → length (filter is_purgeable jobs) ≤ count →
         above (swept_to cursor count jobs) jobs ≡ [] }
 {}

@@ -1,4 +1,4 @@
-//! Who is connected: what becomes of a newcomer, and which client goes for it.
+//! Admission: whether a new client is connected, and which client it replaces.
 ghost use Rattle.std.specs.Prelude.{◌≡◌, ◌↔◌, true, MatchOption, IfSome};
 ghost use Rattle.std.specs.Option.{IsNone};
 ghost use Rattle.service_rules.specs.ClientAdmission.{is_idle, goes_before, HasNoneIdle, IsAdmission, IsFirstToGo};
@@ -6,27 +6,27 @@ ghost use Rattle.service_rules.specs.declared.slots.Client.{Client as AnyClient}
 
 use crate::bounds::{LEAST_IDLE, MOST_CLIENTS};
 
-/// A client that is connected: its key, and the moment at which it was last heard, in milliseconds.
+/// A connected client: its key, and the moment when it was last heard, in milliseconds.
 #[derive(Clone, Copy)]
 pub struct Client {
     pub key: usize,
     pub heard: u64,
-    /// Whether it waits for something to be told, and has taken what it was told: one that does has nothing to say.
+    /// Whether it waits for something to be sent, and has taken all that was sent. Such a client has nothing to say.
     pub listens: bool,
 }
 
-/// What becomes of a newcomer.
+/// The decision on a new client.
 #[derive(Clone, Copy)]
 pub enum Admission {
-    /// There is a place for it.
+    /// A slot is free.
     Free,
-    /// It has the place of the client with this key, which is dropped.
+    /// It replaces the client with this key, which is disconnected.
     InsteadOf(usize),
-    /// There is none: it is told so and closed.
+    /// No slot is available: it is sent `error busy` and disconnected.
     Busy,
 }
 
-/// What becomes of a newcomer at the moment now, in milliseconds.
+/// Decides on a new client at the moment `now`, in milliseconds.
 pub fn admit(clients: &[Client], now: u64) -> Admission
     ensures { IsAdmission clients.now now result }
 {
@@ -39,8 +39,8 @@ pub fn admit(clients: &[Client], now: u64) -> Admission
     }
 }
 
-/// The client that has been idle longest, if it has been so long enough. One that listens isn't idle. Of two that were heard at
-/// the same moment it is the one with the lower key.
+/// The client that has been idle longest, if that is at least 10 s. A client that listens is not idle. Of two clients heard at the same
+/// moment, the one with the lower key.
 pub fn first_to_go(clients: &[Client], now: u64) -> Option<Client>
     ensures found { IfSome result (IsFirstToGo clients.now now) }
     ensures none { IsNone result ↔ HasNoneIdle clients.now now }
@@ -70,7 +70,7 @@ fn goes_before(client: &Client, other: &Client) -> bool
     }
 }
 
-// Whether a client goes before the first one so far, if there is one.
+// Whether a client precedes the first one so far, if any.
 fn goes_before_first(client: &Client, first: Option<Client>) -> bool
     ensures { MatchOption first (result ≡ true) (λ other. result ≡ goes_before client.now other) }
 {

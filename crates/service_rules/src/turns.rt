@@ -1,11 +1,10 @@
-//! The turn of a client.
+//! The limits of a client's turn.
 ghost use Rattle.std.specs.Prelude.{◌≡◌};
 ghost use Rattle.service_rules.specs.ClientBounds.{is_served_on};
 
 use crate::bounds::{MOST_COMMANDS, MOST_UNREAD};
 
-/// Whether a further command of a client is served in its turn: so many were served in it, and so many bytes of its replies
-/// are unread.
+/// Whether a further request of a client is served in its turn, after `served` requests and with `unread` bytes of its replies unread.
 pub fn is_served_on(served: usize, unread: usize) -> bool
     ensures { result ≡ is_served_on served unread }
 {

@@ -1,4 +1,4 @@
--- No line with a word of the service's own is a command.
+-- No line with a word of the service is a command.
 use Rattle.std.proofs.Common.{◌≡◌, ◌⊎◌, inl, inr, ℕ, Bool, true, false, cond, ◌==◌, List, [], ◌∷◌, length, Option, None, Some, refl, ap, sym, ◌∙◌}
 use Rattle.std.specs.Prelude.{codes, nat_lt}
 use Rattle.std.specs.Cmp.Lexicographic.{bytes_decides}
@@ -14,9 +14,9 @@ use Rattle.command_lines.specs.declared.command.Kind.TheVariants.{Remark, Says}
 use Rattle.service_texts.specs.ServiceWords.{own_word}
 use Rattle.service_texts.specs.declared.own_words.OwnWord.{OwnWord}
 
--- ## A line whose first word is the name of no command
+-- ## A line whose first word names no command
 
--- no words make a command of it
+-- No list of words after this name is a command.
 abbrev pub IsNoName : List ℕ → Type 0
 IsNoName name = (words : List (List ℕ)) → line_of name words ≡ None
 
@@ -28,7 +28,7 @@ no_front : (name rest : List ℕ) → IsNoName name → (quotes : Bool) → kind
 no_front name rest none true = refl
 no_front name rest none false = no_words name none (words_of rest)
 
--- a word that is here begins with the first byte
+-- A word at this position begins with the first byte.
 first_byte : (x : ℕ) (xs : List ℕ) (b : ℕ) (bs : List ℕ) → word_here (x ∷ xs) ≡ b ∷ bs → x ≡ b
 first_byte x xs b bs = elim (is_blank x) as (λ v. cond v [] (x ∷ word_here xs) ≡ b ∷ bs → x ≡ b) [ true ↦ λ e. cc | false ↦ λ e. cc ]
 
@@ -68,7 +68,7 @@ no_command by_word line b bs is plain other none =
     ∙ ap (cond (nat_lt 4096 (length line)) (Says Malformed)) says
     ∙ either (nat_lt 4096 (length line)) (Says Malformed)
 
--- ## The service's own words
+-- ## The words of the service
 
 job_none : IsNoName (codes "job")
 job_none [] = refl
@@ -95,7 +95,7 @@ shutdown_none [] = refl
 shutdown_none (w ∷ []) = refl
 shutdown_none (w ∷ v ∷ ws) = refl
 
--- the name is this one, or what follows is said
+-- The name is this one, or a later test accepts it.
 tested : (name own : List ℕ) (x y : Option OwnWord) (w : OwnWord) → cond (is_word name own) x y ≡ Some w → (name ≡ own) ⊎ (y ≡ Some w)
 tested name own x y w = (elim (is_word name own) as (λ v. is_word name own ≡ v → cond v x y ≡ Some w → (name ≡ own) ⊎ (y ≡ Some w)) [
   | true ↦ λ is e. inl ((bytes_decides name own).0 is)

@@ -1,4 +1,4 @@
--- What has changed, for those who watch.
+-- The changes, for clients that watch.
 use Rattle.std.specs.Prelude.{ℕ, ◌+◌, Bool, true, false, ◌&&◌, cond, nat_eq, nat_le, List, [], ◌∷◌, ◌++◌, length, codes, Option, None, Some, is_some}
 use Rattle.std.specs.Cmp.Lexicographic.{pointwise}
 use Rattle.std.specs.Fmt.{decimal}
@@ -15,7 +15,7 @@ use Rattle.spool_types.specs.declared.phase.Phase.TheVariants.{Incoming, Waiting
 use Rattle.spool_types.specs.declared.rows.QueueRow.{QueueRow}
 use Rattle.service_texts.specs.declared.stages.Stage.{Stage as JobStage}
 
--- jobs and queues, each once in the order in which they were noted, and whether more have changed
+-- Jobs and queues, each once in the order of their first notes, and whether more have changed.
 pub record Noted : Type 0 where
   pub jobs : List ℕ
   pub queues : List (List ℕ)
@@ -26,7 +26,7 @@ nothing_noted = record { jobs = []; queues = []; missed = false }
 
 -- ## Noting
 
--- no more than 256 are noted
+-- At most 256 are noted.
 abbrev pub is_full : Noted → Bool
 is_full n = nat_le 256 (length n.jobs + length n.queues)
 
@@ -42,7 +42,7 @@ with_job n job = cond (has_job n job) n (cond (is_full n) (record n { missed = t
 abbrev pub with_queue : Noted → List ℕ → Noted
 with_queue n name = cond (has_queue n name) n (cond (is_full n) (record n { missed = true }) (record n { queues = n.queues ++ name ∷ [] }))
 
--- the job or the queue that an event is about: the clock and a reopening are about none
+-- The job or the queue that an event names. Clock and Reopen name none.
 abbrev pub with_event : Noted → Event → Noted
 with_event n (AddQueue queue) = with_queue n queue.name
 with_event n (Info notes) = with_queue n notes.queue
@@ -62,9 +62,9 @@ with_event n (Abandon job) = with_job n job
 with_event n Reopen = n
 with_event n (Purge job) = with_job n job
 
--- ## The stages that run
+-- ## Running stages
 
--- what is noted, and the stages that were running when they were looked at last
+-- The notes, and the stages that were running at the last check.
 pub record Watched : Type 0 where
   pub noted : Noted
   pub stages : List JobStage
@@ -77,11 +77,11 @@ stage_of job Completed = None
 stage_of job Canceled = None
 stage_of job (Aborted reason) = None
 
--- the stage that runs of this job
+-- The running stage of this job.
 abbrev pub stage_at : State → ℕ → Option JobStage
 stage_at s job = option_and_then (λ (r : Job). stage_of job r.phase) (job_at s job)
 
--- the stage that runs of a job of this queue
+-- The running stage of a job of this queue.
 abbrev pub queue_stage : State → List ℕ → Option JobStage
 queue_stage s name = option_and_then (stage_at s) (busy_of s name)
 
@@ -89,7 +89,7 @@ abbrev pub listed : Option JobStage → List JobStage
 listed None = []
 listed (Some stage) = stage ∷ []
 
--- of each queue, in the order of the queues
+-- The running stages, in the order of the queues.
 abbrev pub stages_in : State → List JobStage
 stages_in s = flat_map (λ (q : QueueRow). listed (queue_stage s q.name)) (map.values s.queues)
 
@@ -99,7 +99,7 @@ is_same a b = nat_eq a.job b.job && (nat_eq a.attempt b.attempt && nat_eq a.stag
 abbrev pub is_among : List JobStage → JobStage → Bool
 is_among stages stage = list_any (λ other. is_same other stage) stages
 
--- a job, and its queue if it is still there
+-- A job, and its queue if the job still exists.
 abbrev pub with_queue_of : Noted → Option Job → Noted
 with_queue_of n None = n
 with_queue_of n (Some r) = with_queue n r.queue
@@ -107,7 +107,7 @@ with_queue_of n (Some r) = with_queue n r.queue
 abbrev pub with_both : State → Noted → ℕ → Noted
 with_both s n job = with_queue_of (with_job n job) (job_at s job)
 
--- those of the one list that aren't in the other
+-- The stages of one list that are not in the other.
 abbrev pub with_other : State → List JobStage → Noted → JobStage → Noted
 with_other s others n x = cond (is_among others x) n (with_both s n x.job)
 
@@ -115,16 +115,16 @@ abbrev pub with_others : State → List JobStage → Noted → List JobStage →
 with_others s others n [] = n
 with_others s others n (x ∷ xs) = with_others s others (with_other s others n x) xs
 
--- the stages that have come to an end, and then those that have begun
+-- The stages that have ended, and then those that have begun.
 abbrev pub with_stages : State → Watched → Watched
 with_stages s w = record {
   noted = with_others s w.stages (with_others s (stages_in s) w.noted w.stages) (stages_in s);
   stages = stages_in s;
 }
 
--- ## Telling
+-- ## Lines of notices
 
--- the line of the listing, or that it is gone
+-- The line of the listing, or `gone`.
 abbrev pub job_news : ℕ → ℕ → Option Job → List ℕ
 job_news now job None = codes "gone job " ++ decimal job ++ codes "\n"
 job_news now job (Some r) = job_line now r
@@ -142,6 +142,6 @@ queue_told s name = queue_news (is_some (busy_of s name)) name (queue_at s name)
 abbrev pub missed_text : Bool → List ℕ
 missed_text missed = cond missed (codes "missed\n") []
 
--- a line for each job, and then for each queue, as it is now
+-- A line for each job, and then for each queue, as they are now.
 abbrev pub told : State → Noted → List ℕ
 told s n = flat_map (job_told s) n.jobs ++ flat_map (queue_told s) n.queues ++ missed_text n.missed

@@ -1,4 +1,4 @@
--- What a line says to the service alone.
+-- The requests to the service itself on a line.
 use Rattle.std.specs.Prelude.{ℕ, Bool, true, false, cond, List, [], ◌∷◌, codes, Option, None, Some}
 use Rattle.std.specs.Option.{option_map}
 use Rattle.line_words.specs.Blanks.{first_word, after_word}
@@ -10,19 +10,19 @@ abbrev pub is_no_word : List ℕ → Bool
 is_no_word [] = true
 is_no_word (b ∷ bs) = false
 
--- blanks alone
+-- The line has blanks only.
 abbrev pub is_blank_line : List ℕ → Bool
 is_blank_line line = is_no_word (first_word line)
 
--- a word that nothing follows
+-- A word that nothing follows.
 abbrev pub lone_word : List ℕ → OwnWord → Option OwnWord
 lone_word rest word = cond (is_blank_line rest) (Some word) None
 
--- the number of a job, which nothing follows
+-- The number of a job that nothing follows.
 abbrev pub lone_job : List ℕ → Option ℕ
 lone_job line = cond (is_blank_line (after_word line)) (job_in (first_word line)) None
 
--- what a word and the rest of its line say
+-- The request of a word and the rest of its line.
 abbrev pub said : List ℕ → List ℕ → Option OwnWord
 said name rest =
     cond (is_word name (codes "job")) (option_map (λ job. Job job) (lone_job rest))

@@ -9,9 +9,9 @@ use Rattle.spool_types.specs.declared.phase.Hold.TheVariants.{Free, Indefinite, 
 use Rattle.spool_types.specs.declared.phase.Phase.{Phase}
 use Rattle.spool_types.specs.declared.phase.Phase.TheVariants.{Incoming, Waiting, Processing, Completed, Canceled, Aborted}
 
--- ## One job with all its fields, each a line of its name and its value
+-- ## A job with all its fields, each on a line with its name and its value
 
--- what was asked for
+-- The fields of the request.
 abbrev pub job_names : Job → List ℕ
 job_names r = codes "job " ++ decimal r.id ++ codes "\nqueue " ++ r.queue ++ codes "\nuser " ++ quoted r.user ++ codes "\n"
 
@@ -21,16 +21,16 @@ job_wishes r = codes "title " ++ quoted r.title ++ codes "\noptions " ++ quoted 
 abbrev pub job_ranks : Job → List ℕ
 job_ranks r = codes "copies " ++ decimal r.copies ++ codes "\npriority " ++ decimal r.priority ++ codes "\n"
 
--- what became of it
+-- The fields of the progress.
 abbrev pub job_counts : Job → List ℕ
 job_counts r = codes "size " ++ decimal r.size ++ codes "\npages " ++ decimal r.pages ++ codes "\nattempts " ++ decimal r.attempts ++ codes "\n"
 
--- its media type, once it is closed
+-- Its media type, once it is closed.
 abbrev pub media_text : Option (List ℕ) → List ℕ
 media_text None = []
 media_text (Some media) = codes "type " ++ media ++ codes "\n"
 
--- the moment by which it is to start, if there is one
+-- Its latest start, if any.
 abbrev pub by_text : Option ℕ → List ℕ
 by_text None = []
 by_text (Some by) = codes "by " ++ decimal by ++ codes "\n"
@@ -41,13 +41,13 @@ job_marks r = media_text r.media ++ by_text r.by
 abbrev pub state_text : ℕ → Phase → List ℕ
 state_text now phase = codes "state " ++ decimal (job_state now phase) ++ codes "\nreason " ++ job_reason now phase ++ codes "\n"
 
--- the moment until which it is held, if there is one
+-- The moment until which it is held, if any.
 abbrev pub hold_text : Hold → List ℕ
 hold_text Free = []
 hold_text (Indefinite reason) = []
 hold_text (Until moment) = codes "hold-until " ++ decimal moment ++ codes "\n"
 
--- the moment before which it isn't tried, or the stage that runs
+-- The moment of the next attempt, or the running stage.
 abbrev pub phase_text : Phase → List ℕ
 phase_text (Incoming hold) = []
 phase_text (Waiting hold not_before first) = codes "not-before " ++ decimal not_before ++ codes "\n"
@@ -77,7 +77,7 @@ shown_job s j = one_shown s.moment (job_at s j)
 
 -- ## The end of a job
 
--- its line of the listing
+-- Its line of the listing.
 abbrev pub one_told : ℕ → Option Job → List ℕ
 one_told now None = no_job
 one_told now (Some r) = job_line now r ++ codes "ok 1\n"
@@ -85,7 +85,7 @@ one_told now (Some r) = job_line now r ++ codes "ok 1\n"
 abbrev pub told_job : State → ℕ → List ℕ
 told_job s j = one_told s.moment (job_at s j)
 
--- it has ended, or is there no more
+-- It has ended or does not exist.
 abbrev pub is_over : Option Job → Bool
 is_over None = true
 is_over (Some r) = has_ended r.phase

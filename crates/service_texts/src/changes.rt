@@ -1,4 +1,4 @@
-//! What has changed, for those who watch.
+//! The changes, for clients that watch.
 ghost use Rattle.std.specs.Prelude.{◌≡◌, ◌++◌, [], OnOk, OnErr};
 ghost use Rattle.service_texts.specs.Notices.{nothing_noted, with_job, with_queue, with_event, with_stages, with_other, with_others, told};
 
@@ -9,12 +9,12 @@ use spool_types::{Event, JobId, QueueName};
 use std::alloc::{AllocError, Global};
 use std::marker::Model;
 
-/// Which jobs and queues have changed since they were told last: at most 256, each once. Of more it is only known that some
-/// were missed.
+/// The jobs and queues that have changed since the last notices: at most 256, each once. Of further ones it only records that some were
+/// missed.
 #[derive(Drop)]
 pub struct Changes {
     notes: Notes,
-    // Those that ran when they were looked at last.
+    // The stages that were running at the last check.
     stages: Vec<Stage>,
 }
 
@@ -27,7 +27,7 @@ impl Model for Changes {
 }
 
 impl Changes {
-    /// Nothing is noted, and no stage runs. It takes no memory.
+    /// Nothing is noted, and no stage runs. Does not allocate.
     pub fn new(alloc: Global) -> Changes
         ensures noted { result.noted ≡ nothing_noted }
         ensures stages { result.stages ≡ [] }
@@ -38,7 +38,6 @@ impl Changes {
         }
     }
 
-    /// Notes a job.
     pub fn note_job(&mut self, job: JobId) -> Result<(), AllocError>
         ensures noted { OnOk result (self.new.noted ≡ with_job self.old.noted job) }
         ensures stages { self.new.stages ≡ self.old.stages }
@@ -47,7 +46,6 @@ impl Changes {
         self.notes.note_job(job)
     }
 
-    /// Notes a queue.
     pub fn note_queue(&mut self, name: &QueueName) -> Result<(), AllocError>
         ensures noted { OnOk result (self.new.noted ≡ with_queue self.old.noted name.now) }
         ensures stages { self.new.stages ≡ self.old.stages }
@@ -56,7 +54,7 @@ impl Changes {
         self.notes.note_queue(name)
     }
 
-    /// Notes the job or the queue that an event is about. The clock and a reopening are about none.
+    /// Notes the job or the queue that an event names. Clock and Reopen name none.
     pub fn note_event(&mut self, event: &Event) -> Result<(), AllocError>
         ensures noted { OnOk result (self.new.noted ≡ with_event self.old.noted event.now) }
         ensures stages { self.new.stages ≡ self.old.stages }
@@ -65,8 +63,8 @@ impl Changes {
         self.notes.note_event(event)
     }
 
-    /// Notes the job of each stage that has ended or begun since this was called last, and the queue of the job if it is still
-    /// there. Out of memory some of them may be noted, and the next call notes all.
+    /// Notes the job of each stage that has ended or begun since the last call, and the queue of the job if the job still exists. If memory
+    /// runs out, some of them may be noted, and the next call notes all.
     pub fn note_stages(&mut self, table: &Table) -> Result<(), AllocError>
         ensures ok { OnOk result (self.new ≡ with_stages table.now.state self.old) }
         ensures err { OnErr result (self.new.stages ≡ self.old.stages) }
@@ -78,8 +76,8 @@ impl Changes {
         Ok(())
     }
 
-    /// Adds a line for each job, and then for each queue, in the order in which they were noted: that of the listing, as it is
-    /// now, or `gone job N` and `gone queue NAME`. Then comes `missed`, if some were. Nothing is noted any more.
+    /// Appends a line for each noted job, and then for each noted queue, in the order of their first notes: its current line of the
+    /// listing, or `gone job N` or `gone queue NAME`. Then comes `missed`, if some were missed. Afterwards nothing is noted.
     pub fn append_notices(&mut self, table: &Table, text: &mut Vec<u8>) -> Result<(), AllocError>
         ensures told { OnOk result (text.new.items ≡ text.old.items ++ told table.now.state self.old.noted) }
         ensures none { OnOk result (self.new.noted ≡ nothing_noted) }
@@ -94,7 +92,7 @@ impl Changes {
     }
 }
 
-// Notes the jobs of those stages that aren't among the others.
+// Notes the jobs of these stages that are not among the others.
 fn note_others(
     notes: &mut Notes,
     table: &Table,
@@ -109,7 +107,7 @@ fn note_others(
     Ok(())
 }
 
-// Notes the job of a stage that isn't among the others.
+// Notes the job of a stage that is not among the others.
 fn note_other(
     notes: &mut Notes,
     table: &Table,

@@ -9,7 +9,7 @@ use spool_types::{Hold, Job, JobId, MediaType, Moment, Phase};
 use std::alloc::{AllocError, Global};
 use std::io::Write;
 
-/// One job with all its fields, each a line `NAME VALUE`, and then `ok 1`; `error job` where there is none.
+/// The job with all its fields, each on a line `NAME VALUE`, then `ok 1`; `error job` if it does not exist.
 pub fn shown_job(alloc: Global, table: &Table, id: JobId) -> Result<Vec<u8>, AllocError>
     ensures { IfOk result (λ text. text.items ≡ shown_job table.now.state id) }
 {
@@ -23,7 +23,7 @@ pub fn shown_job(alloc: Global, table: &Table, id: JobId) -> Result<Vec<u8>, All
     Ok(text)
 }
 
-/// The line of the listing that shows this job, and then `ok 1`; `error job` where there is none.
+/// The line of the listing that shows this job, then `ok 1`; `error job` if it does not exist.
 pub fn job_told(alloc: Global, table: &Table, id: JobId) -> Result<Vec<u8>, AllocError>
     ensures { IfOk result (λ text. text.items ≡ told_job table.now.state id) }
 {
@@ -36,7 +36,7 @@ pub fn job_told(alloc: Global, table: &Table, id: JobId) -> Result<Vec<u8>, Allo
     Ok(text)
 }
 
-/// Whether a wait for the end of this job is over: it has ended, or there is none.
+/// Whether a wait for the end of this job is over: it has ended or does not exist.
 pub fn has_settled(table: &Table, id: JobId) -> bool
     ensures { result ≡ has_settled table.now.state id }
 {
@@ -46,7 +46,7 @@ pub fn has_settled(table: &Table, id: JobId) -> bool
     }
 }
 
-// What was asked for.
+// Appends the fields of the job's request.
 fn push_request(text: &mut Vec<u8>, job: &Job) -> Result<(), AllocError>
     ensures { OnOk result (text.new.items ≡ text.old.items ++ job_request job.now) }
 {
@@ -83,7 +83,7 @@ fn push_ranks(text: &mut Vec<u8>, job: &Job) -> Result<(), AllocError>
     write!(text, "copies {copies}\npriority {priority}\n").map_err(|_| AllocError)
 }
 
-// What became of it, at the moment now.
+// Appends the fields of the job's progress, at the moment `now`.
 fn push_progress(text: &mut Vec<u8>, job: &Job, now: &Moment) -> Result<(), AllocError>
     ensures { OnOk result (text.new.items ≡ text.old.items ++ job_progress now.now job.now) }
 {

@@ -1,4 +1,4 @@
-//! The service's own words beside the commands of the engine.
+//! The words of the service are no commands of the engine.
 ghost use Rattle.std.specs.Prelude.{◌≡◌, ℕ, List, Some};
 ghost use Rattle.command_lines.specs.CommandGrammar.{kind_of};
 ghost use Rattle.command_lines.specs.declared.command.Command.{Command};
@@ -8,7 +8,7 @@ ghost use Rattle.service_texts.specs.declared.own_words.OwnWord.{OwnWord};
 
 use command_lines::word_by_word;
 
-/// A line that says something to the service is no command: the engine would find it malformed.
+/// A line with a word of the service is no command: the engine finds it malformed.
 pub fn own_words_are_no_commands()
     ensures { (line : List ℕ) (word : OwnWord) → own_word line ≡ Some word → kind_of line ≡ Kind.Says Command.Malformed }
 {

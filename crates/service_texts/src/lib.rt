@@ -1,29 +1,34 @@
-//! The words and the replies of the service alone: what it reads and says beside the commands of its engine.
+//! The words and replies of the service itself, in addition to the commands of its engine.
 //!
 //! | Line | Reply |
 //! |---|---|
-//! | `job N` | one job with all its fields, a line each, then `ok 1`; `error job` where there is none |
-//! | `wait N` | once the job has ended, its line of the listing, then `ok 1`; `error job` where there is none, or it is purged |
-//! | `end N` | the service's: the job's child is asked to end, and is killed later |
-//! | `watch` | from then on a line for each job and each queue that has changed |
-//! | `shutdown` | the service's: nobody is let in any more, and it ends |
+//! | `job N` | the job with all its fields, one on each line, then `ok 1`; `error job` if it does not exist |
+//! | `wait N` | after the job has ended, its line of the listing, then `ok 1`; `error job` if it does not exist or was purged |
+//! | `end N` | made by the service, which terminates the job's running child: first SIGTERM, later SIGKILL |
+//! | `watch` | from then on a line for each job and each queue that changes |
+//! | `shutdown` | made by the service, which accepts no client any more and ends |
 //!
-//! A line with anything behind its last word is none of these. Which client gets which reply, and when, is another crate's.
+//! A line with anything after its last word is none of these.
 //!
 //! # Promises
 //!
-//! - [`own_word`] is what a line says to the service (`Words`, `own_word`). [`own_words_are_no_commands`]: the engine would find
-//!   each such line malformed, so none of its commands is taken away.
-//! - [`shown_job`], [`job_told`]: the bytes of each reply, of the state of the table alone (`Shown`: `shown_job`, `told_job`).
-//!   [`has_settled`]: whether a wait is over (`has_settled`).
-//! - [`Changes`] notes jobs and queues, each once in the order in which they are noted, and at most 256 (`Changes`: `with_job`,
-//!   `with_queue`, `with_event`). Beyond these it remembers that some were missed. [`Changes::append_notices`] adds the line of each as it
-//!   is then (`told`), and nothing is noted any more.
+//! - [`own_word`] returns the word of the service on a line, if any (`ServiceWords`, `own_word`). [`own_words_are_no_commands`]: the engine
+//!   finds each such line malformed, so no command of the engine is lost.
+//! - [`shown_job`], [`job_told`]: the text of one job, or `error job` exactly if it does not exist; it depends on the state of the table
+//!   only (`Shown`: `shown_job`, `told_job`). [`has_settled`]: whether a `wait` is over.
+//! - [`Changes`] notes each job and each queue once, in order, up to 256, and then that some were missed (`noted`; `note_stages`;
+//!   `Notices`: `with_job`, `with_queue`, `with_event`). [`Changes::append_notices`] appends their lines as the table has them then
+//!   (`told`), and forgets them; if memory runs out, the notes stay.
+//! - `job_number` reads a job's number as every command does.
 //!
-//! # Faults
+//! # Not proved
 //!
-//! Out of memory is the one fault. It leaves what was noted, and the text that lines are added to, as they were; only
-//! [`Changes::note_stages`] may have noted some of what it notes, and notes the rest when it is called again.
+//! - Which client gets which text, and when: see `service_loop`.
+//!
+//! # Errors
+//!
+//! The only error is out of memory. The notes and the text that lines are appended to are then unchanged. Only [`Changes::note_stages`] may
+//! have noted part of its jobs and queues; the next call notes the rest.
 #![tactic(auto)]
 
 mod changes;

@@ -1,4 +1,4 @@
-//! Jobs and queues that are noted.
+//! Noted jobs and queues.
 ghost use Rattle.std.specs.Prelude.{◌≡◌, ◌++◌, IfOk, OnOk, OnErr};
 ghost use Rattle.std.specs.List.{flat_map};
 ghost use Rattle.service_texts.specs.Notices.{nothing_noted, is_full, has_job, has_queue, with_job, with_queue, with_event, with_both, job_told, queue_told, missed_text, told};
@@ -10,15 +10,15 @@ use std::alloc::{AllocError, Global};
 use std::io::Write;
 use std::marker::Model;
 
-// How many jobs and queues are noted at most.
+// The most jobs and queues noted.
 const MOST_NOTES: usize = 256;
 
-/// Jobs and queues, each once, in the order in which they were noted.
+/// Jobs and queues, each once, in the order of their first notes.
 #[derive(Drop)]
 pub(crate) struct Notes {
     jobs: Vec<JobId>,
     queues: Vec<QueueName>,
-    // Whether more were to be noted.
+    // Whether more were missed.
     missed: bool,
 }
 
@@ -80,7 +80,7 @@ impl Notes {
         Ok(())
     }
 
-    /// Notes the job or the queue that an event is about. The clock and a reopening are about none.
+    /// Notes the job or the queue that an event names. Clock and Reopen name none.
     pub fn note_event(&mut self, event: &Event) -> Result<(), AllocError>
         ensures ok { OnOk result (self.new ≡ with_event self.old event.now) }
         ensures err { OnErr result (self.new ≡ self.old) }
@@ -103,7 +103,7 @@ impl Notes {
         }
     }
 
-    /// Notes a job, and its queue if the job is still there.
+    /// Notes a job, and its queue if the job still exists.
     pub fn note_both(&mut self, table: &Table, job: JobId) -> Result<(), AllocError>
         ensures { OnOk result (self.new ≡ with_both table.now.state self.old job) }
     {
@@ -132,7 +132,7 @@ impl Notes {
         MOST_NOTES <= self.jobs.len() + self.queues.len()
     }
 
-    /// A line for each job, and then for each queue, as the table has it.
+    /// A line for each job, and then for each queue, as the table has them.
     pub fn lines(&self, alloc: Global, table: &Table) -> Result<Vec<u8>, AllocError>
         ensures { IfOk result (λ lines. lines.items ≡ told table.now.state self.now) }
     {

@@ -1,4 +1,4 @@
-//! The words that a line says to the service alone.
+//! The words of the service.
 ghost use Rattle.std.specs.Prelude.{◌≡◌};
 ghost use Rattle.command_lines.specs.CommandGrammar.{job_in};
 ghost use Rattle.service_texts.specs.ServiceWords.{own_word, lone_word, lone_job, is_blank_line};
@@ -7,22 +7,22 @@ use command_lines::job_number;
 use line_words::first_word;
 use spool_types::JobId;
 
-/// What a line says to the service.
+/// A request to the service itself.
 #[derive(Clone, Copy, Debug, PartialEq, Eq)]
 pub enum OwnWord {
-    /// Shows this job with all its fields.
+    /// Show this job with all its fields.
     Job(JobId),
-    /// Waits until this job has ended.
+    /// Wait until this job has ended.
     Wait(JobId),
-    /// Asks the child of this job to end.
+    /// Terminate the running child of this job.
     End(JobId),
-    /// Tells from then on what changes.
+    /// Send all changes from now on.
     Watch,
-    /// Ends the service.
+    /// End the service.
     Shutdown,
 }
 
-/// What a line says to the service, if it is one of its own words.
+/// The request to the service on a line, if the line is one.
 pub fn own_word(line: &[u8]) -> Option<OwnWord>
     ensures { result ≡ own_word line.now }
 {
@@ -45,7 +45,7 @@ pub fn own_word(line: &[u8]) -> Option<OwnWord>
     None
 }
 
-// This word, where nothing more is on the line.
+// This word, if nothing follows it on the line.
 fn lone_word(rest: &[u8], word: OwnWord) -> Option<OwnWord>
     ensures { result ≡ lone_word rest.now word }
 {
@@ -56,7 +56,7 @@ fn lone_word(rest: &[u8], word: OwnWord) -> Option<OwnWord>
     }
 }
 
-// The number of a job, where nothing more is on the line.
+// The number of a job, if nothing follows it on the line.
 fn lone_job(line: &[u8]) -> Option<JobId>
     ensures { result ≡ lone_job line.now }
 {
@@ -68,7 +68,7 @@ fn lone_job(line: &[u8]) -> Option<JobId>
     }
 }
 
-// Whether there are blanks alone.
+// Whether the line has blanks only.
 fn is_blank_line(line: &[u8]) -> bool
     ensures { result ≡ is_blank_line line.now }
 {

@@ -1,4 +1,4 @@
-//! The stages that run.
+//! The running stages.
 ghost use Rattle.std.specs.Prelude.{◌≡◌, IfOk};
 ghost use Rattle.service_texts.specs.Notices.{stages_in, queue_stage, is_among};
 
@@ -6,7 +6,7 @@ use job_table::Table;
 use spool_types::{JobId, Phase, QueueName};
 use std::alloc::{AllocError, Global};
 
-/// The stage of a job that runs.
+/// The running stage of a job.
 #[derive(Clone, Copy, Debug, PartialEq, Eq)]
 pub(crate) struct Stage {
     pub job: JobId,
@@ -14,7 +14,7 @@ pub(crate) struct Stage {
     pub stage: u8,
 }
 
-/// The stages that run, in the order of the queues.
+/// The running stages, in the order of the queues.
 pub(crate) fn stages_in(alloc: Global, table: &Table) -> Result<Vec<Stage>, AllocError>
     ensures { IfOk result (λ stages. stages.items ≡ stages_in table.now.state) }
 {
@@ -27,7 +27,7 @@ pub(crate) fn stages_in(alloc: Global, table: &Table) -> Result<Vec<Stage>, Allo
     Ok(stages)
 }
 
-// The stage that runs of a job of this queue, if one is processing.
+// The running stage of this queue, if one of its jobs is processing.
 fn queue_stage(table: &Table, queue: &QueueName) -> Option<Stage>
     ensures { result ≡ queue_stage table.now.state queue.now }
 {
@@ -42,7 +42,6 @@ fn queue_stage(table: &Table, queue: &QueueName) -> Option<Stage>
     }
 }
 
-/// Whether a stage is among these.
 pub(crate) fn is_among(stages: &[Stage], stage: &Stage) -> bool
     ensures { result ≡ is_among stages.now stage.now }
 {

@@ -1,4 +1,4 @@
--- What comes first in bytes that were read piece by piece.
+-- The first packet of bytes that were read in pieces.
 use Rattle.std.proofs.Common.{◌≡◌, ◌≢◌, ℕ, ◌-◌, ◌<◌, ◌≤◌, List, [], ◌∷◌, ◌++◌, length, take, drop, Option, Err, refl, sym, ap, ◌∙◌, subst, arith, append_assoc, append-nil, length-append}
 use Rattle.std.proofs.lemmas.Bool.{le-leb, lt-leb}
 use Rattle.std.proofs.KnownBytes.{Consumes-trans}
@@ -11,7 +11,7 @@ use Rattle.side_channel.specs.Streams.{ReadWhole, ReadFewer, SkipsData, TakesDat
 use Rattle.side_channel.specs.declared.endings.SideFault.{SideFault}
 use Rattle.side_channel.specs.declared.endings.SideFault.TheVariants.{Read, Write, Cut, Memory}
 
--- a packet whose data were kept so
+-- A packet with this body.
 abbrev pub message : ℕ → ℕ → ℕ → List ℕ → Message
 message c s n body = record { command = c; status = s; length = n; body = body }
 
@@ -44,7 +44,7 @@ front_of-some (a ∷ b ∷ []) some few = refl
 front_of-some (a ∷ b ∷ c ∷ []) some few = refl
 front_of-some (a ∷ b ∷ c ∷ d ∷ r) some few = absurd (omega arith)
 
--- a packet with fewer data than its length says is cut
+-- A packet with less data than its length states is truncated.
 cut_front : (h bytes : List ℕ) (n : ℕ) → length h ≡ 4 → n ≡ length_in h → length bytes < n → front_of (h ++ bytes) ≡ cut
 cut_front h bytes n four is fewer =
     front_of-head h bytes four
@@ -54,7 +54,7 @@ cut_front h bytes n four is fewer =
 cut_is_short : (front : Front) → front ≡ cut → IsShort front
 cut_is_short front is = subst IsShort (sym is) tt
 
--- the first four bytes, and then the data
+-- The first four bytes, and then the data.
 pub head_and_data : (a b c : Option (List ℕ)) (h body : List ℕ) (n : ℕ) → length h ≡ 4 → n ≡ length_in h → Consumes a b h → TakesData b c n body → ReadWhole a c (message (slice_index h 0) (slice_index h 1) n body)
 head_and_data a b c h body n four is head t =
     record {
@@ -69,7 +69,7 @@ head_and_data a b c h body n four is head t =
           ∙ ap (λ l. whole (message (slice_index h 0) (slice_index h 1) n l) more) (sym t.kept_is);
     }
 
--- the first four bytes, and then not all of the data
+-- The first four bytes, and then only part of the data.
 pub head_alone : (a b c : Option (List ℕ)) (h : List ℕ) (n : ℕ) (fault : SideFault) → length h ≡ 4 → n ≡ length_in h → Consumes a b h → FailsData b c n fault → ReadsPacket a c (Err fault)
 head_alone a b c h n Read four is head f =
     record {
@@ -93,7 +93,7 @@ head_alone a b c h n Memory four is head f =
       short = cut_is_short _ (ap front_of (sym (append-nil h)) ∙ cut_front h [] n four is f.0);
     }
 
--- data that were skipped, and then some more
+-- Skipped data, and then more.
 pub skips_more : (a b c : Option (List ℕ)) (n left w : ℕ) → left ≤ n → w ≤ left → SkipsData a b (n - left) → SkipsData b c w → SkipsData a c (n - (left - w))
 skips_more a b c n left w le more s t =
     record {
@@ -110,7 +110,7 @@ fewer_later a b c n left w le more s t =
       read = Consumes-trans a b c s.bytes t.bytes s.read t.read;
     }
 
--- data that were skipped, and then not all of the others
+-- Skipped data, and then only part of the rest.
 pub fails_later : (a b c : Option (List ℕ)) (n left w : ℕ) (fault : SideFault) → left ≤ n → w ≤ left → SkipsData a b (n - left) → FailsData b c w fault → fault ≢ Memory → FailsData a c n fault
 fails_later a b c n left w Read le more s t ne = fewer_later a b c n left w le more s t
 fails_later a b c n left w Write le more s t ne = t

@@ -1,4 +1,4 @@
--- What the bytes of a session come to, piece by piece.
+-- The results of the bytes of a session, in pieces.
 use Rattle.std.proofs.Common.{◌≡◌, ◌≢◌, ℕ, zero, suc, ◌<◌, List, [], ◌∷◌, ◌++◌, length, take, drop, Ok, Err, refl, sym, ap, ◌∙◌, arith, ◌-◌, append_assoc, take_all, inl, inr}
 use Rattle.std.proofs.lemmas.Bool.{cases_lt, le-leb, lt-leb}
 use Rattle.std.specs.Prelude.{cond, nat_le}
@@ -17,7 +17,7 @@ use Rattle.side_channel.specs.declared.pieces.Held.TheVariants.{Nothing, One, Tw
 use Rattle.side_channel.proofs.PacketLaws.{message}
 use Rattle.side_channel.proofs.SessionLaws.{after_both, session-front, session-cut}
 
--- a request that is held is cut where no further byte comes
+-- A stored request is truncated if no further byte arrives.
 pub cut_here : (h : Held) → h ≢ Nothing → h ≢ Over → IsHeld h → (d : Device) → to_come d h [] ≡ ends (Err Cut) []
 cut_here Nothing some on held d = absurd (some refl)
 cut_here (One c) some on held d = session-cut d (c ∷ []) refl
@@ -27,11 +27,11 @@ cut_here (Data c n left) some on held d =
     ap (λ b. cond b (after (answer_for d c n) (session d (drop left []))) (ends (Err Cut) [])) (lt-leb left 0 held)
 cut_here Over some on held d = absurd (on refl)
 
--- the fourth byte of a request
+-- The fourth byte of a request.
 pub fourth : (c s h l : ℕ) (d : Device) (more : List ℕ) → session d (c ∷ s ∷ h ∷ l ∷ more) ≡ after_head c s (from_be_bytes w16 (h ∷ l ∷ [])) d more
 fourth c s h l d more = session-front d (c ∷ s ∷ h ∷ l ∷ more)
 
--- a session is as one that is the same
+-- Equal sessions have equal results.
 pub comes_as : (f g : Device → List ℕ → Session) → ((d : Device) (more : List ℕ) → f d more ≡ g d more) → (c : Came) (new : Held) → Comes g c new → Comes f c new
 comes_as f g same came.Part new h = (h.0, λ d more. same d more ∙ h.1 d more)
 comes_as f g same (came.Request command n) new h = (h.0, λ d more. same d more ∙ h.1 d more)
@@ -43,7 +43,7 @@ one_less_fits k n = elim (cases_lt n k) [
   | inr le ↦ le-leb (suc k) (suc n) (omega (arith, le)) ∙ sym (le-leb k n le)
 ]
 
--- a byte of the data that are still to come
+-- A byte of the missing data.
 pub one_less : (c n left b : ℕ) → 0 < left → (d : Device) (more : List ℕ) → to_come d (Data c n left) (b ∷ more) ≡ to_come d (Data c n (left - 1)) more
 one_less c n zero b some d more = absurd (omega arith)
 one_less c n (suc k) b some d more =
@@ -51,7 +51,7 @@ one_less c n (suc k) b some d more =
     ap (λ fits. cond fits (after (answer_for d c n) (session d (drop k more))) (ends (Err Cut) [])) (one_less_fits k (length more))
     ∙ ap (λ left. to_come d (Data c n left) more) same
 
--- ---- a piece
+-- ## A piece
 
 pub wants : (old : Held) (piece : List ℕ) (count : ℕ) (new : Held) → Reaches old piece count came.Part new → (d : Device) → Wanting d old piece new
 wants old piece count new r d =
@@ -73,7 +73,7 @@ answers old piece count command n new r d reply is = record {
 pub finishes : (old : Held) (piece : List ℕ) (count : ℕ) (new : Held) → Reaches old piece count came.End new → (d : Device) → Finished d old piece count new
 finishes old piece count new r d = record { within = r.within; ends = r.comes.1 d; over = r.comes.0 }
 
--- ---- all pieces
+-- ## All pieces
 
 all_taken : (d : Device) (old new : Held) (exchanges : List Exchange) (more : List ℕ) → TakesAll d old exchanges new → to_come d old (took_in exchanges ++ more) ≡ after (told_in exchanges) (to_come d new more)
 all_taken d old new [] more same = ap (λ h. to_come d h more) (sym same)

@@ -1,4 +1,4 @@
--- A session goes on after each packet that is answered, whatever follows.
+-- A session continues after each packet that is answered, whatever follows.
 use Rattle.std.proofs.Common.{◌≡◌, ℕ, zero, suc, ◌+◌, ◌<◌, ◌≤◌, List, [], ◌∷◌, ◌++◌, length, take, drop, Bool, true, false, Option, None, Some, Result, Ok, Err, refl, sym, ap, ◌∙◌, subst, arith, append_assoc, append-nil, length-drop, length-append}
 use Rattle.std.proofs.KnownBytes.{Consumes-nil, Consumes-trans, Appends-nil, Appends-trans}
 use Rattle.std.specs.Prelude.{cond, nat_le}
@@ -17,7 +17,7 @@ use Rattle.side_channel.specs.declared.endings.SideFault.{SideFault}
 use Rattle.side_channel.specs.declared.endings.SideFault.TheVariants.{Read, Write, Cut, Memory}
 use Rattle.side_channel.proofs.PacketLaws.{message}
 
--- ---- what a session is, without a count
+-- ## A session without a count
 
 same_packet : (f g : List ℕ → Session) (d : Device) (p : Message) (rest : List ℕ) → f rest ≡ g rest → from_packet f d p rest ≡ from_packet g d p rest
 same_packet f g d p rest e = ap (λ s. cond (is_end p) (ends (Ok End) rest) (after (reply_bytes (answer_of d p)) s)) e
@@ -26,7 +26,7 @@ same_if : (f g : List ℕ → Session) (d : Device) (p : Message) (rest : List �
 same_if f g d p rest true e = same_packet f g d p rest e
 same_if f g d p rest false e = refl
 
--- it looks at nothing but shorter rests
+-- It depends only on shorter rests.
 same_front : (f g : List ℕ → Session) (d : Device) (bytes : List ℕ) → ((rest : List ℕ) → length rest < length bytes → f rest ≡ g rest) → from_front f d (front_of bytes) ≡ from_front g d (front_of bytes)
 same_front f g d [] same = refl
 same_front f g d (c ∷ []) same = refl
@@ -37,7 +37,7 @@ same_front f g d (c ∷ s ∷ h ∷ l ∷ rest) same =
     same_if f g d (message c s n (kept (take n rest))) (drop n rest) (nat_le n (length rest))
     (same (drop n rest) (omega (arith, length-drop n rest)))
 
--- any count serves that is no less than the bytes
+-- Any count that is at least the number of bytes suffices.
 enough : (k j : ℕ) (d : Device) (bytes : List ℕ) → length bytes ≤ k → length bytes ≤ j → session_within k d bytes ≡ session_within j d bytes
 unfolding session_within
 enough zero zero d bytes p q = refl
@@ -83,13 +83,13 @@ no_answer d nothing short = refl
 no_answer d cut short = refl
 no_answer d (whole p rest) short = absurd short
 
--- no whole packet has no answer
+-- Bytes without a whole packet have no answer.
 short_text : (d : Device) (bytes : List ℕ) → IsShort (front_of bytes) → (session d bytes).text ≡ []
 short_text d bytes short = ap (λ s. s.text) (session-front d bytes) ∙ no_answer d (front_of bytes) short
 
--- ---- a session as far as it came
+-- ## A session as far as it went
 
--- these bytes were read and are answered by this text, whatever follows them
+-- These bytes were read and have this answer, whatever follows them.
 pub record Progress (d : Device) (known left old new : Option (List ℕ)) : Type 0 where
   pub bytes : List ℕ
   pub read : Consumes known left bytes
@@ -104,7 +104,7 @@ begun d known old =
 pub after_both : (t u : List ℕ) (s : Session) → after t (after u s) ≡ after (t ++ u) s
 after_both t u s = ap (λ l. record s { text = l }) (sym (append_assoc t u s.text))
 
--- one more packet is answered
+-- One more packet is answered.
 pub answered : (d : Device) (a b c old mid new : Option (List ℕ)) (p : Message) → Progress d a b old mid → ReadWhole b c p → is_end p ≡ false → Appends mid new (reply_bytes (answer_of d p)) → Progress d a c old new
 answered d a b c old mid new p g w on wrote =
     record {
@@ -119,7 +119,7 @@ answered d a b c old mid new p g w on wrote =
           ∙ after_both g.text (reply_bytes (answer_of d p)) (session d more);
     }
 
--- ---- the bytes that a reader still has, if it tells
+-- ## The remaining bytes of a reader, if they are known
 
 left_bytes : Option (List ℕ) → List ℕ
 left_bytes None = []
@@ -141,7 +141,7 @@ unfolding left_bytes
 none_left None end = refl
 none_left (Some rest) end = end
 
--- ---- how it ends
+-- ## The ending
 
 ended : (s : Session) (t : List ℕ) (ending : Result Ending SideFault) (rest : List ℕ) (left old new : Option (List ℕ)) → s ≡ after t (ends ending rest) → Tells left rest → Appends old new t → Ended s ending left old new
 ended s t ending rest left old new is tells wrote =
@@ -158,7 +158,7 @@ front_wrote s u t old new is wrote =
       front = subst (Appends old new) (sym (ap (λ s. take (length t) s.text) is ∙ take-append_seam t u.text)) wrote;
     }
 
--- what was written of an answer comes after the answers before it
+-- The written part of an answer follows the earlier answers.
 more_written : (t answer rest : List ℕ) (k : ℕ) → k < length answer → take (length t + k) (t ++ (answer ++ rest)) ≡ t ++ take k answer
 more_written t answer rest k short =
     take-append-add t (answer ++ rest) k ∙ ap (λ l. t ++ l) (take-append-le k answer rest (omega arith))
@@ -166,7 +166,7 @@ more_written t answer rest k short =
 longer : (t answer : List ℕ) (k : ℕ) → k < length answer → length t + k < length (t ++ (answer ++ []))
 longer t answer k short = omega (arith, length-append t (answer ++ []), length-append answer [])
 
--- the bytes that were read since have no answer
+-- The bytes that were read since have no answer.
 same_text : (d : Device) (a b old new : Option (List ℕ)) (bytes : List ℕ) → (g : Progress d a b old new) → (session d bytes).text ≡ [] → (session d (g.bytes ++ bytes)).text ≡ g.text
 same_text d a b old new bytes g none = ap (λ s. s.text) (g.on bytes) ∙ ap (λ l. g.text ++ l) none ∙ append-nil g.text
 
@@ -183,7 +183,7 @@ as_far d a b c old new bytes g read =
     front_wrote (session d ((g.bytes ++ bytes) ++ left_bytes c)) (session d (bytes ++ left_bytes c)) g.text old new
     (ap (session d) (append_assoc g.bytes bytes (left_bytes c)) ∙ g.on (bytes ++ left_bytes c)) g.wrote
 
--- the end packet
+-- The end packet.
 pub end-session : (d : Device) (a b c old new : Option (List ℕ)) (p : Message) → Progress d a b old new → ReadWhole b c p → is_end p ≡ true → HoldsSession d a c old new (Ok End)
 end-session d a b c old new p g w end =
     let rest = left_bytes c in
@@ -200,7 +200,7 @@ end-answered d a b c old new p g w end =
     let alone = ap front_of (sym (append-nil w.bytes)) ∙ w.is [] in
     exactly d a b c old new w.bytes (Ok End) g w.read (ap (λ s. s.text) (session-end d w.bytes p [] alone end)) (λ (text : List ℕ) (h : Appends old new text). h)
 
--- the end of the input
+-- The end of the input.
 pub stopped-session : (d : Device) (a b c old new : Option (List ℕ)) → Progress d a b old new → ReadNothing b c → HoldsSession d a c old new (Ok Stopped)
 stopped-session d a b c old new g r =
     let rest = left_bytes c in
@@ -217,7 +217,7 @@ pub stopped-answered : (d : Device) (a b c old new : Option (List ℕ)) → Prog
 stopped-answered d a b c old new g r =
     exactly d a b c old new [] (Ok Stopped) g r.read (ap (λ s. s.text) (session-nothing d)) (λ (text : List ℕ) (h : Appends old new text). h)
 
--- a packet that wasn't read
+-- A packet that was not read.
 pub fault-session : (d : Device) (a b c old new : Option (List ℕ)) (fault : SideFault) → Progress d a b old new → ReadsPacket b c (Err fault) → HoldsSession d a c old new (Err fault)
 fault-session d a b c old new Read g r =
     record {
@@ -253,7 +253,7 @@ fault-answered d a b c old new Cut g r =
 fault-answered d a b c old new Memory g r =
     exactly d a b c old new r.bytes (Err Memory) g r.read (short_text d r.bytes r.short) (λ (text : List ℕ) (h : Appends old new text). h)
 
--- an answer that wasn't written to its end
+-- An answer that was not written completely.
 written : (d : Device) (a b c old mid : Option (List ℕ)) (p : Message) (g : Progress d a b old mid) (w : ReadWhole b c p) → is_end p ≡ false → (more : List ℕ) → session d ((g.bytes ++ w.bytes) ++ more) ≡ after g.text (after (reply_bytes (answer_of d p)) (session d more))
 written d a b c old mid p g w on more =
     ap (session d) (append_assoc g.bytes w.bytes more)
@@ -306,7 +306,7 @@ write-answered d a b c old mid new p Write g w on wrote = part-answered d a b c 
 write-answered d a b c old mid new p Cut g w on wrote = absurd wrote
 write-answered d a b c old mid new p Memory g w on wrote = absurd wrote
 
--- ---- what its calls say of the packet and of the answer
+-- ## The contracts of its calls
 
 pub whole_read : (old new : Option (List ℕ)) (found : Option Message) (p : Message) → found ≡ Some p → ReadsPacket old new (Ok found) → ReadWhole old new p
 whole_read old new found p is read = subst (λ f. ReadsPacket old new (Ok f)) is read

@@ -1,4 +1,4 @@
--- An answer as its callers see it.
+-- The contents of an answer, as its callers see it.
 use Rattle.side_channel.specs.SideAnswers.{Content, empty, one, id, Reply}
 use Rattle.side_channel.specs.declared.replies.Answer.{Answer}
 use Rattle.side_channel.specs.declared.replies.AnswerBody.{AnswerBody}

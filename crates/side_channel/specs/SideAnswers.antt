@@ -7,7 +7,7 @@ use Rattle.side_channel.specs.declared.codes.Status.{Status}
 use Rattle.side_channel.specs.declared.codes.Status.TheVariants as statuses
 use Rattle.side_channel.specs.declared.devices.Device.{Device}
 
--- the numbers of the commands
+-- The numbers of the commands.
 abbrev pub command_of : ℕ → Option Command
 command_of n =
     cond (n == 0) (Some commands.None)
@@ -21,7 +21,7 @@ command_of n =
     (cond (n == 8) (Some commands.GetConnected)
     None))))))))
 
--- the numbers of the statuses
+-- The numbers of the statuses.
 abbrev pub status_byte : Status → ℕ
 status_byte statuses.None = 0
 status_byte statuses.Ok = 1
@@ -32,7 +32,7 @@ status_byte statuses.BadMessage = 5
 status_byte statuses.TooBig = 6
 status_byte statuses.NotImplemented = 7
 
--- the data of an answer
+-- The data of an answer.
 pub data Content : Type 0 where
   empty : Content
   one : ℕ → Content
@@ -46,7 +46,7 @@ bytes_of (id bytes) = bytes
 abbrev pub flag : Bool → Content
 flag b = one (cond b 1 0)
 
--- what a device answers to a command, or to a number that is none: a status, and the data that come with it
+-- The answer of a device to a command, or to a number without a command: a status, and the data.
 abbrev pub row_of : Device → Option Command → Status × Content
 row_of d (Some commands.None) = (statuses.BadMessage, empty)
 row_of d (Some commands.SoftReset) = (statuses.Ok, empty)
@@ -59,11 +59,11 @@ row_of d (Some commands.SnmpGetNext) = (statuses.NotImplemented, empty)
 row_of d (Some commands.GetConnected) = (statuses.Ok, flag d.connected)
 row_of d None = (statuses.BadMessage, empty)
 
--- A request with too many data is told so, whatever its command.
+-- The answer to a request with too much data is TooBig, whatever its command.
 abbrev pub row_for : Device → Message → Status × Content
 row_for d p = cond (nat_le p.length most_data) (row_of d (command_of p.command)) (statuses.TooBig, empty)
 
--- an answer repeats the command
+-- An answer repeats the command.
 pub record Reply : Type 0 where
   pub command : ℕ
   pub status : Status
@@ -72,10 +72,10 @@ pub record Reply : Type 0 where
 abbrev pub reply : ℕ → Status × Content → Reply
 reply command row = record { command = command; status = row.0; content = row.1 }
 
--- the answer to a request, whose status and data count for nothing
+-- The answer to a request. The status and data of the request are ignored.
 abbrev pub answer_of : Device → Message → Reply
 answer_of d p = reply p.command (row_for d p)
 
--- the bytes of an answer
+-- The bytes of an answer.
 abbrev pub reply_bytes : Reply → List ℕ
 reply_bytes r = spelling r.command (status_byte r.status) (bytes_of r.content)

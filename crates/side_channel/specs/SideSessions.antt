@@ -8,21 +8,21 @@ use Rattle.side_channel.specs.declared.endings.Ending.TheVariants.{End, Stopped}
 use Rattle.side_channel.specs.declared.endings.SideFault.{SideFault}
 use Rattle.side_channel.specs.declared.endings.SideFault.TheVariants.{Cut}
 
--- the joined answers, how the session ends, and the bytes after its end
+-- The joined answers, how the session ends, and the bytes after its end.
 pub record Session : Type 0 where
   pub text : List ℕ
   pub ending : Result Ending SideFault
   pub rest : List ℕ
 
--- a session that ends so, before any answer
+-- A session with this ending, before any answer.
 abbrev pub ends : Result Ending SideFault → List ℕ → Session
 ends ending rest = record { text = []; ending = ending; rest = rest }
 
--- an answer, and then a session
+-- An answer, and then a session.
 abbrev pub after : List ℕ → Session → Session
 after answer s = record s { text = answer ++ s.text }
 
--- a session with this packet first, where what comes after it is what going_on says
+-- A session that begins with this packet, and continues as going_on.
 abbrev pub from_packet : (List ℕ → Session) → Device → Message → List ℕ → Session
 from_packet going_on d p rest =
     cond (is_end p) (ends (Ok End) rest) (after (reply_bytes (answer_of d p)) (going_on rest))
@@ -32,11 +32,11 @@ from_front going_on d nothing = ends (Ok Stopped) []
 from_front going_on d cut = ends (Err Cut) []
 from_front going_on d (whole p rest) = from_packet going_on d p rest
 
--- a session over some bytes, of which at most so many packets are read
+-- A session over some bytes, of at most n packets.
 unfoldable pub session_within : ℕ → Device → List ℕ → Session
 session_within zero d bytes = ends (Ok Stopped) []
 session_within (suc n) d bytes = from_front (session_within n d) d (front_of bytes)
 
--- a session over all of some bytes: they have no more packets than bytes
+-- A session over all of some bytes. They have no more packets than bytes.
 unfoldable pub session : Device → List ℕ → Session
 session d bytes = session_within (length bytes) d bytes

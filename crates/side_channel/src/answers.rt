@@ -1,4 +1,4 @@
-//! What a device answers.
+//! The answers of a device.
 ghost use Rattle.std.specs.Prelude.{◌≡◌, ℕ, List};
 ghost use Rattle.side_channel.specs.SideAnswers.{answer_of, row_of};
 ghost use Rattle.side_channel.specs.AnswerFields.{reply_of, content_of};
@@ -9,14 +9,14 @@ use crate::packets::Packet;
 use crate::replies::{Answer, AnswerBody};
 use crate::streams::MOST_DATA;
 
-/// The answer to a request. It takes no memory: a device's id is borrowed.
+/// Returns the answer to a request. Allocates nothing: a device's id is borrowed.
 pub fn answer<'a>(device: &'a Device, packet: &Packet) -> Answer<'a>
     ensures { reply_of result ≡ answer_of device.now packet.now }
 {
     answer_to(device, packet.command, packet.length)
 }
 
-/// The answer to a request of this command with so many data: no more of it counts.
+/// Returns the answer to a request with this command and this number of data bytes, which determine it.
 pub(crate) fn answer_to(device: &Device, command: u8, length: u16) -> Answer<'_>
     ensures { (status : ℕ) (body : List ℕ) → reply_of result ≡
         answer_of device.now (record { command = command; status = status; length = length; body = body }) }
@@ -33,7 +33,7 @@ pub(crate) fn answer_to(device: &Device, command: u8, length: u16) -> Answer<'_>
     }
 }
 
-// The status and the data of the answer to a command, or to a number that is none.
+// Returns the status and the data of the answer to a command, or to a number without a command.
 fn row(device: &Device, command: Option<Command>) -> (Status, AnswerBody<'_>)
     ensures { (result.0, content_of result.1) ≡ row_of device.now command }
 {

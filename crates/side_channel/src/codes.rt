@@ -2,7 +2,7 @@
 ghost use Rattle.std.specs.Prelude.{◌≡◌, Some};
 ghost use Rattle.side_channel.specs.SideAnswers.{command_of, status_byte};
 
-/// What a request asks for.
+/// The command of a request.
 #[derive(Clone, Copy, Debug, PartialEq, Eq)]
 pub enum Command {
     None = 0,
@@ -17,7 +17,7 @@ pub enum Command {
 }
 
 impl Command {
-    /// The command of this number, if there is one.
+    /// Returns the command with this number, if any.
     pub fn from_byte(byte: u8) -> Option<Command>
         ensures { result ≡ command_of byte }
     {
@@ -35,7 +35,7 @@ impl Command {
         }
     }
 
-    /// The command's number.
+    /// Returns the command's number.
     pub fn byte(self) -> u8
         ensures { command_of result ≡ Some self }
     {
@@ -43,7 +43,7 @@ impl Command {
     }
 }
 
-/// How a request went.
+/// The status of an answer.
 #[derive(Clone, Copy, Debug, PartialEq, Eq)]
 pub enum Status {
     None = 0,
@@ -57,7 +57,7 @@ pub enum Status {
 }
 
 impl Status {
-    /// The status's number.
+    /// Returns the status's number.
     pub fn byte(self) -> u8
         ensures { result ≡ status_byte self }
     {
@@ -65,7 +65,7 @@ impl Status {
     }
 }
 
-/// The bits of a device's state. A device that is offline has none of them.
+/// The bits of a device's state. An offline device has none of them.
 pub mod state_bits {
     pub const ONLINE: u8 = 0x01;
 

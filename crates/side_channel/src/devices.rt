@@ -1,4 +1,4 @@
-//! A device as the side channel tells of it.
+//! The properties of a device for the side channel.
 ghost use Rattle.std.specs.Prelude.{◌≡◌, ◌↔◌, ◌≤◌, [], length, IsSome, IfSome};
 
 use std::alloc::Global;
@@ -21,10 +21,10 @@ impl Model for DeviceId {
 }
 
 impl DeviceId {
-    /// How many bytes an id has at most.
+    /// The maximum number of bytes of an id.
     pub const MOST: usize = 1000;
 
-    /// An id of these bytes, if they aren't too many. It takes no memory.
+    /// Returns an id of these bytes, if there are at most [`DeviceId::MOST`]. Allocates nothing.
     pub fn new(bytes: Vec<u8>) -> Option<DeviceId>
         ensures fits { IsSome result ↔ (length bytes.items ≤ 1000) }
         ensures value { IfSome result (λ id. id ≡ bytes.items) }
@@ -36,7 +36,7 @@ impl DeviceId {
         }
     }
 
-    /// The id of a device that tells none. It takes no memory.
+    /// Returns the id of a device without one. Allocates nothing.
     pub fn empty(alloc: Global) -> DeviceId
         ensures { result ≡ [] }
     {
@@ -45,7 +45,7 @@ impl DeviceId {
         }
     }
 
-    /// The bytes in order.
+    /// Returns the bytes.
     pub fn as_slice(&self) -> &[u8]
         ensures value { result.now ≡ self.now }
         ensures bound { length result.now ≤ 1000 }
@@ -53,7 +53,7 @@ impl DeviceId {
         &self.bytes
     }
 
-    /// The bytes as they were given.
+    /// Returns the bytes.
     pub fn into_vec(self) -> Vec<u8>
         ensures { result.items ≡ self }
     {
@@ -61,14 +61,14 @@ impl DeviceId {
     }
 }
 
-/// What a device tells of itself.
+/// The properties of a device.
 #[derive(Drop)]
 pub struct Device {
-    /// Whether it can be read from.
+    /// Whether the device is bidirectional.
     pub bidi: bool,
-    /// Whether it is connected.
+    /// Whether the device is connected.
     pub connected: bool,
-    /// The bits of its state, those of [`state_bits`](crate::state_bits).
+    /// The bits of its state, from [`state_bits`](crate::state_bits).
     pub state: u8,
     pub id: DeviceId,
 }

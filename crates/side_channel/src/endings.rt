@@ -1,25 +1,25 @@
 //! How a session ends.
 use std::alloc::AllocError;
 
-/// How a session came to its end.
+/// How a session ended without an error.
 #[derive(Clone, Copy, Debug, PartialEq, Eq)]
 pub enum Ending {
-    /// By the packet FF 00 00 00, which has no answer. What comes after it was not read.
+    /// The packet FF 00 00 00, which has no answer, arrived. The bytes after it were not read.
     End,
     /// The input ended between packets.
     Stopped,
 }
 
-/// Why a packet or a session wasn't read or written to its end.
+/// Why a packet or a session was not completely read or written.
 #[derive(Clone, Copy, Debug, PartialEq, Eq)]
 pub enum SideFault {
-    /// The reader failed, or didn't come to an end within the reads that are made.
+    /// The reader failed, or did not end within the maximum number of reads.
     Read,
-    /// The writer failed, or took nothing.
+    /// The writer failed, or accepted no byte.
     Write,
     /// The input ended inside a packet.
     Cut,
-    /// No memory was found for the data of a packet, whose first four bytes were read.
+    /// Out of memory for the data of a packet. Its first four bytes were read.
     Memory,
 }
 

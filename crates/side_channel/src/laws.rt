@@ -1,4 +1,4 @@
-//! Laws of packets and sessions, which no call needs.
+//! Laws of packets and sessions. No call needs them.
 ghost use Rattle.std.specs.Prelude.{◌≡◌, ℕ, ◌<◌, ◌^◌, List, [], ◌∷◌, ◌++◌, length, take, Ok, Err};
 ghost use Rattle.side_channel.specs.Packets.{spelling, kept, front_of, whole, cut};
 ghost use Rattle.side_channel.specs.SideSessions.{session, ends, after};
@@ -16,8 +16,8 @@ pub fn written_is_read()
         whole (record { command = command; status = status; length = length bytes; body = kept bytes }) more }
 {}
 
-/// The answers of a session are those to its whole requests, joined, up to the first of these: the end packet, the end
-/// of the input, or a packet that is cut.
+/// The answers of a session are the joined answers to its whole requests, up to the first of these: the end packet, the end of the input,
+/// or a truncated packet.
 pub fn answers_are_joined()
     ensures requests { (d : AnyDevice) (rs : List Request) (rest : List ℕ) → AreAsked rs →
         session d (asked rs ++ rest) ≡ after (told d rs) (session d rest) }
@@ -28,8 +28,8 @@ pub fn answers_are_joined()
         front_of rest ≡ cut → session d rest ≡ ends (Err Cut) [] }
 {}
 
-/// A session that began before any byte has the answers of all bytes that it took, however they were cut; and the end
-/// packet ends it as it ends the session of all of them.
+/// A session that began before any byte has the answers of all bytes that it took, whatever the pieces. The end packet ends it as it ends
+/// the session of all these bytes.
 pub fn any_pieces()
     ensures answers { (d : AnyDevice) (begun fed : Held) (exchanges : List Exchange) (more : List ℕ) →
         ((bytes : List ℕ) → to_come d begun bytes ≡ session d bytes) → TakesAll d begun exchanges fed →

@@ -1,14 +1,14 @@
 //! The side channel of a backend: packets, answers and sessions.
 //!
-//! A filter asks the backend of its job for what a pipe doesn't tell: whether the device talks back, its id, its state
-//! (backend(7), cups/sidechannel.h). Here the spooler answers for the device, of which it knows a [`Device`].
-//! [`serve`] answers the requests of one client, from a reader and to a writer. A [`Session`] is fed the bytes of one as
-//! they come, and waits for nothing. [`Packet::read`] and [`Packet::write`] are for the other side.
+//! A filter queries the backend of its job for facts that a pipe does not carry: whether the device is bidirectional, its id, its state
+//! (backend(7), cups/sidechannel.h). Here the spooler answers for the device, from a [`Device`]. [`serve`] answers the requests of one
+//! client, from a reader and to a writer. A [`Session`] is fed the bytes of one client as they arrive, and never waits. [`Packet::read`]
+//! and [`Packet::write`] are for the other side.
 //!
-//! # What is answered
+//! # The answers
 //!
-//! A packet is a command, a status, the length of its data in two bytes with the high byte first, and the data. An
-//! answer repeats the command.
+//! A packet is a command, a status, the length of its data in two bytes, most significant byte first, and the data. An answer repeats the
+//! command.
 //!
 //! | Command | Status | Data |
 //! |---|---|---|
@@ -20,48 +20,48 @@
 //! | 0 NONE, 9 to 255 | 5 BAD_MESSAGE | |
 //! | any, with more than 2,048 bytes of data | 6 TOO_BIG | |
 //!
-//! A request's status and data count for nothing. The packet FF 00 00 00, and no other, ends a session and has no
-//! answer.
+//! The status and the data of a request are ignored. Only the packet FF 00 00 00 ends a session. It has no answer.
 //!
 //! # Promises
 //!
-//! `specs/` says it over lists of bytes. `Packets` has what a packet is and what comes first in some bytes
-//! (`front_of`), `Answers` the table (`answer_of`), `Sessions` the joined answers with their ending (`session`),
-//! `Streams` what a call leaves in a reader and a writer, and `Pieces` what is still to come of a session that is fed
-//! (`to_come`).
+//! `specs/` states them over lists of bytes. `Packets` defines packets and the first packet of some bytes (`front_of`), `SideAnswers` the
+//! table (`answer_of`), `SideSessions` the joined answers and the ending (`session`), `Streams` the effect of a call on a reader and a
+//! writer, and `SessionPieces` the rest of a session that is fed (`to_come`).
 //!
-//! - *ExactSession*: [`answer`] is `answer_of`. [`Packet::read`] gives the packet that comes first, and leaves what
-//!   comes after it (`ReadsPacket`); [`Packet::write`] and [`Answer::write`] write a packet's bytes, or after a fault
-//!   a prefix of them (`WritesPacket`). [`serve`] writes `session`'s answers where it ends with End, Stopped or Cut,
-//!   and a prefix of them after another fault (`session`). Whatever it read, the whole packets of it are answered
-//!   (`answered`).
-//! - *ExactSession*, by pieces: a new [`Session`] has `session` to come. [`Session::feed`] takes bytes up to the end of a
-//!   request, whose answer and what is to come behind it are what was to come (`Feeds`), and [`Session::ending`] is what is
-//!   to come where no further byte comes. So the answers are those of `session`, and its ending, for every cutting:
-//!   [`any_pieces`] says it of all pieces at once.
-//! - [`written_is_read`]: a packet that is written is read again, whatever follows. [`answers_are_joined`]: `session`
-//!   is the joined answers to the requests before the end packet, the input's end or a cut.
-//! - A reader or a writer that doesn't tell its bytes is served the same, and the clauses say as much as is told.
-//! - Each call returns. A session makes at most 1,048,576 reads, and [`Packet::read`] at most 4,294,967,295; a reader
-//!   that goes on after them is at fault. A call that was interrupted is made again, and counts.
+//! - *ExactSession*: [`answer`] is `answer_of`. [`Packet::read`] returns the first packet, and leaves the bytes after it (`ReadsPacket`).
+//!   [`Packet::write`] and [`Answer::write`] write a packet's bytes, or after an error a prefix of them (`WritesPacket`). [`serve`]
+//!   writes the answers of `session` if it ends with End, Stopped or Cut, and a prefix of them after another error (`session`). It
+//!   answers the whole packets among the bytes that it read (`answered`), and reads no byte after the end packet.
+//! - *ExactSession*, in pieces: a new [`Session`] has `session` to come. [`Session::feed`] takes bytes up to the end of a request and
+//!   returns its answer. Its answer and the new `to_come` together are the old `to_come` (`Feeds`). It returns the number of bytes that
+//!   it took, so it stores no piece, and the answer borrows the device's id. [`Session::ending`] is the ending if no byte follows. So the
+//!   answers and the ending are those of `session`, whatever the pieces: [`any_pieces`] states it for all pieces at once.
+//! - A session ends as End at FF 00 00 00, as Stopped at the end of the bytes, and as Cut inside a packet.
+//! - [`written_is_read`]: a packet that is written is read again, whatever follows. [`answers_are_joined`]: `session` contains the joined
+//!   answers to the requests before the end packet, the end of the input or a truncated packet.
+//! - A reader or a writer whose bytes are unknown is served in the same way. The clauses then state as much as is known.
+//! - Each call returns. A session makes at most 1,048,576 reads, and [`Packet::read`] at most 4,294,967,295. If the reader has not ended
+//!   by then, the call returns Read. An interrupted read or write is repeated, and counts.
 //!
 //! # Invariants
 //!
-//! 1. A packet's body has the length that is told, or none where that is above 2,048.
+//! 1. A packet's body has the stated length, or is empty if that is above 2,048.
 //! 2. A device's id has at most 1,000 bytes, so each answer fits into a packet.
-//! 3. A session that is fed holds less than the first four bytes of a request, or counts the data that it still waits for
+//! 3. A session that is fed stores fewer than the first four bytes of a request, or the number of bytes of its data that are missing
 //!    (`IsHeld`).
 //!
-//! # Faults and memory
+//! # Not proved
 //!
-//! [`SideFault`] says why nothing more was read or written. After Read and Memory the bytes that were read hold no
-//! further whole packet; after Cut the reader is at its end. Memory is taken only for the data of a packet that keeps
-//! them, at most 2,048 bytes, before they are read. Data above that are skipped through a buffer on the stack. A session
-//! that is fed takes no memory, and has no fault but Cut at its end.
+//! - That Read and Write come only from a reader or a writer that failed. `Read` and `Write` of std do not state when they fail, so a
+//!   clause could only repeat that the result is an error. A body of [`serve`] or [`Packet::read`] that returns such an error at once
+//!   meets its clauses. The tests reject it: their readers and writers work, or fail as instructed.
 //!
-//! No clause says that Read and Write come only from a reader or a writer that failed. `Read` and `Write` of std tell
-//! nothing of when they fail, so a clause could only repeat that the answer is a fault. A call that answers such a fault
-//! at once meets its clauses; it fails the tests, whose readers and writers work, or fail where they are told to.
+//! # Errors
+//!
+//! [`SideFault`] states why reading or writing stopped. After Read and Memory the bytes that were read contain no further whole packet.
+//! After Cut the reader is at its end. Memory is allocated only for the data of a packet that stores them, at most 2,048 bytes, before
+//! they are read. Longer data are skipped through a buffer on the stack. A session that is fed allocates nothing, and its only error is
+//! Cut at its end.
 #![tactic(auto)]
 
 mod answers;

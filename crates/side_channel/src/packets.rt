@@ -1,4 +1,4 @@
-//! Packets, which are requests and answers alike.
+//! Packets: requests and answers.
 ghost use Rattle.std.specs.Prelude.{◌≡◌, ◌≢◌, ℕ, ◌+◌, ◌<◌, ◌≤◌, ◌^◌, List};
 ghost use Rattle.std.specs.Prelude.{length, take, Option, IfOk, OnOk, IfErr, OnSome, map};
 ghost use Rattle.std.specs.Io.KnownBytes.{Consumes, IsAtEnd};
@@ -12,7 +12,7 @@ use std::io::{Read, Write};
 use std::marker::Model;
 use whole_writes::write_whole;
 
-/// A packet. Data above 2,048 bytes are not kept: the body is empty then, and otherwise has the length that is told.
+/// A packet. Data of more than 2,048 bytes are not stored: the body is empty then. Otherwise it has the stated length.
 #[derive(Drop)]
 pub struct Packet {
     pub command: u8,
@@ -33,8 +33,8 @@ impl Model for Packet {
 }
 
 impl Packet {
-    /// Reads the next packet, or none where the input ends between packets. A reader that goes on for 4,294,967,295
-    /// reads is at fault.
+    /// Reads the next packet. Returns `None` if the input ends between packets. Returns Read if the reader has not ended after
+    /// 4,294,967,295 reads.
     pub fn read<R: Read>(alloc: Global, reader: &mut R) -> Result<Option<Packet>, SideFault>
         ensures { ReadsPacket (R.remaining reader.old) (R.remaining reader.new) result }
     {
@@ -42,7 +42,7 @@ impl Packet {
         read_packet(alloc, reader, &mut reads)
     }
 
-    /// Writes the packet, at once where the writer takes it so.
+    /// Writes the packet, in one write if the writer accepts it whole.
     pub fn write<W: Write>(&self, writer: &mut W) -> Result<(), SideFault>
         requires { self.now.length ≤ most_data }
         ensures { WritesPacket (W.contents writer.old) (W.contents writer.new)
@@ -51,7 +51,7 @@ impl Packet {
         write_packet(writer, self.command, self.status, &self.body)
     }
 
-    /// Whether it ends a session, as only FF 00 00 00 does.
+    /// Returns whether the packet ends a session. Only FF 00 00 00 does.
     pub fn is_end(&self) -> bool
         ensures { result ≡ is_end self.now }
     {
@@ -59,7 +59,7 @@ impl Packet {
     }
 }
 
-/// Reads the next packet. `reads` counts the reads that may still be made.
+/// Reads the next packet. `reads` is the number of reads that may still be made.
 pub fn read_packet<R: Read>(
     alloc: Global,
     reader: &mut R,
@@ -87,7 +87,7 @@ pub fn read_packet<R: Read>(
     }))
 }
 
-// Reads the data of a packet, and gives what is kept of them.
+// Reads the data of a packet, and returns the stored data.
 fn read_body<R: Read>(
     alloc: Global,
     reader: &mut R,
@@ -109,7 +109,7 @@ fn read_body<R: Read>(
     }
 }
 
-// Reads this many bytes, at least one, which are kept.
+// Reads and stores this many bytes, at least one.
 fn read_data<R: Read>(
     alloc: Global,
     reader: &mut R,
@@ -130,7 +130,7 @@ fn read_data<R: Read>(
     Ok(body)
 }
 
-// Reads this many bytes, of which none is kept.
+// Reads and discards this many bytes.
 fn skip<R: Read>(reader: &mut R, length: usize, reads: &mut u32) -> Result<(), SideFault>
     ensures ok { OnOk result (SkipsData (R.remaining reader.old) (R.remaining reader.new) length) }
     ensures err { IfErr result (FailsData (R.remaining reader.old) (R.remaining reader.new) length) }
@@ -146,7 +146,7 @@ fn skip<R: Read>(reader: &mut R, length: usize, reads: &mut u32) -> Result<(), S
     Ok(())
 }
 
-// The same of at most 2,048 bytes.
+// The same for at most 2,048 bytes.
 fn skip_piece<R: Read>(reader: &mut R, length: usize, reads: &mut u32) -> Result<(), SideFault>
     requires { length ≤ most_data }
     ensures ok { OnOk result (SkipsData (R.remaining reader.old) (R.remaining reader.new) length) }
@@ -162,7 +162,7 @@ fn skip_piece<R: Read>(reader: &mut R, length: usize, reads: &mut u32) -> Result
     Ok(())
 }
 
-/// Writes a packet of these data, at once where the writer takes it so.
+/// Writes a packet with these data, in one write if the writer accepts it whole.
 pub fn write_packet<W: Write>(
     writer: &mut W,
     command: u8,
@@ -181,10 +181,10 @@ pub fn write_packet<W: Write>(
     }
 }
 
-// How many bytes a packet has at most that is written.
+// The maximum number of bytes of a packet that is written.
 const MOST_PACKET: usize = 2052;
 
-// Puts a packet at the front of a buffer, and gives how many bytes it has.
+// Puts a packet at the front of a buffer, and returns its number of bytes.
 fn put_packet(buffer: &mut [u8], command: u8, status: u8, content: &[u8]) -> usize
     requires most { length content.now ≤ most_data }
     requires room { length content.now + 4 ≤ length buffer.old }

@@ -1,4 +1,4 @@
-//! A session whose bytes come in pieces.
+//! A session whose bytes arrive in pieces.
 ghost use Rattle.std.specs.Prelude.{◌≡◌, [], ◌∷◌, List, ℕ};
 ghost use Rattle.side_channel.specs.SessionBytes.{Comes, IsOn, Reaches, after_head};
 ghost use Rattle.side_channel.specs.SessionPieces.{Feeds, answer_for, to_come};
@@ -11,18 +11,18 @@ use crate::endings::{Ending, SideFault};
 use crate::replies::Answer;
 use std::marker::Model;
 
-/// What a piece came to.
+/// The result of feeding a piece.
 #[derive(Clone, Copy)]
 pub enum Fed<'a> {
-    /// The first `count` bytes of the piece end a request, and this answers it. What comes after them was not taken.
+    /// The first `count` bytes of the piece complete a request, and this is the answer. The bytes after them were not taken.
     Answer { count: usize, answer: Answer<'a> },
-    /// The whole piece was taken, and no request in it is whole.
+    /// The whole piece was taken, and completes no request.
     Wants,
-    /// The first `count` bytes of the piece end the session. What comes after them is no part of it.
+    /// The first `count` bytes of the piece end the session. The bytes after them do not belong to it.
     End { count: usize },
 }
 
-/// What is held between two pieces.
+/// The state between two pieces.
 #[derive(Clone, Copy)]
 pub(crate) enum Held {
     /// No byte of a request.
@@ -30,24 +30,24 @@ pub(crate) enum Held {
     One { command: u8 },
     Two { command: u8, status: u8 },
     Three { command: u8, status: u8, high: u8 },
-    /// A request, of whose data `left` bytes are still to come.
+    /// A request with `left` bytes of data missing.
     Data { command: u8, length: u16, left: u16 },
     /// The session has ended.
     Over,
 }
 
-// What the bytes so far came to.
+// The result of the bytes so far.
 #[derive(Clone, Copy)]
 enum Came {
-    // No request is whole.
+    // No request is complete.
     Part,
-    // A request is whole, with so many data.
+    // A request with `length` bytes of data is complete.
     Request { command: u8, length: u16 },
     // The session ends.
     End,
 }
 
-// What is held behind the first bytes of a piece, and what they came to.
+// The state after the first bytes of a piece, and their result.
 #[derive(Clone, Copy)]
 struct Reached {
     held: Held,
@@ -55,8 +55,8 @@ struct Reached {
     came: Came,
 }
 
-/// A session that is fed its bytes in pieces of any length, as they come. It waits for nothing and takes no memory: of a
-/// request it holds the first bytes, and then only how many of its data are still to come.
+/// A session that is fed its bytes in pieces of any length as they arrive. Never waits and allocates nothing. It stores the first bytes
+/// of a request, and then only the number of bytes of its data that are missing.
 #[derive(Drop)]
 pub struct Session {
     held: Held,
@@ -74,7 +74,7 @@ impl Model for Session {
 }
 
 impl Session {
-    /// A session before any byte.
+    /// Returns a session before any byte.
     pub fn new() -> Session
         ensures { (d : AnyDevice) (bytes : List ℕ) → to_come d result bytes ≡ session d bytes }
     {
@@ -83,8 +83,8 @@ impl Session {
         }
     }
 
-    /// Takes the bytes of a piece up to the end of its first request, and gives the answer. What comes after them is fed
-    /// next. Once the session has ended, no byte is taken.
+    /// Takes the bytes of a piece up to the end of its first request, and returns the answer. The caller then feeds the bytes after them.
+    /// Once the session has ended, it takes no byte.
     pub fn feed<'a>(&mut self, piece: &[u8], device: &'a Device) -> Fed<'a>
         ensures { Feeds device.now self.old piece.now result self.new }
     {
@@ -104,7 +104,7 @@ impl Session {
         }
     }
 
-    /// How the session ends where no further byte comes. It has no further answer then.
+    /// Returns how the session ends if no further byte arrives. It has no further answer then.
     pub fn ending(&self) -> Result<Ending, SideFault>
         ensures { (d : AnyDevice) → to_come d self.now [] ≡ ends result [] }
     {
@@ -116,7 +116,7 @@ impl Session {
     }
 }
 
-// Takes bytes of a piece until a request is whole or the session ends.
+// Takes bytes of a piece until a request is complete or the session ends.
 fn reach(held: Held, piece: &[u8]) -> Reached
     requires { IsOn held }
     ensures { Reaches held piece.now result.count result.came result.held }
@@ -175,7 +175,7 @@ fn take_byte(held: Held, byte: u8) -> (Held, Came)
     }
 }
 
-// A request's first four bytes were taken.
+// Takes a request's first four bytes.
 fn take_head(command: u8, status: u8, length: u16) -> (Held, Came)
     ensures { Comes (after_head command status length) result.1 result.0 }
 {
@@ -196,7 +196,7 @@ fn take_head(command: u8, status: u8, length: u16) -> (Held, Came)
     }
 }
 
-// A byte of a request's data was taken, and so many are left.
+// Takes a byte of a request's data. `left` bytes are still missing.
 fn take_data(command: u8, length: u16, left: u16) -> (Held, Came)
     ensures { Comes (λ d more. to_come d (Held.Data command length left) more) result.1 result.0 }
 {

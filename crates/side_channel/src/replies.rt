@@ -1,4 +1,4 @@
-//! An answer to a request.
+//! The answer to a request.
 ghost use Rattle.side_channel.specs.SideAnswers.{reply_bytes};
 ghost use Rattle.side_channel.specs.Streams.{WritesPacket};
 
@@ -17,7 +17,7 @@ pub enum AnswerBody<'a> {
     Id(&'a DeviceId),
 }
 
-/// An answer, which repeats the command of its request.
+/// An answer. It repeats the command of its request.
 #[derive(Clone, Copy)]
 pub struct Answer<'a> {
     pub command: u8,
@@ -28,7 +28,7 @@ pub struct Answer<'a> {
 impl Answer<'_> {
     ghost use Rattle.side_channel.specs.AnswerFields.{reply_of};
 
-    /// Writes the answer as a packet, at once where the writer takes it so.
+    /// Writes the answer as a packet, in one write if the writer accepts it whole.
     pub fn write<W: Write>(&self, writer: &mut W) -> Result<(), SideFault>
         ensures { WritesPacket (W.contents writer.old) (W.contents writer.new)
             (reply_bytes (reply_of self.now)) result }

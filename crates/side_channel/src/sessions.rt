@@ -8,11 +8,10 @@ use crate::packets::read_packet;
 use std::alloc::Global;
 use std::io::{Read, Write};
 
-// How many reads a session makes at most.
+// The maximum number of reads of a session.
 const SESSION_READS: u32 = 1_048_576;
 
-/// Answers each request before the next is read, until the session ends. A reader that goes on for 1,048,576 reads is
-/// at fault.
+/// Answers each request before it reads the next, until the session ends. Returns Read if the reader has not ended after 1,048,576 reads.
 pub fn serve<R: Read, W: Write>(
     alloc: Global,
     reader: &mut R,

@@ -1,4 +1,4 @@
-//! Whole pieces of a reader. A read that was interrupted is made again.
+//! Reading whole pieces. An interrupted read is repeated.
 ghost use Rattle.std.specs.Prelude.{◌≡◌, ℕ, ◌<◌, ◌≤◌, ◌+◌, List, length, take};
 ghost use Rattle.std.specs.Prelude.{IfOk, OnOk, OnErr, IfErr};
 ghost use Rattle.std.specs.Io.KnownBytes.{Consumes, IsAtEnd};
@@ -9,11 +9,11 @@ use crate::endings::SideFault;
 use std::alloc::Global;
 use std::io::{ErrorKind, Read};
 
-/// How many bytes of data a packet keeps at most.
+/// The maximum number of data bytes that a packet stores.
 pub const MOST_DATA: usize = 2048;
 
-/// Reads until the buffer is full or the input ends, and gives how many bytes of the buffer are filled. `reads` counts
-/// the reads that may still be made.
+/// Reads until the buffer is full or the input ends, and returns the number of bytes in the buffer. `reads` is the number of reads that
+/// may still be made.
 pub fn fill<R: Read>(reader: &mut R, buf: &mut [u8], reads: &mut u32) -> Result<usize, SideFault>
     ensures bound { IfOk result (λ n. n ≤ length buf.new) }
     ensures bytes { IfOk result (λ n. Consumes (R.remaining reader.old) (R.remaining reader.new) (take n buf.new)) }

@@ -1,4 +1,4 @@
--- Jobs that a row can tell.
+-- Jobs that a row can represent.
 use Rattle.std.specs.Prelude.{◌≤◌, List, length, map}
 use Rattle.std.specs.Borrow.{Bor}
 use Rattle.spool_types.specs.Limits.{longest_document}
@@ -6,11 +6,11 @@ use Rattle.spool_types.specs.State.{Job, job_of}
 use Rattle.spool_types.specs.declared.rows.JobRow.{JobRow}
 use Rattle.event_codec.specs.RowSpelling.{IsPhaseOf}
 
--- Its size is one that a job may have, and its phase fits its row, with as many filters as a job may have.
+-- Its size is one that a job may have, and its phase fits its row, if it has at most as many filters as a job may have.
 pub record IsTellable (r : Job) : Type 0 where
   pub size : r.size ≤ longest_document
   pub phase : length r.filters ≤ 15 → IsPhaseOf r r.phase
 
--- the jobs of borrowed rows
+-- The jobs of borrowed rows.
 abbrev pub jobs_in : List (Bor JobRow) → List Job
 jobs_in rows = map (λ row. job_of row.now) rows

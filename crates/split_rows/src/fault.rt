@@ -4,14 +4,14 @@ ghost use Rattle.split_rows.specs.declared.fault.HalfFault.TheVariants.{Memory};
 
 use std::alloc::AllocError;
 
-/// Why a half was not made. The whole spool is as it was.
+/// Why a half was not made. The whole spool is as before.
 #[derive(Clone, Copy, Debug, PartialEq, Eq)]
 pub enum HalfFault {
-    /// There was no memory.
+    /// Memory ran out.
     Memory,
-    /// The rows of the half don't fit into half of the new disk.
+    /// The rows of the half do not fit into half of the new disk.
     Full,
-    /// A disk failed, or what was written isn't what is read back.
+    /// A disk failed, or the rows read back differ from those written.
     Disk,
 }
 

@@ -4,16 +4,16 @@ ghost use Rattle.split_rows.specs.Half.{is_named, takes};
 
 use spool_types::QueueName;
 
-/// One of the two halves: that of the queues with these names, or that of all others.
+/// One of the two halves: the one with the queues of these names, or the one with all others.
 #[derive(Clone, Copy)]
 pub struct Half<'a> {
     pub names: &'a [QueueName],
-    /// Whether it has the queues of these names.
+    /// Whether the half has the queues with these names.
     pub named: bool,
 }
 
 impl<'a> Half<'a> {
-    /// Whether it has the queue of this name, and its jobs.
+    /// Returns whether the half has the queue with this name, and its jobs.
     pub fn takes(&self, name: &QueueName) -> bool
         ensures { result ≡ takes self.now.named self.now.names.now name.now }
     {
@@ -21,7 +21,7 @@ impl<'a> Half<'a> {
     }
 }
 
-// Whether it is one of the names.
+// Returns whether `name` is one of the names.
 fn is_named(names: &[QueueName], name: &QueueName) -> bool
     ensures { result ≡ is_named names.now name.now }
 {

@@ -1,4 +1,4 @@
-//! Looking whether rows are those of a half. Each row is spelled, and the bytes are compared.
+//! Comparing rows with those of a half. Each row is encoded, and the bytes are compared.
 ghost use Rattle.std.specs.Prelude.{◌≡◌, filter, map, IfOk, IsTrue};
 ghost use Rattle.std.specs.List.{AllByRecursion};
 ghost use Rattle.spool_types.specs.State.{Job as JobOf, job_of};
@@ -15,7 +15,7 @@ use job_rows::Rows;
 use spool_types::{Job, JobRow, QueueRow};
 use std::alloc::{AllocError, Global};
 
-/// Whether the part are the queues of the half, in order.
+/// Returns whether the part has exactly the queues of the half, in order.
 pub fn are_queues(
     alloc: Global,
     whole: &[QueueRow],
@@ -42,7 +42,7 @@ pub fn are_queues(
     Ok(at == part.len())
 }
 
-/// Whether the part are the jobs of the half, in order, without their documents.
+/// Returns whether the part has exactly the jobs of the half, in order. Documents are not compared.
 pub fn are_jobs(
     alloc: Global,
     whole: &Rows,
@@ -58,7 +58,7 @@ pub fn are_jobs(
     are_jobs_in(alloc, &whole, &part, half)
 }
 
-// The rows, one behind the other.
+// Returns the rows as a list.
 fn borrowed<'a>(alloc: Global, rows: &'a Rows) -> Result<Vec<&'a JobRow>, AllocError>
     ensures { IfOk result (λ list. map (λ row. row.now) list.items ≡ rows.now.items) }
 {
@@ -69,7 +69,7 @@ fn borrowed<'a>(alloc: Global, rows: &'a Rows) -> Result<Vec<&'a JobRow>, AllocE
     Ok(list)
 }
 
-// The same for lists of rows.
+// Does the same for lists of rows.
 fn are_jobs_in(
     alloc: Global,
     whole: &[&JobRow],
@@ -132,7 +132,7 @@ fn spelled_job(alloc: Global, job: &Job) -> Result<Vec<u8>, AllocError>
     ensures spelled { IfOk result (λ bytes. bytes.items ≡ row_spelling Two (RowOf.Job job.now)) }
     ensures spellable { IfOk result (λ _. IsTellable job.now → IsRowSpellable Two (RowOf.Job job.now)) }
 {
-    // There are at most 15, so that a row can tell the stage.
+    // There are at most 15, so a row can represent the stage.
     let _filters = job.filters.as_slice();
     let mut bytes = Vec::new(alloc);
     encode_job_onto(job, &mut bytes)?;

@@ -1,4 +1,4 @@
-//! Writing rows into the other area of a disk that is made a spool for them.
+//! Writing rows to the other area of a disk that is made a spool for them.
 ghost use Rattle.std.specs.Prelude.{◌+◌, ◌≤◌, length, vec_len, vec_capacity, IfOk, IsTrue};
 ghost use Rattle.split_rows.specs.Writing.{MayWrite};
 
@@ -9,16 +9,17 @@ use spool_disk::Disk;
 use spool_types::{Job, QueueRow, Row};
 use std::alloc::Global;
 
-// How many bytes stand before the first gate of an area.
+// Number of bytes before the first gate of an area.
 const HEADER_LEN: u64 = 16;
 
-// How many bytes are left behind the last row: the record of a reopening, and the gate behind it.
+// Number of bytes left after the last row: the record of a reopening, and the gate after it.
 const LEFT: u64 = 8;
 
-// How long a block may be.
+// Greatest length of a block, in bytes.
 const LONGEST_BLOCK: usize = 4_294_967_295;
 
-/// A disk whose other area is being filled, where the next rows go, where that area ends, and the rows that aren't written yet.
+/// A disk while its other area is filled: the place of the next rows, the end of that area, and the rows that are not written
+/// yet.
 #[derive(Drop)]
 pub struct Writing<T: Disk> {
     areas: Areas<T>,
@@ -63,7 +64,7 @@ impl<T: Disk + Drop> Writing<T> {
         self.end_row(start)
     }
 
-    /// The same of a job, without its document.
+    /// Does the same for a job, without its document.
     pub fn put_job(&mut self, job: &Job) -> Result<(), HalfFault>
         requires may { MayWrite self.old.areas self.old.gate self.old.end }
         ensures may { MayWrite self.new.areas self.new.gate self.new.end }
@@ -73,7 +74,7 @@ impl<T: Disk + Drop> Writing<T> {
         self.end_row(start)
     }
 
-    /// The same of any row.
+    /// Does the same for any row.
     pub fn put_row(&mut self, row: &Row) -> Result<(), HalfFault>
         requires may { MayWrite self.old.areas self.old.gate self.old.end }
         ensures may { MayWrite self.new.areas self.new.gate self.new.end }
@@ -83,7 +84,7 @@ impl<T: Disk + Drop> Writing<T> {
         self.end_row(start)
     }
 
-    /// Writes what is left, opens the other area, and gives the disk back, synced.
+    /// Writes the remaining rows, opens the other area, and returns the disk, synced.
     pub fn finish(self) -> Result<T, HalfFault>
         requires may { MayWrite self.areas self.gate self.end }
     {
@@ -103,7 +104,7 @@ impl<T: Disk + Drop> Writing<T> {
         }
     }
 
-    // Adds the free bytes of a record's head. It answers where they begin.
+    // Adds the free bytes of a record's head. Returns the index of the first one.
     fn begin_row(&mut self) -> Result<usize, HalfFault>
         requires may { MayWrite self.old.areas self.old.gate self.old.end }
         ensures may { MayWrite self.new.areas self.new.gate self.new.end }
@@ -114,7 +115,7 @@ impl<T: Disk + Drop> Writing<T> {
         Ok(start)
     }
 
-    // Ends the record that begins there.
+    // Ends the record that begins at `start`.
     fn end_row(&mut self, start: usize) -> Result<(), HalfFault>
         requires may { MayWrite self.old.areas self.old.gate self.old.end }
         requires whole { start + 5 ≤ length self.old.block.items }
@@ -134,7 +135,7 @@ impl<T: Disk + Drop> Writing<T> {
     }
 }
 
-// Whether so many bytes from there on, and those that are left behind them, lie before the end.
+// Returns whether `len` bytes from `gate` on, and the bytes left after them, are before the end.
 fn has_room(gate: u64, len: usize, end: u64) -> bool
     ensures { IsTrue result → gate + len + 1 ≤ end }
 {

@@ -1,4 +1,4 @@
--- What the parts of a growing leave.
+-- The effects of the steps of `list`.
 use Rattle.std.proofs.Common.{◌≡◌, ℕ, false, List, Option, None, Some, refl}
 use Rattle.std.specs.Prelude.{Result, Ok, Err, OnOk, IsSome, is_err}
 use Rattle.spool_types.specs.State.{State}
@@ -7,21 +7,21 @@ use Rattle.spool_disk.proofs.Moments.{at_return}
 use Rattle.job_table.specs.TableVersions.{raised}
 use Rattle.spool_core.specs.Image.{HasDocuments}
 
--- what is said of a value holds where there is no error
+-- A property of a value holds if there is no error.
 pub from_ok : {T E : Type 0} (result : Result T E) (P : Type 0) → is_err result ≡ false → OnOk result P → P
 from_ok (Ok x) P fine said = said
 from_ok (Err e) P fine said = cc
 
--- a value that is told is some
+-- A value that is returned exists.
 pub is_some_of : {T : Type 0} (o : Option T) (x : T) → o ≡ Some x → IsSome o
 is_some_of o x is = cc
 
--- the value of one that is some
+-- The value, if one exists.
 pub some_of : {T : Type 0} (o : Option T) → IsSome o → (x : T) × (o ≡ Some x)
 some_of (Some x) some = (x, refl)
 some_of None some = cc
 
--- The documents of any image are those of the bytes, since they were so during the checkpoint.
+-- The documents of any image are those of the bytes, because they were during the checkpoint.
 pub kept_documents : {D : Type 0} (v : DiskView D) → IsLawful v → (old new : D) (s : State) (documents : ℕ → List ℕ) (c : List ℕ)
     → IsSome (v.bytes old)
     → ((r : List ℕ) → v.bytes old ≡ Some r → HasDocuments s documents r)

@@ -1,15 +1,15 @@
--- Pieces that are copied one after another.
+-- Pieces that are copied in order.
 use Rattle.std.proofs.Common.{◌≡◌, ◌∙◌, ◌+◌, ◌≤◌, ◌++◌, ℕ, List, Option, Some, length, take, drop, sym, ap, ap₂, arith, length-drop}
 use Rattle.std.specs.Option.{option_map}
 use Rattle.std.proofs.lemmas.List.{take_at, drop_at, drop-drop, length-take-le}
 use Rattle.std.proofs.Math.Seq.{take-add}
 use Rattle.spool_disk.specs.Disk.{DiskView, IsLawful, overwritten}
 
--- the first bytes are those of xs, and the others those of t
+-- The first bytes are those of xs, the others those of t.
 abbrev pub copied : ℕ → List ℕ → List ℕ → List ℕ
 copied n xs t = take n xs ++ drop n t
 
--- one piece more
+-- One more piece.
 pub one_more : (done len : ℕ) (xs t : List ℕ) → done + len ≤ length xs → overwritten done (take len (drop done xs)) (copied done xs t) ≡ copied (done + len) xs t
 one_more done len xs t within =
     let a = take done xs in
@@ -22,7 +22,7 @@ one_more done len xs t within =
     ap (λ (n : ℕ). drop (done + n) (a ++ d)) some ∙ sym (drop-drop len done (a ++ d)) ∙ ap (drop len) (drop_at a d done long) ∙ drop-drop len done t in
     ap₂ (λ (x y : List ℕ). (x ++ p) ++ y) front back ∙ ap (λ (x : List ℕ). x ++ drop (done + len) t) (sym (take-add done len xs))
 
--- the same of a disk's bytes
+-- The same for a disk's bytes.
 pub more_told : (from done len : ℕ) (r t : List ℕ) (mid new : Option (List ℕ)) → from + done + len ≤ length r → mid ≡ Some (copied done (drop from r) t)
     → new ≡ option_map (overwritten done (take len (drop (from + done) r))) mid → new ≡ Some (copied (done + len) (drop from r) t)
 more_told from done len r t mid new within told written =
@@ -30,6 +30,6 @@ more_told from done len r t mid new within told written =
     ∙ ap (λ (l : List ℕ). Some (overwritten done (take len l) (copied done (drop from r) t))) (sym (drop-drop done from r))
     ∙ ap Some (one_more done len (drop from r) t (omega (arith, within, length-drop from r)))
 
--- the bytes that a disk tells are as many as it has
+-- The bytes that a disk shows have the disk's length.
 pub told_long : {D : Type 0} (v : DiskView D) → IsLawful v → (d : D) (r : List ℕ) → v.bytes d ≡ Some r → length r ≡ v.size d
 told_long v lawful d r tells = lawful.image_size d r (lawful.reads_image d r tells)

@@ -1,4 +1,4 @@
--- What a fault of a checkpoint, or of a half, is to the program.
+-- The program's errors for the faults of a checkpoint and of a half.
 use Rattle.spool_core.specs.declared.spool.checkpoint_fault.CheckpointFault.{CheckpointFault}
 use Rattle.spool_core.specs.declared.spool.checkpoint_fault.CheckpointFault.TheVariants as checkpoint
 use Rattle.split_rows.specs.declared.fault.HalfFault.{HalfFault}

@@ -1,4 +1,4 @@
--- What there is on a spool's disk.
+-- The contents of a spool's disk.
 use Rattle.std.specs.Prelude.{◌≡◌, ◌+◌, ℕ, List, count_by, length}
 use Rattle.std.specs.FinMap as finite
 use Rattle.spool_types.specs.State.{Job, State}
@@ -8,7 +8,7 @@ use Rattle.spool_areas.specs.Payloads.{HasPayloads, gate_after}
 use Rattle.spool_core.specs.Image.{HasTable}
 use Rattle.spool_admin.specs.declared.found.JobCounts.{JobCounts}
 
--- how many jobs there are, and how many of each kind of phase
+-- The number of jobs, and the number in each kind of phase.
 pub record AreCounted (jobs : List Job) (counts : JobCounts) : Type 0 where
   pub all : counts.all ≡ length jobs
   pub incoming : counts.incoming ≡ count_by (λ job. is_incoming job.phase) jobs
@@ -16,15 +16,15 @@ pub record AreCounted (jobs : List Job) (counts : JobCounts) : Type 0 where
   pub processing : counts.processing ≡ count_by (λ job. is_processing job.phase) jobs
   pub ended : counts.ended ≡ count_by (λ job. has_ended job.phase) jobs
 
--- The image has a table with so many queues, and with jobs that are counted so.
+-- The image has a table with this number of queues, and with jobs that have these counts.
 pub record HasCounts (queues : ℕ) (counts : JobCounts) (image : List ℕ) : Type 0 where
   pub table : State
   pub found : HasTable table image
   pub queues_are : queues ≡ length (finite.values table.queues)
   pub jobs_are : AreCounted (finite.values table.jobs) counts
 
--- The current area of the image begins at base and has this version and this epoch. So many bytes of it lie before the closed gate
--- behind its records, and so many from there on.
+-- The current area of the image begins at base and has this version and this epoch. It has `used` bytes before the closed gate
+-- after its records, and `free` bytes from there on.
 pub record HasArea (base version epoch used free : ℕ) (image : List ℕ) : Type 0 where
   pub payloads : List (List ℕ)
   pub area : HasPayloads base payloads image

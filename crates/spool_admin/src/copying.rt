@@ -1,4 +1,4 @@
-//! Copying bytes of one disk to the begin of another.
+//! Copying bytes of one disk to the beginning of another.
 ghost use Rattle.std.specs.Prelude.{◌≡◌, ◌+◌, ◌≤◌, List, ℕ, Some, OnOk, take, drop};
 ghost use Rattle.std.specs.Option.{option_map};
 ghost use Rattle.spool_disk.specs.Disk.{ChangesNothing, overwritten};
@@ -6,10 +6,11 @@ ghost use Rattle.spool_admin.specs.Grown.{copied_over};
 
 use spool_disk::{DeviceFault, Disk};
 
-// How many bytes are copied at once.
+// Number of bytes copied at once.
 const PIECE: usize = 65_536;
 
-/// Copies so many bytes of a disk, from a place on, to the first ones of another. After a fault any of these may hold anything.
+/// Copies `count` bytes of a disk, from offset `from` on, to the beginning of another. After a fault any of these may have any
+/// value.
 pub fn copy<S: Disk, T: Disk>(
     source: &mut S,
     from: u64,
@@ -23,7 +24,7 @@ pub fn copy<S: Disk, T: Disk>(
     ensures still { ChangesNothing S.device source.old source.new }
     ensures fixed { T.device.size target.new ≡ T.device.size target.old }
 {
-    // It is told here that the device's places fit their type.
+    // The clause of this call states that the device's offsets fit their type.
     let _size = source.len();
     let mut piece = [0; PIECE];
     let mut rest = count;
@@ -36,7 +37,7 @@ pub fn copy<S: Disk, T: Disk>(
     Ok(())
 }
 
-// Copies so many bytes through the buffer.
+// Copies `len` bytes through the buffer.
 fn copy_piece<S: Disk, T: Disk>(
     source: &mut S,
     from: u64,

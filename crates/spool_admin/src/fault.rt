@@ -13,28 +13,28 @@ use std::alloc::AllocError;
 use std::process::ExitCode;
 use thiserror::Error;
 
-/// Why the program ends with status 1. Its text is what follows `spool: ` on standard error.
+/// Why the program ends with status 1. Its text follows `spool: ` on standard error.
 #[derive(Debug, Drop, Error)]
 pub enum AdminFault {
-    /// A fault that the spooler may have too.
+    /// A fault that the spooler may also have.
     #[error("{0}")]
     Shell(ShellFault),
     /// The new file would be smaller than the old one.
     #[error("smaller")]
     Smaller,
-    /// The table doesn't fit into an area of the new file.
+    /// The table, or a half of it, does not fit into an area of the new file.
     #[error("full")]
     Full,
-    /// The spool has the greatest epoch, so no listing can follow.
+    /// The spool has the greatest epoch, so no further listing is possible.
     #[error("epoch-end")]
     EpochEnd,
-    /// The spool has no queue of this name.
+    /// The spool has no queue with this name.
     #[error("queue")]
     Queue,
-    /// The folder that is to get a part has a spool already.
+    /// The folder for the part already has a spool.
     #[error("taken")]
     Taken,
-    /// Another split of this spool was begun, and isn't finished.
+    /// Another split of this spool was begun and is not finished.
     #[error("unfinished")]
     Unfinished,
 }
@@ -90,7 +90,7 @@ impl From<CheckpointFault> for AdminFault {
     }
 }
 
-/// Tells how the program ended, on standard error and by the status.
+/// Reports how the program ended, on standard error and by its status.
 pub fn report_admin_end<R: Eprint>(rt: &R, ended: Result<(), AdminFault>) -> ExitCode
     ensures ok { OnOk ended (exit_status result ≡ 0) }
     ensures fault { OnErr ended (exit_status result ≡ 1) }

@@ -12,10 +12,10 @@ use std::path::Path;
 use std::time::Clock;
 use std::{fs, io};
 
-// How many zeros are written at once.
+// Number of zeros written at once.
 const BLOCK: usize = 65_536;
 
-/// A folder that no other program has meanwhile.
+/// A folder that no other program owns meanwhile.
 #[derive(Drop)]
 pub struct Folder<'a> {
     pub owned: SpoolFolder<'a>,
@@ -24,7 +24,7 @@ pub struct Folder<'a> {
 }
 
 impl<'a> Folder<'a> {
-    /// Takes the folder, which is there.
+    /// Takes ownership of the folder, which must exist.
     pub fn own<R: Files<File = File> + Clock + AllocGlobal>(
         rt: &R,
         dir: &'a str,
@@ -42,7 +42,7 @@ impl<'a> Folder<'a> {
         })
     }
 
-    /// Whether something has this name.
+    /// Returns whether the name exists.
     pub fn has<R: Files + AllocGlobal>(&self, rt: &R, name: &str) -> Result<bool, ShellFault>
         ensures { IfErr result IsOfFolder }
     {
@@ -54,7 +54,7 @@ impl<'a> Folder<'a> {
         }
     }
 
-    /// What the system tells of what has this name.
+    /// Returns the metadata of the file with this name.
     pub fn about<R: Files + AllocGlobal>(&self, rt: &R, name: &str) -> Result<Metadata, ShellFault>
         ensures { IfErr result IsOfFolder }
     {
@@ -62,7 +62,7 @@ impl<'a> Folder<'a> {
         Ok(fs::symlink_metadata(rt, path.as_path())?)
     }
 
-    /// Gives what has the first name the other one, and syncs the folder.
+    /// Renames a file, and syncs the folder.
     pub fn rename<R: Files + AllocGlobal>(
         &self,
         rt: &R,
@@ -77,7 +77,7 @@ impl<'a> Folder<'a> {
         self.sync()
     }
 
-    /// Removes what has this name, if anything has, and syncs the folder.
+    /// Removes the file with this name, if it exists, and syncs the folder.
     pub fn remove<R: Files + AllocGlobal>(&self, rt: &R, name: &str) -> Result<(), ShellFault>
         ensures { IfErr result IsOfFolder }
     {
@@ -86,7 +86,7 @@ impl<'a> Folder<'a> {
         self.sync()
     }
 
-    /// The text of the file of this name, if there is one.
+    /// Returns the text of the file with this name, or nothing if it does not exist.
     pub fn text<R: Files<File = File> + AllocGlobal>(
         &self,
         rt: &R,
@@ -102,7 +102,7 @@ impl<'a> Folder<'a> {
         }
     }
 
-    /// Makes a file of this name with a text, synced. The folder is not synced.
+    /// Creates a file with this text, and syncs it. Does not sync the folder.
     pub fn put_text<R: Files<File = File> + AllocGlobal>(
         &self,
         rt: &R,
@@ -117,8 +117,7 @@ impl<'a> Folder<'a> {
         Ok(file.sync_all()?)
     }
 
-    /// Makes a file of this name with so many zeros, with the owner and the mode that are told of another one, and syncs both it and
-    /// the folder.
+    /// Creates a file of `size` zeros, with the owner and the mode that `about` has, and syncs both the file and the folder.
     pub fn put_zeros<R: Files<File = File> + AllocGlobal>(
         &self,
         rt: &R,
@@ -146,7 +145,7 @@ impl<'a> Folder<'a> {
     }
 }
 
-// A file without bytes, which its owner alone may read. Nothing has its name before.
+// Creates an empty file that only its owner may read. Fails if the name exists.
 fn new_file<R: Files<File = File>>(rt: &R, path: Path<'_>) -> io::Result<File> {
     OpenOptions::new()
         .read(true)
@@ -156,7 +155,7 @@ fn new_file<R: Files<File = File>>(rt: &R, path: Path<'_>) -> io::Result<File> {
         .open(rt, path)
 }
 
-// Writes so many zeros.
+// Writes `count` zeros.
 fn write_zeros<W: Write>(writer: &mut W, count: u64) -> io::Result<()>
     ensures { OnOk result (Appends (W.contents writer.old) (W.contents writer.new) (replicate count 0)) }
 {

@@ -1,4 +1,4 @@
-//! What is found on a spool's disk, without a change of it.
+//! The contents of a spool's disk, found without changing it.
 ghost use Rattle.std.specs.Prelude.{◌≡◌, ◌+◌, ◌<◌, List, ℕ, Some, IfErr, IfOk, map};
 ghost use Rattle.spool_types.specs.State.{State, job_of};
 ghost use Rattle.spool_disk.specs.Disk.{ChangesNothing};
@@ -13,35 +13,35 @@ use spool_core::{OpenFault, Spool};
 use spool_disk::Disk;
 use std::alloc::Global;
 
-/// How many jobs there are.
+/// Number of jobs, in total and by phase.
 #[derive(Clone, Copy)]
 pub struct JobCounts {
     pub all: usize,
-    /// Their documents are coming.
+    /// Jobs that are still receiving their documents.
     pub incoming: usize,
-    /// Closed, held ones too.
+    /// Closed jobs that wait, including held ones.
     pub waiting: usize,
     pub processing: usize,
     pub ended: usize,
 }
 
-/// What there is on a disk.
+/// Figures about the contents of a disk.
 #[derive(Clone, Copy)]
 pub struct Account {
-    /// Those of the current area.
+    /// Version and epoch of the current area.
     pub version: u8,
     pub epoch: u64,
-    /// How many bytes the disk and an area have.
+    /// Length in bytes of the disk and of an area.
     pub size: u64,
     pub area: u64,
-    /// How many bytes of the current area lie before its closed gate, and how many from there on.
+    /// Number of bytes of the current area before its closed gate, and from there on.
     pub used: u64,
     pub free: u64,
     pub queues: usize,
     pub jobs: JobCounts,
 }
 
-/// A disk, where its current area begins, and what there is on it.
+/// A disk, the offset of its current area, and its figures.
 #[derive(Drop)]
 pub struct Found<D> {
     pub disk: D,
@@ -49,7 +49,7 @@ pub struct Found<D> {
     pub account: Account,
 }
 
-// Where the current area of a disk lies, and what its header says.
+// The offset of a disk's current area, and the values of its header.
 #[derive(Clone, Copy)]
 struct Place {
     base: u64,
@@ -59,7 +59,7 @@ struct Place {
     free: u64,
 }
 
-/// Reads a spool's disk whole. It writes nothing: an attempt that is under way there stays so.
+/// Reads all of a spool's disk. Writes nothing: an attempt that is running on the disk stays so.
 pub fn find<D: Disk + Drop>(alloc: Global, disk: D) -> Result<Found<D>, OpenFault>
     ensures still { IfOk result (λ found. ChangesNothing D.device disk found.disk) }
     ensures counts { IfOk result (λ found. (r : List ℕ) → D.device.bytes disk ≡ Some r → HasCounts found.account.queues found.account.jobs r) }
@@ -91,7 +91,7 @@ pub fn find<D: Disk + Drop>(alloc: Global, disk: D) -> Result<Found<D>, OpenFaul
     })
 }
 
-// How many queues and jobs the spool on a disk has.
+// Returns the number of queues and of jobs of the spool on a disk.
 fn count_rows<D: Disk + Drop>(alloc: Global, disk: D) -> Result<(D, usize, JobCounts), OpenFault>
     ensures still { IfOk result (λ counted. ChangesNothing D.device disk counted.0) }
     ensures counts { IfOk result (λ counted. (r : List ℕ) → D.device.bytes disk ≡ Some r → HasCounts counted.1 counted.2 r) }

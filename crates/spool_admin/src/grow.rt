@@ -13,8 +13,8 @@ use std::alloc::Global;
 use std::fs::{File, Files};
 use std::time::Clock;
 
-/// Gives the spool of a folder a file of `size` bytes. After a fault the old spool is there, as it was, but for one of the folder's last
-/// sync: then the new one has the name already.
+/// Gives the spool of a folder a file of `size` bytes. After a fault the old spool exists unchanged, unless the last sync of the
+/// folder failed: then the new file already has the name.
 pub fn grow<R: Files<File = File> + Clock + AllocGlobal>(
     rt: &R,
     dir: &str,
@@ -36,7 +36,7 @@ pub fn grow<R: Files<File = File> + Clock + AllocGlobal>(
     Ok(folder.replace_device(rt)?)
 }
 
-/// Lists what a spool's disk holds in the second area of another disk, which has only zeros, and gives that disk back, synced.
+/// Lists the contents of a spool's disk in the second area of another disk, which has only zeros. Returns that disk, synced.
 pub fn list<S: Disk + Drop, T: Disk + Drop>(
     alloc: Global,
     old: Found<S>,
@@ -46,7 +46,7 @@ pub fn list<S: Disk + Drop, T: Disk + Drop>(
     requires short { old.account.used < old.account.size }
     ensures smaller { IsErrOf result AdminFault.Smaller ↔ (T.device.size next < old.account.size) }
     ensures synced { IfOk result (IsSynced T.device) }
-    // A crash leaves the table that an opening of the copied bytes gives, with their documents.
+    // A crash leaves the table that opening the copied bytes yields, with their documents.
     ensures grown { IfOk result (λ disk. (r t : List ℕ) → S.device.bytes old.disk ≡ Some r → T.device.bytes next ≡ Some t →
         (c : List ℕ) → T.device.image disk c → IsGrownFrom (copied_over old.base (old.account.used + 1) r t) c) }
     ensures fixed { IfOk result (λ disk. T.device.size disk ≡ T.device.size next) }
@@ -59,7 +59,7 @@ pub fn list<S: Disk + Drop, T: Disk + Drop>(
     if next.len() < account.size {
         return Err(AdminFault::Smaller);
     }
-    // With the closed gate behind the records.
+    // With the closed gate after the records.
     if copy(&mut disk, base, account.used + 1, &mut next).is_err() {
         return Err(AdminFault::from(OpenFault::Disk));
     }

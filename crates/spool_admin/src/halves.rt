@@ -12,14 +12,14 @@ use std::alloc::Global;
 /// The disks of the two halves.
 #[derive(Drop)]
 pub struct Halves<T> {
-    /// That of the queues that are named.
+    /// The disk of the named queues.
     pub part: T,
-    /// That of all others.
+    /// The disk of all other queues.
     pub rest: T,
 }
 
-/// Lists the queues of these names, with their jobs and documents, on one disk, and all others on the other one, and gives both back.
-/// The spool's own disk stays as it is.
+/// Lists the queues with these names, with their jobs and documents, on one disk, and all others on the other disk. Returns both
+/// disks. The spool's own disk does not change.
 pub fn list_halves<S: Disk, T: Disk + Drop>(
     alloc: Global,
     whole: &mut Spool<S>,

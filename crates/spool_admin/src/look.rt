@@ -10,7 +10,7 @@ use std::fs::{File, Files};
 use std::io::Write;
 use std::time::Clock;
 
-/// Prints what there is in the spool of a folder, and changes nothing.
+/// Prints the figures of a folder's spool, and changes nothing.
 pub fn look<R: Files<File = File> + Clock + AllocGlobal, W: Write>(
     rt: &R,
     dir: &str,
@@ -49,7 +49,7 @@ fn account_text(alloc: Global, account: &Account) -> Result<String, AllocError>
     Ok(text)
 }
 
-// The file and its current area.
+// Appends the lines about the file and its current area.
 fn push_area(text: &mut String, account: &Account) -> Result<(), AllocError>
     ensures { OnOk result (string_bytes text.new ≡ string_bytes text.old ++ area_text account.now) }
 {

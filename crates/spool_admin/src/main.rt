@@ -1,68 +1,86 @@
-//! The program of a spool's keeper: it shows how full a spool is, makes a spool's file larger, and splits a spool by queues.
+//! Administers a spool that no other program has open: shows how full it is, enlarges its file, or splits it by queues.
 //!
-//! Words: `look DIR`, `grow DIR BYTES` or `split DIR INTO QUEUE..` ([`words`]). The spool lies in the file `DIR/spool.disk`. No other
-//! program may have the folder meanwhile.
+//! Words: `look DIR`, `grow DIR BYTES` or `split DIR INTO QUEUE..` ([`words`]). The spool is the file `DIR/spool.disk`. No other
+//! program may have the folder open meanwhile. `grow` and `split` reject a file with a second name. The new files get the owner
+//! and the mode of the old one.
 //!
 //! # look
 //!
-//! It prints the version and the epoch, how many bytes the file and one of its areas have, how many bytes of the current area
-//! are used and free, and how many queues and jobs there are, a line each ([`look`]). It writes nothing: a job that is processing
-//! on the disk stays so.
+//! `look` prints the version and the epoch, the number of bytes of the file and of one of its areas, the number of used and of
+//! free bytes in the current area, and the number of queues and of jobs, one value a line ([`look`]). It reads the spool as the
+//! first half of an opening does (`Spool::load`), and the areas once more for their figures. It writes nothing to the file: a job
+//! that is processing on the disk stays so.
 //!
 //! # grow
 //!
-//! A spool's file keeps its length, and so a spool whose table doesn't fit is full for good. This makes a file of BYTES bytes beside
-//! the old one, with the same table and documents, and gives it the old one's name ([`grow`]). The old file is never written to.
+//! A spool's file keeps its length, so a spool whose table does not fit stays full. `grow` creates a file of BYTES bytes next to
+//! the old one, with the same table and documents, and renames it to the old name ([`grow`]). It never writes to the old file.
 //!
-//! 1. The old spool is read whole ([`found`]). A fault is told as at an opening.
-//! 2. A file of zeros is made under the name of an unfinished one.
-//! 3. The bytes of the current area, up to the closed gate behind its records, are copied to the new file's begin ([`copying`]).
-//!    They don't say where the area lies, so the new file is a spool with the same records then.
-//! 4. It is opened as any spool, which gives up each attempt that was under way, and a checkpoint lists the table in the other area:
-//!    in the newest version, with as much room as a table may have.
-//! 5. It is synced by then. It gets the old file's name, and the folder is synced.
+//! 1. It reads the whole old spool ([`found`]). Faults are reported as for an opening.
+//! 2. It creates a file of zeros under the name of an unfinished one.
+//! 3. It copies the bytes of the current area, up to the closed gate after its records, to the beginning of the new file
+//!    ([`copying`]). These bytes do not contain the place of the area, so the new file is then a spool with the same records.
+//! 4. It opens the new file like any spool, which gives up each attempt that was running. A checkpoint lists the table in the
+//!    other area, in the newest version, with the most room that this table can have.
+//! 5. The new file is synced by then. `grow` renames it to the old file's name, and syncs the folder.
 //!
-//! So whatever moment the program is killed at, the name leads to the old spool or to the new one, whole. What it leaves unfinished
-//! goes at the next `grow`. For a power cut, no byte of the new file is unsynced once it gets the name.
+//! If the program is killed at any moment, the name refers to the old or to the new spool, complete. The next `grow` removes an
+//! unfinished file. For power cuts: no byte of the new file is unsynced when it gets the name.
 //!
 //! # split
 //!
-//! Some queues, with their jobs and documents, become a spool of their own in the folder INTO, and the spool of DIR goes on without them
-//! ([`split`]). The old file is never written to. Both folders' names say at each moment what is to be done next, and each is synced
-//! before the next is changed:
+//! `split` moves some queues, with their jobs and documents, to a spool of their own in the folder INTO; the spool of DIR
+//! continues without them ([`split`]). It never writes to the old file. The names in both folders show at each moment what must
+//! be done next, and each folder is synced before the next one changes:
 //!
-//! 1. A file for the rows that stay is made, as `DIR/spool.rest`. Then `DIR/spool.split` notes the words, and the name of the part.
-//! 2. A file for the queues is made, as `INTO/spool.part.TIME`. Both get their half of the rows, and are read back (`spool_halves`).
-//! 3. `spool.rest` becomes `spool.disk`. This is the change over: from now on the jobs of the queues are in the part alone.
-//! 4. The part becomes `INTO/spool.disk`, and `spool.split` goes.
+//! 1. Create a file for the rows that stay, `DIR/spool.rest`. Then note the words and the name of the part in `DIR/spool.split`.
+//! 2. Create a file for the queues, `INTO/spool.part.TIME`. Write each half of the rows to its file, and read both files back
+//!    (`spool_halves`). The name has the time in it, so a part that another spool left in INTO is never mistaken for this one.
+//! 3. Rename `spool.rest` to `spool.disk`. This is the change over: from now on the jobs of the queues are only in the part.
+//! 4. Rename the part to `INTO/spool.disk`, and remove `spool.split`.
 //!
-//! A later call with the same words goes on where an earlier one was killed: from step 4 where `spool.rest` is gone, and else it removes
-//! what was made and begins anew. Other words are refused until then.
+//! If a call was killed, a later call with the same words continues: from step 4 if `spool.rest` is gone; otherwise it removes
+//! the new files and begins again. Until then other words are rejected.
 //!
 //! # Promises
 //!
-//! - [`read_words`] gives what clap finds in the words (`asked`), and refuses none in which clap finds no fault and that are those of
-//!   a task (`taken`).
-//! - [`found::find`] changes nothing on the disk (`still`), tells the current area of its bytes (`area`), and counts the queues and
-//!   the jobs of their table (`counts`). A fault of the bytes is theirs (`fault`).
-//! - [`copying::copy`] leaves exactly the copied bytes at the target's begin, and nothing else is changed (`copied`, `still`).
-//! - [`grow::list`] leaves the table and the documents of the copied bytes, whatever a crash does (`grown`). It gives the new disk back
-//!   synced (`synced`), and answers `Smaller` exactly where it is shorter (`smaller`).
-//! - [`halves::list_halves`] leaves, whatever a crash does, exactly the rows of the named queues on one disk and exactly all others on
-//!   the other one, each with the documents of the old disk (`part`, `rest`). Both are synced (`synced`), and nothing changes on the
-//!   old disk (`still`).
-//! - [`names::names_of`] gives the words as they are (`names`), and [`names::has_queues`] says whether the table has a queue of each.
-//! - [`record::part_in`] finds a part exactly where it was noted with these words (`some`, `none`).
-//! - [`fault::report_admin_end`] is status 0 after `Ok` and 1 after a fault (`ok`, `fault`).
+//! - [`read_words`] returns what clap's definition of the command finds in the words (`asked`). It rejects them exactly if clap
+//!   finds an error or they are not those of a task (`taken`).
+//! - [`found::find`] changes nothing on the disk (`still`), and returns the current area of its bytes (`area`, `HasArea`) and the
+//!   number of queues and jobs of their table (`counts`, `HasCounts`). A fault of the bytes is theirs (`fault`).
+//! - [`copying::copy`] leaves exactly the copied bytes at the beginning of the target, and changes nothing else (`copied`,
+//!   `copied_over`, `still`).
+//! - [`grow::list`] copies an area and lists its contents: afterwards a crash leaves only images with the table that an opening
+//!   of the copy yields, and its documents (`grown`, `IsGrownFrom`). The new disk is returned synced (`synced`), with the same
+//!   length (`fixed`). The result is `Smaller` exactly if it is shorter than the old one (`smaller`).
+//! - [`halves::list_halves`]: afterwards a crash leaves exactly the rows of the named queues on one disk and exactly all others
+//!   on the other, each with the documents of the old disk (`part`, `rest`, `LeavesHalf`, as `list_half` of `spool_halves`). Both
+//!   disks are synced (`synced`), and nothing changes on the old disk (`still`).
+//! - [`names::names_of`] returns exactly the words (`names`), and [`names::has_queues`] returns whether the table has a queue of
+//!   each name.
+//! - [`record::part_in`] finds a split that was begun exactly if [`record::noted`] noted it with the same words (`some`, `none`,
+//!   `IsNoted`).
+//! - [`fault::report_admin_end`] returns status 0 after `Ok` and 1 after a fault (`ok`, `fault`).
 //!
-//! That the steps of `grow` or of `split` are one, whatever cuts them, is shown by tests: a file of the system tells nothing of its bytes.
+//! # Not proved
 //!
-//! # Faults
+//! - That a split and a growth are one step each. `list_halves` is proved for every disk and every table, `list` for every disk.
+//!   No clause covers files, their names and the moments between their changes. The code of `split` and `tests/split.py` show:
+//!   `part` is INTO's file and `rest` is FROM's; a kill at any moment leaves either the old spool, with none in INTO, or each job
+//!   in exactly one of the two files; the same command finishes or undoes what was begun.
+//! - That the rows read back are those written, so that `list_half` never returns `Disk` on a sound disk: shown by tests.
+//! - That the bytes which `grow` copies have the table and the documents of the old disk, although the area is now at another
+//!   place and zeros follow it: shown by `tests/grow.py`.
+//! - That the calls succeed: a `list_halves` that always returns `Full`, a copy that always returns a fault of the device, and
+//!   calls on files that do nothing (`Folder`) meet their clauses. Both tests need each of these to work.
 //!
-//! Status 0, 1 and 2, and the lines on standard error, are those of `spool_runtime`. Besides its faults there are `smaller`, where BYTES
-//! is less than the file has; `full`, where the table, or a half of it, doesn't fit into half of the file; `queue`, where the spool has no
-//! such queue; `taken`, where INTO has a spool; `unfinished`, where a split with other words isn't finished; and `epoch-end`, where
-//! the spool has the greatest epoch. After a fault the old spool is there, as it was, but for one of the folder's last sync: then the new one has the name already.
+//! # Errors
+//!
+//! Status 0, 1 and 2, and the lines on standard error, are those of `spool_runtime`. In addition to its errors: `smaller`, if
+//! BYTES is less than the length of the file; `full`, if the table, or a half of it, does not fit into half of the file; `queue`,
+//! if the spool has no such queue; `taken`, if INTO has a spool; `unfinished`, if a split with other words is not finished; and
+//! `epoch-end`, if the spool has the greatest epoch. After an error the old spool exists unchanged, unless the last sync of the
+//! folder failed: then the new file already has the name.
 #![tactic(auto)]
 
 mod copying;
@@ -97,7 +115,7 @@ fn main(rt: HostRuntime) -> ExitCode {
     report_admin_end(&rt, done(&rt, asked))
 }
 
-// Does what the words ask for.
+// Does the task that the words request.
 fn done(rt: &HostRuntime, asked: Asked<'_>) -> Result<(), AdminFault> {
     match asked {
         Asked::Look(dir) => Ok(look(rt, dir, &mut rt.stdout())?),

@@ -1,4 +1,4 @@
-//! The names of queues that are given to another spool.
+//! The names of queues that are moved to another spool.
 ghost use Rattle.std.specs.Prelude.{◌≡◌, ◌⊎◌, ◌++◌, ◌∷◌, [], IfErr, IfOk, OnOk, false, is_some, map};
 ghost use Rattle.std.specs.List.{list_all};
 ghost use Rattle.spool_types.specs.State.{queue_at};
@@ -11,7 +11,7 @@ use job_table::Table;
 use spool_types::{QueueName, TextFault};
 use std::alloc::{AllocError, Global};
 
-/// The words as names of queues. One that can't be a name is that of no queue.
+/// Returns the words as names of queues. A word that cannot be a name is that of no queue.
 pub fn names_of(alloc: Global, queues: &[&str]) -> Result<Vec<QueueName>, AdminFault>
     ensures names { IfOk result (λ names. names.items ≡ map (λ queue. queue.now) queues.now) }
     ensures fault { IfErr result (λ fault. (fault ≡ Shell Memory) ⊎ ((fault ≡ Queue) × (list_all (λ queue. is_queue_name queue.now) queues.now ≡ false))) }
@@ -41,7 +41,7 @@ fn name_of(alloc: Global, queue: &str) -> Result<QueueName, AdminFault>
     }
 }
 
-/// Whether the table has a queue of each of these names.
+/// Returns whether the table has a queue with each of these names.
 pub fn has_queues(table: &Table, names: &[QueueName]) -> bool
     ensures { result ≡ list_all (λ name. is_some (queue_at table.now.state name)) names.now }
 {

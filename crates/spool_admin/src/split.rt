@@ -20,14 +20,14 @@ const NEXT: &str = "spool.disk.new";
 // The file without the queues, in the folder of the whole spool, until the change over.
 const REST: &str = "spool.rest";
 
-// What was begun: the name of the file with the queues in the other folder, and the words of the command. It is there until that
-// file has its own name.
+// The record of the split: the name of the file with the queues in the other folder, and the words of the command. It exists
+// until that file has its own name.
 const RECORD: &str = "spool.split";
 
 const NEXT_RECORD: &str = "spool.split.new";
 
-/// Gives the queues, with their jobs, to the other folder, where they are a spool of their own. What an earlier call with the same
-/// words left is finished first, where the change over was made, and then there is nothing else to do; or else it is undone.
+/// Moves the queues, with their jobs, to a spool of their own in the other folder. If an earlier call with the same words was
+/// killed after its change over, finishes that split and does nothing else. If it was killed before, undoes it and begins again.
 pub fn split<R: Files<File = File> + Clock + AllocGlobal>(
     rt: &R,
     asked: &Split<'_>,
@@ -54,8 +54,8 @@ fn split_into<R: Files<File = File> + Clock + AllocGlobal>(
     }
 }
 
-// Whether the earlier call has made its change over. It may have been killed before that was synced, and a power cut would still
-// undo it, so it is synced now.
+// Returns whether the earlier call has made its change over. That call may have been killed before the change was synced, so that
+// a power cut would still undo it. So this function syncs it.
 fn was_changed_over<R: Files<File = File> + AllocGlobal>(
     rt: &R,
     source: &Folder<'_>,
@@ -67,7 +67,7 @@ fn was_changed_over<R: Files<File = File> + AllocGlobal>(
     Ok(true)
 }
 
-// Splits the spool, of which no earlier call has left anything.
+// Splits the spool, if no earlier call has left anything.
 fn begin<R: Files<File = File> + Clock + AllocGlobal>(
     rt: &R,
     source: &Folder<'_>,
@@ -90,7 +90,7 @@ fn begin<R: Files<File = File> + Clock + AllocGlobal>(
     finish(rt, source, target, &part)
 }
 
-// Gives the rest the spool's name. From then on the jobs of the queues are in the part alone.
+// Gives the rest the spool's name. From then on the jobs of the queues are only in the part.
 fn change_over<R: Files<File = File> + AllocGlobal>(
     rt: &R,
     source: &Folder<'_>,
@@ -108,7 +108,7 @@ fn change_over<R: Files<File = File> + AllocGlobal>(
     }
 }
 
-// Makes the two files, whole and synced, under names that aren't served.
+// Creates the two files, complete and synced, under names that are not served.
 fn prepare<R: Files<File = File> + Clock + AllocGlobal>(
     rt: &R,
     source: &Folder<'_>,
@@ -127,7 +127,7 @@ fn prepare<R: Files<File = File> + Clock + AllocGlobal>(
     Ok(())
 }
 
-// The spool that is to be split, and the length of its file.
+// Returns the spool to be split, and the length of its file.
 fn whole_spool<'r, R: Files<File = File> + Clock + AllocGlobal>(
     rt: &'r R,
     source: &Folder<'_>,
@@ -140,7 +140,7 @@ fn whole_spool<'r, R: Files<File = File> + Clock + AllocGlobal>(
     }
 }
 
-// The two files before anything is in them, in the folders of the whole and of the part.
+// Creates the two empty files, in the folders of the whole and of the part.
 fn begin_halves<R: Files<File = File> + Clock + AllocGlobal>(
     rt: &R,
     source: &Folder<'_>,
@@ -156,7 +156,7 @@ fn begin_halves<R: Files<File = File> + Clock + AllocGlobal>(
     Ok(Halves { part, rest })
 }
 
-// A file for the rows that stay.
+// Creates a file for the rows that stay.
 fn begin_rest<R: Files<File = File> + Clock + AllocGlobal>(
     rt: &R,
     source: &Folder<'_>,
@@ -173,7 +173,7 @@ fn begin_rest<R: Files<File = File> + Clock + AllocGlobal>(
     }
 }
 
-// Notes what was begun, before anything is in the other folder.
+// Notes the split before anything is created in the other folder.
 fn record<R: Files<File = File> + AllocGlobal>(
     rt: &R,
     source: &Folder<'_>,
@@ -186,7 +186,7 @@ fn record<R: Files<File = File> + AllocGlobal>(
     Ok(source.rename(rt, NEXT_RECORD, RECORD)?)
 }
 
-// Gives the part its own name, and lets go of what was noted.
+// Gives the part its own name, and removes the record.
 fn finish<R: Files<File = File> + AllocGlobal>(
     rt: &R,
     source: &Folder<'_>,
@@ -205,7 +205,8 @@ fn finish<R: Files<File = File> + AllocGlobal>(
     Ok(source.remove(rt, RECORD)?)
 }
 
-// Undoes what was begun, where the change over wasn't made. The file that tells so goes last.
+// Undoes a split whose change over was not made. Removes `spool.rest` after the record, because its absence would mean that the
+// change over was made.
 fn give_up<R: Files<File = File> + AllocGlobal>(
     rt: &R,
     source: &Folder<'_>,
@@ -218,7 +219,7 @@ fn give_up<R: Files<File = File> + AllocGlobal>(
     Ok(source.owned.remove_unfinished(rt)?)
 }
 
-// The name of the part of what was begun, if anything was. Other words than these are refused then.
+// Returns the name of the part of a split that was begun, if any. Fails if its words are not these.
 fn begun<R: Files<File = File> + AllocGlobal>(
     rt: &R,
     source: &Folder<'_>,
@@ -233,7 +234,7 @@ fn begun<R: Files<File = File> + AllocGlobal>(
     }
 }
 
-// A name for the part that no other split has: the time, in nanoseconds.
+// Returns a name for the part that no other split has: the time, in nanoseconds.
 fn part_now<R: Clock + AllocGlobal>(rt: &R) -> Result<String, AdminFault> {
     let now = match rt.since_1970() {
         Ok(now) => now,

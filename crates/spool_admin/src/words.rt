@@ -8,22 +8,23 @@ ghost use Rattle.spool_admin.specs.AdminArguments.{AreFaultless, ArePlaces, AreT
 use clap::builder::ValueParser;
 use clap::error::ErrorKind;
 use clap::{Arg, ArgAction, ArgMatches, Command};
+use program_version::VERSION;
 use spool_runtime::{GREATEST_SIZE, LEAST_SIZE, WordsFault, words_fault};
 use std::alloc::{AllocError, Global};
 use std::convert::AsStr;
 
-/// What the words ask for.
+/// The request that the words make.
 #[derive(Drop)]
 pub enum Asked<'a> {
-    /// What there is in the spool of this folder.
+    /// Show the contents of the spool in this folder.
     Look(&'a str),
-    /// A file of so many bytes for it.
+    /// Give the spool in this folder a file of this number of bytes.
     Grow(&'a str, u64),
-    /// A spool of its own for some of its queues.
+    /// Move some of the queues to a spool of their own.
     Split(Split<'a>),
 }
 
-/// What is to be split: the folder of the whole spool, the one that gets a part of it, and the queues in that part, at least one.
+/// A split: the folder of the whole spool, the folder for the part, and the queues of the part, at least one.
 #[derive(Drop)]
 pub struct Split<'a> {
     pub from: &'a str,
@@ -31,7 +32,7 @@ pub struct Split<'a> {
     pub queues: Vec<&'a str>,
 }
 
-/// Reads the words of the command line, of which the first is the program's name.
+/// Reads the words of the command line. The first word is the program's name.
 pub fn read_words<'a, S: AsStr>(alloc: Global, words: &'a [S]) -> Result<Asked<'a>, WordsFault>
     ensures asked { IfOk result (IsAsked (matches_of admin_app (map S.text words.entry.now))) }
     ensures taken { MatchResult result (λ _. AreFaultless (map S.text words.entry.now))
@@ -51,7 +52,7 @@ pub fn read_words<'a, S: AsStr>(alloc: Global, words: &'a [S]) -> Result<Asked<'
     }
 }
 
-// What clap finds in the words.
+// Returns the values that clap finds in the words.
 fn parse<'a, S: AsStr>(
     command: &mut Command<'a>,
     words: &'a [S],
@@ -67,7 +68,7 @@ fn parse<'a, S: AsStr>(
     }
 }
 
-// What is asked for by the values that were found, if they are those of a task.
+// Returns the request that the values make, if they are those of a task.
 fn task_of<'a>(alloc: Global, matches: &ArgMatches<'a>) -> Result<Option<Asked<'a>>, AllocError>
     ensures asked { IfOk result (λ found. IfSome found (IsAsked (rows_of (found_of matches.now)))) }
     ensures none { IfOk result (λ found. IfNone found (¬ (HasTask (rows_of (found_of matches.now))))) }
@@ -81,14 +82,14 @@ fn task_of<'a>(alloc: Global, matches: &ArgMatches<'a>) -> Result<Option<Asked<'
     asked_with_rest(alloc, matches, task, dir)
 }
 
-// The text of a word that is given once.
+// Returns the text of a word that is given once.
 fn text_given<'a>(matches: &ArgMatches<'a>, name: &str) -> Option<&'a str>
     ensures { option_map (λ text. text.now) result ≡ first_of name.now (rows_of (found_of matches.now)) }
 {
     matches.get_str(name)
 }
 
-// What a task asks for with the words behind the folder, if any are given.
+// Returns the request of a task with the words after the folder, if any are given.
 fn asked_with_rest<'a>(
     alloc: Global,
     matches: &ArgMatches<'a>,
@@ -104,7 +105,7 @@ fn asked_with_rest<'a>(
     }
 }
 
-// What these words ask for, if they are those of a task.
+// Returns the request that these words make, if they are those of a task.
 fn asked_of<'a>(
     alloc: Global,
     task: &'a str,
@@ -161,7 +162,7 @@ fn split_of<'a>(
     }
 }
 
-// The length that a text tells, if it is one that a file may have.
+// Returns the number in the text, if it is a length that a file may have.
 fn size_of(text: &str) -> Option<u64>
     ensures value { IfSome result (λ size. IsUnsignedIn 4096 1073741824 text.now × (size ≡ number_of text.now)) }
     ensures none { IfNone result (¬ (IsUnsignedIn 4096 1073741824 text.now)) }
@@ -172,30 +173,29 @@ fn size_of(text: &str) -> Option<u64>
     }
 }
 
-// The program's command, as clap knows it.
+// Returns the program's command in clap's form.
 fn admin_command<'a>(alloc: Global) -> Result<Command<'a>, AllocError>
     ensures { IfOk result (λ command. app_of command ≡ admin_app) }
 {
     Command::new(alloc, "spool_admin")
-        .about(
-            "Looks at a print spool, makes it larger, or splits it by queues, while no spooler runs",
-        )
+        .about("Inspects, enlarges or splits a print spool that no other program has open")
+        .version(VERSION)
         .arg(word(
             alloc,
             "task",
             "TASK",
-            "`look DIR` shows how full the spool is, `grow DIR BYTES` makes its file larger, and `split DIR INTO QUEUE..` gives queues to another spool",
+            "`look DIR` shows how full the spool is, `grow DIR BYTES` enlarges its file, and `split DIR INTO QUEUE..` moves queues to a new spool",
         ))?
         .arg(word(
             alloc,
             "dir",
             "DIR",
-            "The folder of the spool's file, spool.disk, which no other program may have meanwhile",
+            "Folder with the spool's file, spool.disk",
         ))?
         .arg(more_words(alloc))
 }
 
-// A word that has to be there, and isn't empty.
+// Returns a required word that is not empty.
 fn word<'a>(alloc: Global, name: &'a str, value: &'a str, help: &'a str) -> Arg<'a>
     ensures rule { rule_of result ≡ needed name.entry.now }
     ensures local { result.global ≡ false }
@@ -207,7 +207,7 @@ fn word<'a>(alloc: Global, name: &'a str, value: &'a str, help: &'a str) -> Arg<
         .help(help)
 }
 
-// The words behind the folder, as many as are wanted.
+// Returns any number of words after the folder.
 fn more_words<'a>(alloc: Global) -> Arg<'a>
     ensures rule { rule_of result ≡ several (codes "rest") }
     ensures local { result.global ≡ false }
@@ -217,15 +217,15 @@ fn more_words<'a>(alloc: Global) -> Arg<'a>
         .action(ArgAction::Append)
         .value_parser(ValueParser::NonEmptyString)
         .help(
-            "For `grow` the length of the larger file in bytes. For `split` the folder that gets the queues, and their names",
+            "For `grow`, the new size of the file in bytes. For `split`, the folder of the new spool and the names of the queues",
         )
 }
 
-// The fault of values that are those of no task, in the form of clap's own.
+// Returns the error for values that are not those of a task, in clap's form.
 fn no_task(command: &mut Command<'_>) -> WordsFault {
     match command.error(
         ErrorKind::ValueValidation,
-        "none of `look DIR`, `grow DIR BYTES` and `split DIR INTO QUEUE..` is asked for",
+        "expected `look DIR`, `grow DIR BYTES` or `split DIR INTO QUEUE..`",
     ) {
         Ok(error) => WordsFault::Refused(error),
         Err(_) => WordsFault::Memory,

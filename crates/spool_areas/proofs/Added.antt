@@ -1,4 +1,4 @@
--- One payload more in the current area.
+-- One more payload in the current area.
 use Rattle.std.specs.Prelude.{◌↔◌, IsErrOf, IsTrue, true, false, Bool}
 use Rattle.std.proofs.Common.{rules, refl, ◌≡◌, ◌⊎◌, inl, inr, ⊎_elim, ℕ, ◌+◌, ◌-◌, ◌≤◌, ◌<◌, List, [], ◌∷◌, ◌++◌, Result, Ok, Err, OnOk, length, drop, sym, ◌∙◌, subst, ap, arith, length-drop}
 use Rattle.std.proofs.lemmas.Bool.{cases_lt}
@@ -23,16 +23,16 @@ use Rattle.spool_areas.specs.AreaFields.{current_of, IsInside}
 use Rattle.spool_areas.specs.declared.areas.Areas.TheInside.{Inside}
 use Rattle.spool_areas.proofs.Sames.{IsBehindHeader, header_same, current_same, base_is}
 
--- an append that is not full has its record in the area
+-- The record of an append that did not fail with `Full` is in the area.
 pub same_or_fits : (IsFull Alive Same : Type 0) (end needed : ℕ) → ((Alive × (end < needed)) → IsFull) → Alive → (IsFull → Same) → Same ⊎ (needed ≤ end)
 same_or_fits IsFull Alive Same end needed full alive same = ⊎_elim (λ short. inl (same (full (alive, short)))) (λ fits. inr fits) (cases_lt end needed)
 
--- an answer with a value isn't this fault
+-- A result with a value is not this error.
 pub ok_fits : {T E A B : Type 0} (r : Result T E) (fault : E) → OnOk r A → ((r ≡ Err fault → ⊥) → A → B) → OnOk r B
 ok_fits (Ok x) fault has then = then (λ is. absurd (cc is)) has
 ok_fits (Err e) fault has then = tt
 
--- the same as a pair
+-- The same as a pair.
 pub ok_not : {T E : Type 0} (A : Type 0) (r : Result T E) (fault : E) → OnOk r A → OnOk r ((r ≡ Err fault → ⊥) × A)
 ok_not A (Ok x) fault has = (λ is. absurd (cc is), has)
 ok_not A (Err e) fault has = tt
@@ -46,7 +46,7 @@ module _ {D : Type 0} (v : DiskView D) (lawful : IsLawful v)
     gate_at = omega (arith, keeps.gate_at, starts);
   }
 
-  -- the header of an image's current area is that of an old one
+  -- The header of an image's current area is that of an old image.
   header_in : (c : List ℕ) (outside : IsOldOutside (v.image old.disk) old.gate (old.end - old.gate) c) → header_at old.base c ≡ header_at old.base outside.0
   header_in c outside =
       let before : old.base + header_len ≤ old.gate = omega (arith, keeps.gate_at) in
@@ -58,7 +58,7 @@ module _ {D : Type 0} (v : DiskView D) (lawful : IsLawful v)
   version_in : (c : List ℕ) → IsOldOutside (v.image old.disk) old.gate (old.end - old.gate) c → version_of (header_at old.base c) ≡ old.version
   version_in c outside = ap version_of (header_in c outside) ∙ keeps.version outside.0 outside.1
 
-  -- the headers of an image are those of an old one
+  -- The payloads of an image, by its header, which is that of an old image.
   payloads_in : (others : List (List ℕ)) (c : List ℕ) → IsOldOutside (v.image old.disk) old.gate (old.end - old.gate) c → HasEntries start others c → gate_after old.base others < old.end → HasVersionAndPayloads old.base old.version others c
   payloads_in others c outside has before_end =
       let b = outside.0 in
@@ -79,7 +79,7 @@ module _ {D : Type 0} (v : DiskView D) (lawful : IsLawful v)
         version_is = version_in c outside;
       }
 
-  -- an old image has the payloads in its version
+  -- An old image has the payloads in its version.
   now_in : (c : List ℕ) → v.image old.disk c → HasVersionAndPayloads old.base old.version payloads c
   now_in c left = record { area = keeps.each c left; version_is = keeps.version c left }
 
@@ -95,7 +95,7 @@ module _ {D : Type 0} (v : DiskView D) (lawful : IsLawful v)
     abbrev more : List (List ℕ)
     more = payloads ++ payload ∷ []
 
-    -- the gate behind the new record
+    -- The gate after the new record.
     pub gate_behind : old.gate + length frame ≡ gate_after old.base more
     gate_behind = omega (arith, whole, keeps.gate_at, length-records-push payloads payload, length-take (length frame - 5) (drop 4 frame), length-drop 4 frame)
 
@@ -128,14 +128,14 @@ module _ {D : Type 0} (v : DiskView D) (lawful : IsLawful v)
       gate_at = omega (arith, entries.gate_at, same_base, same_start, starts);
     }
 
--- two tests that are true together
+-- Two tests that imply each other are equal.
 same_test : (a b : Bool) → (IsTrue a → IsTrue b) → (IsTrue b → IsTrue a) → a ≡ b
 same_test true true one other = refl
 same_test false false one other = refl
 same_test true false one other = absurd (cc (one refl))
 same_test false true one other = absurd (cc (other refl))
 
--- an append to the journal behind a header is one to the areas
+-- An append to the journal after a header is an append to the areas.
 module _ {D : Type 0} (v : DiskView D) (lawful : IsLawful v) (room : ℕ) (some : 1 ≤ room) (old : Inside D) (inv : IsInside v old) (alive : old.dead ≡ false)
     (after : D) (journal : Journal) (dead : Bool) (window : Stretch) (frame filled : List ℕ) (whole : 5 ≤ length frame) (result : Result ℕ JournalFault)
     (step : Appends v room (state_of old.journal) (state_of journal) old.disk after frame filled result) (dies : IsTrue dead ↔ IsErrOf result Disk) where
@@ -179,7 +179,7 @@ module _ {D : Type 0} (v : DiskView D) (lawful : IsLawful v) (room : ℕ) (some 
         (step.any_moment payloads (entries_kept v lawful (current_of old) old.journal.base payloads inv.journal inv.area.end_is keeps));
   }
 
--- dead areas stay as they are
+-- Dead areas do not change.
 pub refused : {D : Type 0} (v : DiskView D) (lawful : IsLawful v) (room : ℕ) (old : Current D) (frame : List ℕ) → IsTrue old.dead → AreaAppends v room old old frame frame (Err Dead)
 refused v lawful room old frame dead = record {
   appends = record {

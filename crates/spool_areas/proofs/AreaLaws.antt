@@ -1,4 +1,4 @@
--- A device's bytes have one reading.
+-- Bytes have one reading.
 use Rattle.std.proofs.Common.{◌≡◌, ◌⊎◌, ℕ, List, ◌++◌, sym, ◌∙◌, subst}
 use Rattle.gate_journal.proofs.Places.{one_list}
 use Rattle.spool_areas.specs.Payloads.{HasPayloads, HasFirstPayloads, IsTornAfter}

@@ -24,7 +24,7 @@ module _ {D : Type 0} (v : DiskView D) (lawful : IsLawful v)
   abbrev Old : List ℕ → Type 0
   Old = HasVersionAndPayloads base version payloads
 
-  -- what it told at the start
+  -- The bytes that the disk reported at the start.
   first : (r : List ℕ) × (v.bytes old ≡ Some r)
   first = told (v.bytes old) st.tells
 
@@ -43,7 +43,7 @@ module _ {D : Type 0} (v : DiskView D) (lawful : IsLawful v)
   inside : other < v.size old
   inside = ⊎_elim (λ t. omega (arith, t.1, is_half, least)) (λ t. omega (arith, t.1, is_half, least)) st.two
 
-  -- while the other gate is closed
+  -- While the other gate is closed.
   old_stands : (c : List ℕ) → SameOutside other len first.0 c → (get_or c other 0 ≡ 165 → ⊥) → Old c
   old_stands c same closed = stands (v.size old) base other long two version payloads first.0 c first_len first_has (subst (λ (n : ℕ). SameOutside other n first.0 c) is_half same) closed
 
@@ -56,11 +56,11 @@ module _ {D : Type 0} (v : DiskView D) (lawful : IsLawful v)
       (λ closed. old_stands c (wider other 1 other len first.0 c (omega arith) (omega (arith, least)) same) closed)
       (cases_eq (get_or c other 0) 165)
 
-  -- 1. the header is closed
+  -- 1. The header is closed.
   pub part_one : (mid : D) → LeavesOnly v old mid (IsClosing v old other) → LeavesOnly v old mid Old
   part_one mid run = weaker_run v old mid Old (IsClosing v old other) run closing
 
-  -- a run that ends before the header is opened
+  -- A run that ends before the header is opened.
   pub ends_old : (other_payloads : List (List ℕ)) (mid : D) → LeavesOnly v old mid Old → ChangesOver v old mid base version payloads other other_payloads
   ends_old rows mid run =
       (mid, run, started v mid (HasOldOrNew base version payloads other rows) (λ c left. inl (at_return v lawful old mid Old run c (lawful.only_now mid c left))))
@@ -80,7 +80,7 @@ module _ {D : Type 0} (v : DiskView D) (lawful : IsLawful v)
         old_stands c (twice other len first.0 second.0 c second_same (wider (other + 1) (len - 1) other len second.0 c (omega arith) (omega (arith, least)) same))
         (λ is. closed second.0 second.1 (sym gate ∙ is))
 
-    -- 2. the area is filled
+    -- 2. The area is filled.
     pub part_two : (filled : D) → LeavesOnly v mid filled (IsOldOutside (v.image mid) (other + 1) (len - 1)) → LeavesOnly v old filled Old
     part_two filled fill = runs_on v old mid filled Old (IsOldOutside (v.image mid) (other + 1) (len - 1)) (part_one mid run) fill filling
 
@@ -126,7 +126,7 @@ module _ {D : Type 0} (v : DiskView D) (lawful : IsLawful v)
           (λ closed. inl (old_stands c (twice other len first.0 third.0 c third_same (wider other 1 other len third.0 c (omega arith) (omega (arith, least)) same)) closed))
           (cases_eq (get_or c other 0) 165)
 
-      -- 3. the header is opened
+      -- 3. The header is opened.
       pub part_three : (new : D) → LeavesOnly v filled new (IsOldOutside (v.image filled) other 1) → ChangesOver v old new base version payloads other rows
       part_three new run_on = (filled, part_two filled fill, weaker_run v filled new (HasOldOrNew base version payloads other rows) (IsOldOutside (v.image filled) other 1) run_on opening)
 

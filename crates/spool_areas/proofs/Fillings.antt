@@ -1,4 +1,4 @@
--- The steps of a change over: begun, rows more, and opened.
+-- The steps of a change over: beginning, adding rows, and opening.
 use Rattle.std.proofs.Common.{inl, ◌≡◌, ◌≢◌, ℕ, ◌+◌, ◌-◌, ◌<◌, ◌≤◌, ◌^◌, List, [], ◌∷◌, ◌++◌, Some, length, get_or, take, drop, refl, sym, ◌∙◌, ap, subst, arith, append_assoc, length-append}
 use Rattle.std.proofs.lemmas.List.{take_at, drop-take, drop-append-le, length-take-le, append-nil}
 use Rattle.std.specs.Prelude.{IsSome, Result, Ok, Err, IfOk, OnOk}
@@ -28,7 +28,7 @@ short-append : (some others : List (List ℕ)) → AreShort some → AreShort ot
 short-append [] others a b = b
 short-append (p ∷ some) others a b = (a.0, short-append some others a.1 b)
 
--- a block without bytes has no records
+-- A block without bytes has no records.
 none_left : (others : List (List ℕ)) → [] ≡ records others → others ≡ []
 none_left [] is = refl
 none_left (p ∷ others) is = absurd (cc is)
@@ -36,7 +36,7 @@ none_left (p ∷ others) is = absurd (cc is)
 length-records : (some others : List (List ℕ)) → length (records (some ++ others)) ≡ length (records some) + length (records others)
 length-records some others = ap length (records-append some others) ∙ length-append (records some) (records others)
 
--- records written over the closed gate, with a closed gate behind them
+-- Records written over the closed gate, followed by a closed gate.
 pub rows_added : (base gate : ℕ) (rows others : List (List ℕ)) (old : List ℕ) → AreShort others → gate ≡ base + length (records rows) → gate + (length (records others) + 1) ≤ length old
     → HasEntries base rows old → HasEntries base (rows ++ others) (overwritten gate (records others ++ 0 ∷ []) old)
 rows_added base gate rows others old short at fits has =
@@ -59,7 +59,7 @@ rows_added base gate rows others old short at fits has =
           ∙ ap (λ (l : List ℕ). l ++ 0 ∷ rest) (sym (records-append rows others));
     }
 
--- a header before what changes
+-- A header before the bytes that change.
 pub header_before : (other epoch n : ℕ) (old new : List ℕ) → SameOutside (other + 16) n old new → HasHeader other epoch old → HasHeader other epoch new
 header_before other epoch n old new same has =
     let at : other + 16 ≡ other + 1 + 15 = omega arith in
@@ -68,17 +68,17 @@ header_before other epoch n old new same has =
 
 -- ## Blocks
 
--- what is written alone
+-- All of these rows are written, and the block is empty.
 pub written_only : {D : Type 0} (v : DiskView D) (x : Change D) (now : D) (gate : ℕ) (rows : List (List ℕ)) → HasWritten v x now gate rows → Fills v x now gate [] rows
 written_only v x now gate rows w = record { first = rows; others = []; rows_are = sym (append-nil rows); short = tt; block_is = refl; written = w }
 
--- all rows are written where the block is empty
+-- If the block is empty, all rows are written.
 pub all_written : {D : Type 0} (v : DiskView D) (x : Change D) (now : D) (gate : ℕ) (rows : List (List ℕ)) → Fills v x now gate [] rows → HasWritten v x now gate rows
 all_written v x now gate rows f =
     let same : f.first ≡ rows = sym (append-nil f.first) ∙ ap (λ (l : List (List ℕ)). f.first ++ l) (sym (none_left f.others f.block_is)) ∙ sym f.rows_are in
     subst (HasWritten v x now gate) same f.written
 
--- a record more in the block
+-- One more record in the block.
 pub one_more : {D : Type 0} (v : DiskView D) (x : Change D) (now : D) (gate : ℕ) (block payload : List ℕ) (rows : List (List ℕ)) → length payload < 2 ^ 32
     → Fills v x now gate block rows → Fills v x now gate (block ++ record_of payload) (rows ++ payload ∷ [])
 one_more v x now gate block payload rows short f = record {
@@ -99,7 +99,7 @@ module _ {D : Type 0} (v : DiskView D) (lawful : IsLawful v) (x : Change D) wher
   long_of : (d : D) (r : List ℕ) → v.bytes d ≡ Some r → length r ≡ v.size d
   long_of d r tells = lawful.image_size d r (lawful.reads_image d r tells)
 
-  -- until the header is opened the old payloads stand
+  -- Until the header is opened the old payloads remain.
   pub still_old : (closed now : D) → CanChange v x → LeavesOnly v x.start closed (IsClosing v x.start x.other) → Tells (SameOutside x.other 1) (v.bytes x.start) (v.bytes closed)
       → ((r : List ℕ) → v.bytes closed ≡ Some r → get_or r x.other 0 ≢ 165) → IsSynced v closed → ChangesOnly v closed now (x.other + 1) (x.len - 1) → LeavesOnly v x.start now Old
   still_old closed now can run stays shut synced fill =
@@ -144,7 +144,7 @@ module _ {D : Type 0} (v : DiskView D) (lawful : IsLawful v) (x : Change D) wher
         };
       })
 
-  -- the rows whose records the block has are written
+  -- The rows whose records are in the block are written.
   pub block_written : (now new : D) (gate : ℕ) (block : List ℕ) (rows : List (List ℕ)) → Fills v x now gate block rows
       → gate + length block + 1 ≤ v.size now → gate + length block + 1 ≤ x.other + x.len
       → IsWritten v now new gate (block ++ 0 ∷ []) → ChangesOnly v now new gate (length block + 1) → Fills v x new (gate + length block) [] rows
@@ -178,7 +178,7 @@ module _ {D : Type 0} (v : DiskView D) (lawful : IsLawful v) (x : Change D) wher
         };
       })
 
-  -- what is read meanwhile changes nothing
+  -- Reads change nothing.
   written_still : (now new : D) (gate : ℕ) (rows : List (List ℕ)) → ChangesNothing v now new → HasWritten v x now gate rows → HasWritten v x new gate rows
   written_still now new gate rows still w = record {
     can = w.can;
@@ -207,7 +207,7 @@ module _ {D : Type 0} (v : DiskView D) (lawful : IsLawful v) (x : Change D) wher
   }
 
   module _ (filled : D) (gate : ℕ) (rows : List (List ℕ)) (w : HasWritten v x filled gate rows) where
-    -- a crash before the header is opened
+    -- A crash before the header is opened.
     pub not_opened : ChangesOver v x.start filled x.base x.version x.payloads x.other rows
     not_opened =
         ends_old v lawful x.start x.len x.base x.other x.epoch x.version x.payloads w.can.stands w.can.is_half w.can.least rows filled
@@ -233,7 +233,7 @@ module _ {D : Type 0} (v : DiskView D) (lawful : IsLawful v) (x : Change D) wher
           changed v lawful x.start x.len x.base x.other x.epoch x.version x.payloads w.can.stands w.can.is_half w.can.least w.closed w.run w.stays w.shut w.synced
           filled w.fill.images w.fill.bytes synced rows x.new_epoch gate w.can.newer w.can.fits w.header (λ is. kept) within new change.bytes written new_synced
 
--- a run that never opens the header
+-- A run that never opens the header.
 pub old_only : {D : Type 0} (v : DiskView D) → IsLawful v → (old new : D) (base other version : ℕ) (payloads rows : List (List ℕ)) → LeavesOnly v old new (HasVersionAndPayloads base version payloads) → ChangesOver v old new base version payloads other rows
 old_only v lawful old new base other version payloads rows run =
     (new, run, started v new (HasOldOrNew base version payloads other rows) (λ c left. inl (at_return v lawful old new (HasVersionAndPayloads base version payloads) run c (lawful.only_now new c left))))

@@ -1,4 +1,4 @@
--- What was read of the headers tells the current area.
+-- The headers that were read determine the current area.
 use Rattle.std.proofs.Common.{◌≡◌, ℕ, ◌<◌, ◌≤◌, ◌/◌, List, length, sym, ◌∙◌, ap, subst, arith, Result, Err}
 use Rattle.std.proofs.lemmas.Bool.Decides.{nat_tests}
 use Rattle.std.specs.Prelude.{if◌then◌else◌, nat_lt}

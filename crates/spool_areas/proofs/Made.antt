@@ -1,4 +1,4 @@
--- What making a spool leaves on the device.
+-- The bytes after `make`.
 use Rattle.std.proofs.Common.{◌≡◌, inl, inr, ⊎_elim, ℕ, ◌+◌, ◌-◌, ◌≤◌, ◌<◌, List, [], ◌∷◌, ◌++◌, suc, false, Option, Some, None, Ok, length, get_or, take, drop, refl, sym, ◌∙◌, ap, subst, arith, append_assoc, length-drop}
 use Rattle.std.proofs.Math.Seq.{get_or-append_right}
 use Rattle.std.proofs.lemmas.List.{get_or-take, get_or-drop, get_or_at, length-take-le, drop-drop, drop_more}
@@ -17,16 +17,16 @@ use Rattle.spool_areas.proofs.Headers.{by_headers}
 use Rattle.spool_areas.proofs.Filled.{told_same}
 use Rattle.spool_areas.proofs.Switch.{is_closed, same_byte}
 
--- area 0 begins so, and then come these bytes
+-- The first bytes of area 0, followed by `rest`.
 abbrev pub first_area : List ℕ → List ℕ
 first_area rest = 165 ∷ (header_behind_gate first_epoch ++ 0 ∷ rest)
 
--- the header and the gate behind it, and then the gate before it
+-- The header and the gate after it are written, and then the gate before it.
 laid : (old : List ℕ) → 0 < length old → overwritten 0 (165 ∷ []) (overwritten 16 (0 ∷ []) (overwritten 1 (header_behind_gate first_epoch) old)) ≡ first_area (drop 17 old)
 laid [] some = absurd (omega arith)
 laid (x ∷ old) some = ap first_area (drop-drop 1 15 old)
 
--- the second area's gate, behind the first area's
+-- The second area's gate, which is after the first area's.
 other_gate : (second : ℕ) (rest : List ℕ) → 17 ≤ second → get_or rest (second - 17) 0 ≡ 0 → is_open (header_at second (first_area rest)) ≡ false
 other_gate second rest behind closed =
     let at : second + 0 ≡ second = omega arith in
@@ -34,7 +34,7 @@ other_gate second rest behind closed =
     (get_or-take 16 (drop second (first_area rest)) 0 0 (omega arith) ∙ get_or-drop second (first_area rest) 0 0 ∙ ap (λ (n : ℕ). get_or (first_area rest) n 0) at
     ∙ get_or-append_right (165 ∷ (header_behind_gate first_epoch ++ 0 ∷ [])) rest second 0 behind ∙ closed)
 
--- by a closed second header the first area is the current one
+-- If the second header is closed, the first area is current.
 chosen_first : (second : ℕ) (rest other : List ℕ) → is_open other ≡ false → chosen second (header_at 0 (first_area rest)) other ≡ Ok 0
 chosen_first second rest other shut =
     let header = header_at 0 (first_area rest) in
@@ -42,7 +42,7 @@ chosen_first second rest other shut =
     else if open_other then newer second (epoch_of header) (epoch_of other)
     else Ok 0) shut
 
--- by two closed headers there is none
+-- If both headers are closed, no area is current.
 chosen_none : (second : ℕ) (header other : List ℕ) → is_open header ≡ false → is_open other ≡ false → chosen second header other ≡ Err NotASpool
 chosen_none second header other shut other_shut =
     ap (λ o. if o && not (is_known header) then Err (Damaged 0)
@@ -71,30 +71,30 @@ is_empty rest room closed =
       version_is = refl;
     }
 
--- a closed gate was written there
+-- A closed gate was written there.
 closed_at : (second : ℕ) (old : List ℕ) → second < length old → get_or (overwritten second (0 ∷ []) old) second 0 ≡ 0
 closed_at second old inside =
     ap (λ (l : List ℕ). get_or l second 0) (append_assoc (take second old) (0 ∷ []) (drop (second + 1) old))
     ∙ get_or_at (take second old) 0 (drop (second + 1) old) 0 second (length-take-le second old (omega arith))
 
--- one byte behind what changed
+-- A byte after those that changed.
 later_byte : (at n : ℕ) (old new : List ℕ) (k : ℕ) → at + n ≤ k → SameOutside at n old new → get_or new k 0 ≡ get_or old k 0
 later_byte at n old new k behind same =
     let far : at + n + (k - (at + n)) ≡ k = omega arith in
     ap (λ (i : ℕ). get_or new i 0) (sym far) ∙ sym (get_or-drop (at + n) new (k - (at + n)) 0) ∙ ap (λ (l : List ℕ). get_or l (k - (at + n)) 0) same.after
     ∙ get_or-drop (at + n) old (k - (at + n)) 0 ∙ ap (λ (i : ℕ). get_or old i 0) far
 
--- where the first byte alone changed, what was written there stands
+-- If only the first byte changed, the bytes are the old ones overwritten with it.
 first_byte : (x : ℕ) (old new : List ℕ) → 0 < length new → SameOutside 0 1 old new → get_or new 0 0 ≡ x → new ≡ overwritten 0 (x ∷ []) old
 first_byte x old new some same is = drop_more new 0 0 some ∙ ap (λ (b : ℕ). b ∷ drop 1 new) is ∙ ap (λ (l : List ℕ). x ∷ l) same.after
 
--- the first byte doesn't count for what is behind area 0's beginning, where a later gate is closed
+-- The bytes after the start of area 0 do not depend on the first byte, also if a later gate is closed.
 behind_byte : (k x : ℕ) (rest : List ℕ) → drop 17 (overwritten (suc k) (0 ∷ []) (x ∷ rest)) ≡ drop 16 ((take k rest ++ 0 ∷ []) ++ drop (suc k) rest)
 behind_byte k x rest =
     let is : suc k + 1 ≡ suc (suc k) = omega arith in
     ap (λ (m : ℕ). drop 17 ((take (suc k) (x ∷ rest) ++ 0 ∷ []) ++ drop m (x ∷ rest))) is
 
--- the bytes once both gates are closed
+-- The bytes after both gates were closed.
 abbrev closed_of : ℕ → List ℕ → List ℕ
 closed_of second r = overwritten second (0 ∷ []) (overwritten 0 (0 ∷ []) r)
 
@@ -120,7 +120,7 @@ module _ (second : ℕ) (r : List ℕ) (is_half : second ≡ half (length r)) (r
   second_gate : get_or (closed_of second r) second 0 ≡ 0
   second_gate = closed_at second (overwritten 0 (0 ∷ []) r) (omega (arith, room, is_half, one.size))
 
-  -- all that is written, in its order
+  -- All bytes that are written, in order.
   all_laid : overwritten 0 (165 ∷ []) (overwritten 16 (0 ∷ []) (overwritten 1 (header_behind_gate first_epoch) (closed_of second r))) ≡ empty_spool r
   all_laid =
       laid (closed_of second r) (omega (arith, room, is_half, closed_len)) ∙ ap first_area (behind_first second r (omega (arith, room)) (omega (arith, room, is_half)))
@@ -144,7 +144,7 @@ pub made : (second size : ℕ) (old new : Option (List ℕ)) → second ≡ half
 made second size None new is_half room long is = is
 made second size (Some r) new is_half room long is = is ∙ ap Some (all_laid second r (is_half ∙ ap half (sym (long r refl))) room)
 
--- the one image is what is told
+-- The only image is the bytes that the disk reports.
 pub each_made : (size : ℕ) (image : List ℕ → Type 0) (old new : Option (List ℕ)) → least_area ≤ half size → ((r : List ℕ) → old ≡ Some r → length r ≡ size) → new ≡ option_map empty_spool old
     → ((r : List ℕ) → new ≡ Some r → (c : List ℕ) → image c → c ≡ r) → IsSome old → (c : List ℕ) → image c → HasVersionAndPayloads 0 newest_version [] c
 each_made size image (Some r) new room long is synced told c now =
@@ -156,7 +156,7 @@ still_told (Some r) new is told = subst (λ (o : Option (List ℕ)). IsSome o) (
 still_told None new is told = absurd (cc told)
 
 module _ {D : Type 0} (v : DiskView D) (lawful : IsLawful v) where
-  -- 1. the gates are closed, one after the other
+  -- 1. The gates are closed, first that of area 0.
   pub close_one : (old new : D) (second : ℕ) → LeavesOnly v old new (IsOldOutside (v.image old) 0 1) → LeavesOnly v old new (IsOldButGates (v.image old) second)
   close_one old new second run = weaker_run v old new (IsOldButGates (v.image old) second) _ run (λ c o. (c, o, same_all second 1 c))
 
@@ -203,7 +203,7 @@ module _ {D : Type 0} (v : DiskView D) (lawful : IsLawful v) where
         let other : get_or c second 0 ≡ 0 = later_byte 1 16 shut c second (omega (arith, room)) same ∙ second_gate second first.0 is_half room in
         inl (no_spool c (same.size ∙ shut_len) (λ is. absurd (omega (arith, is, gate))) (λ is. absurd (omega (arith, is, other))))
 
-    -- 2. area 0 is filled
+    -- 2. Area 0 is filled.
     pub while_filled : (new : D) → LeavesOnly v closed new (IsOldOutside (v.image closed) 1 16) → ClosesFirst v old new IsNoSpoolOrEmpty
     while_filled new run = inr (closed, closing, weaker_run v closed new IsNoSpoolOrEmpty _ run filling)
 
@@ -229,6 +229,6 @@ module _ {D : Type 0} (v : DiskView D) (lawful : IsLawful v) where
           (λ still. inl (no_spool c size still (λ is. absurd (omega (arith, is, other)))))
           (cases_eq (get_or c 0 0) 165)
 
-      -- 3. its header is opened
+      -- 3. Its header is opened.
       pub while_opened : (new : D) → LeavesOnly v filled new (IsOldOutside (v.image filled) 0 1) → ClosesFirst v old new IsNoSpoolOrEmpty
       while_opened new run = inr (closed, closing, runs_on v closed filled new IsNoSpoolOrEmpty _ (weaker_run v closed filled IsNoSpoolOrEmpty _ fill filling) run opening)

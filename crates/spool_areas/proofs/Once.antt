@@ -13,7 +13,7 @@ use Rattle.gate_journal.proofs.Places.{records-append, at_end, same_size, regrou
 use Rattle.spool_areas.specs.Header.{half, header_len, current_area}
 use Rattle.spool_areas.specs.Payloads.{HasPayloads, HasFirstPayloads, IsTornAfter, gate_after}
 
--- where two readings go on with a record, it is the same one
+-- If two readings continue with a record, it is the same record.
 same_record : (p q : List ℕ) (ps qs : List (List ℕ)) (r s : List ℕ) → length p < 2 ^ 32 → length q < 2 ^ 32 → records (p ∷ ps) ++ r ≡ records (q ∷ qs) ++ s → (p ≡ q) × (records ps ++ r ≡ records qs ++ s)
 same_record p q ps qs r s short_p short_q e =
     let m = length p in
@@ -29,7 +29,7 @@ Begins first all = (rest : List (List ℕ)) × (all ≡ first ++ rest)
 one_more : (p q : List ℕ) (ps qs : List (List ℕ)) → p ≡ q → Begins ps qs → Begins (p ∷ ps) (q ∷ qs)
 one_more p q ps qs same begins = (begins.0, cc (same, begins.1))
 
--- up to a closed gate there are no further records
+-- There are no further records up to a closed gate.
 pub begins_all : (ps qs : List (List ℕ)) (g : ℕ) (r s : List ℕ) → (g ≡ 165 → ⊥) → AreShort ps → AreShort qs → records ps ++ r ≡ records qs ++ g ∷ s → Begins ps qs
 begins_all [] qs g r s closed shorts_p shorts_q e = (qs, refl)
 begins_all (p ∷ ps) [] g r s closed shorts_p shorts_q e = let is : g ≡ 165 = cc in absurd (closed is)
@@ -57,7 +57,7 @@ found_by end place gate n = if gate == 165 then (if nat_lt (place + 5 + n) end t
 whole_record : (end place gate n : ℕ) → gate ≡ 165 → place + 5 + n < end → found_by end place gate n ≡ Entry (place + 5) n
 whole_record end place gate n is fits = grind (arith, nat_tests)
 
--- a record that ends in the area is found as an entry
+-- A record that ends in the area is found as an entry.
 whole_entry : (base end : ℕ) (before after : List (List ℕ)) (payload bytes tail : List ℕ) → AreShort (before ++ payload ∷ after) → drop base bytes ≡ records (before ++ payload ∷ after) ++ tail
     → base + length (records before) + 5 + length payload < end → entry_at bytes end (base + length (records before)) ≡ Entry (base + length (records before) + 5) (length payload)
 whole_entry base end before after payload bytes tail shorts stands fits =
@@ -82,7 +82,7 @@ module _ (bytes : List ℕ) where
   pub same_base : (base place : ℕ) → current_area bytes ≡ Ok base → current_area bytes ≡ Ok place → place ≡ base
   same_base base place a b = cc (a, b)
 
-  -- a whole record isn't torn
+  -- A whole record is not torn.
   not_torn : (base : ℕ) (first : List (List ℕ)) (payload : List ℕ) (after : List (List ℕ)) (tail : List ℕ) → AreShort (first ++ payload ∷ after) → drop (base + header_len) bytes ≡ records (first ++ payload ∷ after) ++ tail
       → gate_after base (first ++ payload ∷ after) < base + half (length bytes) → entry_at bytes (base + half (length bytes)) (gate_after base first) ≡ Damaged → ⊥
   not_torn base first payload after tail shorts stands within torn =
@@ -96,7 +96,7 @@ module _ (bytes : List ℕ) where
   pub either_first : (base : ℕ) (some others : List (List ℕ)) → HasFirstPayloads base some bytes → HasFirstPayloads base others bytes → Begins others some ⊎ Begins some others
   either_first base some others a b = one_begins some others a.first.rest b.first.rest a.first.short b.first.short (sym a.first.stands ∙ b.first.stands)
 
-  -- behind a torn record nothing stands
+  -- No record follows a torn one.
   torn_last : (base : ℕ) (some others : List (List ℕ)) → IsTornAfter base others bytes → HasFirstPayloads base some bytes → Begins others some → some ≡ others
   torn_last base some others torn has ([], is) = is ∙ append-nil others
   torn_last base some others torn has (payload ∷ after, is) =
@@ -114,7 +114,7 @@ module _ (bytes : List ℕ) where
       (λ begins. begins)
       (either_first base first all has torn.first)
 
-  -- payloads up to a closed gate are first payloads too
+  -- Payloads up to a closed gate are first payloads too.
   are_first : (base : ℕ) (payloads : List (List ℕ)) → HasPayloads base payloads bytes → HasFirstPayloads base payloads bytes
   are_first base payloads has = record {
     current = has.current;

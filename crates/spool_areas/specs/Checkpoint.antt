@@ -1,4 +1,4 @@
--- Changing over to the other area.
+-- The change over to the other area.
 use Rattle.std.specs.Prelude.{◌≡◌, ◌⊎◌, ℕ, ◌+◌, ◌-◌, ◌<◌, ◌≤◌, ◌^◌, List, [], ◌∷◌, Bool, true, false, ◌&&◌, Some, IsSome, Result, Ok, Err, length, map, take, drop, slice_index_or, nat_le, ◌==◌, if◌then◌else◌}
 use Rattle.std.specs.declared.vec.Vec.{Vec}
 use Rattle.std.specs.declared.alloc.Global.{Global}
@@ -13,11 +13,11 @@ use Rattle.spool_areas.specs.Header.{header_len, header_at, header_behind_gate, 
 use Rattle.spool_areas.specs.Payloads.{HasVersionAndPayloads, gate_after}
 use Rattle.spool_areas.specs.Current.{Current}
 
--- the greatest epoch
+-- The greatest epoch.
 abbrev pub last_epoch : ℕ
 last_epoch = 18446744073709551615
 
--- where the other area begins, by where the current one begins and where the second one does
+-- The base of the other area, by the base of the second area and the base of the current one.
 abbrev pub other_of : ℕ → ℕ → ℕ
 other_of second base = if base == 0 then second else 0
 
@@ -27,14 +27,14 @@ area_len a = a.end - a.base
 abbrev pub other_base : {D : Type 0} → Current D → ℕ
 other_base a = other_of (area_len a) a.base
 
--- Payloads of these lengths, appended in order from a gate on, meet no Full: behind each record and its next gate six
--- bytes more are left.
+-- Payloads of these lengths, appended in order from a gate on, all fit: each record and its next gate leave six more
+-- bytes.
 abbrev pub has_room : ℕ → ℕ → List ℕ → Bool
 has_room end gate [] = true
 has_room end gate (n ∷ ns) = nat_le (gate + 5 + n + kept_room) end && has_room end (gate + 5 + n) ns
 
--- Where the first gate of the other area lies, or why no rows of these lengths can be put there. In this order: dead,
--- the last epoch, full.
+-- The first gate of the other area, or the reason why rows of these lengths cannot be written there. The checks are in
+-- this order: dead, the last epoch, full.
 abbrev pub plan_of : {D : Type 0} → Current D → List ℕ → Result ℕ AreaFault
 plan_of a lengths =
     if a.dead then Err Dead
@@ -42,21 +42,21 @@ plan_of a lengths =
     else if has_room (other_base a + area_len a) (other_base a + header_len) lengths then Ok (other_base a + header_len)
     else Err Full
 
--- a header of this epoch and the newest version lies there, behind whatever gate
+-- A header of this epoch and the newest version is at `other`, with any gate.
 pub record HasHeader (other epoch : ℕ) (bytes : List ℕ) : Type 0 where
   pub behind : take 15 (drop (other + 1) bytes) ≡ header_behind_gate epoch
 
--- the header at other is closed, or open at a lower epoch than the one at base
+-- The header at `other` is closed, or open with a lower epoch than the one at `base`.
 abbrev pub IsClosedOrOlder : ℕ → ℕ → List ℕ → Type 0
 IsClosedOrOlder base other bytes =
     (is_open (header_at other bytes) ≡ false) ⊎ (epoch_of (header_at other bytes) < epoch_of (header_at base bytes))
 
--- the old payloads in the old area, in its version, or the new ones in the new area, in the newest version
+-- The old payloads in the old area, in its version, or the new ones in the new area, in the newest version.
 abbrev pub HasOldOrNew : ℕ → ℕ → List (List ℕ) → ℕ → List (List ℕ) → List ℕ → Type 0
 HasOldOrNew base version old other new bytes =
     HasVersionAndPayloads base version old bytes ⊎ HasVersionAndPayloads other newest_version new bytes
 
--- each row is given as a frame: four free bytes, the payload and one free byte
+-- Each row is passed as a frame: four free bytes, the payload and one free byte.
 abbrev pub frames_of : List (Vec ℕ Global) → List (List ℕ)
 frames_of rows = map (λ row. row.items) rows
 
@@ -72,12 +72,12 @@ payloads_in frames = map payload_of frames
 abbrev pub lengths_in : List (List ℕ) → List ℕ
 lengths_in frames = map (λ frame. length frame - 5) frames
 
--- A crash in the middle of closing a gate: nothing has changed, or the gate was open and is any byte.
+-- The images of a crash while a gate is being closed: nothing has changed, or the gate was open and is any byte.
 abbrev pub IsClosing : {D : Type 0} → DiskView D → D → ℕ → List ℕ → Type 0
 IsClosing v disk at c = v.image disk c ⊎ (IsOldOutside (v.image disk) at 1 c × ((r : List ℕ) → v.bytes disk ≡ Some r → slice_index_or r at 0 ≡ open_gate))
 
--- Of the two areas of this length the one at base is the current one: nothing is unsynced, and each image has these
--- payloads there, with this epoch and version.
+-- Of the two areas of this length the one at `base` is current. Nothing is unsynced, and each image has these payloads
+-- there, with this epoch and version.
 pub record Stands {D : Type 0} (v : DiskView D) (disk : D) (len base other epoch version : ℕ) (payloads : List (List ℕ)) : Type 0 where
   pub two : ((base ≡ 0) × (other ≡ len)) ⊎ ((base ≡ len) × (other ≡ 0))
   pub tells : IsSome (v.bytes disk)
@@ -85,20 +85,20 @@ pub record Stands {D : Type 0} (v : DiskView D) (disk : D) (len base other epoch
   pub each : (c : List ℕ) → v.image disk c → HasVersionAndPayloads base version payloads c
   pub epoch_is : (c : List ℕ) → v.image disk c → epoch_of (header_at base c) ≡ epoch
 
--- the same once it was changed over, in the newest version, with the gate behind the rows
+-- The same after the change over, in the newest version, with the gate after the rows.
 pub record StandsNew {D : Type 0} (v : DiskView D) (disk : D) (base epoch gate : ℕ) (payloads : List (List ℕ)) : Type 0 where
   pub tells : IsSome (v.bytes disk)
   pub each : (c : List ℕ) → v.image disk c → HasVersionAndPayloads base newest_version payloads c
   pub epoch_is : (c : List ℕ) → v.image disk c → epoch_of (header_at base c) ≡ epoch
   pub gate_at : gate ≡ gate_after base payloads
 
--- There is a moment such that a crash before it leaves the old payloads in their version, and a crash after it these or the
--- new ones in the newest version.
+-- At some moment the disk was filled: a crash before it leaves the old payloads in their version, and a crash after it
+-- leaves these, or the new ones in the newest version.
 abbrev pub ChangesOver : {D : Type 0} → DiskView D → D → D → ℕ → ℕ → List (List ℕ) → ℕ → List (List ℕ) → Type 0
 ChangesOver {D} v before after base version old other new =
     (filled : D) × LeavesOnly v before filled (HasVersionAndPayloads base version old) × LeavesOnly v filled after (HasOldOrNew base version old other new)
 
--- the other area is the current one now, with the next epoch and the newest version, and its gate lies behind these rows
+-- The other area is the current one now, with the next epoch and the newest version, and its gate is after these rows.
 pub record IsChanged {D : Type 0} (old : Current D) (rows : List (List ℕ)) (new : Current D) : Type 0 where
   pub base : new.base ≡ other_base old
   pub end : new.end ≡ other_base old + area_len old

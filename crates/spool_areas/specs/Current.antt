@@ -1,11 +1,11 @@
--- An opened spool's areas as their callers see them.
+-- The areas of an opened spool as their callers see them.
 use Rattle.std.specs.Prelude.{◌≡◌, ℕ, List, Bool, IsSome}
 use Rattle.spool_disk.specs.Disk.{DiskView, IsSynced}
 use Rattle.spool_areas.specs.Header.{header_at, epoch_of, version_of}
 use Rattle.spool_areas.specs.Payloads.{HasPayloads, gate_after}
 
--- the disk, where the current area begins and ends, its epoch, its version, where its closed gate lies, and whether the
--- device has failed
+-- The disk, the base and end of the current area, its epoch, its version, the place of its closed gate, and whether the
+-- device has failed.
 pub record Current (D : Type 0) : Type 0 where
   pub disk : D
   pub base : ℕ
@@ -15,8 +15,8 @@ pub record Current (D : Type 0) : Type 0 where
   pub gate : ℕ
   pub dead : Bool
 
--- The disk tells its bytes and nothing is unsynced. The current area of each of its images is the one of this epoch and
--- version and holds these payloads and no others, and the closed gate lies behind them.
+-- The disk reports its bytes and nothing is unsynced. The current area of each of its images has this epoch and version
+-- and these payloads and no others, followed by the closed gate.
 pub record KeepsPayloads {D : Type 0} (v : DiskView D) (areas : Current D) (payloads : List (List ℕ)) : Type 0 where
   pub tells : IsSome (v.bytes areas.disk)
   pub synced : IsSynced v areas.disk

@@ -18,18 +18,18 @@ use std::marker::Model;
 
 mod steps;
 
-/// The areas of a spool's device, opened at the current one. It holds the disk.
+/// The areas of a spool's device, opened at the current one. It owns the disk.
 #[derive(Drop)]
 pub struct Areas<D: Disk> {
     disk: D,
     base: u64,
-    // how many bytes each of the two areas has
+    // The number of bytes of each area.
     len: u64,
     epoch: u64,
     version: u8,
     journal: Journal,
     dead: bool,
-    // What was read last. Each call that may write clears it first.
+    // The bytes that were read last. Each call that may write clears it first.
     window: Window,
 }
 
@@ -46,8 +46,8 @@ impl<D: Disk> Model for Areas<D> {
 }
 
 impl<D: Disk> Areas<D> {
-    /// The areas of a disk whose current area lies from `base` up to `end` and has this epoch and version, with the gate
-    /// behind its records at `gate`. The window is on this disk. It calls no device.
+    /// Returns the areas of a disk whose current area is from `base` to `end` and has this epoch and version, with the
+    /// gate after its records at `gate`. The window is on this disk. It calls no device.
     pub(crate) fn resume(
         disk: D,
         window: Window,
@@ -77,10 +77,11 @@ impl<D: Disk> Areas<D> {
         }
     }
 
-    /// Adds the payload of a frame to the current area, and answers the payload's place on the device.
+    /// Adds the payload of a frame to the current area, and returns the payload's place on the device.
     ///
-    /// A frame is four free bytes, the payload, which may be empty, and one free byte. It is `Full` exactly where the
-    /// record and the 7 bytes kept behind it, room for one record of one byte and its next gate, would leave the area.
+    /// A frame is four free bytes, the payload, which may be empty, and one free byte. The call fails with `Full`
+    /// exactly if the record and the 7 bytes reserved after it, room for one record of one byte and its next gate,
+    /// would exceed the area.
     pub fn append(&mut self, frame: &mut [u8]) -> Result<u64, JournalFault>
         requires whole { 5 ≤ length frame.old }
         requires short { length frame.old < 2 ^ 32 }
@@ -95,8 +96,8 @@ impl<D: Disk> Areas<D> {
         added
     }
 
-    /// The same into the room that `append` keeps: it is `Full` exactly where the record and its next gate would leave
-    /// the area.
+    /// Does the same, using the room that `append` reserves. It fails with `Full` exactly if the record and its next
+    /// gate would exceed the area.
     pub fn append_kept(&mut self, frame: &mut [u8]) -> Result<u64, JournalFault>
         requires whole { 5 ≤ length frame.old }
         requires short { length frame.old < 2 ^ 32 }
@@ -111,8 +112,8 @@ impl<D: Disk> Areas<D> {
         added
     }
 
-    /// Where the first gate of the other area lies, so that the places of rows with payloads of these lengths are known
-    /// before they are put there; or why they can't be. It calls no device.
+    /// Returns the first gate of the other area, so that the places of rows with payloads of these lengths are known
+    /// before the rows are written. If they cannot be written, returns the error. It calls no device.
     pub fn plan(&self, lengths: &[u64]) -> Result<u64, AreaFault>
         ensures { result ≡ plan_of self.now lengths.now }
     {
@@ -124,7 +125,7 @@ impl<D: Disk> Areas<D> {
         }
     }
 
-    // Where the first gate of the other area lies.
+    // Returns the first gate of the other area.
     fn other_gate(&self) -> Result<u64, AreaFault>
         ensures { result ≡ plan_of self.now [] }
     {
@@ -141,13 +142,13 @@ impl<D: Disk> Areas<D> {
         }
     }
 
-    /// Puts the rows into the other area and makes it the current one, with the next epoch and in version 2, in three
-    /// parts: the gate of its header is closed where it reads open; the rest of the header and the records of the rows
-    /// are written; and that gate is opened. Each row is a frame, as in `append`.
+    /// Writes the rows into the other area and makes it current, with the next epoch and version 2, in three parts: the
+    /// gate of its header is closed if it reads open; the rest of the header and the records of the rows are written;
+    /// and that gate is opened. Each row is a frame, as in `append`.
     pub fn checkpoint(&mut self, rows: &mut [Vec<u8>]) -> Result<(), AreaFault>
         requires frames { AreFrames (frames_of rows.old) }
 
-        // The first three faults are those of a plan for rows of these lengths. Nothing has changed then.
+        // The first three errors are those of a plan for rows of these lengths. Nothing has changed then.
         ensures refused { (fault : AreaFault) → fault ≢ AreaFault.Disk →
             (IsErrOf result fault ↔ (plan_of self.old (lengths_in (frames_of rows.old)) ≡ Err fault)) }
         ensures untouched { (fault : AreaFault) → fault ≢ AreaFault.Disk → IsErrOf result fault → self.new ≡ self.old }
@@ -156,11 +157,12 @@ impl<D: Disk> Areas<D> {
         ensures changed { OnOk result (IsChanged self.old (payloads_in (frames_of rows.old)) self.new) }
         ensures held { OnErr result ((self.new.base ≡ self.old.base) × (self.new.end ≡ self.old.end) × (self.new.epoch ≡ self.old.epoch) × (self.new.gate ≡ self.old.gate) × (self.new.version ≡ self.old.version)) }
 
-        // The bytes of the old area stay, and a disk that tells nothing goes on so.
+        // The bytes of the old area do not change, and a disk that reports nothing still reports nothing.
         ensures changes { ChangesOnly D.device self.old.disk self.new.disk (other_base self.old) (area_len self.old) }
 
-        // Where each image has these payloads and no others, it has the rows and no others afterwards. A crash leaves the
-        // payloads, in their version, until the new header is opened, and from then on these or the rows in version 2.
+        // If each image has these payloads and no others, each has the rows and no others after the call. A crash
+        // leaves the payloads in their version until the new header is opened, and after that these, or the rows in
+        // version 2.
         ensures added { OnOk result ((payloads : List (List ℕ)) →
             KeepsPayloads D.device self.old payloads → KeepsPayloads D.device self.new (payloads_in (frames_of rows.old))) }
         ensures durable { OnOk result (IsSynced D.device self.new.disk) }
@@ -185,7 +187,7 @@ impl<D: Disk> Areas<D> {
         }
     }
 
-    /// The same for the payloads of these frames.
+    /// Returns the same for the payloads of these frames.
     pub fn plan_rows(&self, rows: &[Vec<u8>]) -> Result<u64, AreaFault>
         requires { AreFrames (frames_of rows.now) }
         ensures { result ≡ plan_of self.now (lengths_in (frames_of rows.now)) }
@@ -198,7 +200,7 @@ impl<D: Disk> Areas<D> {
         }
     }
 
-    /// Reads bytes of the current area, behind its header. Small reads one behind the other are served from one block.
+    /// Reads bytes of the current area after its header. Consecutive small reads use one block in memory.
     pub fn read_extent(&mut self, place: u64, into: &mut [u8]) -> Result<(), ReadFault>
         requires behind { self.old.base + header_len ≤ place }
         requires inside { place + length into.old ≤ self.old.end }
@@ -224,8 +226,8 @@ impl<D: Disk> Areas<D> {
         }
     }
 
-    /// The version of the current area, 1 or 2: that of its header when it was opened, and 2 once a checkpoint has
-    /// answered `Ok`.
+    /// Returns the version of the current area, 1 or 2: that of its header when it was opened, and 2 after a checkpoint
+    /// returned `Ok`.
     pub fn version(&self) -> u8
         ensures value { result ≡ self.now.version }
         ensures known { IsVersion result }
@@ -233,35 +235,35 @@ impl<D: Disk> Areas<D> {
         self.version
     }
 
-    /// Where the current area begins.
+    /// Returns the place where the current area begins.
     pub fn base(&self) -> u64
         ensures { result ≡ self.now.base }
     {
         self.base
     }
 
-    /// The epoch of the current area.
+    /// Returns the epoch of the current area.
     pub fn epoch(&self) -> u64
         ensures { result ≡ self.now.epoch }
     {
         self.epoch
     }
 
-    /// How many bytes of the current area lie behind its records.
+    /// Returns the number of bytes of the current area after its records.
     pub fn room(&self) -> u64
         ensures { result ≡ self.now.end - self.now.gate }
     {
         self.journal.room()
     }
 
-    /// Whether a call has met a fault of the device.
+    /// Returns whether a call failed because of the device.
     pub fn is_dead(&self) -> bool
         ensures { result ≡ self.now.dead }
     {
         self.dead
     }
 
-    /// Gives the disk back.
+    /// Returns the disk.
     pub fn into_disk(self) -> D
         ensures { result ≡ self.disk }
     {

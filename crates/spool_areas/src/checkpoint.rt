@@ -1,4 +1,4 @@
-//! Putting rows into the other area, in three parts: its header is closed, the area is filled, and its header is opened.
+//! Writing rows into the other area in three parts: its header is closed, the area is filled, and its header is opened.
 ghost use Rattle.std.specs.Prelude.{◌≡◌, ◌∷◌, ◌<◌, ◌≤◌, ◌+◌, ◌-◌, ◌^◌, ◌++◌, [], List, ℕ, false, true, Some, IsSome, IsTrue, OnOk, IfOk, length, map};
 ghost use Rattle.spool_disk.specs.Disk.{IsSynced, ChangesOnly, HasCause};
 ghost use Rattle.gate_journal.specs.Appends.{kept_room};
@@ -15,7 +15,7 @@ use crate::header::{HEADER_LEN, header_behind_gate};
 use gate_journal::{HEAD_LEN, Journal, JournalFault, KEPT_ROOM, OPEN_GATE};
 use spool_disk::{DeviceFault, Disk, persist};
 
-/// Whether payloads of these lengths can be appended in order from a gate on.
+/// Returns whether payloads of these lengths can be appended in order from gate `first` on.
 pub(crate) fn have_room(end: u64, first: u64, lengths: &[u64]) -> bool
     requires { first ≤ end }
     ensures { result ≡ has_room end first lengths.now }
@@ -30,7 +30,7 @@ pub(crate) fn have_room(end: u64, first: u64, lengths: &[u64]) -> bool
     true
 }
 
-/// The same for the payloads of these frames.
+/// Returns the same for the payloads of these frames.
 pub(crate) fn rows_have_room(end: u64, first: u64, rows: &[Vec<u8>]) -> bool
     requires inside { first ≤ end }
     requires frames { AreFrames (frames_of rows.now) }
@@ -47,7 +47,8 @@ pub(crate) fn rows_have_room(end: u64, first: u64, rows: &[Vec<u8>]) -> bool
     true
 }
 
-/// The same by what the records take together, 5 bytes and the payload each. The greatest number stands for all above it.
+/// Returns the same for records whose lengths, 5 bytes and the payload each, have this sum. The greatest sum represents
+/// any sum above it too.
 pub(crate) fn have_room_by_sum(end: u64, first: u64, sum: u64) -> bool
     requires { first + kept_room ≤ end }
     ensures exact { (payloads : List (List ℕ)) → sum ≡ sum_of payloads → result ≡ has_room end first (map length payloads) }
@@ -56,7 +57,8 @@ pub(crate) fn have_room_by_sum(end: u64, first: u64, sum: u64) -> bool
     end - first - KEPT_ROOM >= sum
 }
 
-// Whether the record of a payload of this length and the 7 bytes kept behind it lie between a gate and the end.
+// Returns whether the record of a payload of this length and the 7 bytes reserved after it fit between a gate and the
+// end.
 fn has_room_at(end: u64, gate: u64, len: u64) -> bool
     requires { gate ≤ end }
     ensures { result ≡ has_room end gate (len ∷ []) }
@@ -65,7 +67,7 @@ fn has_room_at(end: u64, gate: u64, len: u64) -> bool
     end - gate >= taken && end - gate - taken >= len
 }
 
-// Appends a row to a journal that has room for it.
+// Appends the row to a journal that has room for it.
 fn append_row<D: Disk>(
     disk: &mut D,
     journal: &mut Journal,
@@ -119,7 +121,7 @@ fn append_rows<D: Disk>(
     Ok(())
 }
 
-// Fills the other area while its header's gate is closed: the rest of the header, and the records of the rows.
+// Fills the other area while its header's gate is closed. Writes the rest of the header and the records of the rows.
 fn fill_area<D: Disk>(
     disk: &mut D,
     other: u64,
@@ -147,8 +149,8 @@ fn fill_area<D: Disk>(
     Ok(journal)
 }
 
-/// Puts the rows into the other area and changes over to it, with this epoch. Its header is opened only once all that
-/// lies behind it is on the device, and until then the old area is the current one in every image.
+/// Writes the rows into the other area and makes it current, with this epoch. Its header is opened only after all bytes
+/// after the header are on the device. Until then the old area is the current one in every image.
 pub(crate) fn change_over<D: Disk>(
     disk: &mut D,
     other: u64,
@@ -165,8 +167,8 @@ pub(crate) fn change_over<D: Disk>(
     ensures journal { IfOk result (λ j. (is_dead j ≡ false) × (base_of j ≡ other + header_len) × (end_of j ≡ other + len)) }
     ensures place { IfOk result (λ j. place_of j ≡ gate_after other (payloads_in (frames_of rows.old))) }
 
-    // Where each image has the old payloads in the old area, it has the rows in the other one afterwards. A crash leaves
-    // the old ones until the header is opened, and then these or the rows.
+    // If each image has the old payloads in the old area, each has the rows in the other area after the call. A crash
+    // leaves the old payloads until the header is opened, and after that these or the rows.
     ensures changed { IfOk result (λ j. (base old_epoch version : ℕ) (payloads : List (List ℕ)) → Stands D.device disk.old len base other old_epoch version payloads → old_epoch < epoch →
         StandsNew D.device disk.new other epoch (place_of j) (payloads_in (frames_of rows.old))) }
     ensures durable { OnOk result (IsSynced D.device disk.new) }

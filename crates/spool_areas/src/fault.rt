@@ -5,24 +5,24 @@
 pub enum MakeFault {
     /// The device is shorter than two areas of 23 bytes. Nothing has changed.
     Full,
-    /// The device has failed. It may hold anything now, and is to be made anew.
+    /// The device failed. It may have any contents, and must be made a spool again.
     Disk,
 }
 
 /// Why a device was not opened as a spool.
 #[derive(Clone, Copy, Debug, PartialEq, Eq)]
 pub enum OpenFault {
-    /// It is too short, no header is open, or two open ones have the same epoch.
+    /// It is too short, no header is open, or two open headers have the same epoch.
     NotASpool,
-    /// What lies from the gate at this place on is nothing that a spool writes.
+    /// The bytes from the gate at this place on are not those of a spool.
     Damaged(u64),
-    /// There is no memory for what was read.
+    /// Memory for the result ran out.
     Memory,
-    /// The device has failed.
+    /// The device failed.
     Disk,
 }
 
-/// A device that was not opened, and why.
+/// A device that was not opened, and the reason.
 #[derive(Drop)]
 pub struct OpenError<D> {
     pub disk: D,
@@ -32,21 +32,21 @@ pub struct OpenError<D> {
 /// Why nothing was read.
 #[derive(Clone, Copy, Debug, PartialEq, Eq)]
 pub enum ReadFault {
-    /// An earlier call met a fault of the device.
+    /// An earlier call failed because of the device.
     Dead,
-    /// The device has failed. Every later call answers `Dead`.
+    /// The device failed. Every later call returns `Dead`.
     Disk,
 }
 
-/// Why rows were not put into the other area. They are looked for in this order. After all but `Disk` nothing has changed.
+/// Why rows were not written into the other area, in the order of the checks. Nothing has changed, except after `Disk`.
 #[derive(Clone, Copy, Debug, PartialEq, Eq)]
 pub enum AreaFault {
-    /// An earlier call met a fault of the device.
+    /// An earlier call failed because of the device.
     Dead,
     /// The current area has the greatest epoch.
     EpochEnd,
-    /// A row, appended in order, wouldn't fit.
+    /// A row, appended in order, would not fit.
     Full,
-    /// The device has failed. The area has the old rows or the new ones, and every later call answers `Dead`.
+    /// The device failed. The area has the old rows or the new ones, and every later call returns `Dead`.
     Disk,
 }

@@ -1,4 +1,4 @@
-//! Filling the other area, in steps: it is begun, rows are added, a block of records at a time, and it is opened.
+//! The steps of filling the other area: beginning it, writing rows a block of records at a time, and opening it.
 ghost use Rattle.std.specs.Prelude.{◌≡◌, ◌≢◌, ◌∷◌, ◌<◌, ◌≤◌, ◌+◌, ◌^◌, ◌++◌, [], List, ℕ, Some, OnOk, IfOk, length, take, drop, slice_index_or, vec_len, vec_capacity};
 ghost use Rattle.spool_disk.specs.Disk.{IsSynced, LeavesOnly, ChangesOnly, HasCause};
 ghost use Rattle.gate_journal.specs.Entries.{open_gate, record_of};
@@ -11,8 +11,8 @@ use crate::header::{HEADER_LEN, header_behind_gate};
 use gate_journal::OPEN_GATE;
 use spool_disk::{DeviceFault, Disk, persist};
 
-/// Closes the gate of the other area's header where it reads open, and syncs. Writing it closed where it is closed already
-/// would leave any byte there in a crash, an open gate too, before what lies behind it is one header.
+/// Closes the gate of the other area's header if it reads open, and syncs. A write to a closed gate could leave any
+/// byte there after a crash, also an open gate, before the bytes after it are a header.
 pub(crate) fn close_header<D: Disk>(disk: &mut D, other: u64) -> Result<(), DeviceFault>
     requires { other < D.device.size disk.old }
     ensures any_moment { LeavesOnly D.device disk.old disk.new (IsClosing D.device disk.old other) }
@@ -29,8 +29,8 @@ pub(crate) fn close_header<D: Disk>(disk: &mut D, other: u64) -> Result<(), Devi
     persist(disk, other, &[0])
 }
 
-/// Begins to fill the other area: the gate of its header is closed where it reads open, and synced; then the rest of the
-/// header is written, and a closed gate where the records begin, which needs no sync. It answers that gate's place.
+/// Begins to fill the other area. The gate of its header is closed if it reads open, and synced. Then the rest of the
+/// header is written, and a closed gate where the records begin, which needs no sync. It returns that gate's place.
 pub(crate) fn begin_area<D: Disk>(disk: &mut D, other: u64, epoch: u64) -> Result<u64, DeviceFault>
     requires within { other + 17 ≤ D.device.size disk.old }
     requires fits { other + 17 < 2 ^ 64 }
@@ -48,8 +48,8 @@ pub(crate) fn begin_area<D: Disk>(disk: &mut D, other: u64, epoch: u64) -> Resul
     Ok(other + HEADER_LEN)
 }
 
-/// Makes what lies in a block from a place on a record: five free bytes, and a payload behind them. The gate is open, as it
-/// shall lie, since no image counts it while the header's gate is closed.
+/// Turns the bytes of a block from `start` on, five free bytes and a payload, into a record. The record's gate is open,
+/// because no image counts it while the header's gate is closed.
 pub(crate) fn fill_head(block: &mut Vec<u8>, start: usize)
     requires whole { start + 5 ≤ length block.old.items }
     requires short { length block.old.items < 2 ^ 32 }
@@ -62,8 +62,9 @@ pub(crate) fn fill_head(block: &mut Vec<u8>, start: usize)
     block[start..start + 5].copy_from_slice(&[OPEN_GATE, size[0], size[1], size[2], size[3]]);
 }
 
-/// Writes the records of a block at the closed gate at a place, with a closed gate behind them, whose place it answers. It
-/// doesn't sync: while the header's gate is closed no image counts what lies there. The block is empty then.
+/// Writes the records of a block at the closed gate `gate`, with a closed gate after them, and returns the place of
+/// that gate. It does not sync: while the header's gate is closed, no image counts these bytes. The block is empty
+/// afterwards.
 pub(crate) fn write_block<D: Disk>(
     disk: &mut D,
     gate: u64,
@@ -91,7 +92,7 @@ pub(crate) fn write_block<D: Disk>(
     Ok(next)
 }
 
-// Puts a closed gate behind the records of a block, in room that is there.
+// Appends a closed gate to the records of a block, within its capacity.
 fn push_closed_gate(block: &mut Vec<u8>)
     requires { vec_len block.old + 1 ≤ vec_capacity block.old }
     ensures items { block.new.items ≡ block.old.items ++ 0 ∷ [] }
@@ -103,8 +104,8 @@ fn push_closed_gate(block: &mut Vec<u8>)
     }
 }
 
-/// Opens the header of the area that was filled, once all that lies there is on the device. It is the first moment at which
-/// an image may have the rows.
+/// Opens the header of the area that was filled, after all its bytes are on the device. From then on an image may have
+/// the rows.
 pub(crate) fn open_area<D: Disk>(disk: &mut D, other: u64) -> Result<(), DeviceFault>
     requires { other < D.device.size disk.old }
     ensures changed { OnOk result ((x : Change D) (gate : ℕ) (rows : List (List ℕ)) → x.other ≡ other → gate < x.other + x.len → Fills D.device x disk.old gate [] rows →

@@ -1,68 +1,87 @@
-//! The two areas of a spool's device: where the current one lies, and what its journal holds.
+//! The two areas of a spool's device: which one is current, and which payloads its journal contains.
 //!
-//! # How it lies
+//! # Layout
 //!
-//! A device has two areas, the first from its first byte on, and the second from the half of its length on, rounded
-//! down. An area is a header of 16 bytes and the journal behind it. A header is a gate, the version 1 or 2, an epoch in
-//! eight bytes with the high byte first, and six zeros. The current area is the one whose header is open, and of two the
-//! one with the higher epoch (`current_area`). Its payloads are those of its journal, up to the first closed gate
-//! (`HasPayloads`). Bytes have one reading (`areas_law`). While an area is the current one, the header of the other is
-//! closed, or open at a lower epoch (`other_header`), and what else lies there has no meaning.
+//! A device has two areas. The first begins at byte 0, the second at half the device's length, rounded down. An area is a
+//! header of 16 bytes followed by a journal (`gate_journal`). A header is a gate, the version 1 or 2, an epoch in eight bytes
+//! with the high byte first, and six zeros. The current area is the one whose header is open, or, if both headers are open, the
+//! one with the higher epoch (`current_area`). Its payloads are those of its journal up to the first closed gate
+//! (`HasPayloads`). While an area is current, the header of the other area is closed, or open with a lower epoch
+//! (`other_header`), and the remaining bytes of the other area have no meaning.
 //!
-//! Areas of both versions lie in the same way and are read in the same way. The version tells those above how to read the
-//! payloads (`known_version`, `Areas::version`). Version 1 is never written: `make` and `checkpoint` write version 2, and
-//! an area of version 1 stays one until the first checkpoint.
+//! Areas of both versions have the same layout and are read in the same way. The version determines how callers decode the
+//! payloads (`known_version`, `Areas::version`). Version 1 is never written: `make` and `checkpoint` write version 2. An area of
+//! version 1 remains one until the first checkpoint. `HasPayloads` does not state the version, because the payloads do not
+//! depend on it. Clauses about images include the version (`HasVersionAndPayloads`).
 //!
-//! # What it promises to the layer above, on every disk that meets `Disk`
+//! # Promises
 //!
-//! 1. `make` leaves an empty spool: it writes the beginning of area 0 and one gate (`bytes`), every image is of version 2
-//!    and has no payloads (`made`), and nothing is unsynced (`durable`). A crash meanwhile leaves what the device held
-//!    until both gates are closed, and from then on no spool or an empty one (`any_moment`).
-//! 2. `Areas::append` and `Areas::append_kept`, where every image at their start has the old payloads and no others
-//!    (`KeepsPayloads`): after Ok every image has the old payloads and this one (`added`), and nothing is unsynced
-//!    (`durable`); a crash at any moment of the call leaves the old payloads, or these and this one (`any_moment`,
-//!    `HasBeforeOrAfter`), whatever the call answers. The version stays.
-//! 3. `Areas::checkpoint` puts rows into the other area and makes it the current one. After Ok every image has these rows
-//!    and no others, at the next epoch and in version 2 (`added`, `changed`), and nothing is unsynced (`durable`). A crash
-//!    meanwhile leaves the old payloads in their version until the new header is opened, and from then on these or the
-//!    rows in version 2, whatever the call answers (`any_moment`). Bytes of the old area stay (`changes`). `Areas::plan`
-//!    tells where the rows will lie.
-//! 4. So it is in steps, by which nobody holds all rows in memory. `Areas::plan_by_sum` tells from the sum of the records'
-//!    lengths whether the rows have room (`exact`, `fits`). `Areas::begin` closes the header of the other area and writes
-//!    the rest of it. `Areas::add_row` adds a row to those in a block of memory, which is written once it is long enough, and
-//!    `Areas::write_rows` writes what is left in it. One word says what stands then (`Fills`): each step hands it on
-//!    (`begun`, `added`), and what is read meanwhile leaves it (`filling_law`). `Areas::open_other` opens the header, and then
-//!    every image has the rows (`added`, `changed`), and nothing is unsynced (`durable`). Whatever a step answers, a crash
-//!    leaves the old payloads until that header is opened, and from then on these or the rows (`any_moment`).
-//! 5. `Areas::read_extent` reads what the disk tells (`data`), behind the header of the current area, and changes nothing
-//!    (`keeps`).
-//! 6. `Areas::open` finds the current area, its version and where its payloads lie (`found`, `version`), and hands the disk
-//!    back with the fault of its headers where there is no such area (`fault`, `back`). It writes nothing: until its sync
-//!    has answered a crash leaves what it was handed, and from then on what a read gives (`synced`). From then on every
-//!    image has these payloads (`keeps`), unless a record behind them leaves the area, whose gate is told (`damage`).
+//! They hold on every disk that meets `Disk`.
 //!
-//! # How the steps keep it with one sync for all rows
+//! - [`areas_law`]: bytes have one reading, that is one list of payloads up to a closed gate, or one up to the gate of a torn
+//!   record.
+//! - [`make`] leaves an empty spool: area 0 begins with an open header of version 2 and epoch 1 and a closed gate, area 1 begins
+//!   with a closed gate, and all other bytes are unchanged (`bytes`, `empty_spool`). Every image is of version 2 and has no
+//!   payloads (`made`), and nothing is unsynced (`durable`). A crash during the call leaves the bytes that the device had, with
+//!   any byte at the gates of the headers, until both gates are closed and synced. After that it leaves no spool or an empty one
+//!   (`ClosesFirst`, `any_moment`).
+//! - [`Areas::open`] finds the current area, its payloads and its version (`found`, `version`). If there is no such area, it
+//!   returns the disk and the error of its headers (`fault`, `back`). It writes nothing. A crash before its sync returns leaves
+//!   an image that was possible before the call, and a crash after that leaves the bytes that a read returns (`synced`). Then
+//!   every image has these payloads (`keeps`), unless a record after them exceeds the area; `damage` is the gate of that record.
+//! - [`Areas::append`] and [`Areas::append_kept`] add one payload, if every image at their start has the old payloads and no
+//!   others (`KeepsPayloads`). After Ok every image has the old payloads and this one (`added`), and nothing is unsynced
+//!   (`durable`). A crash at any moment of the call leaves the old payloads, or these and this one (`any_moment`,
+//!   `HasBeforeOrAfter`), whatever the call returns. The version, the base and the epoch do not change.
+//! - [`Areas::checkpoint`] writes rows into the other area and makes it current. After Ok every image has these rows and no
+//!   others, with the next epoch and version 2 (`added`, `changed`), and nothing is unsynced (`durable`). A crash during the call
+//!   leaves the old payloads in their version until the new header is opened. After that it leaves these, or the rows in version
+//!   2, whatever the call returns (`any_moment`). The bytes of the old area do not change (`changes`). [`Areas::plan`] returns
+//!   where the rows will be, or the error.
+//! - The same can be done in steps, so that the caller need not have all rows in memory. [`Areas::plan_by_sum`] returns from the
+//!   sum of the records' lengths whether the rows fit (`exact`, `fits`). [`Areas::begin`] closes the header of the other area and
+//!   writes the rest of the header. [`Areas::add_row`] adds a row to a block in memory, which is written as soon as it is long
+//!   enough. [`Areas::write_rows`] writes the rest of the block. [`Areas::open_other`] opens the header, and then every image has
+//!   the rows (`added`, `changed`), and nothing is unsynced (`durable`). `Fills` describes the state between the steps: each step
+//!   preserves it (`begun`, `added`), and so do reads ([`filling_law`]). A crash leaves the old payloads until that header is
+//!   opened. After that it leaves these, or the rows, whatever the steps return (`any_moment`).
+//! - [`Areas::read_extent`] reads bytes of the current area after its header (`behind`, `inside`), and returns what the disk
+//!   reports (`data`). It changes nothing (`keeps`).
 //!
-//! While the header of the other area is closed no image counts what lies behind it. So the closing is synced first, before
-//! anything there changes, and then all rows at once, before the header's gate is opened. The opening is synced last. However
-//! many rows there are, that is three syncs. A row goes to the device as it shall lie, with its gate open, in one write with
-//! those beside it. What was written and isn't synced is bounded by one range: the other area, behind its header's gate.
+//! # Not proved
 //!
-//! # The invariants
+//! - A crash in `make` before both gates are closed: a device that was a spool may still be one.
+//! - The number of syncs. No clause counts them; a test counts the calls of a checkpoint over many rows.
 //!
-//! The current area is one of the two, which lie on the device. Its journal lies right behind its header and ends with the
-//! area. Its version is a known one. Unless the areas are dead, the journal is alive. What was read last, a block at a
-//! time, is what the disk tells (`IsInside`).
+//! # How the steps sync
 //!
-//! # Faults and what they leave
+//! While the header of the other area is closed, the bytes after it do not count in any image. So the closed gate is synced
+//! first, before anything in that area changes. Then all rows are synced at once, before the header's gate is opened. The open
+//! gate is synced last. These are three syncs for any number of rows. A row is written with its gate open, in one write with the
+//! rows next to it. All bytes that were written and are not synced are in one range: the other area after its header's gate.
 //!
-//! - `MakeFault::Full` exactly where an area would have less than 23 bytes. Nothing has changed.
-//! - `Dead`, before any other fault, exactly where an earlier call met `Disk`. Nothing has changed.
-//! - `AreaFault::EpochEnd` exactly at the greatest epoch, and `AreaFault::Full` exactly where a row, appended in order, would
-//!   meet `Full` (`plan_of`). Nothing has changed. `begin` is never `Full`, and the steps behind it are `Dead` or `Disk`.
-//! - `JournalFault::Full` exactly where the record and the room kept behind it don't fit. Nothing has changed.
-//! - `Disk` only where the device's count of faults rose during the call. The areas are dead from then on. After every other
-//!   answer the count is as it was (`blames`).
+//! # Invariants
+//!
+//! The current area is one of the two, and both are within the device. Its journal begins right after its header and ends with
+//! the area. Its version is 1 or 2. Unless the areas are dead, the journal is alive; the areas record this in addition to the
+//! journal, because they are also dead after a failed read or checkpoint, which the journal does not see. The bytes that were
+//! read last, a block at a time, equal the bytes that the disk reports (`IsInside`).
+//!
+//! # Errors
+//!
+//! - `MakeFault::Full` exactly if an area would have fewer than 23 bytes. Nothing has changed.
+//! - `Dead`, before any other error, exactly if an earlier call returned `Disk`. Nothing has changed.
+//! - `AreaFault::EpochEnd` exactly if the epoch is the greatest, and `AreaFault::Full` exactly if a row, appended in order, would
+//!   fail with `Full` (`plan_of`). Nothing has changed. `begin` never returns `Full`. The steps after it return only `Dead` or
+//!   `Disk`.
+//! - `JournalFault::Full` exactly if the record and the room reserved after it do not fit. Nothing has changed.
+//! - `Disk` only if the device's count of failures rose during the call. The areas are dead from then on. After every other
+//!   result the count is unchanged (`blames`).
+//!
+//! # Cost
+//!
+//! `Areas::open` returns the extents of all payloads, 16 bytes each. No payload is retained, so this crate does not depend on
+//! the format of events.
 #![tactic(auto)]
 
 mod areas;

@@ -1,4 +1,4 @@
--- Rows that are added one after another.
+-- Rows that are added in order.
 use Rattle.spool_types.specs.declared.version.Version.TheVariants.{Two}
 use Rattle.std.proofs.Common.{◌≡◌, ⊎_elim, ℕ, ◌+◌, ◌-◌, ◌<◌, ◌≤◌, ◌^◌, Bool, true, false, List, [], ◌∷◌, ◌++◌, length, take, drop, map, get_or, Option, None, Some, Ok, Err, Result, refl, sym, subst, ap, ◌∙◌, arith, append_assoc, length-append}
 use Rattle.std.specs.Prelude.{◌≢◌, ◌⊎◌, IsErrOf, IsErrAnd, IsTrue, vec_len, vec_capacity}
@@ -46,7 +46,7 @@ records_more rows more =
     ap (λ (l : List (List ℕ)). length (records l)) (map-append (row_spelling Two) rows more)
     ∙ ap length (records-append front back) ∙ length-append (records front) (records back)
 
--- ## What was put into a block
+-- ## The contents of a block after a put
 
 pub own_len : (b : Vec ℕ Global) → vec_len b ≡ length b.items
 own_len b = b.ok.0
@@ -66,7 +66,7 @@ module _ (row : Row) (old new : Vec ℕ Global) (start : ℕ) (is : IsPut row ol
   pub put_vec : vec_len new ≡ length old.items + 5 + length (row_spelling Two row)
   put_vec = own_len new ∙ put_long
 
--- the block's record may be ended
+-- The record in the block may be ended.
 module _ {D : Type 0} (v : DiskView D) (areas : Current D) (gate : ℕ) (row : Row) (old new : Vec ℕ Global) (start : ℕ) (may : MayFill v (row ∷ []) (filling areas gate old.items)) (is : IsPut row old new start) (spare : block_room ≤ vec_capacity old) where
   pub end_whole : start + 5 ≤ length new.items
   end_whole = omega (arith, put_long row old new start is, is.at)
@@ -89,7 +89,7 @@ module _ {D : Type 0} (v : DiskView D) (areas : Current D) (gate : ℕ) (row : R
 
 -- ## A step of the areas
 
--- no fault but the device's
+-- The only fault is the device's.
 pub fault_disk : {T : Type 0} (e : AreaFault) (dead : Bool) → ((fault : AreaFault) → fault ≢ areas.Disk → IsErrOf {T = T} (Err e) fault → fault ≡ areas.Dead) → (IsErrOf {T = T} (Err e) areas.Dead → IsTrue dead) → dead ≡ false → IsErrOf {T = T} (Err e) areas.Disk
 fault_disk areas.Dead dead refused was alive = absurd (cc (was refl, alive))
 fault_disk areas.EpochEnd dead refused was alive = absurd (cc (refused areas.EpochEnd (λ same. cc same) refl))
@@ -137,7 +137,7 @@ module _ {D : Type 0} (v : DiskView D) (a b : Current D) (gate : ℕ) (block : L
     cause = cause;
   }
 
--- ## One step after another
+-- ## A step after another
 
 told_next : (P : List ℕ → List ℕ → Type 0) (o p : Option (List ℕ)) (x : List ℕ) → o ≡ Some x → Tells P o p → (y : List ℕ) × (p ≡ Some y) × P x y
 told_next P (Some a) (Some b) x is same = let here : a ≡ x = cc is in (b, refl, subst (λ z. P z b) here same)
@@ -170,7 +170,7 @@ module _ {D : Type 0} (v : DiskView D) (lawful : IsLawful v) where
     changes_on : {e : D} → ChangesOnly v g.areas.disk e (other_base g.areas) (area_len g.areas) → ChangesOnly v g.areas.disk e (other_base f.areas) (area_len f.areas)
     changes_on {e} changes = subst (λ (n : ℕ). ChangesOnly v g.areas.disk e (other_base f.areas) n) len_on (subst (λ (o : ℕ). ChangesOnly v g.areas.disk e o (area_len g.areas)) other_on changes)
 
-    -- what was told but for the other area is told on
+    -- Bytes shown except in the other area are still shown after the step.
     pub tells_on : (r : List ℕ) → TellsBut v f.areas r → TellsBut v g.areas r
     tells_on r is = tells_by v f.areas g.areas first.base first.end first.changes r is
 
@@ -212,7 +212,7 @@ module _ {D : Type 0} (v : DiskView D) (lawful : IsLawful v) where
               (next.added x (others ++ map (row_spelling Two) rows) (change_on x is) (adds.added x others is fills));
         }
 
-  -- nothing is added yet
+  -- Nothing is added yet.
   pub none_on : (rows : List Row) (f : Filling D) → MayFill v rows f → IsFillingOn {T = Unit {0}} v f f (Ok tt)
   none_on rows f may = record {
     base = refl;
@@ -240,7 +240,7 @@ module _ {D : Type 0} (v : DiskView D) (lawful : IsLawful v) where
   pub may_first : (rows more : List Row) (f : Filling D) → MayFill v (rows ++ more) f → MayFill v rows f
   may_first rows more f may = record { alive = may.alive; area = may.area; behind = may.behind; few = may.few; room = omega (arith, may.room, records_more rows more) }
 
-  -- rows that take no more bytes
+  -- Rows that are no longer may be added as well.
   pub may_as : (rows others : List Row) (f : Filling D) → records_len others ≡ records_len rows → MayFill v rows f → MayFill v others f
   may_as rows others f same may = record { alive = may.alive; area = may.area; behind = may.behind; few = may.few; room = omega (arith, may.room, same) }
 
@@ -281,7 +281,7 @@ module _ {D : Type 0} (v : DiskView D) (lawful : IsLawful v) where
       added = λ x others is fills. next.added x others (read_change x is) (fills_still v lawful x f.areas.disk mid.disk f.gate f.block others read.read.disk fills);
     }
 
-  -- a read that failed
+  -- A read that failed.
   pub read_failed : {T U : Type 0} (f g : Filling D) (e : ReadFault) (fault : AreaFault) → IsReadOn {T = U} v f.areas g.areas (Err e) → IsFillingOn {T = T} v f g (Err fault)
   read_failed f g e fault read = record {
     base = read.read.base;
@@ -299,25 +299,25 @@ module _ {D : Type 0} (v : DiskView D) (lawful : IsLawful v) where
     cause = read.cause;
   }
 
-  -- what is told by all is told but for the other area
+  -- Bytes that the whole disk shows are shown except in the other area.
   pub tells_all : (a : Current D) (r : List ℕ) → v.bytes a.disk ≡ Some r → TellsBut v a r
   tells_all a r tells = record { now = r; tells = tells; same = same_all (other_base a) (area_len a) r }
 
--- a fault that is passed on
+-- A fault that is passed on.
 pub err_on : {D : Type 0} (v : DiskView D) (f g : Filling D) (e : AreaFault) (Q : AreaFault → Type 0) (r : Result (Unit {0}) AreaFault) → IsErrAnd r Q → IsFillingOn {T = Unit {0}} v f g (Err e) → IsFillingOn v f g r
 err_on v f g e Q r is on =
     let p = err_from_is_err_and r is in
     subst (λ (x : Result (Unit {0}) AreaFault). IsFillingOn v f g x) (sym p.1)
     (record { base = on.base; end = on.end; epoch = on.epoch; version = on.version; gate = on.gate; changes = on.changes; leaves = on.leaves; behind = tt; few = tt; alive = tt; counted = tt; dead = on.dead; cause = on.cause })
 
--- what lies in the current area lies there still
+-- Documents in the current area are still in it.
 pub lie_on : (low high from to : ℕ) (c d : Contents) → from ≡ low → to ≡ high → d.state ≡ c.state → d.places ≡ c.places → DocumentsLieIn low high c → DocumentsLieIn from to d
 lie_on low high from to c d is_low is_high same places lie j lives =
     subst (λ (n : ℕ). LieIn n to (places_at d j)) (sym is_low)
     (subst (λ (n : ℕ). LieIn low n (places_at d j)) (sym is_high)
     (subst (LieIn low high) (ap (λ ps. places_of ps j) (sym places)) (lie j (sym (ap (λ (s : State). is_over s j) same) ∙ lives))))
 
--- the row of the next queue may be added
+-- The row of the next queue may be added.
 pub queue_may : {D : Type 0} (v : DiskView D) → IsLawful v → (qs : List QueueRow) (i : ℕ) (q : QueueRow) → i < length qs → q ≡ get_or qs i q → (f now : Filling D) → IsFillingOn {T = Unit {0}} v f now (Ok tt) → AddsRows v (map (λ x. Queue x) (take i qs)) f now
     → MayFill v (map (λ x. Queue x) qs) f → MayFill v (Queue q ∷ []) now
 queue_may v lawful qs i q lt is f now on adds may =

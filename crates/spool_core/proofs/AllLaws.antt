@@ -31,7 +31,7 @@ use Rattle.spool_core.proofs.PartLaws.{alike_itself, alike_records, alike_then}
 
 -- ## The rows of a listing
 
--- those before the jobs
+-- The rows before those of the jobs.
 abbrev pub head_rows : State → List Row
 head_rows s = Head (head_of s) ∷ map (λ (q : QueueRow). Queue q) (finite.values s.queues)
 
@@ -39,11 +39,11 @@ blank_same : (s : State) (rs : List Job) → AreFound s rs → rows_of (blank s)
 blank_same s [] are = refl
 blank_same s (r ∷ rs) are = λ i. job_rows r (replicate (len_found (are.0 i)) 0) ++ blank_same s rs are.1 i
 
--- the listing with zeros
+-- The listing with zeros.
 pub blank_listing : (s : State) → AreFound s (finite.values s.jobs) → listing s (blank s) ≡ head_rows s ++ flat_map blank_rows (finite.values s.jobs)
 blank_listing s are = ap (λ (l : List Row). head_rows s ++ l) (blank_same s (finite.values s.jobs) are)
 
--- documents of zeros have the documents' lengths
+-- Documents of zeros have the documents' lengths.
 pub blank_fits : (s : State) → AreDocuments s (blank s)
 blank_fits s j r there = length-replicate (len_found (job_at s j)) 0 ∙ ap len_found there
 
@@ -73,7 +73,7 @@ pub record AreSomeAdded {D : Type 0} (v : DiskView D) (c : Contents) (i : ℕ) (
   pub there : (j : ℕ) → IsSome (finite.find nat_cmp j before.places) → IsSome (finite.find nat_cmp j noted.places)
   pub room : AllByRecursion (λ (q : Job). document_len q ≤ move_room noted q.id * longest_send) (drop i (finite.values c.state.jobs))
 
--- before any job
+-- The state before any job.
 pub some_begun : {D : Type 0} (v : DiskView D) → IsLawful v → (c : Contents) (old : Filling D) → AreFound c.state (finite.values c.state.jobs) → HasMoveRoom c.state c.moves → AreSomeAdded v c 0 old c.moves old c.moves
 some_begun v lawful c old found room = record {
   rows = [];
@@ -122,7 +122,7 @@ module _ {D : Type 0} (v : DiskView D) (lawful : IsLawful v) (c : Contents) (i :
   pub next_there : (d : Contents) → d.state ≡ c.state → job_at d.state q.id ≡ Some q
   next_there d same = ap (λ (s : State). job_at s q.id) same ∙ here
 
-  -- the rows of the next job are due
+  -- The rows of the next job are due.
   pub next_due : (d : Contents) → d.state ≡ c.state → d.moves ≡ noted → MayFill v (flat_map blank_rows all_jobs) old → AllByRecursion MayBeListed all_jobs → DocumentsLieIn (now.areas.base + 16) now.areas.end d → AreSized d → IsDue v d q.id now
   next_due d same moves may listed lie sized = record {
     row = q;
@@ -135,7 +135,7 @@ module _ {D : Type 0} (v : DiskView D) (lawful : IsLawful v) (c : Contents) (i :
     room = subst (λ (n : Noted). document_len q ≤ move_room n q.id * longest_send) (sym moves) (subst (AllByRecursion (λ (r : Job). document_len r ≤ move_room noted r.id * longest_send)) split p.room).0;
   }
 
-  -- and then they are added
+  -- The next job was added.
   pub some_next : AreApart all_jobs → (end : Filling D) (after : Noted) → IsDocumentAdded v (places_at c q.id) q now end → IsDocumentNoted q (next_place now) noted after → AreSomeAdded v c (i + 1) old before end after
   some_next apart end after f n =
       let at : next_place now ≡ next_place old + records_len done_rows = omega (arith, p.adds.place, alike_records done_rows p.rows p.alike) in
@@ -181,7 +181,7 @@ module _ {D : Type 0} (v : DiskView D) (c : Contents) (i : ℕ) (old : Filling D
 
 -- ## The listing
 
--- the head, the queues and then the jobs
+-- The head, then the queues, then the jobs.
 pub listing_may : {D : Type 0} (v : DiskView D) (s : State) (f : Filling D) → AreFound s (finite.values s.jobs) → MayFill v (listing s (blank s)) f → MayFill v (head_rows s ++ flat_map blank_rows (finite.values s.jobs)) f
 listing_may v s f found may = subst (λ (rows : List Row). MayFill v rows f) (blank_listing s found) may
 

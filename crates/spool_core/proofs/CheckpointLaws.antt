@@ -1,4 +1,4 @@
--- What a checkpoint answers, and what it leaves.
+-- The results of a checkpoint, and their effects.
 use Rattle.spool_types.specs.declared.version.Version.TheVariants.{Two}
 use Rattle.std.proofs.Common.{◌≡◌, inl, inr, ⊎_elim, ℕ, ◌+◌, ◌-◌, ◌≤◌, Bool, true, false, ◌&&◌, ◌==◌, List, [], ◌∷◌, ◌++◌, Ok, Err, Result, length, map, refl, sym, subst, ap, ◌∙◌, arith, length-append}
 use Rattle.std.specs.Prelude.{if◌then◌else◌, nat_le, IsErrOf}
@@ -27,12 +27,12 @@ use Rattle.spool_core.specs.declared.spool.checkpoint_fault.CheckpointFault.{Che
 use Rattle.spool_core.specs.declared.spool.checkpoint_fault.CheckpointFault.TheVariants as checkpoint
 use Rattle.spool_core.specs.ListingFilling.{rows_of}
 
--- ## What a plan tells
+-- ## The result of a plan
 
 same_fault : (e f : AreaFault) → ◌≡◌ {A = Result ℕ AreaFault} (Err e) (Err f) → e ≡ f
 same_fault e f is = cc is
 
--- why rows can't be put there
+-- Why rows cannot be put there.
 abbrev CauseOf : Bool → Bool → Bool → AreaFault → Type 0
 CauseOf dead ended room areas.Dead = dead ≡ true
 CauseOf dead ended room areas.EpochEnd = (dead ≡ false) × (ended ≡ true)
@@ -63,7 +63,7 @@ not_last n is same = grind (arith, nat_tests)
 test_there : (b m x y : ℕ) → m ≡ b + x → nat_le m (b + y) ≡ nat_le x y
 test_there b m x y is = grind (arith, nat_tests)
 
--- rows have the same room wherever their area lies
+-- The room of rows does not depend on the place of their area.
 room_there : (b end gate place : ℕ) (ns : List ℕ) → place ≡ b + gate → has_room (b + end) place ns ≡ has_room end gate ns
 room_there b end gate place [] at = refl
 room_there b end gate place (n ∷ ns) at = λ i.
@@ -82,13 +82,13 @@ room_of end gate (p ∷ ps) short room =
     let rest = room_of end (gate + 5 + length p) ps (leb-true (gate + 5 + length p + 7) end parts.0) parts.1 in
     omega (arith, rest, length-append p (records ps))
 
--- a listing that has room leaves the room of one reopening behind it
+-- A listing that has room leaves the room of one reopening after it.
 pub listing_room : (len : ℕ) (s : State) → holds_listing len s ≡ true → gate_after 0 (listed_payloads s (blank s)) + kept_room ≤ len
 listing_room len s holds =
     let rows : List Row = map (λ q. Queue q) (finite.values s.queues) ++ rows_of (blank s) (finite.values s.jobs) in
     room_of len header_len (listed_payloads s (blank s)) (first_room len header_len (length (row_spelling Two (Head (head_of s)))) (map length (map (row_spelling Two) rows)) holds) holds
 
--- ## What it answers before anything is read
+-- ## The result before anything is read
 
 module _ {D : Type 0} (v : DiskView D) (a : Current D) (ends : a.end ≡ a.base + half (v.size a.disk)) (s : State) where
   pub long : area_len a ≡ half (v.size a.disk)
@@ -97,7 +97,7 @@ module _ {D : Type 0} (v : DiskView D) (a : Current D) (ends : a.end ≡ a.base 
   room_is : (ns : List ℕ) → has_room (other_base a + area_len a) (other_base a + header_len) ns ≡ has_room (half (v.size a.disk)) header_len ns
   room_is ns = room_there (other_base a) (area_len a) header_len (other_base a + header_len) ns refl ∙ ap (λ (n : ℕ). has_room n header_len ns) long
 
-  -- there is a next epoch, and rows may be put there
+  -- There is a next epoch, and rows may be put there.
   pub may_list : (ns : List ℕ) (first : ℕ) → plan_of a ns ≡ Ok first → MayList (open_spool_at a s)
   may_list ns first is =
       let both = passed a.dead (a.epoch == last_epoch) (has_room (other_base a + area_len a) (other_base a + header_len) ns) (other_base a + header_len) first is in
@@ -117,7 +117,7 @@ module _ {D : Type 0} (v : DiskView D) (a : Current D) (ends : a.end ≡ a.base 
   abbrev listed_lengths : List ℕ
   listed_lengths = map length (listed_payloads s (blank s))
 
-  -- nor is one for the rows whose listing has room
+  -- A plan for the listing that fails has the fault that the checkpoint returns.
   pub unlisted_for : (fault : AreaFault) → plan_of a listed_lengths ≡ Err fault → IsCheckpoint v (open_spool_at a s) (Err (fault_for fault)) (open_spool_at a s)
   unlisted_for fault is = fault_answer listed_lengths fault (λ no. no) is
 
@@ -128,11 +128,11 @@ module _ {D : Type 0} (v : DiskView D) (a : Current D) (ends : a.end ≡ a.base 
     pub alive_planned : a.dead ≡ false
     alive_planned = all_passed.0
 
-    -- rows for which there is a plan have room
+    -- Rows for which a plan exists have room.
     pub listing_fits : holds_listing (half (v.size a.disk)) s ≡ true
     listing_fits = sym (room_is listed_lengths) ∙ all_passed.2
 
--- the other area lies on the device, too
+-- The other area is also on the device.
 pub other_area : {D : Type 0} (v : DiskView D) (a : Current D) → IsArea a.base a.end (v.size a.disk) → IsArea (other_base a) (other_base a + area_len a) (v.size a.disk)
 other_area v a area =
     let len : a.end - a.base ≡ half (v.size a.disk) = omega (arith, area.end_is) in
@@ -145,7 +145,7 @@ other_area v a area =
       sized = area.sized;
     }
 
--- a fault that leaves the disk as it was isn't the device's
+-- A fault that leaves the disk unchanged is not the device's.
 pub blames_none : {D : Type 0} (v : DiskView D) (a : Current D) (s t : State) (f : CheckpointFault) → IsCheckpoint v (open_spool_at a s) (Err f) (open_spool_at a t) → Blames (v.failures a.disk) (v.failures a.disk) (IsErrOf {T = Unit {0}} (Err f) checkpoint.Disk)
 blames_none v a s t checkpoint.Dead is = record { later = omega arith; failed = λ same. absurd (cc same); counted = λ no. refl }
 blames_none v a s t checkpoint.EpochEnd is = record { later = omega arith; failed = λ same. absurd (cc same); counted = λ no. refl }

@@ -1,4 +1,4 @@
--- Which row may come next is decided by the rows so far, and so is whether a job is processing.
+-- Which row may come next is decidable from the rows so far, and so is whether a job is processing.
 use Rattle.std.proofs.Common.{◌≡◌, ◌⊎◌, ◌<◌, ◌≤◌, ◌+◌, ◌-◌, inl, inr, ℕ, Bool, true, false, cond, List, [], ◌∷◌, ◌++◌, Option, None, Some, IsSome, length, min, refl, sym, ap, subst, ◌∙◌, append_assoc, arith}
 use Rattle.std.specs.Prelude.{T}
 use Rattle.std.specs.List.{AllByRecursion}
@@ -30,7 +30,7 @@ use Rattle.job_table.specs.Loading.{Part, Progress, IsWhole, IsAbove, IsNextHead
 use Rattle.job_table.proofs.Above.{above_front, found_there}
 use Rattle.job_table.proofs.Changes.{some_same}
 
--- it is so, or it isn't
+-- The proposition is true or false.
 abbrev pub Decided : Type 0 → Type 0
 Decided P = P ⊎ (¬ P)
 
@@ -39,7 +39,7 @@ both (inl p) (inl q) = inl (p, q)
 both (inl p) (inr isnt) = inr (λ pq. isnt pq.1)
 both (inr isnt) q = inr (λ pq. isnt pq.0)
 
--- what says the same
+-- Equivalent propositions are decided alike.
 alike : {P Q : Type 0} → Decided P → (P → Q) → (Q → P) → Decided Q
 alike (inl p) to from = inl (to p)
 alike (inr isnt) to from = inr (λ q. isnt (from q))
@@ -181,7 +181,7 @@ placed_decided p (Piece j bytes) = piece_decided p.partial j bytes
 
 -- ---- processing jobs
 
--- a job of the table is processing
+-- A job of the table is processing.
 record IsProcessingIn (s : State) : Type 0 where
   number : ℕ
   row : Job

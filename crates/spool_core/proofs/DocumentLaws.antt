@@ -1,4 +1,4 @@
--- A job's document in an image, and what an event makes of it.
+-- A job's document in an image, and the effect of an event on it.
 use Rattle.std.proofs.Common.{◌≡◌, ℕ, List, [], ◌∷◌, ◌++◌, None, refl, sym, subst, ap, ◌∙◌, append_assoc}
 use Rattle.std.proofs.lemmas.List.{append-nil}
 use Rattle.std.specs.List.{AllByRecursion}
@@ -22,7 +22,7 @@ use Rattle.spool_core.specs.Image.{HasTable, HasDocument, HasDocuments, document
 use Rattle.spool_core.proofs.HistoryLaws.{all_more, spelt_more}
 use Rattle.spool_core.proofs.ReadingLaws.{one_version, same_members, same_ok}
 
--- an image has one document of each job
+-- An image has one document of each job.
 pub one_document : (j : ℕ) (d e c : List ℕ) → HasDocument j d c → HasDocument j e c → d ≡ e
 one_document j d e c a b =
     let same_version = one_version c a.base b.base a.version b.version a.area.current b.area.current a.version_is b.version_is in
@@ -31,7 +31,7 @@ one_document j d e c a b =
     (same_payloads a.base b.base c (payloads_of a.version a.rows a.events) (payloads_of a.version b.rows b.events) a.area area) in
     a.document_is ∙ (λ i. document_in (same.0 i) (same.1 i) j) ∙ sym b.document_is
 
--- and some document, where it has a table
+-- It has some document of each job, if it has a table.
 pub documents_of : (s : State) (c : List ℕ) → HasTable s c → (documents : ℕ → List ℕ) × HasDocuments s documents c
 documents_of s c has = (
   λ j. document_in has.history.rows has.history.events j,
@@ -48,7 +48,7 @@ documents_of s c has = (
   },
 )
 
--- an image with the same payloads in the same version has the same document
+-- An image with the same payloads in the same version has the same document.
 pub document_there : (base : ℕ) (payloads : List (List ℕ)) (r c : List ℕ) (j : ℕ) (d : List ℕ) → HasPayloads base payloads r → HasPayloads base payloads c → version_of (header_at base c) ≡ version_of (header_at base r) → HasDocument j d r → HasDocument j d c
 document_there base payloads r c j d from to same has = record {
   base = base;
@@ -69,7 +69,7 @@ sent_more (d ∷ es) e j = append_assoc (sent_to j (sent_by d)) (sent es j) (sen
 document_more : (rows : List Row) (es : List Event) (e : Event) (j : ℕ) → document_in rows es j ++ sent_to j (sent_by e) ≡ document_in rows (es ++ e ∷ []) j
 document_more rows es e j = append_assoc (listed_pieces rows j) (sent es j) (sent_to j (sent_by e)) ∙ ap (λ (l : List ℕ). listed_pieces rows j ++ l) (sent_more es e j)
 
--- one with an event more has what it sends behind it
+-- In an image with one more event the part that it sends follows.
 pub document_sent : (base : ℕ) (payloads : List (List ℕ)) (payload : List ℕ) (r c : List ℕ) (e : Event) (j : ℕ) (d : List ℕ) → IsSpellable e → payload ≡ spelling e
     → HasPayloads base payloads r → HasPayloads base (payloads ++ payload ∷ []) c → version_of (header_at base c) ≡ version_of (header_at base r) → HasDocument j d r → HasDocument j (d ++ sent_to j (sent_by e)) c
 document_sent base payloads payload r c e j d spellable spelt from to same_version has =
@@ -86,7 +86,7 @@ document_sent base payloads payload r c e j d spellable spelt from to same_versi
       document_is = ap (λ (l : List ℕ). l ++ sent_to j (sent_by e)) has.document_is ∙ document_more has.rows has.events e j;
     }
 
--- it is what the extents hold that these rows and events have for it
+-- The document is the contents of the extents that these rows and events have for it.
 pub document_held : (v : Version) (base : ℕ) (rows : List Row) (events : List Event) (r : List ℕ) (j : ℕ) (d : List ℕ) → AllByRecursion (IsRowSpellable v) rows → AllByRecursion IsSpellable events
     → HasPayloads base (payloads_of v rows events) r → version_of (header_at base r) ≡ number_of v → HasDocument j d r → d ≡ joined r (places_in v base rows events j)
 document_held v base rows events r j d spellable_rows spellable area is has =

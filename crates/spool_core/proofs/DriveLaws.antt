@@ -1,4 +1,4 @@
--- Events that are applied in turn.
+-- Events that are applied in order.
 use Rattle.std.proofs.Common.{◌≡◌, ◌<◌, ◌≤◌, ⊎_elim, ℕ, ◌+◌, List, [], ◌∷◌, ◌++◌, length, take, Option, None, Some, Result, Err, refl, sym, subst, ap, ◌∙◌, arith, append_assoc, length-append}
 use Rattle.std.proofs.lemmas.List.{take_at}
 use Rattle.std.specs.Prelude.{slice_get}
@@ -53,7 +53,7 @@ next_of events taken rest e n size is =
       fits = omega (arith, size, ap length is, length-append taken (e ∷ rest));
     }
 
--- the tables before and after one event are those of prefixes
+-- The tables before and after one event are those of prefixes.
 pub turn_prefix : (s : State) (events taken : List Event) (e : Event) (n : ℕ) (t : State) (c : List ℕ) → IsNext events taken e n → t ≡ after_all s taken → HasBeforeOrAfterEvent t e c → HasPrefixTable s events n (n + 1) c
 turn_prefix s events taken e n t c next is =
     ⊎_elim
@@ -63,7 +63,7 @@ turn_prefix s events taken e n t c next is =
 pub same_whole : (s t : State) (documents others : ℕ → List ℕ) (c : List ℕ) → s ≡ t → documents ≡ others → HasWhole s documents c → HasWhole t others c
 same_whole s t documents others c is are has = subst (λ (u : State). HasWhole u others c) is (subst (λ (ds : ℕ → List ℕ). HasWhole s ds c) are has)
 
--- and so are their documents
+-- The same holds for their documents.
 pub turn_whole : (s : State) (documents : ℕ → List ℕ) (events taken : List Event) (e : Event) (n : ℕ) (t : State) (others : ℕ → List ℕ) (c : List ℕ) → IsNext events taken e n
     → t ≡ after_all s taken → others ≡ documents_after s documents taken → HasWholeBeforeOrAfterEvent t others e c → HasWholePrefix s documents events n (n + 1) c
 turn_whole s documents events taken e n t others c next is are =
@@ -91,7 +91,7 @@ step_refused s e r is = by_cause (refusal_of s e) is
     by_cause None is = absurd (cc is)
     by_cause (Some q) is = cc is
 
--- a refused event leaves the documents
+-- A refused event does not change the documents.
 pub refused_sends : (s : State) (documents : ℕ → List ℕ) (e : Event) (r : Refusal) (c : List ℕ) → step s e ≡ Err r → HasWholeBeforeOrAfterEvent s documents e c → HasDocuments s (documents_after_one s documents e) c
 refused_sends s documents e r c is =
     let refused = step_refused s e r is in
@@ -99,14 +99,14 @@ refused_sends s documents e r c is =
     (λ before. subst (λ (ds : ℕ → List ℕ). HasDocuments s ds c) (sym (ap (unless_refused_sent documents e) refused)) before.1)
     (λ later. subst (λ (t : State). HasDocuments t (documents_after_one s documents e) c) (ap (unless_refused s e) refused) later.1)
 
--- the table after so many of the events, and that with its documents
+-- The table after the first k events, and the same with its documents.
 abbrev pub HasTableAfter : State → List Event → ℕ → List ℕ → Type 0
 HasTableAfter s events k = HasTable (after_all s (take k events))
 
 abbrev pub HasWholeAfter : State → (ℕ → List ℕ) → List Event → ℕ → List ℕ → Type 0
 HasWholeAfter s documents events k = HasWhole (after_all s (take k events)) (documents_after s documents (take k events))
 
--- it is so after so many events: at least so many, and at most so many
+-- P holds after k events, with k from `least` to `most`.
 abbrev pub IsBetween : (ℕ → List ℕ → Type 0) → ℕ → ℕ → List ℕ → Type 0
 IsBetween P least most c = (k : ℕ) × (least ≤ k) × (k ≤ most) × P k c
 
@@ -114,11 +114,11 @@ wider : (P : ℕ → List ℕ → Type 0) (a b least most : ℕ) (c : List ℕ) 
 wider P a b least most c low high has = (has.0, omega (arith, low, has.1), omega (arith, high, has.2), has.3)
 
 module _ {D : Type 0} (v : DiskView D) (lawful : IsLawful v) where
-  -- no event yet
+  -- No event was applied yet.
   pub run_none : (P : ℕ → List ℕ → Type 0) (d : D) → ((c : List ℕ) → v.image d c → P 0 c) → LeavesOnly v d d (IsBetween P 0 0)
   run_none P d kept = started v d (IsBetween P 0 0) (λ c left. (0, omega arith, omega arith, kept c (lawful.only_now d c left)))
 
-  -- a run that leaves a prefix, and an event after it
+  -- A run that leaves a prefix, followed by one more event.
   pub run_more : (P : ℕ → List ℕ → Type 0) (least n most : ℕ) (old mid new : D) → least ≤ n → n ≤ most → LeavesOnly v old mid (IsBetween P least n)
       → LeavesOnly v mid new (IsBetween P n most) → LeavesOnly v old new (IsBetween P least most)
   run_more P least n most old mid new low high first second =
@@ -127,13 +127,13 @@ module _ {D : Type 0} (v : DiskView D) (lawful : IsLawful v) where
       second
       (λ c has. wider P n most least most c low (omega arith) has)
 
-  -- the chain goes on by one event
+  -- The chain continues with one more event.
   pub chain_more : (s : State) (taken : List Event) (e : Event) (old mid new : D) → IsChain v s taken old mid → LeavesOnly v mid new (HasBeforeOrAfterEvent (after_all s taken) e)
       → LeavesTable v (after_one (after_all s taken) e) new → IsChain v s (taken ++ e ∷ []) old new
   chain_more s [] e old mid new same run kept = (new, subst (λ (d : D). LeavesOnly v d new (HasBeforeOrAfterEvent s e)) (sym same) run, kept, refl)
   chain_more s (d ∷ taken) e old mid new chain run kept = (chain.0, chain.1, chain.2, chain_more (after_one s d) taken e chain.0 mid new chain.3 run kept)
 
-  -- and so does the chain with the documents
+  -- The chain with the documents continues as well.
   pub whole_more : (s : State) (documents : ℕ → List ℕ) (taken : List Event) (e : Event) (old mid new : D) → IsWholeChain v s documents taken old mid
       → LeavesOnly v mid new (HasWholeBeforeOrAfterEvent (after_all s taken) (documents_after s documents taken) e)
       → LeavesWhole v (after_one (after_all s taken) e) (documents_after_one (after_all s taken) (documents_after s documents taken) e) new → IsWholeChain v s documents (taken ++ e ∷ []) old new

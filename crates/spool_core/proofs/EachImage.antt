@@ -42,7 +42,7 @@ use Rattle.spool_core.proofs.FoldLaws.{gate_push}
 use Rattle.spool_core.proofs.HistoryLaws.{begins_row, begins_event, history_of}
 use Rattle.spool_core.proofs.ReadingLaws.{IsNext, IsNextRow, IsNextEvent, same_row, same_event}
 
--- the image has a table, or it has a fault
+-- The image has a table or a fault.
 abbrev pub TableOrFault : List ℕ → Type 0
 TableOrFault c = ((s : State) × HasTable s c) ⊎ ((f : OpenFault) × HasFault f c)
 
@@ -51,12 +51,12 @@ each_byte [] are i = omega arith
 each_byte (b ∷ bytes) are zero = are.0
 each_byte (b ∷ bytes) are (suc i) = each_byte bytes are.1 i
 
--- ---- a payload may come next or not
+-- ---- whether a payload may come next
 
 not_both : {A B : Type 0} (r : Result A CodecFault) (x : A) (fault : CodecFault) → r ≡ Ok x → r ≡ Err fault → B
 not_both r x fault ok err = absurd (cc)
 
--- the row that a payload spells, if it spells one
+-- The row that a payload encodes, if any.
 row_in : (v : Version) (payload : List ℕ) → IsBytes payload → (r : Result Row CodecFault) → row_reading v payload ≡ r
     → ((row : Row) × IsRowSpellable v row × (payload ≡ row_spelling v row)) ⊎ ((row : Row) → IsRowSpellable v row → payload ≡ row_spelling v row → ⊥)
 row_in v payload fits (Ok row) is = let found = is_found_row v payload (Ok row) fits is in inl (row, found.0, found.1)
@@ -71,7 +71,7 @@ not_none : {B : Type 0} (o : Option Refusal) (r : Refusal) → o ≡ Some r → 
 not_none o r some none = absurd (cc)
 
 module _ (v : Version) (p : Progress) (events : List Event) (payload : List ℕ) (fits : IsBytes payload) where
-  -- where it is no row that may come next, it is an event that may, or neither
+  -- A payload that is no row that may come next is an event that may, or neither.
   event_next : ((row : Row) → IsRowSpellable v row → payload ≡ row_spelling v row → events ≡ [] → ¬ (IsPlaced p row)) → IsNext v p events payload ⊎ IsNoNext v p events payload
   event_next no_row = elim (event_in payload fits (reading payload) refl) [
     | inl found ↦ elim (whole_decided p) [
@@ -103,7 +103,7 @@ next_decided : (v : Version) (p : Progress) (events : List Event) (payload : Lis
 next_decided v p [] payload fits = row_next v p [] payload fits refl
 next_decided v p (e ∷ events) payload fits = event_next v p (e ∷ events) payload fits (λ row able spelt none. absurd (cc))
 
--- ---- what stands at a gate
+-- ---- the entry at a gate
 
 by_tests : (a b : Bool) (place n at len : ℕ) → Entry at len ≡ (if a then (if b then Entry (place + 5) n else Torn) else End) → (b ≡ true) × (at ≡ place + 5) × (len ≡ n)
 by_tests true true place n at len is = (refl, cc is, cc is)
@@ -114,7 +114,7 @@ module _ (c : List ℕ) (fits : IsBytes c) (base : ℕ) (current : current_area 
   abbrev end : ℕ
   end = base + half (length c)
 
-  -- an entry there has its length spelt, and lies before the end
+  -- The entry has its length encoded, and is before the end.
   record IsEntry (place at len : ℕ) : Type 0 where
     at_is : at ≡ place + 5
     before : at + len < end
@@ -186,9 +186,9 @@ module _ (c : List ℕ) (fits : IsBytes c) (base : ℕ) (current : current_area 
             ]
           ]
 
-  -- ---- one payload after another
+  -- ---- payload after payload
 
-  -- so many payloads, and a gate behind them
+  -- Some payloads, with a gate after them.
   record IsReadTo : Type 0 where
     payloads : List (List ℕ)
     progress : Progress
@@ -196,7 +196,7 @@ module _ (c : List ℕ) (fits : IsBytes c) (base : ℕ) (current : current_area 
     begins : Begins v payloads progress events
     stands : HasFirstPayloads base payloads c
 
-  -- one payload more
+  -- One more payload.
   record IsFurther (from : ℕ) : Type 0 where
     to : IsReadTo
     behind : from < gate_after base to.payloads
@@ -226,7 +226,7 @@ module _ (c : List ℕ) (fits : IsBytes c) (base : ℕ) (current : current_area 
   }
 
   module _ (payloads : List (List ℕ)) (p : Progress) (events : List Event) (begins : Begins v payloads p events) (stands : HasFirstPayloads base payloads c) where
-    -- an entry there
+    -- The gate is followed by an entry.
     entry_there : (at len : ℕ) → Entry at len ≡ entry_at c end (gate_after base payloads) → TableOrFault c ⊎ IsFurther (gate_after base payloads)
     entry_there at len is =
         let entry = is_entry (gate_after base payloads) at len is in
@@ -260,7 +260,7 @@ module _ (c : List ℕ) (fits : IsBytes c) (base : ℕ) (current : current_area 
         )))
         (next_decided v p events payload (IsBytes-take (at + len - at) (drop at c) (IsBytes-drop at c fits)))
 
-    -- whatever stands there
+    -- Whatever follows the gate.
     what_there : (what : Found) → what ≡ entry_at c end (gate_after base payloads) → TableOrFault c ⊎ IsFurther (gate_after base payloads)
     what_there Torn is = inl (inr (
       Damaged (gate_after base payloads),
@@ -283,7 +283,7 @@ module _ (c : List ℕ) (fits : IsBytes c) (base : ℕ) (current : current_area 
     }))
     what_there (Entry at len) is = entry_there at len is
 
-  -- Each has a gate, so there are no more of them than bytes up to the area's end.
+  -- Each payload has a gate, so there are at most as many payloads as bytes up to the end of the area.
   read_on : (left : ℕ) (to : IsReadTo) → end ≤ gate_after base to.payloads + left → TableOrFault c
   read_on zero to bound = absurd (omega (arith, bound, to.stands.within))
   read_on (suc left) to bound =
@@ -304,12 +304,12 @@ module _ (c : List ℕ) (fits : IsBytes c) (base : ℕ) (current : current_area 
 
 -- ---- the headers
 
--- a number that is known is that of a version
+-- A known number is that of a version.
 pub version_there : (base n : ℕ) → IsVersion n → (v : Version) × (n ≡ number_of v)
 version_there base n (inl old) = (One, old)
 version_there base n (inr new) = (Two, new)
 
--- the answer is no want of memory and no failed device
+-- The result is neither `Memory` nor `Disk`.
 abbrev IsOfHeaders : Result ℕ OpenFault → Type 0
 IsOfHeaders (Ok base) = ⊤
 IsOfHeaders (Err NotASpool) = ⊤

@@ -1,4 +1,4 @@
--- Rows in a block, and how many bytes they take.
+-- Rows in a block, and their length in bytes.
 use Rattle.spool_types.specs.declared.version.Version.TheVariants.{Two}
 use Rattle.std.proofs.Common.{◌≡◌, ℕ, zero, suc, ◌+◌, ◌-◌, ◌*◌, ◌/◌, ◌^◌, ◌<◌, ◌≤◌, List, [], ◌∷◌, ◌++◌, length, take, drop, map, min, replicate, sym, ap, ◌∙◌, arith, append_assoc, length-append, length-drop}
 use Rattle.std.specs.Prelude.{vec_capacity}
@@ -22,7 +22,7 @@ use Rattle.spool_core.specs.ListingFilling.{free_head, records_len, IsPut}
 use Rattle.spool_core.specs.Measuring.{IsSumMore}
 use Rattle.spool_core.proofs.AddLaws.{own_len, put_long, records_more}
 
--- a row's spelling behind a free head
+-- A row's encoding after a free head.
 pub is_put : (row : Row) (old mid new : Vec ℕ Global) (start : ℕ) → start ≡ length old.items → mid.items ≡ old.items ++ free_head → new.items ≡ mid.items ++ row_spelling Two row
     → vec_capacity old ≤ vec_capacity new → length (row_spelling Two row) < 2 ^ 19 → IsPut row old new start
 is_put row old mid new start at head spelled spare short = record {
@@ -35,7 +35,7 @@ is_put row old mid new start at head spelled spare short = record {
 same_front : (job : ℕ) (part bytes : List ℕ) → length part ≡ length bytes → row_spelling Two (Piece job part) ≡ front_of 0x43 job bytes ++ part
 same_front job part bytes same = ap (λ (n : ℕ). 0x43 ∷ (to_be_bytes w32 job ++ to_be_bytes w32 n) ++ part) same
 
--- a piece whose bytes were read into the block, behind the fourteen before them
+-- A piece with bytes that were read into the block after its first fourteen bytes.
 module _ (job count start : ℕ) (old new block : Vec ℕ Global) (lent into : List ℕ) (n : ℕ) (is : IsPut (Piece job (replicate count 0)) old new start) (same : lent ≡ new.items) (rest : n ≡ length lent - (start + 14))
     (whole : length into ≡ length (take n (drop (start + 14) lent))) where
   abbrev piece_zeros : List ℕ

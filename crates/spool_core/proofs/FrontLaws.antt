@@ -1,4 +1,4 @@
--- Bytes of a document, as a part of a list that is as long.
+-- Bytes of a document, as a part of a list of the same length.
 use Rattle.std.proofs.Common.{◌≡◌, ◌≤◌, ◌+◌, ◌-◌, ◌++◌, ℕ, List, length, take, drop, replicate, None, Some, false, sym, ap, ◌∙◌, subst, arith}
 use Rattle.std.proofs.lemmas.List.{length-append, length-replicate, take_at, drop_at}
 use Rattle.job_table.specs.Over.{is_over}
@@ -8,7 +8,7 @@ use Rattle.spool_core.specs.DocumentReading.{IsPart}
 use Rattle.spool_core.specs.OpenSpools.{OpenSpool, len_at}
 
 module _ {D : Type 0} (v : DiskView D) (s : OpenSpool D) (j at n : ℕ) (part : List ℕ) (held : length part ≡ n) (inside : at + n ≤ len_at s.state j) where
-  -- where the disk tells nothing, any list will do that has these bytes
+  -- If the disk does not show its bytes, any list with these bytes will do.
   abbrev padding : List ℕ
   padding = replicate (len_at s.state j - (at + n)) 0
 
@@ -25,7 +25,7 @@ module _ {D : Type 0} (v : DiskView D) (s : OpenSpool D) (j at n : ℕ) (part : 
     part_is = sym (ap (take n) (drop_at (replicate at 0) (part ++ padding) at (length-replicate {A = ℕ} at 0)) ∙ take_at part padding n held);
   }
 
-  -- where it tells them, the one document that they have for the job
+  -- If it shows them, it is the one document that they contain for the job.
   pub told_part : (r whole : List ℕ) → v.bytes s.disk ≡ Some r → length whole ≡ len_at s.state j
       → ((document : List ℕ) → HasDocument j document r → is_over s.state j ≡ false → document ≡ whole) → part ≡ take n (drop at whole) → IsPart v s j at n part
   told_part r whole told long holds is = record {

@@ -1,4 +1,4 @@
--- Lives of a spool, one after another.
+-- Lives of a spool, in order.
 use Rattle.std.proofs.Common.{◌≡◌, ⊎_elim, ℕ, ◌+◌, ◌-◌, List, [], ◌∷◌, ◌++◌, take, drop, refl, sym, subst, ap, ◌∙◌, arith, append_assoc}
 use Rattle.std.proofs.Math.Seq.{take-add}
 use Rattle.std.proofs.lemmas.List.{append-nil}
@@ -21,7 +21,7 @@ pub one_history : (s : State) (lives : List Life) → after_lives s lives ≡ af
 one_history s [] = refl
 one_history s (l ∷ ls) = one_history (next_table s l) ls ∙ sym (after_all-append s (take l.left l.events) (Reopen ∷ history_of ls))
 
--- an opening sends nothing
+-- An opening sends nothing.
 reopen_sends : (s : State) (documents : ℕ → List ℕ) → documents_after_one s documents Reopen ≡ documents
 reopen_sends s documents = λ i j. append-nil (documents j) i
 
@@ -33,7 +33,7 @@ one_history_sends s documents (l ∷ ls) =
     ∙ ap (λ (ds : ℕ → List ℕ). documents_after (next_table s l) ds (history_of ls)) (sym (reopen_sends (after_all s left) (next_documents s documents l)))
     ∙ sym (documents_after-append s documents left (Reopen ∷ history_of ls))
 
--- the table of an image is legal, as the empty one is and those that events lead to
+-- The table of an image is legal, because the empty table is, and so is each table that results from events.
 pub legal_found : ((v : Version) → IsLegal (nothing_in v)) → ((s : State) (events : List Event) → IsLegal s → IsLegal (after_all s events)) → (s : State) (image : List ℕ) → HasTable s image → IsLegal s
 legal_found begins stays s image has =
     subst IsLegal (sym has.history.table)
@@ -47,13 +47,13 @@ history_splits l ls keeps =
     ap (λ (es : List Event). es ++ Reopen ∷ history_of ls) first
     ∙ append_assoc (take l.acknowledged l.events) (take (l.left - l.acknowledged) (drop l.acknowledged l.events)) (Reopen ∷ history_of ls)
 
--- the table after all lives is one after the acknowledged events of the first
+-- The table after all lives is one after the acknowledged events of the first life.
 pub after_acknowledged : (s : State) (l : Life) (ls : List Life) → KeepsAcknowledged l
     → after_lives s (l ∷ ls) ≡ after_all (after_all s (take l.acknowledged l.events)) (later_events l ls)
 after_acknowledged s l ls keeps =
     one_history s (l ∷ ls) ∙ ap (after_all s) (history_splits l ls keeps) ∙ after_all-append s (take l.acknowledged l.events) (later_events l ls)
 
--- and so is the table after further events
+-- The same holds for the table after further events.
 pub further : (s : State) (l : Life) (ls : List Life) (more : List Event) → KeepsAcknowledged l
     → after_all (after_lives s (l ∷ ls)) more ≡ after_all (after_all s (take l.acknowledged l.events)) (later_events l ls ++ more)
 further s l ls more keeps =

@@ -1,4 +1,4 @@
--- The documents in the rows of a listing, and where they lie.
+-- The documents in the rows of a listing, and their places.
 use Rattle.spool_types.specs.declared.version.Version.TheVariants.{Two}
 use Rattle.std.proofs.Common.{◌≡◌, ◌≢◌, ℕ, ◌+◌, ◌≤◌, ◌==◌, if◌then◌else◌, Bool, true, false, cond, List, [], ◌∷◌, ◌++◌, length, map, Option, None, Some, refl, sym, subst, ap, ◌∙◌, arith, length-append}
 use Rattle.std.proofs.lemmas.List.{length-take}
@@ -76,7 +76,7 @@ queues_sent : (qs : List QueueRow) (rest : List Row) (j : ℕ) → sent_in piece
 queues_sent [] rest j = refl
 queues_sent (q ∷ qs) rest j = queues_sent qs rest j
 
--- the pieces of a job are its document
+-- The pieces of a job are its document.
 pub listed_piece : (s : State) → IsLegal s → (documents : ℕ → List ℕ) (j : ℕ) (r : Job) → job_at s j ≡ Some r → listed_pieces (listing s documents) j ≡ documents j
 listed_piece s legal documents j r there =
     let split = split_of s j r there in
@@ -107,7 +107,7 @@ none_of_them : (s : State) (j : ℕ) (rs : List Job) → job_at s j ≡ None →
 none_of_them s j [] none found = tt
 none_of_them s j (q ∷ rs) none found = (λ same. let is : job_at s j ≡ Some q = ap (job_at s) (sym same) ∙ found.0 in absurd (cc (is, none)), none_of_them s j rs none found.1)
 
--- it has no places
+-- It has no places.
 pub listing_placed : (s : State) → IsLegal s → (gate : ℕ) (documents : ℕ → List ℕ) (j : ℕ) → job_at s j ≡ None → placed_pieces Two gate (listing s documents) j ≡ []
 listing_placed s legal gate documents j none =
     let jobs = rows_of documents (finite.values s.jobs) in
@@ -119,23 +119,23 @@ empty : (xs : List ℕ) → length xs ≡ 0 → xs ≡ []
 empty [] is = refl
 empty (x ∷ xs) is = absurd (omega (arith, is))
 
--- and no pieces
+-- It has no pieces.
 pub listed_none : (s : State) → IsLegal s → (documents : ℕ → List ℕ) (j : ℕ) → job_at s j ≡ None → listed_pieces (listing s documents) j ≡ []
 listed_none s legal documents j none =
     empty (listed_pieces (listing s documents) j) (omega (arith, sized (row_spelling Two) piece_of (spells_pieces Two) 0 (listing s documents) j, ap size_of (listing_placed s legal 0 documents j none)))
 
--- ## The documents that lie in these bytes
+-- ## The documents that these bytes have
 
 most : (r : List ℕ) (xs : List Extent) → length (joined r xs) ≤ size_of xs
 most r [] = omega arith
 most r (x ∷ xs) = omega (arith, length-append (bytes_of r x) (joined r xs), ap length (bytes_are r x), length-take {A = ℕ}, most r xs)
 
--- as many bytes as the extents have
+-- They are as long as the extents.
 pub lying_long : (low high : ℕ) (r : List ℕ) (xs : List Extent) (len : ℕ) (ended : Bool) → (ended ≡ true → len ≡ 0) → (ended ≡ false → LieIn low high xs) → size_of xs ≡ len → high ≤ length r → length (joined r xs) ≡ len
 lying_long low high r xs len true none lie sized within = omega (arith, most r xs, sized, none refl)
 lying_long low high r xs len false none lie sized within = joined_len low high xs r (lie refl) within ∙ sized
 
--- they have the documents' lengths
+-- They have the documents' lengths.
 pub lying_fit : (low high : ℕ) (c : Contents) → ((j : ℕ) → is_over c.state j ≡ false → LieIn low high (places_at c j)) → AreSized c → (r : List ℕ) → high ≤ length r → AreDocuments c.state (lying c r)
 lying_fit low high c lie are r within j q there =
     lying_long low high r (places_at c j) (document_len q) (has_ended q.phase) (λ over. ap (λ b. cond b 0 q.size) over) (λ lives. lie j (ap (is_over_by c.state.highest j) there ∙ lives)) (are j q there) within

@@ -26,7 +26,7 @@ use Rattle.event_codec.specs.RowSpelling.{Ascend, IsOrderedQueue, IsPhaseOf, IsL
 use Rattle.spool_core.specs.Checkpointing.{MayBeListed}
 use Rattle.spool_core.specs.ListingFilling.{rows_of}
 
--- ## A row can tell what a legal table has
+-- ## Rows can represent a legal table
 
 ascends : {Y : Type 0} (key : Y → List ℕ) (ys : List Y) → is_ascending key ys ≡ true → Ascend (map key ys)
 ascends key [] is = tt
@@ -61,7 +61,7 @@ jobs_may documents (r ∷ rs) p placed = (
   jobs_may documents rs (loaded_all p (job_rows r (documents r.id))) (placed_behind p (job_rows r (documents r.id)) (rows_of documents rs) placed),
 )
 
--- what the rows of a listing that may come in their turn tell
+-- The rows of a listing, each of which may come next, represent the queues and the jobs.
 pub record AreTold (qs : List QueueRow) (rs : List Job) : Type 0 where
   pub queues : AllByRecursion IsOrderedQueue qs
   pub jobs : AllByRecursion MayBeListed rs
@@ -87,13 +87,13 @@ phase_of r (Aborted reason) fits few = tt
 pub legal_job : (r : Job) → MayBeListed r → length r.filters ≤ 15 → IsLegalRow (JobRow r)
 legal_job r may few = record { size = record { at_least = omega arith; at_most = may.size }; phase = phase_of r r.phase may.phase few }
 
--- an element of them all
+-- An element of a list with a property of all its elements.
 pub all_at : {X : Type 0} (P : X → Type 0) (xs : List X) (i : ℕ) (d : X) → i < length xs → AllByRecursion P xs → P (get_or xs i d)
 all_at P [] i d lt all = absurd (omega (arith, lt))
 all_at P (x ∷ xs) zero d lt all = all.0
 all_at P (x ∷ xs) (suc i) d lt all = all_at P xs i d (omega (arith, lt)) all.1
 
--- ## Rows in turn
+-- ## Rows in order
 
 pub queues_next : (qs : List QueueRow) (i : ℕ) (q : QueueRow) → i < length qs → q ≡ get_or qs i q → map (λ x. Queue x) (take (i + 1) qs) ≡ map (λ x. Queue x) (take i qs) ++ Queue q ∷ []
 queues_next qs i q lt is =
@@ -106,7 +106,7 @@ queues_split qs i q lt is =
     ap (map row) (sym (take-append-drop i qs)) ∙ map-append row (take i qs) (drop i qs)
     ∙ ap (λ (l : List QueueRow). map row (take i qs) ++ map row l) (drop_more qs i q lt ∙ ap (λ (x : QueueRow). x ∷ drop (i + 1) qs) (sym is))
 
--- ## Answers
+-- ## Results
 
 pub on_ok : {T E : Type 0} {P Q : Type 0} (r : Result T E) → OnOk r P → (P → Q) → OnOk r Q
 on_ok (Ok x) is more = more is
@@ -154,6 +154,6 @@ many_next bytes more =
     ap (λ (k : ℕ). parts 65536 k bytes) (more_count (length bytes) more)
     ∙ (λ i. take (whole i) bytes ∷ parts 65536 ((rest i + 65535) / 65536) (drop (whole i) bytes))
 
--- the first piece, and those of the rest
+-- The first piece, and those of the rest.
 pub pieces_next : (bytes : List ℕ) → 0 < length bytes → pieces bytes ≡ take (min (length bytes) longest_send) bytes ∷ pieces (drop (min (length bytes) longest_send) bytes)
 pieces_next bytes some = ⊎_elim (many_next bytes) (few_next bytes some) (cases_lt 65536 (length bytes))

@@ -1,4 +1,4 @@
--- The jobs of a legal table have numbers of their own.
+-- The jobs of a legal table have distinct numbers.
 use Rattle.std.proofs.Common.{◌≡◌, ◌≢◌, ℕ, zero, suc, drop, List, [], ◌∷◌, ◌++◌, Some, map, refl, sym, ap, ◌∙◌, append_assoc, subst}
 use Rattle.std.specs.Prelude.{T}
 use Rattle.std.specs.declared.cmp.Ordering.{Ordering}
@@ -13,12 +13,12 @@ use Rattle.job_table.specs.Legal.{IsLegal}
 use Rattle.job_table.proofs.Above.{above_front, found_there}
 use Rattle.job_table.proofs.Rows.{first_of, second_of, less_from}
 
--- no two of the jobs have one number
+-- No two of the jobs have the same number.
 abbrev pub AreApart : List Job → Type 0
 AreApart [] = Unit {0}
 AreApart (r ∷ rs) = AllByRecursion (λ (q : Job). q.id ≢ r.id) rs × AreApart rs
 
--- each of the jobs is found by its number
+-- Each job is found by its number.
 abbrev pub AreFound : State → List Job → Type 0
 AreFound s rs = AllByRecursion (λ (r : Job). job_at s r.id ≡ Some r) rs
 
@@ -71,7 +71,7 @@ all_behind P zero xs all = all
 all_behind P (suc i) [] all = tt
 all_behind P (suc i) (x ∷ xs) all = all_behind P i xs all.1
 
--- what is so of each by two facts
+-- A property of each element that follows from two others.
 pub all_by : {X : Type 0} (P Q R : X → Type 0) (xs : List X) → ((x : X) → P x → Q x → R x) → AllByRecursion P xs → AllByRecursion Q xs → AllByRecursion R xs
 all_by P Q R [] both one other = tt
 all_by P Q R (x ∷ xs) both one other = (both x one.0 other.0, all_by P Q R xs both one.1 other.1)

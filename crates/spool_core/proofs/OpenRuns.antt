@@ -1,4 +1,4 @@
--- What a crash leaves while a spool is opened, and after it.
+-- The images that a crash leaves while a spool is opened, and afterwards.
 use Rattle.std.proofs.Common.{◌≡◌, ℕ, List, Some, IsSome, sym, subst, ap, ◌∙◌}
 use Rattle.spool_types.specs.State.{State}
 use Rattle.spool_disk.specs.Disk.{DiskView, IsLawful, LeavesOnly}
@@ -17,7 +17,7 @@ use Rattle.spool_core.specs.Folding.{IsRead}
 module _ {D : Type 0} (v : DiskView D)
     (lawful : IsLawful v) (disk : D) (old new : Current D)
     (read : IsRead v old new) where
-  -- an image of now was one before
+  -- A present image was one before.
   was_image : (c : List ℕ) → v.image new.disk c → v.image old.disk c
   was_image = at_return v lawful old.disk new.disk (v.image old.disk) read.disk.images
 

@@ -1,4 +1,4 @@
--- A listing that is put into the other area, and what it leaves.
+-- Writing a listing to the other area, and its effect.
 use Rattle.spool_types.specs.declared.version.Version.TheVariants.{Two}
 use Rattle.std.proofs.Common.{◌≡◌, ◌⊎◌, inl, inr, true, false, ℕ, ◌+◌, ◌-◌, ◌<◌, ◌≤◌, List, [], Some, Ok, Err, Result, length, map, refl, sym, subst, ap, ◌∙◌, arith}
 use Rattle.std.specs.Prelude.{◌≢◌, ◌↔◌, OnOk, OnErr, IsErrAnd, IsErrOf, IsTrue}
@@ -22,30 +22,30 @@ use Rattle.spool_core.specs.ListingFilling.{Filling, filling, records_len, IsCha
 use Rattle.spool_core.proofs.AddLaws.{change_on, fault_disk, lives_on, may_as, may_more, tells_all, tells_by}
 use Rattle.spool_core.proofs.ImageLaws.{area_on}
 
--- what stays of areas that aren't changed over
+-- Fields of areas that do not change if the areas are not changed over.
 abbrev pub IsHeld : {D : Type 0} → Current D → Current D → Type 0
 IsHeld old new = (new.base ≡ old.base) × (new.end ≡ old.end) × (new.epoch ≡ old.epoch) × (new.gate ≡ old.gate) × (new.version ≡ old.version)
 
--- a plan that was made leaves no fault but the device's
+-- After a plan that succeeded the only fault is the device's.
 pub begin_disk : (e : AreaFault) (plan : Result ℕ AreaFault) (first : ℕ) → ((fault : AreaFault) → fault ≢ areas.Disk → (IsErrOf {T = ℕ} (Err e) fault ↔ (plan ≡ Err fault))) → plan ≡ Ok first → IsErrOf {T = ℕ} (Err e) areas.Disk
 begin_disk areas.Dead plan first refused is = let no = (refused areas.Dead (λ same. cc same)).0 refl in absurd (cc (no, is))
 begin_disk areas.EpochEnd plan first refused is = let no = (refused areas.EpochEnd (λ same. cc same)).0 refl in absurd (cc (no, is))
 begin_disk areas.Full plan first refused is = let no = (refused areas.Full (λ same. cc same)).0 refl in absurd (cc (no, is))
 begin_disk areas.Disk plan first refused is = refl
 
--- before the header is opened
+-- Before the header is opened.
 pub not_over : {D T : Type 0} (v : DiskView D) (c : Contents) (a b : Current D) (e : AreaFault) → ChangesOnly v a.disk b.disk (other_base a) (area_len a) → LeavesOld v a b → IsHeld a b → b.dead ≡ true → v.failures a.disk < v.failures b.disk
     → IsFilledOver {T = T} v c a b (Err e)
 not_over v c a b e changes leaves held dead cause = record { changes = changes; leaves = inl leaves; listed = tt; durable = tt; alive = tt; counted = tt; held = held; dead = dead; cause = cause }
 
--- a fault that is passed on
+-- A fault that is passed on.
 pub over_on : {D : Type 0} (v : DiskView D) (c : Contents) (a b : Current D) (e : AreaFault) (Q : AreaFault → Type 0) (r : Result (Unit {0}) AreaFault) → IsErrAnd r Q → IsFilledOver {T = Unit {0}} v c a b (Err e) → IsFilledOver v c a b r
 over_on v c a b e Q r is over =
     let p = err_from_is_err_and r is in
     subst (λ (x : Result (Unit {0}) AreaFault). IsFilledOver v c a b x) (sym p.1)
     (record { changes = over.changes; leaves = over.leaves; listed = tt; durable = tt; alive = tt; counted = tt; held = over.held; dead = over.dead; cause = over.cause })
 
--- The change over is begun.
+-- The change over has begun.
 module _ {D : Type 0} (v : DiskView D) (lawful : IsLawful v) (c : Contents) (a one : Current D) (held : IsHeld a one) (changes : ChangesOnly v a.disk one.disk (other_base a) (area_len a)) (counted : v.failures one.disk ≡ v.failures a.disk)
     (gate : ℕ) (at : gate ≡ other_base a + 16) (block : List ℕ) (empty : block ≡ []) (begun : (payloads : List (List ℕ)) → KeepsPayloads v a payloads → Fills v (change_at a payloads) one.disk (other_base a + 16) [] []) where
   abbrev begins : Filling D
@@ -65,7 +65,7 @@ module _ {D : Type 0} (v : DiskView D) (lawful : IsLawful v) (c : Contents) (a o
       subst (λ (n : ℕ). Fills v (change_at a payloads) one.disk n block []) (sym at)
       (subst (λ (l : List ℕ). Fills v (change_at a payloads) one.disk (other_base a + 16) l []) (sym empty) (begun payloads keeps))
 
-  -- rows may be added for which there is room
+  -- Rows may be added if there is room for them.
   pub begin_may : (rows : List Row) → one.dead ≡ false → IsArea a.base a.end (v.size a.disk) → other_base a + 16 + records_len rows + kept_room ≤ other_base a + area_len a → MayFill v rows begins
   begin_may rows alive area room = record {
     alive = alive;
@@ -80,7 +80,7 @@ module _ {D : Type 0} (v : DiskView D) (lawful : IsLawful v) (c : Contents) (a o
       then_changes v a.disk one.disk d (other_base a) (area_len a) lawful changes
       (subst (λ (n : ℕ). ChangesOnly v one.disk d (other_base a) n) len_one (subst (λ (o : ℕ). ChangesOnly v one.disk d o (area_len one)) other_one more))
 
-  -- no row more is added
+  -- Adding a row failed.
   pub add_failed : {T U : Type 0} (g : Filling D) (e : AreaFault) → IsFillingOn {T = U} v begins g (Err e) → IsFilledOver {T = T} v c a g.areas (Err e)
   add_failed g e on =
       not_over v c a g.areas e (changes_then g.areas.disk on.changes) (λ payloads keeps. on.leaves (change_at a payloads) [] (is_change payloads) (fills payloads keeps))
@@ -107,7 +107,7 @@ module _ {D : Type 0} (v : DiskView D) (lawful : IsLawful v) (c : Contents) (a o
     held_now : IsHeld a g.areas
     held_now = (on.base ∙ held.0, on.end ∙ held.1, on.epoch ∙ held.2, on.gate ∙ held.3, on.version ∙ held.4)
 
-    -- there is room for the gate behind it
+    -- There is room for the gate after it.
     pub last_may : (rows : List Row) → records_len l.rows ≡ records_len rows → MayFill v rows begins → MayFill v [] g
     last_may rows same may = may_more v lawful begins g on l.rows l.adds [] (subst (λ (x : List Row). MayFill v x begins) (sym (append-nil l.rows)) (may_as v lawful rows l.rows begins same may))
 
@@ -132,7 +132,7 @@ module _ {D : Type 0} (v : DiskView D) (lawful : IsLawful v) (c : Contents) (a o
           then_changes v a.disk g.areas.disk b.disk (other_base a) (area_len a) lawful (changes_then g.areas.disk on.changes)
           (subst (λ (n : ℕ). ChangesOnly v g.areas.disk b.disk (other_base a) n) len_g (subst (λ (o : ℕ). ChangesOnly v g.areas.disk b.disk o (area_len g.areas)) other_g more))
 
-      -- the last rows aren't written
+      -- Writing the last rows failed.
       pub write_failed : {T : Type 0} (e : AreaFault)
           → ((x : Change D) (rows : List (List ℕ)) → x.other ≡ other_base g.areas → x.len ≡ area_len g.areas → Fills v x g.areas.disk g.gate g.block rows → LeavesOnly v x.start b.disk (HasVersionAndPayloads x.base x.version x.payloads))
           → b.dead ≡ true → v.failures g.areas.disk < v.failures b.disk → IsFilledOver {T = T} v c a b (Err e)
@@ -159,7 +159,7 @@ module _ {D : Type 0} (v : DiskView D) (lawful : IsLawful v) (c : Contents) (a o
           over = λ payloads keeps. moment (change_at a payloads) put (sym other_last) (sym len_last) (all_written payloads keeps);
         }
 
-        -- it isn't known whether the header is open
+        -- It is unknown whether the header is open.
         pub open_failed : {T : Type 0} (e : AreaFault) → IsHeld b d → d.dead ≡ true → v.failures b.disk < v.failures d.disk → IsFilledOver {T = T} v c a d (Err e)
         open_failed e kept dead cause = record {
           changes = changes_all;
@@ -173,7 +173,7 @@ module _ {D : Type 0} (v : DiskView D) (lawful : IsLawful v) (c : Contents) (a o
           cause = omega (arith, cause, same, on.counted, counted);
         }
 
-        -- it is open
+        -- The header is open.
         pub opened : {T : Type 0} (t : T) → (d.base ≡ other_base b) × (d.end ≡ other_base b + area_len b) × (d.epoch ≡ b.epoch + 1) × (d.version ≡ newest_version) × (d.gate ≡ end)
             → ((x : Change D) (rows : List (List ℕ)) → x.other ≡ other_base b → x.len ≡ area_len b → x.new_epoch ≡ b.epoch + 1 → Fills v x b.disk end [] rows → KeepsPayloads v d rows)
             → IsSynced v d.disk → d.dead ≡ false → v.failures d.disk ≡ v.failures b.disk → IsFilledOver v c a d (Ok t)
@@ -200,7 +200,7 @@ module _ {D : Type 0} (v : DiskView D) (lawful : IsLawful v) (c : Contents) (a o
           cause = tt;
         }
 
-        -- whatever it answers
+        -- Any result.
         pub over_by : (r : Result (Unit {0}) AreaFault) → b.dead ≡ false → (IsErrOf r areas.Dead ↔ IsTrue b.dead) → ((fault : AreaFault) → fault ≢ areas.Disk → IsErrOf r fault → fault ≡ areas.Dead)
             → Blames (v.failures b.disk) (v.failures d.disk) (IsErrOf r areas.Disk) → (IsTrue d.dead ↔ (IsTrue b.dead ⊎ IsErrOf r areas.Disk))
             → OnErr r (IsHeld b d)

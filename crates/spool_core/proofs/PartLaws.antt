@@ -55,13 +55,13 @@ alike_piece job part bytes same = record {
   placed = λ place j. ap (λ (n : ℕ). if job == j then record { place = place + 9; len = n } ∷ [] else []) (sym same);
 }
 
--- ## A document whose first pieces are added
+-- ## A document with its first pieces added
 
--- a job, and these pieces of its document
+-- A job, and these pieces of its document.
 abbrev pub part_rows : Job → List (List ℕ) → List Row
 part_rows row parts = JobRow row ∷ map (λ bytes. Piece row.id bytes) parts
 
--- the pieces with so many bytes of the document are added, and their places are noted
+-- The pieces with the first `done` bytes of the document are added, and their places are noted.
 pub record IsPartAdded {D : Type 0} (v : DiskView D) (document : List Extent) (row : Job) (done : ℕ) (old : Filling D) (before : Noted) (now : Filling D) (noted : Noted) : Type 0 where
   pub parts : List (List ℕ)
   pub others : List (List ℕ)
@@ -74,11 +74,11 @@ pub record IsPartAdded {D : Type 0} (v : DiskView D) (document : List Extent) (r
   pub room : (j : ℕ) → (¬ (row.id ≡ j)) → move_room noted j ≡ move_room before j
   pub room_left : document_len row - done ≤ move_room noted row.id * longest_send
 
--- the job whose document is due
+-- The job with the document that is due.
 pub due_row : {D : Type 0} (v : DiskView D) (table : Contents) (job : ℕ) (f : Filling D) (due : IsDue v table job f) (r : Job) → job_at table.state job ≡ Some r → due.row ≡ r
 due_row v table job f due r there = some_same due.row r (sym due.there ∙ there)
 
--- a job with bytes of a document isn't over
+-- The number of a job whose document has bytes is not over.
 pub lives_here : (s : State) (j : ℕ) (r : Job) → job_at s j ≡ Some r → 0 < document_len r → is_over s j ≡ false
 lives_here s j r there some = ap (is_over_by s.highest j) there ∙ by_ended (has_ended r.phase) some
   where
@@ -89,7 +89,7 @@ lives_here s j r there some = ap (is_over_by s.highest j) there ∙ by_ended (ha
 all_left : (n : ℕ) → n - 0 ≡ n
 all_left n = omega arith
 
--- its row is added
+-- The row of the job is added.
 pub part_begun : {D : Type 0} (v : DiskView D) (row : Job) (document : List Extent) (old now : Filling D) (noted : Noted) → AddsRows v (JobRow row ∷ []) old now → document_len row ≤ move_room noted row.id * longest_send
     → IsPartAdded v document row 0 old noted now noted
 part_begun v row document old now noted adds room = record {
@@ -151,7 +151,7 @@ module _ {D : Type 0} (v : DiskView D) (lawful : IsLawful v) (document : List Ex
   same_long : records_len (part_rows row p.others) ≡ records_len (part_rows row p.parts)
   same_long = alike_records (part_rows row p.parts) (part_rows row p.others) p.alike
 
-  -- the next piece may be added
+  -- The next piece may be added.
   pub piece_may : MayFill v (blank_rows row) old → MayFill v (some_piece ∷ []) now
   piece_may may =
       let rest = some_piece ∷ rest_rows in
@@ -211,7 +211,7 @@ module _ {D : Type 0} (v : DiskView D) (lawful : IsLawful v) (document : List Ex
         less : document_len row - done - count ≡ document_len row - (done + count)
         less = omega arith
 
--- the document is whole
+-- The document is complete.
 module _ {D : Type 0} (v : DiskView D) (document : List Extent) (row : Job) (done : ℕ) (old : Filling D) (before : Noted) (now : Filling D) (noted : Noted)
     (p : IsPartAdded v document row done old before now noted) (end : document_len row ≤ done) where
   none_left : document_len row - done ≡ 0

@@ -1,4 +1,4 @@
--- What is read of a document.
+-- The bytes that are read of a document.
 use Rattle.std.proofs.Common.{◌≡◌, ◌⊎◌, inl, inr, ⊎_elim, ◌+◌, ◌≤◌, ℕ, Bool, List, [], length, Some, false, true, refl, sym, ap, ◌∙◌, arith}
 use Rattle.spool_disk.specs.Disk.{DiskView, IsLawful}
 use Rattle.extents.specs.declared.extent.Extent.{Extent}
@@ -23,18 +23,18 @@ pub some_same : (x y : Job) → Some x ≡ Some y → x ≡ y
 some_same x y is = cc is
 
 module _ {D : Type 0} (v : DiskView D) (lawful : IsLawful v) (a : Current D) where
-  -- what is told but for the other area is as long as the device
+  -- The bytes shown except in the other area are as long as the device.
   pub told_size : (r : List ℕ) → TellsBut v a r → length r ≡ v.size a.disk
   told_size r is = sym is.same.size ∙ lawful.image_size a.disk is.now (lawful.reads_image a.disk is.now is.tells)
 
-  -- what lies in the current area is the same
+  -- The bytes in the current area are the same.
   pub told_same : IsArea a.base a.end (v.size a.disk) → (xs : List Extent) → LieIn (a.base + header_len) a.end xs → (r : List ℕ) (is : TellsBut v a r) → joined is.now xs ≡ joined r xs
   told_same area xs lie r is = kept (a.base + header_len) a.end (other_base a) (area_len a) xs r is.now lie apart is.same
     where
       apart : (a.end ≤ other_base a) ⊎ (other_base a + area_len a ≤ a.base + header_len)
       apart = ⊎_elim (λ t. inl (omega (arith, t.0, t.1, area.end_is))) (λ t. inr (omega (arith, t.0, t.1, area.end_is))) (two_of (v.size a.disk) a.base a.end area)
 
--- a job's places hold as many bytes as its document has
+-- A job's places contain the same number of bytes as its document.
 module _ {D : Type 0} (v : DiskView D) (lawful : IsLawful v) (a : Current D) (c : Contents) (high : ℕ) (within : high ≤ v.size a.disk) (j : ℕ) (lie : is_over c.state j ≡ false → LieIn (a.base + header_len) high (places_at c j))
     (found : JobRow) (is : Some (job_of found) ≡ job_at c.state j) (places : found.document.items ≡ places_at c j) (sized : size_of found.document.items ≡ document_len (job_of found))
     (ended : has_ended found.job.phase ≡ true → found.document.items ≡ []) where

@@ -1,4 +1,4 @@
--- What an opening leaves where a job was processing.
+-- The effect of an opening if a job was processing.
 use Rattle.std.proofs.Common.{◌≡◌, ℕ, List, Some, Err, arith, inl, refl, sym, subst, ◌∙◌}
 use Rattle.std.specs.Prelude.{IsSome, IsErrOf}
 use Rattle.job_table.specs.Attempts.{HasNoProcessing}
@@ -10,14 +10,14 @@ use Rattle.spool_areas.specs.declared.fault.OpenFault.{OpenFault}
 use Rattle.spool_areas.specs.declared.fault.OpenFault.TheVariants.{NotASpool, Damaged, Memory, Disk}
 use Rattle.spool_core.specs.Image.{HasTable, HasDocuments, HasBeforeOrAfterEvent, IsMidway, IsReopeningFault}
 
--- but for the device, only memory can fail
+-- Except for the device, only memory can fail.
 pub wants_memory : (f : OpenFault) → IsReopeningFault f → ¬ (f ≡ Disk) → f ≡ Memory
 wants_memory NotASpool is other = absurd is
 wants_memory (Damaged place) is other = absurd is
 wants_memory Memory is other = refl
 wants_memory Disk is other = absurd (other refl)
 
--- where the count was as before, the device is blamed for what came after
+-- If the count was as before, the device is blamed for the later failure.
 pub blames_disk : (before loaded reopened last : ℕ) (f : OpenFault) → loaded ≡ before → last ≡ reopened → Blames loaded reopened (IsErrOf {T = Unit {0}} (Err f) Disk) → Blames before last (f ≡ Disk)
 blames_disk before loaded reopened last f first same is = record {
   later = omega (arith, first, same, is.later);
@@ -31,12 +31,12 @@ module _ {D : Type 0} (v : DiskView D) (disk loaded synced : D) (s : State)
   abbrev Midway : List ℕ → Type 0
   Midway c = (r : List ℕ) → v.bytes disk ≡ Some r → IsMidway r c
 
-  -- until then nothing was written
+  -- Until then nothing was written.
   pub still : LeavesOnly v synced loaded Midway
   still = weaker_run v synced loaded Midway (λ c. (r : List ℕ) → v.bytes disk ≡ Some r → (c ≡ r) × HasTable s c) since
       (λ c left r tells. record { table = s; found = opened r tells; left = inl (left r tells).1; documents = λ documents has. subst (HasDocuments s documents) (sym (left r tells).0) has; unwritten = λ idle. (left r tells).0 })
 
-  -- what the record of a reopening leaves
+  -- The images that the record of a reopening leaves.
   abbrev Reopening : List ℕ → Type 0
   Reopening c = (IsSome (v.bytes loaded) → HasBeforeOrAfterEvent s Reopen c) × ((r : List ℕ) (documents : ℕ → List ℕ) → v.bytes loaded ≡ Some r → HasDocuments s documents r → HasDocuments s documents c)
 

@@ -1,4 +1,4 @@
--- One event of a run after those before it.
+-- One event of a run, after the previous events.
 use Rattle.std.proofs.Common.{◌≡◌, ◌<◌, ℕ, zero, suc, ◌+◌, List, [], ◌∷◌, ◌++◌, length, take, Bool, true, false, IsSome, IsTrue, Result, Some, Err, refl, sym, subst, ap, ◌∙◌, arith, length-append}
 use Rattle.spool_types.specs.declared.event.Event.{Event}
 use Rattle.spool_types.specs.declared.event.Reply.{Reply}
@@ -20,7 +20,7 @@ use Rattle.spool_core.proofs.DriveLaws.{after_all_last, replies_last, documents_
 not_dead : (b : Bool) → b ≡ false → b ≡ true → ⊥
 not_dead b p q = cc
 
--- what a turn does to the disk, whatever it answers
+-- The effect of an event on the disk, whatever the reply.
 pub record Turns {D : Type 0} (v : DiskView D) (old : OpenSpool D) (e : Event) (new : OpenSpool D) : Type 0 where
   pub fixed : v.size new.disk ≡ v.size old.disk
   pub told : IsSome (v.bytes new.disk) → IsSome (v.bytes old.disk)
@@ -34,7 +34,7 @@ module _ {D : Type 0} (v : DiskView D)
       → IsOutcome v old events others ending new
   same_replies replies others ending new is has = subst (λ (rs : List (Result Reply Refusal)). IsOutcome v old events rs ending new) (sym is) has
 
-  -- a dead spool stops at the first event
+  -- A dead spool stops at the first event.
   pub dead_ends : (n : ℕ) (ending : Ending) (new : OpenSpool D) → IsEnding v old events n ending new → (0 < n → old.dead ≡ false) → IsTrue old.dead → 0 < length events → (ending ≡ Dead) × (new ≡ old)
   dead_ends n End new is alive dead some = absurd (not_dead old.dead (alive (omega (arith, is.0, some))) dead)
   dead_ends n Memory new is alive dead some = absurd (not_dead old.dead is.1 dead)
@@ -66,11 +66,11 @@ module _ {D : Type 0} (v : DiskView D)
   })
 
   module _ (replies : List (Result Reply Refusal)) (now : OpenSpool D) (driven : IsDriven v old events replies now) where
-    -- the device isn't blamed
+    -- The device is not blamed.
     not_blamed : (ending : Ending) → ¬ (ending ≡ Disk) → Blames (v.failures old.disk) (v.failures now.disk) (ending ≡ Disk)
     not_blamed ending other = record { later = omega (arith, driven.counted); failed = λ is. absurd (other is); counted = λ not. driven.counted }
 
-    -- a crash leaves the table that the answered events led to
+    -- A crash leaves the table after the answered events.
     rests : old.dead ≡ false → IsSome (v.bytes old.disk) → LeavesOnly v now.disk now.disk (HasPrefixTable old.state events (length replies) (length replies))
     rests alive tells =
         started v now.disk (HasPrefixTable old.state events (length replies) (length replies))
@@ -79,7 +79,7 @@ module _ {D : Type 0} (v : DiskView D)
     acknowledged_here : old.dead ≡ false → IsSome (v.bytes old.disk) → IsAcknowledged v old.state events (length replies) (length replies) old.disk now.disk
     acknowledged_here alive tells = (now.disk, driven.chain alive tells, rests alive tells)
 
-    -- and their documents
+    -- It also leaves their documents.
     whole_here : old.dead ≡ false → (r : List ℕ) (documents : ℕ → List ℕ) → v.bytes old.disk ≡ Some r → HasDocuments old.state documents r
         → (c : List ℕ) → v.image now.disk c → HasWholePrefix old.state documents events (length replies) (length replies) c
     whole_here alive r documents tells has c left = (
@@ -148,7 +148,7 @@ module _ {D : Type 0} (v : DiskView D)
       now_room : now.room ≡ room_after old.state old.room taken
       now_room = driven.room ∙ ap (room_after old.state old.room) next.before
 
-      -- the event in hand is on the device or not
+      -- The current event may or may not be on the device.
       turn_run : old.dead ≡ false → IsSome (v.bytes old.disk) → LeavesOnly v now.disk new.disk (HasPrefixTable old.state events (length replies) (length replies + 1))
       turn_run alive tells =
           weaker_run v now.disk new.disk (HasPrefixTable old.state events (length replies) (length replies + 1)) (HasBeforeOrAfterEvent now.state e)
@@ -175,7 +175,7 @@ module _ {D : Type 0} (v : DiskView D)
         now_documents : documents_now ≡ documents_after old.state documents taken
         now_documents = ap (documents_after old.state documents) next.before
 
-        -- what the event in hand sends is on the device or not
+        -- The part that the current event sends may or may not be on the device.
         turn_documents : LeavesOnly v now.disk new.disk (HasWholePrefix old.state documents events (length replies) (length replies + 1))
         turn_documents =
             weaker_run v now.disk new.disk (HasWholePrefix old.state documents events (length replies) (length replies + 1)) (HasWholeBeforeOrAfterEvent now.state documents_now e)
@@ -192,19 +192,19 @@ module _ {D : Type 0} (v : DiskView D)
         sent_with : (c : List ℕ) → v.image new.disk c → HasWholePrefix old.state documents events (length replies) (length replies + 1) c
         sent_with = at_return v lawful now.disk new.disk (HasWholePrefix old.state documents events (length replies) (length replies + 1)) turn_documents
 
-        -- the same of the table and the documents that the events before it lead to
+        -- The same for the table and the documents after the previous events.
         whole_turn : LeavesOnly v now.disk new.disk (HasWholeBeforeOrAfterEvent (after_all old.state taken) (documents_after old.state documents taken) e)
         whole_turn =
             subst (λ (s : State). LeavesOnly v now.disk new.disk (HasWholeBeforeOrAfterEvent s (documents_after old.state documents taken) e)) now_table
             (subst (λ (ds : ℕ → List ℕ). LeavesOnly v now.disk new.disk (HasWholeBeforeOrAfterEvent now.state ds e)) now_documents
             (turns.documents (now_alive alive) told_now.0 documents_now told_now.1 has_now))
 
-        -- an answered event has sent what it sends
+        -- After an answered event the part that it sends is stored.
         sent_on : ((r : List ℕ) (documents : ℕ → List ℕ) → v.bytes now.disk ≡ Some r → HasDocuments now.state documents r → LeavesDocuments v new.state (documents_after_one now.state documents e) new.disk)
             → LeavesDocuments v new.state (documents_after_one (after_all old.state taken) (documents_after old.state documents taken) e) new.disk
         sent_on sent c left = subst (λ (ds : ℕ → List ℕ). HasDocuments new.state ds c) (λ i. documents_after_one (now_table i) (now_documents i) e) (sent told_now.0 documents_now told_now.1 has_now c left)
 
-      -- the device failed
+      -- The device failed.
       end_of_disk : IsFailed v now e new → IsOutcome v old events replies Disk new
       end_of_disk broken = record {
         replies_are = driven.replies_are;
@@ -224,7 +224,7 @@ module _ {D : Type 0} (v : DiskView D)
         whole = whole_with;
       }
 
-      -- nothing has changed
+      -- Nothing has changed.
       end_unchanged : (ending : Ending) → ¬ (ending ≡ Disk) → IsEnding v old events (length replies) ending now → reach ending (length replies) ≡ length replies → new ≡ now
           → IsOutcome v old events replies ending new
       end_unchanged ending other is reaches same = subst (λ (s : OpenSpool D). IsOutcome v old events replies ending s) (sym same) (record {
@@ -259,7 +259,7 @@ module _ {D : Type 0} (v : DiskView D)
           let first : length replies ≡ 0 = none_answered (length replies) driven.alive dead in
           end_unchanged Dead (λ same. cc same) (dead, first, omega (arith, next.fits), driven.same dead) refl is.1
 
-      -- one more answer
+      -- One more reply.
       pub driven_more : (answer : Result Reply Refusal) (more : List (Result Reply Refusal)) → more ≡ replies ++ answer ∷ [] → IsAnswered now e answer new → (IsSome (v.bytes now.disk) → KeepsImages v now → KeepsImages v new)
           → ((r : List ℕ) (documents : ℕ → List ℕ) → v.bytes now.disk ≡ Some r → HasDocuments now.state documents r → LeavesDocuments v new.state (documents_after_one now.state documents e) new.disk)
           → v.failures new.disk ≡ v.failures now.disk → IsDriven v old events more new

@@ -1,4 +1,4 @@
--- A walk over the jobs of a table, from number to number.
+-- A walk over the jobs of a table, in the order of their numbers.
 use Rattle.std.proofs.Common.{◌≡◌, ℕ, zero, suc, ◌+◌, ◌-◌, ◌<◌, ◌≤◌, List, [], ◌∷◌, length, get_or, map, Option, None, Some, refl, sym, ap, ◌∙◌, arith}
 use Rattle.std.specs.Prelude.{slice_get}
 use Rattle.extents.specs.Extents.{size_of}
@@ -7,12 +7,12 @@ use Rattle.spool_types.specs.State.{job_at}
 use Rattle.spool_types.specs.declared.rows.JobRow.{JobRow}
 use Rattle.job_table.specs.Contents.{Contents, AreSized, places_of}
 
--- no more numbers than these are left from this one on
+-- At most this many numbers are left from this one on.
 abbrev pub jobs_left : Option ℕ → ℕ
 jobs_left None = 0
 jobs_left (Some n) = greatest_number + 2 - n
 
--- the row of a number that was reached
+-- The row of a number that was reached.
 pub record IsRowAt (rows : List JobRow) (at n : ℕ) : Type 0 where
   pub row : JobRow
   pub within : at < length rows
@@ -24,7 +24,7 @@ row_at [] at n is = absurd (cc)
 row_at (r ∷ rows) zero n is = record { row = r; within = omega arith; is = refl; own = cc }
 row_at (r ∷ rows) (suc at) n is = let rest = row_at rows at n is in record { row = rest.row; within = omega (arith, rest.within); is = rest.is; own = rest.own }
 
--- none is left where none was reached
+-- If no number was reached, none is left.
 pub past_end : (ns : List ℕ) (at : ℕ) → slice_get ns at ≡ None → length ns ≤ at
 past_end [] at none = omega arith
 past_end (n ∷ ns) zero none = absurd (cc)
@@ -34,7 +34,7 @@ pub not_some : (o : Option ℕ) → ((k : ℕ) → o ≡ Some k → ⊥) → o �
 not_some None never = refl
 not_some (Some k) never = absurd (never k refl)
 
--- documents are sized alike where they lie alike
+-- Documents at the same places have the same lengths.
 pub sized_alike : (c d : Contents) → d.state ≡ c.state → d.places ≡ c.places → AreSized c → AreSized d
 sized_alike c d same places sized = λ j r there.
     ap (λ ps. size_of (places_of ps j)) places ∙ sized j r (ap (λ s. job_at s j) (sym same) ∙ there)

@@ -1,4 +1,4 @@
--- What a checkpoint makes of a spool: its table, listed in the other area.
+-- The effect of a checkpoint: it lists the spool's table in the other area.
 use Rattle.std.specs.Prelude.{◌≡◌, ◌+◌, ◌-◌, ◌<◌, ◌≤◌, ℕ, Bool, true, false, List, length, map, replicate, IsTrue, Result, Ok, Err}
 use Rattle.spool_types.specs.declared.listing.Row.{Row}
 use Rattle.spool_types.specs.Limits.{longest_document}
@@ -19,28 +19,28 @@ use Rattle.spool_core.specs.OpenSpools.{OpenSpool, len_at}
 use Rattle.spool_core.specs.declared.spool.checkpoint_fault.CheckpointFault.{CheckpointFault}
 use Rattle.spool_core.specs.declared.spool.checkpoint_fault.CheckpointFault.TheVariants.{Dead, EpochEnd, Memory, Full, Disk}
 
--- ## What an area holds after it
+-- ## The contents of an area after a checkpoint
 
--- the payloads of the rows that a table is listed as, with these documents, in the newest version
+-- The payloads of the rows of the table's listing, with these documents, in the newest version.
 abbrev pub listed_payloads : State → (ℕ → List ℕ) → List (List ℕ)
 listed_payloads s documents = map (row_spelling Two) (listing s documents)
 
--- Documents of zeros. How long the rows of a listing are depends on how long the documents are, and on nothing else of them.
+-- Documents of zeros. The length of a listing's rows depends only on the lengths of the documents.
 abbrev pub blank : State → ℕ → List ℕ
 blank s j = replicate (len_at s j) 0
 
--- the rows of a job, with zeros for its document
+-- The rows of a job, with zeros for its document.
 abbrev pub blank_rows : Job → List Row
 blank_rows r = job_rows r (replicate (document_len r) 0)
 
--- the current area of the image has this epoch
+-- The current area of the image has this epoch.
 pub record HasEpoch (epoch : ℕ) (image : List ℕ) : Type 0 where
   pub base : ℕ
   pub current : current_area image ≡ Ok base
   pub epoch_is : epoch_of (header_at base image) ≡ epoch
 
--- The current area of the image has the newest version and this epoch, and holds the listing of the table, with documents of the jobs' lengths, and
--- no event.
+-- The current area of the image has the newest version and this epoch. It contains the listing of the table, with documents of
+-- the jobs' lengths, and no event.
 pub record IsCheckpointed (s : State) (epoch : ℕ) (image : List ℕ) : Type 0 where
   pub base : ℕ
   pub documents : ℕ → List ℕ
@@ -49,23 +49,23 @@ pub record IsCheckpointed (s : State) (epoch : ℕ) (image : List ℕ) : Type 0 
   pub version_is : version_of (header_at base image) ≡ newest_version
   pub epoch_is : epoch_of (header_at base image) ≡ epoch
 
--- ## Its answers
+-- ## Its results
 
--- The rows of the table's listing, appended in order to an area of this length, meet no Full: behind each record and its
--- next gate six bytes more are left.
+-- The rows of the table's listing, appended in order to an area of this length, do not get `Full`: after each record and its next
+-- gate at least six more bytes are left.
 abbrev pub holds_listing : ℕ → State → Bool
 holds_listing len s = has_room len header_len (map length (listed_payloads s (blank s)))
 
--- how many bytes are left in an area of this length behind the table's listing
+-- The number of bytes left after the table's listing in an area of this length.
 abbrev pub room_beside : ℕ → State → ℕ
 room_beside len s = len - gate_after 0 (listed_payloads s (blank s))
 
--- the spool isn't dead, and there is a next epoch
+-- The spool is not dead, and a next epoch exists.
 pub record MayList {D : Type 0} (spool : OpenSpool D) : Type 0 where
   pub alive : spool.dead ≡ false
   pub epoch_left : ¬ (spool.epoch ≡ last_epoch)
 
--- the table is in the other area, with the next epoch and in the newest version, and is as it was
+-- The table is in the other area, with the next epoch and in the newest version, and is otherwise as before.
 pub record IsListed {D : Type 0} (v : DiskView D) (old new : OpenSpool D) : Type 0 where
   pub may : MayList old
   pub fits : holds_listing (half (v.size old.disk)) old.state ≡ true
@@ -74,7 +74,7 @@ pub record IsListed {D : Type 0} (v : DiskView D) (old new : OpenSpool D) : Type
   pub room : new.room ≡ room_beside (half (v.size old.disk)) old.state
   pub alive : new.dead ≡ false
 
--- the device failed, and the spool is dead
+-- The device failed, and the spool is dead.
 pub record IsUnlisted {D : Type 0} (v : DiskView D) (old new : OpenSpool D) : Type 0 where
   pub may : MayList old
   pub fits : holds_listing (half (v.size old.disk)) old.state ≡ true
@@ -84,8 +84,8 @@ pub record IsUnlisted {D : Type 0} (v : DiskView D) (old new : OpenSpool D) : Ty
   pub dead : new.dead ≡ true
   pub cause : v.failures old.disk < v.failures new.disk
 
--- Each answer of a checkpoint, with its cause and what it leaves. In this order: dead, the last epoch, no memory, full,
--- failed.
+-- Each result of a checkpoint, with its cause and its effect. The causes in order: dead, the last epoch, out of memory, full,
+-- device failure.
 abbrev pub IsCheckpoint : {D : Type 0} → DiskView D → OpenSpool D → Result (Unit {0}) CheckpointFault → OpenSpool D → Type 0
 IsCheckpoint v old (Ok done) new = IsListed v old new
 IsCheckpoint v old (Err Dead) new = IsTrue old.dead × (new ≡ old)
@@ -94,7 +94,7 @@ IsCheckpoint v old (Err Memory) new = MayList old × (new ≡ old)
 IsCheckpoint v old (Err Full) new = MayList old × (holds_listing (half (v.size old.disk)) old.state ≡ false) × (new ≡ old)
 IsCheckpoint v old (Err Disk) new = IsUnlisted v old new
 
--- what a fault of the areas is for the spool
+-- Converts a fault of the areas to that of a checkpoint.
 abbrev pub fault_for : AreaFault → CheckpointFault
 fault_for areas.Dead = Dead
 fault_for areas.EpochEnd = EpochEnd
@@ -103,7 +103,7 @@ fault_for areas.Disk = Disk
 
 -- ## A job's row
 
--- a row can tell the job's size and its phase
+-- A row can represent the job's size and its phase.
 pub record MayBeListed (r : Job) : Type 0 where
   pub size : r.size ≤ longest_document
   pub phase : Fits r r.phase

@@ -1,4 +1,4 @@
--- A list of events, applied in turn.
+-- A list of events, applied in order.
 use Rattle.std.specs.Prelude.{◌≡◌, ◌<◌, ◌≤◌, ℕ, ◌+◌, ◌-◌, List, [], ◌∷◌, length, take, true, false, Option, Some, None, IsSome, IsTrue, Result, slice_get}
 use Rattle.spool_types.specs.declared.event.Event.{Event}
 use Rattle.spool_types.specs.declared.event.Reply.{Reply}
@@ -13,12 +13,12 @@ use Rattle.spool_core.specs.OpenSpools.{OpenSpool, IsFull, record_len}
 use Rattle.spool_core.specs.declared.driving.Ending.{Ending}
 use Rattle.spool_core.specs.declared.driving.Ending.TheVariants.{End, Memory, Full, Disk, Dead}
 
--- what the events are answered, each on the table that the ones before it left
+-- The replies to the events, each for the table after the previous events.
 abbrev pub replies_to : State → List Event → List (Result Reply Refusal)
 replies_to s [] = []
 replies_to s (e ∷ es) = answer_to s e ∷ replies_to (after_one s e) es
 
--- the room after an event: its record takes some, unless it is refused
+-- The room after an event: less its record, unless it is refused.
 abbrev pub unless_refused_room : ℕ → Event → Option Refusal → ℕ
 unless_refused_room room e None = room - record_len e
 unless_refused_room room e (Some r) = room
@@ -26,26 +26,26 @@ unless_refused_room room e (Some r) = room
 abbrev pub room_after_one : State → ℕ → Event → ℕ
 room_after_one s room e = unless_refused_room room e (refusal_of s e)
 
--- the room after the events, each on the table that the ones before it left
+-- The room after the events, each applied to the table after the previous events.
 abbrev pub room_after : State → ℕ → List Event → ℕ
 room_after s room [] = room
 room_after s room (e ∷ es) = room_after (after_one s e) (room_after_one s room e) es
 
--- the documents after the events: with what each of them that isn't refused sends
+-- The documents after the events, with the parts that the accepted ones send.
 abbrev pub documents_after : State → (ℕ → List ℕ) → List Event → ℕ → List ℕ
 documents_after s documents [] = documents
 documents_after s documents (e ∷ es) = documents_after (after_one s e) (documents_after_one s documents e) es
 
--- the image has the table after so many of the events: at least so many, and at most so many
+-- The image has the table after k of the events, with k from `least` to `most`.
 abbrev pub HasPrefixTable : State → List Event → ℕ → ℕ → List ℕ → Type 0
 HasPrefixTable s events least most image = (k : ℕ) × (least ≤ k) × (k ≤ most) × HasTable (after_all s (take k events)) image
 
--- so it is, with the documents after these events
+-- The same, with the documents after these events.
 abbrev pub HasWholePrefix : State → (ℕ → List ℕ) → List Event → ℕ → ℕ → List ℕ → Type 0
 HasWholePrefix s documents events least most image =
     (k : ℕ) × (least ≤ k) × (k ≤ most) × HasWhole (after_all s (take k events)) (documents_after s documents (take k events)) image
 
--- how many of the events may be on the device where n were answered: the one in hand too, if the device failed
+-- The greatest number of events that may be on the device after n replies: includes the current event if the device failed.
 abbrev pub reach : Ending → ℕ → ℕ
 reach End n = n
 reach Memory n = n
@@ -53,11 +53,11 @@ reach Full n = n
 reach Disk n = n + 1
 reach Dead n = n
 
--- the event at n is the one in hand
+-- The event at n is the current one.
 abbrev pub IsInHand : List Event → ℕ → Event → Type 0
 IsInHand events n e = slice_get events n ≡ Some e
 
--- Why it ended where n of the events had been answered, and what it left.
+-- Why the run ended after n replies, and its effect.
 abbrev pub IsEnding : {D : Type 0} → DiskView D → OpenSpool D → List Event → ℕ → Ending → OpenSpool D → Type 0
 IsEnding v old events n End new = (n ≡ length events) × (new.dead ≡ old.dead)
 IsEnding v old events n Memory new = (n < length events) × (old.dead ≡ false) × (new.dead ≡ false)
@@ -66,7 +66,7 @@ IsEnding v old events n Disk new =
     (e : Event) × IsInHand events n e × (refusal_of new.state e ≡ None) × (record_len e + kept_room ≤ new.room) × (old.dead ≡ false) × (new.dead ≡ true) × (v.failures old.disk < v.failures new.disk)
 IsEnding v old events n Dead new = IsTrue old.dead × (n ≡ 0) × (0 < length events) × (new ≡ old)
 
--- A crash leaves this table alone.
+-- A crash leaves only this table.
 abbrev pub LeavesTable : {D : Type 0} → DiskView D → State → D → Type 0
 LeavesTable v s d = (c : List ℕ) → v.image d c → HasTable s c
 
@@ -78,19 +78,19 @@ LeavesDocuments v s documents d = (c : List ℕ) → v.image d c → HasDocument
 abbrev pub LeavesWhole : {D : Type 0} → DiskView D → State → (ℕ → List ℕ) → D → Type 0
 LeavesWhole v s documents d = (c : List ℕ) → v.image d c → HasWhole s documents c
 
--- A chain of disks from one to another, with one more for each event: between two neighbours a crash leaves the table
--- before the event or the one after it, and from the later of them on the event isn't lost.
+-- A chain of disks, with one more disk for each event. Between two neighbours a crash leaves the table from before the event or
+-- the one after it. From the later of the two on the event is not lost.
 abbrev pub IsChain : {D : Type 0} → DiskView D → State → List Event → D → D → Type 0
 IsChain v s [] d new = d ≡ new
 IsChain {D} v s (e ∷ es) d new =
     (next : D) × LeavesOnly v d next (HasBeforeOrAfterEvent s e) × LeavesTable v (after_one s e) next × IsChain v (after_one s e) es next new
 
--- The answered events are a chain, and behind it a crash leaves the table of at least these, and of so many at most.
+-- The answered events form a chain. After it a crash leaves the table after at least n and at most `most` events.
 abbrev pub IsAcknowledged : {D : Type 0} → DiskView D → State → List Event → ℕ → ℕ → D → D → Type 0
 IsAcknowledged {D} v s events n most old new =
     (last : D) × IsChain v s (take n events) old last × LeavesOnly v last new (HasPrefixTable s events n most)
 
--- Such a chain with the documents: from the later of two neighbours on what the event sent isn't lost.
+-- Such a chain with the documents: from the later of two neighbours on the part that the event sent is not lost.
 abbrev pub IsWholeChain : {D : Type 0} → DiskView D → State → (ℕ → List ℕ) → List Event → D → D → Type 0
 IsWholeChain v s documents [] d new = d ≡ new
 IsWholeChain {D} v s documents (e ∷ es) d new =
@@ -101,11 +101,11 @@ abbrev pub IsAcknowledgedWhole : {D : Type 0} → DiskView D → State → (ℕ 
 IsAcknowledgedWhole {D} v s documents events n most old new =
     (last : D) × IsWholeChain v s documents (take n events) old last × LeavesOnly v last new (HasWholePrefix s documents events n most)
 
--- What a crash leaves of a spool with this table, as long as the device hasn't failed.
+-- A crash leaves the spool's table. This holds as long as the device has not failed.
 abbrev pub KeepsImages : {D : Type 0} → DiskView D → OpenSpool D → Type 0
 KeepsImages v spool = LeavesTable v spool.state spool.disk
 
--- The first n of the events were answered, and the device hasn't failed since.
+-- As many of the first events were answered as there are replies, and the device has not failed since.
 pub record IsDriven {D : Type 0} (v : DiskView D) (old : OpenSpool D) (events : List Event) (replies : List (Result Reply Refusal)) (new : OpenSpool D) : Type 0 where
   pub fits : length replies ≤ length events
   pub replies_are : replies ≡ replies_to old.state (take (length replies) events)
@@ -128,7 +128,7 @@ pub record IsDriven {D : Type 0} (v : DiskView D) (old : OpenSpool D) (events : 
   pub whole_chain : old.dead ≡ false → (r : List ℕ) (documents : ℕ → List ℕ) → v.bytes old.disk ≡ Some r → HasDocuments old.state documents r →
       IsWholeChain v old.state documents (take (length replies) events) old.disk new.disk
 
--- The run ended so, with these replies.
+-- The run ended with this ending and these replies.
 pub record IsOutcome {D : Type 0} (v : DiskView D) (old : OpenSpool D) (events : List Event) (replies : List (Result Reply Refusal)) (ending : Ending) (new : OpenSpool D) : Type 0 where
   pub replies_are : replies ≡ replies_to old.state (take (length replies) events)
   pub table : new.state ≡ after_all old.state (take (length replies) events)

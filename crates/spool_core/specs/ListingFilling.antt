@@ -1,4 +1,4 @@
--- Filling the other area with the rows of a listing, and noting where the documents will lie.
+-- Filling the other area with the rows of a listing, and noting the new places of the documents.
 use Rattle.std.specs.Prelude.{◌≡◌, ◌<◌, ◌≤◌, ℕ, ◌+◌, ◌-◌, ◌*◌, ◌^◌, ◌⊎◌, List, [], ◌∷◌, ◌++◌, length, map, take, drop, true, false, if◌then◌else◌, ◌==◌, Some, IsSome, Result, OnOk, OnErr, vec_capacity}
 use Rattle.std.specs.Ordering.{nat_cmp}
 use Rattle.std.specs.FinMap.{find}
@@ -35,30 +35,30 @@ use Rattle.spool_core.specs.Checkpointing.{MayBeListed, blank, blank_rows}
 use Rattle.spool_core.specs.Folding.{IsRead}
 use Rattle.spool_core.specs.declared.spool.filling.Filler.{Filler}
 
--- there is room to note new places for the whole document of each job
+-- There is room to note new places for the whole document of each job.
 abbrev pub HasMoveRoom : State → Noted → Type 0
 HasMoveRoom s noted = (j : ℕ) (r : Job) → job_at s j ≡ Some r → document_len r ≤ move_room noted j * longest_send
 
 -- ## Rows in a block
 
--- how many bytes a block has room for: those that are written at once, and one record more
+-- Size of a block in bytes: those that are written at once, and one more record.
 abbrev pub block_room : ℕ
 block_room = 589829
 
--- what a record's head is written into
+-- The free bytes that a record's head is written into.
 abbrev pub free_head : List ℕ
 free_head = 0 ∷ 0 ∷ 0 ∷ 0 ∷ 0 ∷ []
 
--- A row is spelled behind what the block has, with a free head before it, whose place is told.
+-- A row was encoded after the contents of the block, with a free head before it, which begins at `start`.
 pub record IsPut (row : Row) (old new : Vec ℕ Global) (start : ℕ) : Type 0 where
   pub at : start ≡ length old.items
   pub put : new.items ≡ old.items ++ (free_head ++ row_spelling Two row)
   pub spare : vec_capacity old ≤ vec_capacity new
   pub short : length (row_spelling Two row) < 2 ^ 19
 
--- ## What stands while rows are added
+-- ## The state while rows are added
 
--- the areas, where the records go that are in the block, and the block
+-- The areas, the place of the block's records in the other area, and the block.
 pub record Filling (D : Type 0) : Type 0 where
   pub areas : Current D
   pub gate : ℕ
@@ -70,19 +70,19 @@ filling areas gate block = record { areas = areas; gate = gate; block = block }
 abbrev pub filling_at : {D : Type 0} → Current D → Filler → Filling D
 filling_at areas filler = filling areas filler.gate filler.block.items
 
--- where the next record will lie
+-- The place of the next record.
 abbrev pub next_place : {D : Type 0} → Filling D → ℕ
 next_place f = f.gate + length f.block
 
 abbrev pub records_len : List Row → ℕ
 records_len rows = length (records (map (row_spelling Two) rows))
 
--- the change over is one of these areas
+-- The change is between these areas.
 pub record IsChangeOf {D : Type 0} (x : Change D) (areas : Current D) : Type 0 where
   pub other : x.other ≡ other_base areas
   pub len : x.len ≡ area_len areas
 
--- Rows may be added whose records take as many bytes as those of these.
+-- Rows may be added whose records are as long as those of these rows.
 pub record MayFill {D : Type 0} (v : DiskView D) (rows : List Row) (f : Filling D) : Type 0 where
   pub alive : f.areas.dead ≡ false
   pub area : IsArea f.areas.base f.areas.end (v.size f.areas.disk)
@@ -90,8 +90,8 @@ pub record MayFill {D : Type 0} (v : DiskView D) (rows : List Row) (f : Filling 
   pub few : length f.block < block_len
   pub room : next_place f + records_len rows + 1 ≤ other_base f.areas + area_len f.areas
 
--- From the old filling to the new one only the other area has changed, and a crash meanwhile leaves the payloads of the
--- current one. After a fault the areas are dead, and the device has failed.
+-- From the old filling to the new one only the other area has changed, and a crash meanwhile leaves the payloads of the current
+-- area. After a fault the areas are dead, and the device has failed.
 pub record IsFillingOn {D T : Type 0} (v : DiskView D) (old new : Filling D) (r : Result T AreaFault) : Type 0 where
   pub base : new.areas.base ≡ old.areas.base
   pub end : new.areas.end ≡ old.areas.end
@@ -113,13 +113,13 @@ pub record AddsRows {D : Type 0} (v : DiskView D) (rows : List Row) (old new : F
   pub place : next_place new ≡ next_place old + records_len rows
   pub added : (x : Change D) (others : List (List ℕ)) → IsChangeOf x old.areas → Fills v x old.areas.disk old.gate old.block others → Fills v x new.areas.disk new.gate new.block (others ++ map (row_spelling Two) rows)
 
--- These bytes are those that the disk tells, but for the other area.
+-- These are the bytes that the disk shows, except in the other area.
 pub record TellsBut {D : Type 0} (v : DiskView D) (areas : Current D) (r : List ℕ) : Type 0 where
   pub now : List ℕ
   pub tells : v.bytes areas.disk ≡ Some now
   pub same : SameOutside (other_base areas) (area_len areas) r now
 
--- The areas were read, and nothing has changed but that they are dead after a fault, which is the device's.
+-- The areas were read, and nothing has changed, except that they are dead after a fault. The fault is the device's.
 pub record IsReadOn {D T : Type 0} (v : DiskView D) (old new : Current D) (r : Result T ReadFault) : Type 0 where
   pub read : IsRead v old new
   pub alive : OnOk r (new.dead ≡ false)
@@ -129,7 +129,7 @@ pub record IsReadOn {D T : Type 0} (v : DiskView D) (old new : Current D) (r : R
 
 -- ## Rows that differ in the bytes of their pieces
 
--- At most the bytes of a piece differ, and not how many they are.
+-- The rows differ at most in the bytes of a piece, not in the number of these bytes.
 pub record IsAlike (a b : Row) : Type 0 where
   pub long : length (row_spelling Two b) ≡ length (row_spelling Two a)
   pub placed : (place j : ℕ) → placed_to place j (piece_of b) ≡ placed_to place j (piece_of a)
@@ -142,14 +142,14 @@ AreAlike (a ∷ rows) [] = ⊥
 
 -- ## A piece
 
--- It was added with the bytes of the document from at on.
+-- The piece was added, with the bytes of the document from `at` on.
 pub record IsPieceAdded {D : Type 0} (v : DiskView D) (document : List Extent) (job at count : ℕ) (old new : Filling D) : Type 0 where
   pub bytes : List ℕ
   pub long : length bytes ≡ count
   pub told : (r : List ℕ) → TellsBut v old.areas r → bytes ≡ take count (drop at (joined r document))
   pub adds : AddsRows v (Piece job bytes ∷ []) old new
 
--- its place is noted, behind the gate of its record
+-- The place of the piece is noted, after the gate of its record.
 pub record IsPieceNoted (job count gate : ℕ) (old new : Noted) : Type 0 where
   pub noted : (bytes : List ℕ) (j : ℕ) → length bytes ≡ count → places_of new.places j ≡ with_placed (places_of old.places j) (gate + 5) j (Some (job, bytes))
   pub there : (j : ℕ) → IsSome (find nat_cmp j old.places) → IsSome (find nat_cmp j new.places)
@@ -157,7 +157,7 @@ pub record IsPieceNoted (job count gate : ℕ) (old new : Noted) : Type 0 where
 
 -- ## A document
 
--- The rows of this job are next, and there is room to note where its document will lie. It lies in the current area.
+-- The rows of this job are next, and there is room to note the new place of its document. The document is in the current area.
 pub record IsDue {D : Type 0} (v : DiskView D) (table : Contents) (job : ℕ) (f : Filling D) : Type 0 where
   pub row : Job
   pub there : job_at table.state job ≡ Some row
@@ -168,14 +168,14 @@ pub record IsDue {D : Type 0} (v : DiskView D) (table : Contents) (job : ℕ) (f
   pub sized : size_of (places_at table job) ≡ document_len row
   pub room : document_len row ≤ move_room table.moves job * longest_send
 
--- They were added with the document.
+-- The rows of the job were added with the document.
 pub record IsDocumentAdded {D : Type 0} (v : DiskView D) (document : List Extent) (row : Job) (old new : Filling D) : Type 0 where
   pub rows : List Row
   pub alike : AreAlike (blank_rows row) rows
   pub told : (r : List ℕ) → TellsBut v old.areas r → rows ≡ job_rows row (joined r document)
   pub adds : AddsRows v rows old new
 
--- its places are noted behind the others
+-- The places of the job's pieces are noted after the others.
 pub record IsDocumentNoted (row : Job) (gate : ℕ) (old new : Noted) : Type 0 where
   pub noted : (j : ℕ) → places_of new.places j ≡ places_of old.places j ++ placed_pieces Two gate (blank_rows row) j
   pub there : (j : ℕ) → IsSome (find nat_cmp j old.places) → IsSome (find nat_cmp j new.places)
@@ -183,15 +183,15 @@ pub record IsDocumentNoted (row : Job) (gate : ℕ) (old new : Noted) : Type 0 w
 
 -- ## All documents
 
--- the documents that lie in these bytes
+-- The documents that these bytes have at their places.
 abbrev pub lying : Contents → List ℕ → ℕ → List ℕ
 lying c r j = joined r (places_at c j)
 
--- the rows of jobs, each with its document
+-- The rows of jobs, each with its document.
 abbrev pub rows_of : (ℕ → List ℕ) → List Job → List Row
 rows_of documents rs = flat_map (λ r. job_rows r (documents r.id)) rs
 
--- The rows of all jobs were added with the documents, and where these will lie is noted behind the others.
+-- The rows of all jobs were added with their documents. The new places of these are noted after the others.
 pub record AreJobsAdded {D : Type 0} (v : DiskView D) (table : Contents) (old new : Filling D) : Type 0 where
   pub rows : List Row
   pub alike : AreAlike (flat_map blank_rows (finite.values table.state.jobs)) rows
@@ -204,8 +204,8 @@ pub record AreJobsNoted (s : State) (gate : ℕ) (old new : Noted) : Type 0 wher
 
 -- ## The listing
 
--- These rows are the listing of the table, with documents of the jobs' lengths: with those that lie in the bytes told, if any
--- are told.
+-- These rows are the listing of the table, with documents of the jobs' lengths. If the disk shows its bytes, they are the
+-- documents in these bytes.
 pub record IsListing (Told : List ℕ → Type 0) (table : Contents) (rows : List Row) : Type 0 where
   pub spellable : AllByRecursion (IsRowSpellable Two) rows
   pub alike : AreAlike (listing table.state (blank table.state)) rows
@@ -216,14 +216,14 @@ pub record IsListingAdded {D : Type 0} (v : DiskView D) (table : Contents) (old 
   pub listing_is : IsListing (TellsBut v old.areas) table rows
   pub adds : AddsRows v rows old new
 
--- All places are noted that they have where the first gate of the listing stands there.
+-- The noted places are those of a listing whose first gate is at `first`.
 pub record AreDocumentsNoted (s : State) (first : ℕ) (noted : Noted) : Type 0 where
   pub places : (j : ℕ) (r : Job) → job_at s j ≡ Some r → places_of noted.places j ≡ placed_pieces Two first (listing s (blank s)) j
   pub there : (j : ℕ) (r : Job) → job_at s j ≡ Some r → IsSome (find nat_cmp j noted.places)
 
 -- ## The areas afterwards
 
--- A listing of the table was put into the other area, which is the current one now.
+-- A listing of the table was written to the other area, which is now the current one.
 pub record HasListing {D : Type 0} (v : DiskView D) (table : Contents) (old new : Current D) : Type 0 where
   pub rows : List Row
   pub listing_is : IsListing (λ r. v.bytes old.disk ≡ Some r) table rows
@@ -239,7 +239,7 @@ pub record LeavesListing {D : Type 0} (v : DiskView D) (table : Contents) (old n
 abbrev pub LeavesOld : {D : Type 0} → DiskView D → Current D → Current D → Type 0
 LeavesOld v old new = (payloads : List (List ℕ)) → KeepsPayloads v old payloads → LeavesOnly v old.disk new.disk (HasVersionAndPayloads old.base old.version payloads)
 
--- What filling the other area and opening it leaves, whatever it answers.
+-- The effect of filling the other area and opening it, whatever the result.
 pub record IsFilledOver {D T : Type 0} (v : DiskView D) (table : Contents) (old new : Current D) (r : Result T AreaFault) : Type 0 where
   pub changes : ChangesOnly v old.disk new.disk (other_base old) (area_len old)
   pub leaves : LeavesOld v old new ⊎ LeavesListing v table old new

@@ -1,4 +1,4 @@
--- An opened spool as its callers see it.
+-- An open spool as its callers see it.
 use Rattle.spool_disk.specs.Disk.{DiskView}
 use Rattle.std.specs.Prelude.{◌≡◌, ◌<◌, ◌≤◌, ◌^◌, ℕ, ◌+◌, ◌-◌, length, List, Bool, true, false, IsTrue, Option, None, Some, Result, Ok, Err}
 use Rattle.spool_types.specs.declared.event.Event.{Event}
@@ -14,8 +14,8 @@ use Rattle.gate_journal.specs.Frame.{payload_of}
 use Rattle.spool_core.specs.declared.spool.apply_fault.ApplyFault.{ApplyFault}
 use Rattle.spool_core.specs.declared.spool.apply_fault.ApplyFault.TheVariants.{Dead, Refused, Memory, Full, Disk}
 
--- the disk, the table, how many bytes there are from the closed gate to the area's end, the area's epoch, and whether the
--- device has failed
+-- The disk, the table, the number of bytes from the closed gate to the end of the area, the area's epoch, and whether the device
+-- has failed.
 pub record OpenSpool (D : Type 0) : Type 0 where
   pub disk : D
   pub state : State
@@ -23,17 +23,17 @@ pub record OpenSpool (D : Type 0) : Type 0 where
   pub epoch : ℕ
   pub dead : Bool
 
--- how many bytes a record of this event takes
+-- The length in bytes of this event's record.
 abbrev pub record_len : Event → ℕ
 record_len e = 5 + length (spelling e)
 
--- What an opening leaves of the room: all of it where no job is processing in the table, and else all but the record of
--- one reopening.
+-- The room that an opening leaves: all of it if no job is processing in the table, otherwise all except the record of one
+-- reopening.
 pub record LeavesRoom (s : State) (room left : ℕ) : Type 0 where
   pub idle : HasNoProcessing s → left ≡ room
   pub busy : ¬ (HasNoProcessing s) → left ≡ room - record_len Reopen
 
--- the event is accepted, and its record and the 7 bytes kept behind it lie in the area
+-- The event is accepted, and its record and the 7 bytes reserved after it fit into the area.
 pub record Fits {D : Type 0} (spool : OpenSpool D) (e : Event) : Type 0 where
   pub alive : spool.dead ≡ false
   pub accepted : refusal_of spool.state e ≡ None
@@ -57,7 +57,7 @@ pub record IsFull {D : Type 0} (old : OpenSpool D) (e : Event) : Type 0 where
   pub accepted : refusal_of old.state e ≡ None
   pub room : old.room < record_len e + kept_room
 
--- Each answer of an apply, with its cause and what it leaves. In this order: dead, refused, no memory, full, failed.
+-- Each result of `apply`, with its cause and its effect. The causes in order: dead, refused, out of memory, full, device failure.
 abbrev pub IsAnswer : {D : Type 0} → DiskView D → OpenSpool D → Event → Result Reply ApplyFault → OpenSpool D → Type 0
 IsAnswer v old e (Ok reply) new = IsDone old e reply new
 IsAnswer v old e (Err Dead) new = IsTrue old.dead × (new ≡ old)
@@ -66,26 +66,26 @@ IsAnswer v old e (Err Memory) new = (old.dead ≡ false) × (refusal_of old.stat
 IsAnswer v old e (Err Full) new = IsFull old e × (new ≡ old)
 IsAnswer v old e (Err Disk) new = IsFailed v old e new
 
--- The event is journalled: its record fitted, and its room is taken.
+-- The event is journalled: its record fitted, and the room is less by it.
 pub record IsRecorded {D : Type 0} (old : OpenSpool D) (e : Event) (new : OpenSpool D) : Type 0 where
   pub fits : Fits old e
   pub state : new.state ≡ old.state
   pub room : new.room ≡ old.room - record_len e
   pub alive : new.dead ≡ false
 
--- the same answers before the event is committed to the table
+-- The same results before the event is committed to the table.
 abbrev pub IsJournalled : {D : Type 0} → DiskView D → OpenSpool D → Event → Result ℕ ApplyFault → OpenSpool D → Type 0
 IsJournalled v old e (Ok place) new = IsRecorded old e new
 IsJournalled v old e (Err fault) new = IsAnswer v old e (Err fault) new
 
--- the frame of an event's record
+-- The frame of an event's record.
 pub record IsFrameOf (e : Event) (frame : List ℕ) : Type 0 where
   pub spellable : IsSpellable e
   pub payload : payload_of frame ≡ spelling e
   pub len : length frame ≡ record_len e
   pub short : length frame < 2 ^ 32
 
--- how long the document of a job that is found is
+-- The length of the document of the job, if one was found.
 abbrev pub len_found : Option Job → ℕ
 len_found None = 0
 len_found (Some r) = document_len r

@@ -11,7 +11,7 @@ use Rattle.job_table.specs.Step.{answer_to}
 use Rattle.spool_core.specs.declared.driving.Ending.{Ending}
 use Rattle.spool_core.specs.declared.driving.Ending.TheVariants.{End, Memory, Full, Disk, Dead}
 
--- the event was answered
+-- The event was answered.
 pub record IsAnswered {D : Type 0} (old : OpenSpool D) (e : Event) (answer : Result Reply Refusal) (new : OpenSpool D) : Type 0 where
   pub alive : old.dead ≡ false
   pub answer_is : answer ≡ answer_to old.state e

@@ -1,4 +1,4 @@
--- What the fields of a spool mean.
+-- The meaning of a spool's fields.
 use Rattle.spool_disk.specs.Disk.{DiskView}
 use Rattle.std.specs.Prelude.{◌≡◌, ◌≤◌, ℕ, ◌+◌, ◌-◌, List, false, IsSome}
 use Rattle.spool_types.specs.State.{State}
@@ -19,18 +19,19 @@ use Rattle.gate_journal.specs.Appends.{kept_room}
 use Rattle.spool_core.specs.OpenSpools.{OpenSpool}
 use Rattle.spool_core.specs.declared.spool.Spool.TheInside.{Inside}
 
--- the areas and the table beside them
+-- The areas and the table as an open spool.
 abbrev pub open_spool_at : {D : Type 0} → Current D → State → OpenSpool D
 open_spool_at areas s = record { disk = areas.disk; state = s; room = areas.end - areas.gate; epoch = areas.epoch; dead = areas.dead }
 
 abbrev pub open_spool_of : {D : Type 0} → Inside D → OpenSpool D
 open_spool_of a = open_spool_at a.areas a.table.state
 
--- The documents lie where these rows and events of the area at base have them, in this version, but for those of numbers that are over.
+-- The documents are where these rows and events of the area at base have them in this version, except those of numbers that are
+-- over.
 abbrev pub ArePlacesOf : Version → ℕ → List Row → List Event → Contents → Type 0
 ArePlacesOf version base rows events c = (j : ℕ) → is_over c.state j ≡ false → places_at c j ≡ places_in version base rows events j
 
--- These payloads of the area at base, of the version with this number, lead to the table, and the documents lie where they have
+-- These payloads of the area at base, in the version with this number, result in the table, and the documents are where they have
 -- them.
 pub record HasHistory (base number : ℕ) (payloads : List (List ℕ)) (c : Contents) : Type 0 where
   pub version : Version
@@ -38,7 +39,7 @@ pub record HasHistory (base number : ℕ) (payloads : List (List ℕ)) (c : Cont
   pub history : IsHistory version payloads c.state
   pub places : ArePlacesOf version base history.rows history.events c
 
--- Each image of the disk has the history of the table in its current area, and the documents lie where that has them.
+-- Each image of the disk has the history of the table in its current area, and the documents are where that history has them.
 pub record KeepsTable {D : Type 0} (v : DiskView D) (areas : Current D) (c : Contents) : Type 0 where
   pub version : Version
   pub payloads : List (List ℕ)
@@ -47,13 +48,13 @@ pub record KeepsTable {D : Type 0} (v : DiskView D) (areas : Current D) (c : Con
   pub history : IsHistory version payloads c.state
   pub places : ArePlacesOf version areas.base history.rows history.events c
 
--- the documents lie between these places, but for those of numbers that are over
+-- The documents are between these places, except those of numbers that are over.
 abbrev pub DocumentsLieIn : ℕ → ℕ → Contents → Type 0
 DocumentsLieIn low high c = (j : ℕ) → is_over c.state j ≡ false → LieIn low high (places_at c j)
 
--- The area is one of the disk's two, and the gate lies in it, behind the header; where a job is processing, the room for the
--- record of a reopening lies behind the gate. The documents lie between its header and the gate. As long as the device hasn't
--- failed, its images have the table, where it tells them.
+-- The area is one of the disk's two, and the gate is in it, after the header. If a job is processing, the room for the record of
+-- a reopening is after the gate. The documents are between the header and the gate. As long as the device has not failed, its
+-- images have the table, if it shows its bytes.
 pub record IsOpenSpoolAt {D : Type 0} (v : DiskView D) (areas : Current D) (c : Contents) : Type 0 where
   pub area : IsArea areas.base areas.end (v.size areas.disk)
   pub behind : areas.base + header_len ≤ areas.gate
@@ -62,7 +63,7 @@ pub record IsOpenSpoolAt {D : Type 0} (v : DiskView D) (areas : Current D) (c : 
   pub lie : DocumentsLieIn (areas.base + header_len) areas.gate c
   pub table : areas.dead ≡ false → IsSome (v.bytes areas.disk) → KeepsTable v areas c
 
--- So a spool stands, and its table has noted no new places of documents.
+-- The fields are those of an open spool, and its table has noted no new places of documents.
 pub record IsOpenSpool {D : Type 0} (v : DiskView D) (a : Inside D) : Type 0 where
   pub stands : IsOpenSpoolAt v a.areas a.table
   pub unmoved : a.table.moves ≡ no_moves

@@ -1,4 +1,4 @@
--- Many lives of a spool: each begins with the opening of what a crash left of the one before.
+-- Many lives of a spool: each begins by opening an image that a crash left of the previous one.
 use Rattle.std.specs.Prelude.{ℕ, ◌-◌, ◌≤◌, List, [], ◌∷◌, ◌++◌, take, drop}
 use Rattle.spool_types.specs.declared.event.Event.{Event}
 use Rattle.spool_types.specs.declared.event.Event.TheVariants.{Reopen}
@@ -7,18 +7,19 @@ use Rattle.job_table.specs.Attempts.{reopened}
 use Rattle.job_table.specs.EventFold.{after_all}
 use Rattle.spool_core.specs.Driving.{documents_after}
 
--- a life: its events, how many of the first of them were acknowledged, and how many of the first of them a crash left
+-- A life: its events, the number of acknowledged ones, and the number of those left by a crash. Both numbers count from the first
+-- event.
 pub record Life : Type 0 where
   pub events : List Event
   pub acknowledged : ℕ
   pub left : ℕ
 
--- the crash left every acknowledged event
+-- The crash left every acknowledged event.
 abbrev pub KeepsAcknowledged : Life → Type 0
 KeepsAcknowledged l = l.acknowledged ≤ l.left
 
--- the table with which the next life begins: that after the events that are left, with each job that was started and
--- not ended changed as its queue's error policy says
+-- The table with which the next life begins: the one after the events that are left, with each job that was started and has not
+-- ended changed as its queue's error policy specifies.
 abbrev pub next_table : State → Life → State
 next_table s l = reopened (after_all s (take l.left l.events))
 
@@ -26,7 +27,7 @@ abbrev pub after_lives : State → List Life → State
 after_lives s [] = s
 after_lives s (l ∷ ls) = after_lives (next_table s l) ls
 
--- the documents with which the next life begins: those after the events that are left
+-- The documents with which the next life begins: those after the events that are left.
 abbrev pub next_documents : State → (ℕ → List ℕ) → Life → ℕ → List ℕ
 next_documents s documents l = documents_after s documents (take l.left l.events)
 
@@ -34,11 +35,11 @@ abbrev pub documents_after_lives : State → (ℕ → List ℕ) → List Life �
 documents_after_lives s documents [] = documents
 documents_after_lives s documents (l ∷ ls) = documents_after_lives (next_table s l) (next_documents s documents l) ls
 
--- all lives as one list of events: of each those that a crash left, and then the opening
+-- All lives as one list of events: for each life the events that a crash left, and then the opening.
 abbrev pub history_of : List Life → List Event
 history_of [] = []
 history_of (l ∷ ls) = take l.left l.events ++ Reopen ∷ history_of ls
 
--- what follows the acknowledged events of a life, in it and in those after it
+-- The events after the acknowledged events of a life, in this life and the later ones.
 abbrev pub later_events : Life → List Life → List Event
 later_events l ls = take (l.left - l.acknowledged) (drop l.acknowledged l.events) ++ Reopen ∷ history_of ls

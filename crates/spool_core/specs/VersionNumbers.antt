@@ -1,4 +1,4 @@
--- The numbers of the versions, as headers of areas have them.
+-- The numbers of the versions, as in the headers of areas.
 use Rattle.std.specs.Prelude.{ℕ}
 use Rattle.spool_types.specs.declared.version.Version.{Version}
 use Rattle.spool_types.specs.declared.version.Version.TheVariants.{One, Two}

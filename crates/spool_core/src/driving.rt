@@ -1,4 +1,4 @@
-//! A list of events, applied in turn.
+//! Applying a list of events in order.
 ghost use Rattle.std.specs.Prelude.{◌≡◌, ◌<◌, ◌≤◌, ◌+◌, ◌⊎◌, ◌↔◌, List, ℕ, Some, None, Ok, IsSome, IsTrue, false, length, take, OnOk, IfOk, IfErr, IsErrOf, slice_get, Option};
 ghost use Rattle.spool_disk.specs.Disk.{Blames, IsSynced, LeavesOnly};
 ghost use Rattle.spool_types.specs.declared.event.Event.{Event};
@@ -26,17 +26,17 @@ use std::alloc::Global;
 pub enum Ending {
     /// Every event was answered.
     End,
-    /// There was no memory for the next event, or for its reply.
+    /// Memory ran out for the next event or for its reply.
     Memory,
-    /// The record of the next event doesn't fit into the area.
+    /// The record of the next event does not fit into the area.
     Full,
-    /// The device has failed. The next event may be on it or not.
+    /// The device failed. The next event may or may not be on it.
     Disk,
     /// The device had failed before.
     Dead,
 }
 
-/// What a run of events was answered, and why it ended.
+/// The replies to a run of events, and why the run ended.
 #[derive(Drop)]
 pub struct Driven {
     /// A reply or a refusal for each event, up to the end of the run.
@@ -44,7 +44,7 @@ pub struct Driven {
     pub ending: Ending,
 }
 
-// Applies one event. A refusal is an answer, and any other fault ends the run.
+// Applies one event. A refusal counts as an answer; any other fault ends the run.
 fn drive_one<D: Disk>(spool: &mut Spool<D>, event: Event) -> Result<Result<Reply, Refusal>, Ending>
     ensures driven { DrivesOne D.device spool.old event result spool.new }
     ensures blames { Blames (D.device.failures spool.old.disk) (D.device.failures spool.new.disk) (IsErrOf result Ending.Disk) }
@@ -68,7 +68,7 @@ fn drive_one<D: Disk>(spool: &mut Spool<D>, event: Event) -> Result<Result<Reply
     }
 }
 
-// What a crash leaves of a spool before anything is applied.
+// States the images of a spool before any event is applied.
 fn look<D: Disk>(spool: &Spool<D>)
     ensures kept { spool.now.dead ≡ false → IsSome (D.device.bytes spool.now.disk) → KeepsImages D.device spool.now }
     ensures synced { spool.now.dead ≡ false → IsSynced D.device spool.now.disk }
@@ -76,7 +76,7 @@ fn look<D: Disk>(spool: &Spool<D>)
     spool.table();
 }
 
-// Whether the first of the events would be answered `Dead`.
+// Returns whether the first event would be answered with `Dead`.
 fn is_over<D: Disk>(spool: &Spool<D>, events: &Vec<Event>) -> bool
     ensures over { IsTrue result → IsTrue spool.now.dead × (0 < length events.now.items) }
     ensures on { result ≡ false → 0 < length events.now.items → spool.now.dead ≡ false }
@@ -84,14 +84,14 @@ fn is_over<D: Disk>(spool: &Spool<D>, events: &Vec<Event>) -> bool
     spool.is_dead() && !events.is_empty()
 }
 
-// Applies the events up to the end of the run. A reply's place is reserved before its event is applied.
+// Applies the events up to the end of the run. Reserves room for each reply before its event is applied.
 fn drive_all<D: Disk>(alloc: Global, spool: &mut Spool<D>, events: Vec<Event>) -> Driven
     ensures { IsOutcome D.device spool.old events.items result.replies.items result.ending spool.new }
 {
     let mut replies = Vec::new(alloc);
     look(spool);
     if is_over(spool, &events) {
-        // Before a reply looks for memory.
+        // Returned before memory for a reply is needed.
         let ending = Ending::Dead;
         return Driven { replies, ending };
     }
@@ -110,32 +110,32 @@ fn drive_all<D: Disk>(alloc: Global, spool: &mut Spool<D>, events: Vec<Event>) -
     Driven { replies, ending }
 }
 
-/// Applies the events in turn, and goes on after a refusal. It stops at the first event that isn't answered.
+/// Applies the events in order, and continues after a refusal. Stops at the first event that is not answered.
 pub fn drive<D: Disk>(alloc: Global, spool: &mut Spool<D>, events: Vec<Event>) -> Driven
-    // What was answered, and the table that it led to.
+    // The replies, and the table after the answered events.
     ensures replies { result.replies.items ≡ replies_to spool.old.state (take (length result.replies.items) events.items) }
     ensures table { spool.new.state ≡ after_all spool.old.state (take (length result.replies.items) events.items) }
     ensures ending { IsEnding D.device spool.old events.items (length result.replies.items) result.ending spool.new }
     ensures alive { 0 < length result.replies.items → spool.old.dead ≡ false }
     ensures room { spool.new.room ≡ room_after spool.old.state spool.old.room (take (length result.replies.items) events.items) }
 
-    // A dead spool answers Dead to the first event, whether memory is there or not, and changes nothing.
+    // A dead spool answers `Dead` to the first event, whether memory is available or not, and changes nothing.
     ensures dead { IsTrue spool.old.dead → 0 < length events.items → (result.ending ≡ Ending.Dead) × (spool.new ≡ spool.old) }
 
     // A crash at any moment leaves the table after some of the events.
     ensures any_moment { spool.old.dead ≡ false → IsSome (D.device.bytes spool.old.disk) →
         LeavesOnly D.device spool.old.disk spool.new.disk (HasPrefixTable spool.old.state events.items 0 (reach result.ending (length result.replies.items))) }
 
-    // No acknowledged event is lost: a chain of disks leads from one reply to the next, and from a reply on a crash leaves
-    // a table that holds its event.
+    // No acknowledged event is lost: a chain of disks connects each reply with the next, and after a reply a crash leaves a table
+    // that contains its event.
     ensures acknowledged { spool.old.dead ≡ false → IsSome (D.device.bytes spool.old.disk) →
         IsAcknowledged D.device spool.old.state events.items (length result.replies.items) (reach result.ending (length result.replies.items)) spool.old.disk spool.new.disk }
     ensures kept { spool.new.dead ≡ false → IsSome (D.device.bytes spool.old.disk) → (c : List ℕ) → D.device.image spool.new.disk c → HasTable spool.new.state c }
     ensures after_fault { spool.old.dead ≡ false → IsSome (D.device.bytes spool.old.disk) → (c : List ℕ) → D.device.image spool.new.disk c →
         HasPrefixTable spool.old.state events.items (length result.replies.items) (reach result.ending (length result.replies.items)) c }
 
-    // So it is with the documents: at any moment a crash leaves those after some of the events, from a reply on what its
-    // event sent is there, and at the end what every acknowledged event sent.
+    // The same for documents: at any moment a crash leaves those after some of the events. After a reply the part that its event
+    // sent is stored, and at the end the parts that all acknowledged events sent.
     ensures documents { spool.old.dead ≡ false → (r : List ℕ) (documents : ℕ → List ℕ) → D.device.bytes spool.old.disk ≡ Some r → HasDocuments spool.old.state documents r →
         LeavesOnly D.device spool.old.disk spool.new.disk (HasWholePrefix spool.old.state documents events.items 0 (reach result.ending (length result.replies.items))) }
     ensures whole { spool.old.dead ≡ false → (r : List ℕ) (documents : ℕ → List ℕ) → D.device.bytes spool.old.disk ≡ Some r → HasDocuments spool.old.state documents r →
@@ -143,16 +143,16 @@ pub fn drive<D: Disk>(alloc: Global, spool: &mut Spool<D>, events: Vec<Event>) -
     ensures sent { spool.old.dead ≡ false → (r : List ℕ) (documents : ℕ → List ℕ) → D.device.bytes spool.old.disk ≡ Some r → HasDocuments spool.old.state documents r →
         (c : List ℕ) → D.device.image spool.new.disk c → HasWholePrefix spool.old.state documents events.items (length result.replies.items) (reach result.ending (length result.replies.items)) c }
 
-    // A job that has ended stays as it is, or one of the events purged it. A number that is over stays so, what is about it is
-    // refused, and it is not given again.
+    // A job that has ended stays as it is, or one of the events purged it. A number that is over stays over: events about it are
+    // refused, and it is not assigned again.
     ensures ended { (j : ℕ) (job : Job) → HasEndedJob spool.old.state j job →
         IsKeptOrPurged spool.old.state (take (length result.replies.items) events.items) spool.new.state j job }
     ensures over { (j : ℕ) → HasOver spool.old.state j → HasOver spool.new.state j }
     ensures refused { (j : ℕ) (e : Event) → HasOver spool.old.state j → subject e ≡ Some j → refusal_of spool.new.state e ≡ Some (late_refusal (job_at spool.new.state j)) }
     ensures number { (j : ℕ) (n : NewJob) (by : Option ℕ) → HasOver spool.old.state j → n.job ≡ j → IsSome (refusal_of spool.new.state (creation n by)) }
 
-    // What there is of a queue comes of its own events alone: another table that has of it the same, and nothing else, is led
-    // by these to one that has of it the same.
+    // The part of a queue depends only on its own events: another table that is this part of the old table is, after these
+    // events, the same part of the new one.
     ensures apart { (name : List ℕ) (t : State) → IsLegal spool.old.state → IsLegal t → IsPart name spool.old.state t →
         IsPart name spool.new.state (after_all t (own_events spool.old.state name (accepted spool.old.state (take (length result.replies.items) events.items)))) }
 

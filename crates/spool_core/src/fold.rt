@@ -1,4 +1,4 @@
-//! The table that the payloads of an area lead to.
+//! The table that the payloads of an area encode.
 ghost use Rattle.std.specs.Prelude.{◌≡◌, ◌<◌, ◌≤◌, ◌+◌, ◌^◌, length, List, ℕ, Some, false, ◌∷◌, [], ◌++◌, None, OnOk, IfOk, IfErr, IsErrOf};
 ghost use Rattle.spool_disk.specs.Disk.{Blames};
 ghost use Rattle.spool_areas.specs.Header.{header_len, IsVersion};
@@ -22,16 +22,16 @@ use spool_disk::Disk;
 use spool_types::{Event, Row, Version};
 use std::alloc::{AllocError, Global};
 
-// What the payloads so far have led to. Rows come first.
+// The result of the payloads read so far. Rows come first.
 #[derive(Drop)]
 enum Reading {
     Rows(Loading),
     Events(Table),
 }
 
-/// Reads the payloads one after another: the rows of a listing, if any, and then events, each of which is committed to the
-/// table that is listed, or else to an empty one. The first payload that may not come next is damage at its gate, and a
-/// listing that isn't whole is damage at the gate that ends it.
+/// Reads the payloads in order: the rows of a listing, if any, and then events. Each event is committed to the listed table, or
+/// to an empty one if there are no rows. The first payload that may not come next is damage at its gate. A listing that is
+/// incomplete is damage at the gate that ends it.
 pub(crate) fn fold<D: Disk>(
     areas: &mut Areas<D>,
     alloc: Global,
@@ -46,7 +46,7 @@ pub(crate) fn fold<D: Disk>(
     requires sized { areas.old.end < 2 ^ 64 }
     ensures table { IfOk result (λ t. (r : List ℕ) → D.device.bytes areas.old.disk ≡ Some r → HasHistory areas.old.base areas.old.version (payloads_at r payloads.now) t) }
 
-    // Also on a disk that tells nothing of its bytes the documents lie behind the header and before the gate.
+    // The documents are after the header and before the gate, even on a disk that does not show its bytes.
     ensures lie { IfOk result (λ t. DocumentsLieIn (areas.old.base + header_len) areas.old.gate t) }
     ensures unmoved { IfOk result (λ t. t.moves ≡ no_moves) }
     ensures gate { OnOk result ((r : List ℕ) → D.device.bytes areas.old.disk ≡ Some r → areas.old.gate ≡ gate_after areas.old.base (payloads_at r payloads.now)) }
@@ -74,7 +74,7 @@ pub(crate) fn fold<D: Disk>(
     finish(reading, gate)
 }
 
-// The version of this number. There are no others.
+// Returns the version with this number. There are no other numbers.
 fn version_of(number: u8) -> Version
     requires { IsVersion number }
     ensures { number ≡ number_of result }
@@ -86,7 +86,7 @@ fn version_of(number: u8) -> Version
     }
 }
 
-// Reads one payload. The buffer's memory is used again.
+// Reads one payload. Reuses the buffer's memory.
 fn read_payload<D: Disk>(
     areas: &mut Areas<D>,
     buffer: &mut Vec<u8>,
@@ -113,7 +113,7 @@ fn read_payload<D: Disk>(
     }
 }
 
-// Takes the next payload: a row while there are rows, and then an event.
+// Takes the next payload: a row while rows may come, and then an event.
 fn take_payload(
     reading: Reading,
     alloc: Global,
@@ -135,7 +135,7 @@ fn take_payload(
     }
 }
 
-// Takes a row of the listing, or the first event behind it.
+// Takes a row of the listing, or the first event after it.
 fn take_row(
     mut loading: Loading,
     alloc: Global,
@@ -181,7 +181,7 @@ fn take_row(
     }
 }
 
-// The row that is spelled so in this version, if there is one.
+// Returns the row that the payload encodes in this version, if any.
 fn read_row(alloc: Global, payload: &[u8], version: Version) -> Result<Option<Row>, AllocError>
     ensures row { IfOk result (IsRowOrNone version payload.now) }
 {
@@ -223,7 +223,7 @@ fn add_event(
     }
 }
 
-// What it means for the area that a payload wasn't decoded.
+// Converts the error of a payload that was not decoded.
 fn fault_of(extent: Extent, fault: CodecFault) -> OpenFault
     requires { 5 ≤ extent.place }
     ensures { result ≡ decode_fault extent fault }
@@ -234,7 +234,7 @@ fn fault_of(extent: Extent, fault: CodecFault) -> OpenFault
     }
 }
 
-// Applies an event of the journal to the table. One that is refused isn't what a spool writes.
+// Applies an event of the journal to the table. A spool writes no event that is refused.
 fn commit_event(table: &mut Table, event: Event, extent: Extent) -> Result<(), OpenFault>
     requires head { 5 ≤ extent.place }
     requires at { HasPlace extent.place (sent_by event) }
@@ -264,7 +264,7 @@ fn commit_event(table: &mut Table, event: Event, extent: Extent) -> Result<(), O
     }
 }
 
-// The table, where no document is short.
+// Returns the table, unless a document is incomplete.
 fn finish(reading: Reading, gate: u64) -> Result<Table, OpenFault>
     ensures table { IfOk result (λ t. (v : VersionOf) (base : ℕ) (payloads : List (List ℕ)) → HasRead v base reading payloads → HasHistory base (number_of v) payloads t) }
     ensures lie { IfOk result (λ t. (low high : ℕ) → ReadLiesIn low high reading → DocumentsLieIn low high t) }

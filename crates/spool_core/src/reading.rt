@@ -1,4 +1,4 @@
-//! Reading a job's document, whole or its first bytes.
+//! Reading a job's document, completely or only its first bytes.
 ghost use Rattle.std.specs.Prelude.{◌≡◌, ◌≤◌, false, IfOk, IfErr, IsSome};
 ghost use Rattle.spool_types.specs.State.{job_at};
 ghost use Rattle.spool_core.specs.OpenSpools.{len_at};
@@ -11,10 +11,10 @@ use spool_disk::Disk;
 use spool_types::JobId;
 use std::alloc::Global;
 
-/// Why a document wasn't read.
+/// Why a document was not read.
 #[derive(Clone, Copy, Debug, PartialEq, Eq)]
 pub enum Unread {
-    /// There is no memory for it, and no device was called.
+    /// Memory ran out for the document, and no device was called.
     Memory,
     /// The device has failed, and the spool is dead.
     Disk,
@@ -29,7 +29,7 @@ fn len_of(table: &Table, job: JobId) -> usize
     }
 }
 
-/// Reads the document of a job whole, from the device. That of a job that has ended is empty.
+/// Reads the whole document of a job from the device. The document of a job that has ended is empty.
 pub fn read_whole<D: Disk>(
     alloc: Global,
     spool: &mut Spool<D>,
@@ -45,7 +45,7 @@ pub fn read_whole<D: Disk>(
     read_front(alloc, spool, job, len)
 }
 
-/// Reads the first bytes of a job's document from the device, as many as are asked for.
+/// Reads the first `count` bytes of a job's document from the device.
 pub fn read_front<D: Disk>(
     alloc: Global,
     spool: &mut Spool<D>,

@@ -1,4 +1,4 @@
-//! How often a checkpoint calls the device.
+//! Number of device calls of a checkpoint.
 
 use crate::spelled::{QUEUE, events, push_event};
 use crate::spools::{Device, OPENING, closed, made, open};
@@ -7,14 +7,14 @@ use spool_types::Event;
 use std::alloc::Global;
 use std::test::*;
 
-// How many jobs there are. None has a document.
+// Number of jobs. None has a document.
 const JOBS: u64 = 200;
 
-// How many calls a checkpoint takes on a new spool: it reads the gate of the other header and syncs, writes the rest of that
-// header, a closed gate and all rows, syncs, opens the gate and syncs.
+// Number of calls that a checkpoint takes on a new spool. It reads the gate of the other header and syncs, writes the rest of
+// that header, a closed gate and all rows, syncs, opens the gate and syncs.
 const CHECKPOINT: u64 = 8;
 
-// A queue, and its jobs.
+// Returns the events of a queue and its jobs.
 fn many(alloc: Global) -> Result<Vec<Event>, Fail> {
     let mut events = events(alloc, &[QUEUE])?;
     push_jobs(&mut events, alloc)?;
@@ -29,7 +29,7 @@ fn push_jobs(events: &mut Vec<Event>, alloc: Global) -> Result<(), Fail> {
     Ok(())
 }
 
-// How many events are answered, and two checkpoints.
+// Returns the number of answered events, and the results of two checkpoints.
 fn checkpoints(
     alloc: Global,
     spool: &mut Spool<Device>,
@@ -43,7 +43,7 @@ fn checkpoints(
     Ok((answered, [first, spool.checkpoint()]))
 }
 
-// The second checkpoint finds no call left: a row takes none of its own, and no sync.
+// No call is left for the second checkpoint: a row takes no call of its own, and no sync.
 #[test]
 fn a_checkpoint_of_many_rows_takes_eight_calls(rt: HostRuntime) -> Result<(), Fail> {
     let calls = OPENING + 4 * (1 + JOBS) + CHECKPOINT;

@@ -1,4 +1,4 @@
-//! The waiting jobs of a queue, in the order of their turns.
+//! The waiting jobs of a queue, in their order.
 
 use crate::spelled::event;
 use job_table::{PrepareFault, Table};
@@ -6,10 +6,10 @@ use spool_types::{Event, JobId, QueueName};
 use std::alloc::Global;
 use std::test::*;
 
-// Where the payload of each event lies.
+// The place of each event's payload.
 const PAYLOAD: u64 = 1_000;
 
-// Events in turn, each beside the index of the queue q that it leaves. Job 3 has the priority 80, and the others 50.
+// Events in order, each with the resulting index of the queue q. Job 3 has priority 80, the others 50.
 const PLACES: &str = "\
 01 000171 0003733a2f 0003612f62 02 0000001e 0005 =\n\
 05 000171 00000001 000175 0000 0001 32 0000 =\n\
@@ -59,7 +59,8 @@ pub fn apply(table: &mut Table, event: Event) -> Result<(), Fail> {
             Ok(())
         }
         Err(fault) => {
-            // By name: let go at the end of its scope, it would split the proof into a case for each kind of event.
+            // An explicit drop: if the event were dropped at the end of its scope, the proof would split into a case for each
+            // kind of event.
             drop(event);
             Err(fail_of(fault))
         }
@@ -73,7 +74,7 @@ fn number(word: &str) -> Result<JobId, Fail> {
     }
 }
 
-// Whether the index of a queue has the numbers that a text has.
+// Returns whether the index of a queue has the numbers in the text.
 fn has(table: &Table, queue: &QueueName, text: &str) -> Result<bool, Fail> {
     let Some(index) = table.index(queue) else {
         return Ok(false);
@@ -87,7 +88,7 @@ fn has(table: &Table, queue: &QueueName, text: &str) -> Result<bool, Fail> {
     Ok(jobs.next().is_none())
 }
 
-// The first line behind whose event the queue has another index, if there is one.
+// Returns the first line after whose event the queue has another index, if any.
 fn other_index(
     alloc: Global,
     table: &mut Table,

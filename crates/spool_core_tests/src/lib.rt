@@ -1,6 +1,6 @@
-//! The tests of the tables and spools of `job_table` and `spool_core`: whole runs, cut by a device that fails, listings
-//! that are loaded, the calls of a checkpoint, spools of an older version, and what a service tells of a table. Their events and
-//! rows are spelled in hexadecimal.
+//! Tests of the tables and spools of `job_table` and `spool_core`: whole runs, runs cut by a device that fails, listings that are
+//! loaded, the calls of a checkpoint, spools of an older version, and the texts that a service sends about a table. Events and
+//! rows are encoded in hexadecimal.
 #![tactic(auto)]
 
 #[cfg(test)]

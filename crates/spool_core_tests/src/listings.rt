@@ -10,11 +10,11 @@ use std::alloc::{AllocError, Global};
 use std::process::Abort;
 use std::test::*;
 
-// Where the payload of each row lies.
+// The place of each row's payload.
 const PAYLOAD: u64 = 1_000;
 
-// The clock at 7, two queues, and their jobs: one whose document is still coming, one in the first of two stages, one that was
-// canceled, and three that wait, the last to be started by a moment.
+// The clock at 7, two queues, and their jobs: one that is still receiving its document, one in the first of two stages, one that
+// was canceled, and three that wait. The last of these must start by a moment.
 const EVENTS: [&str; 18] = [
     "0b 0000000000000007",
     "01 000171 0003733a2f 0003612f62 00 0000001e 0005",
@@ -41,26 +41,26 @@ fn take(loading: &mut Loading, row: Row) -> Result<(), LoadFault> {
     loading.load(row, PAYLOAD)
 }
 
-// How the row of a queue is spelled.
+// Encodes the row of a queue.
 fn queue_spelled(alloc: Global, queue: &QueueRow) -> Result<Vec<u8>, AllocError> {
     let mut bytes = Vec::new(alloc);
     encode_queue_onto(queue, &mut bytes)?;
     Ok(bytes)
 }
 
-// The row of a queue, spelled and read again.
+// Encodes the row of a queue, reads it again and loads it.
 fn take_queue(alloc: Global, loading: &mut Loading, queue: &QueueRow) -> Result<(), Fail> {
     let bytes = queue_spelled(alloc, queue)?;
     take_bytes(alloc, loading, &bytes)
 }
 
-/// Loads the row that bytes spell in the version of the others.
+/// Loads the row that these bytes encode in the version of the other rows.
 pub fn take_bytes(alloc: Global, loading: &mut Loading, bytes: &[u8]) -> Result<(), Fail> {
     let row = decode_row(alloc, bytes, loading.version())?;
     Ok(take(loading, row)?)
 }
 
-// So many zeros.
+// Returns `len` zeros.
 fn zeros(alloc: Global, len: usize) -> Result<Piece, Fail> {
     match Piece::new(vec![in alloc; 0; len]?) {
         Ok(piece) => Ok(piece),
@@ -68,26 +68,26 @@ fn zeros(alloc: Global, len: usize) -> Result<Piece, Fail> {
     }
 }
 
-// How the row of a job is spelled.
+// Encodes the row of a job.
 fn job_spelled(alloc: Global, job: &Job) -> Result<Vec<u8>, AllocError> {
     let mut bytes = Vec::new(alloc);
     encode_job_onto(job, &mut bytes)?;
     Ok(bytes)
 }
 
-// The row of a job, spelled and read again.
+// Encodes the row of a job, reads it again and loads it.
 fn take_listed(alloc: Global, loading: &mut Loading, job: &Job) -> Result<(), Fail> {
     let bytes = job_spelled(alloc, job)?;
     take_bytes(alloc, loading, &bytes)
 }
 
-// So many zeros as the document of a job.
+// Loads `len` zeros as the document of a job.
 fn take_zeros(alloc: Global, loading: &mut Loading, job: JobId, len: usize) -> Result<(), Fail> {
     let bytes = zeros(alloc, len)?;
     Ok(take(loading, Row::Piece { job, bytes })?)
 }
 
-// The row of a job, and then its document as zeros, since a table has no bytes.
+// Loads the row of a job, and then its document as zeros, because a table has no bytes.
 fn take_job(alloc: Global, loading: &mut Loading, job: &Job) -> Result<(), Fail> {
     take_listed(alloc, loading, job)?;
     match document_len(job) {
@@ -108,17 +108,17 @@ fn take_all(alloc: Global, loading: &mut Loading, table: &Table) -> Result<(), F
     Ok(())
 }
 
-/// The table of rows that are a whole listing.
+/// Returns the table of rows that are a complete listing.
 pub fn finished(loading: Loading) -> Result<Table, Fail> {
     if loading.is_whole() {
         return Ok(loading.into_table()?);
     }
-    // By name: let go at the end of its scope, it would be let go part by part.
+    // An explicit drop: at the end of its scope it would be dropped part by part.
     drop(loading);
     Err(Fail::from("a document is short"))
 }
 
-// The table that is loaded from the listing of another.
+// Returns the table that is loaded from the listing of another.
 fn loaded_again(alloc: Global, table: &Table) -> Result<Table, Fail> {
     let mut loading = Loading::new(alloc, Version::Two);
     match take_all(alloc, &mut loading, table) {
@@ -130,7 +130,7 @@ fn loaded_again(alloc: Global, table: &Table) -> Result<Table, Fail> {
     }
 }
 
-// Whether the index of the queue q is these jobs.
+// Returns whether the index of the queue q contains exactly these jobs.
 fn has_turns(alloc: Global, table: &Table, turns: &[JobId]) -> Result<bool, Fail> {
     let queue = QueueName::read(alloc, "q")?;
     let Some(index) = table.index(&queue) else {
@@ -145,7 +145,7 @@ fn has_turns(alloc: Global, table: &Table, turns: &[JobId]) -> Result<bool, Fail
     Ok(jobs.next().is_none())
 }
 
-// The table after the events, and the one that is loaded from its listing.
+// Returns the table after the events, and the one loaded from its listing.
 fn both(alloc: Global) -> Result<(Table, Table), Fail> {
     let table = replay(alloc, events(alloc, &EVENTS)?)?;
     match loaded_again(alloc, &table) {
@@ -157,13 +157,13 @@ fn both(alloc: Global) -> Result<(Table, Table), Fail> {
     }
 }
 
-// Whether the listing of a table is that of another.
+// Returns whether two tables have the same listing.
 fn list_the_same(alloc: Global, table: &Table, again: &Table) -> Result<bool, Fail> {
     let rows = listing(alloc, table)?;
     lists(alloc, again, &rows)
 }
 
-// Whether jobs 7, 6 and 8 are next in turn.
+// Returns whether jobs 7, 6 and 8 are next, in this order.
 fn has_its_turns(alloc: Global, table: &Table) -> Result<bool, Fail> {
     let turns = [
         JobId::new(7).ok_or("no number")?,
@@ -173,7 +173,7 @@ fn has_its_turns(alloc: Global, table: &Table) -> Result<bool, Fail> {
     has_turns(alloc, table, &turns)
 }
 
-// Whether the first job's document lies in one piece behind the head of its row.
+// Returns whether the first job's document is stored in one piece after the head of its row.
 fn has_its_document(table: &Table) -> bool {
     let whole = [Extent {
         place: 1_009,
@@ -205,7 +205,7 @@ fn a_listing_loaded_again_is_its_table(rt: HostRuntime) -> Result<(), Fail> {
     outcome
 }
 
-// Whether the rows of a table are spelled so.
+// Returns whether the text is the encoded rows of a table.
 fn lists_text(alloc: Global, table: &Table, text: &str) -> Result<bool, Fail> {
     let rows = bytes_of(alloc, text)?;
     lists(alloc, table, &rows)
@@ -236,7 +236,7 @@ fn row(alloc: Global, text: &str) -> Result<Row, Fail> {
     Ok(decode_row(alloc, &bytes_of(alloc, text)?, Version::Two)?)
 }
 
-// Gives the job of a row other attempts and another phase. Whether it is the row of a job.
+// Changes the attempts and the phase of a row's job. Returns whether it is the row of a job.
 fn change(row: &mut Row, attempts: u32, phase: Phase) -> bool {
     match row {
         Row::Job(job) => {
@@ -248,7 +248,7 @@ fn change(row: &mut Row, attempts: u32, phase: Phase) -> bool {
     }
 }
 
-// The job with other attempts and in another phase.
+// Returns the row of the job with other attempts and in another phase.
 fn job_row(alloc: Global, attempts: u32, phase: Phase) -> Result<Row, Fail> {
     let mut row = row(alloc, JOB)?;
     if change(&mut row, attempts, phase) {
@@ -274,7 +274,7 @@ fn take_text(alloc: Global, loading: &mut Loading, text: &str) -> Result<(), Fai
     Ok(take(loading, row(alloc, text)?)?)
 }
 
-// Rows that no bytes spell, and none that may come next. What comes behind them is loaded as if they hadn't come.
+// Loads rows that no bytes encode, and rows that may not come next. The rows after them are loaded as if they had not come.
 fn take_around<R: Abort>(rt: &R, alloc: Global, loading: &mut Loading) -> Result<(), Fail> {
     let highest = 2_147_483_648;
     let moment = Moment::ZERO;
@@ -293,7 +293,7 @@ fn take_around<R: Abort>(rt: &R, alloc: Global, loading: &mut Loading) -> Result
     take_text(alloc, loading, JOB)
 }
 
-// The table that is loaded around them.
+// Returns the table that is loaded with such rows in between.
 fn loaded_around<R: Abort>(rt: &R, alloc: Global) -> Result<Table, Fail> {
     let mut loading = Loading::new(alloc, Version::Two);
     match take_around(rt, alloc, &mut loading) {

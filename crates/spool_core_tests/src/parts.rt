@@ -20,7 +20,7 @@ const FILLED: [&str; 4] = [
     "06 00000001 00000004 20796f75",
 ];
 
-// How many calls these take.
+// Number of calls that these events take.
 const FILLING: u64 = 16;
 
 fn len_of(table: &Table, job: JobId) -> Result<usize, Fail>
@@ -32,7 +32,7 @@ fn len_of(table: &Table, job: JobId) -> Result<usize, Fail>
     }
 }
 
-// Reads bytes of job 1 from a place on, to where `into` is.
+// Reads bytes of job 1 into `into`, from an offset on.
 fn read(
     spool: &mut Spool<Device>,
     at: usize,
@@ -74,7 +74,7 @@ fn fails_to_read(spool: &mut Spool<Device>) -> Result<bool, Fail> {
     Ok(read(spool, 1, &mut [7; 3])? == Err(ReadFault::Disk))
 }
 
-// It reads nothing, and the bytes of the reader stay.
+// A dead spool reads nothing, and does not change the bytes of the reader.
 fn is_dead(spool: &mut Spool<Device>) -> Result<bool, Fail> {
     let mut bytes = [7; 3];
     Ok(spool.is_dead() && read(spool, 1, &mut bytes)? == Err(ReadFault::Dead) && bytes == [7; 3])
@@ -88,7 +88,7 @@ fn dies(alloc: Global, spool: &mut Spool<Device>) -> Result<bool, Fail> {
     Ok(drives(alloc, spool, &["0a 00000001"])? == (0, Ending::Disk))
 }
 
-// What is done to a spool.
+// A step of a test on a spool.
 #[derive(Clone, Copy)]
 enum Step {
     Fill,
@@ -120,7 +120,7 @@ fn does(alloc: Global, spool: &mut Spool<Device>, step: Step) -> Result<bool, Fa
     }
 }
 
-// How many of the steps go as they say, up to the first that doesn't.
+// Returns the number of steps that go as their names state, up to the first that does not.
 fn done(alloc: Global, spool: &mut Spool<Device>, steps: &[Step]) -> Result<usize, Fail> {
     for at in 0..steps.len() {
         if !does(alloc, spool, steps[at])? {
@@ -130,7 +130,8 @@ fn done(alloc: Global, spool: &mut Spool<Device>, steps: &[Step]) -> Result<usiz
     Ok(steps.len())
 }
 
-// Opens a disk with a device that fails after so many calls, and does these steps. How many went so, and the disk.
+// Opens a disk with a device that fails after `calls` calls, and does these steps. Returns the number of steps that went as
+// stated, and the disk.
 fn after(
     alloc: Global,
     disk: MemDisk,

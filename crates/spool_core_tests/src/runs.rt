@@ -12,12 +12,12 @@ use std::test::*;
 // The queue twice, its job, the end of the job's document, and a clock.
 const PLAN: [&str; 5] = [QUEUE, QUEUE, CREATE, CLOSE, "0b 0000000000000000"];
 
-// The rows after them: the head, the queue, and the waiting job.
+// The rows after these events: the head, the queue, and the waiting job.
 const LISTED: &str = "40 00000001 0000000000000000 \
     41 000171 0003733a2f 0003612f62 00 0000001e 0005 0000 0000 01 00 0000 00 00 \
     42 00000001 000171 000175 0000 0001 32 0000 01 0003612f62 00 00000000 00000000 00000000 01 00 0000000000000000 00 00";
 
-// The rows after the first events of the plan.
+// Returns the rows after the first events of the plan.
 fn rows_after(alloc: Global, count: usize) -> Result<Vec<u8>, Fail> {
     let count = count.min(PLAN.len());
     let table = replay(alloc, events(alloc, &PLAN[..count])?)?;
@@ -34,7 +34,7 @@ fn refused_events_are_skipped(rt: HostRuntime) -> Result<(), Fail> {
     Ok(())
 }
 
-/// What events are answered on a spool, and why it ends, in words.
+/// Returns in words the replies to events on a spool, and why the run ended.
 pub fn told(alloc: Global, spool: &mut Spool<Device>, texts: &[&str]) -> Result<String, Fail> {
     let driven = driven(alloc, spool, texts)?;
     told_of(alloc, &driven)
@@ -46,7 +46,7 @@ fn told_of(alloc: Global, driven: &Driven) -> Result<String, Fail> {
     Ok(format!(in alloc; "{replies:?} {ending:?}")?)
 }
 
-// Drives the plan on a new spool of 198 bytes, whose area has no room for the clock. What it is answered, and the disk.
+// Drives the plan on a new spool of 198 bytes. Its area has no room for the clock. Returns the replies and the disk.
 fn full(alloc: Global) -> Result<(String, MemDisk), Fail> {
     let mut spool = open(alloc, made(alloc, 198)?, u64::MAX)?;
     let told = told(alloc, &mut spool, &PLAN);
@@ -54,7 +54,7 @@ fn full(alloc: Global) -> Result<(String, MemDisk), Fail> {
     Ok((told?, disk))
 }
 
-/// Whether an opening of the disk finds these rows, and the disk.
+/// Returns whether opening the disk yields these rows, and the disk.
 pub fn finds(alloc: Global, disk: MemDisk, rows: &[u8]) -> Result<(bool, MemDisk), Fail> {
     let spool = open(alloc, disk, u64::MAX)?;
     let same = lists(alloc, spool.table(), rows);
@@ -62,7 +62,7 @@ pub fn finds(alloc: Global, disk: MemDisk, rows: &[u8]) -> Result<(bool, MemDisk
     Ok((same?, disk))
 }
 
-// Whether so does the next opening.
+// Returns whether the next opening does, too.
 fn finds_twice(alloc: Global, disk: MemDisk, rows: &[u8]) -> Result<bool, Fail> {
     let (first, disk) = finds(alloc, disk, rows)?;
     let (second, _) = finds(alloc, disk, rows)?;
@@ -81,7 +81,8 @@ fn driven_until_it_is_full(rt: HostRuntime) -> Result<(), Fail> {
     Ok(())
 }
 
-// Drives on a spool whose device fails within its second event, and then on the dead spool, which tells its first event's rows.
+// Drives events on a spool with a device that fails within the second event, and then on the dead spool, which shows the rows
+// after the first event.
 fn dies<R: Abort>(
     rt: &R,
     alloc: Global,
@@ -99,7 +100,7 @@ fn dies<R: Abort>(
     Ok(())
 }
 
-// The disk of a spool that died so. An event takes four calls.
+// Returns the disk of a spool that died in this way. An event takes four calls.
 fn left_by_the_dead<R: Abort>(rt: &R, alloc: Global, rows: &[u8]) -> Result<MemDisk, Fail> {
     let mut spool = open(alloc, made(alloc, 198)?, OPENING + 6)?;
     let outcome = dies(rt, alloc, &mut spool, rows);
@@ -116,8 +117,8 @@ fn nothing_is_driven_on_a_dead_spool(rt: HostRuntime) -> Result<(), Fail> {
     Ok(())
 }
 
-// Drives the plan with a device that fails after so many calls, those of the opening among them. The disk that is left, and
-// how many events were answered.
+// Drives the plan with a device that fails after `calls` calls, including those of the opening. Returns the disk that is left,
+// and the number of answered events.
 fn cut(alloc: Global, calls: u64) -> Result<(MemDisk, usize), Fail> {
     match Spool::open(alloc, FuseDisk::new(made(alloc, 198)?, calls)) {
         Ok(mut spool) => {
@@ -129,13 +130,13 @@ fn cut(alloc: Global, calls: u64) -> Result<(MemDisk, usize), Fail> {
     }
 }
 
-// Whether an opening finds the table after the first events of the plan.
+// Returns whether an opening yields the table after the first events of the plan.
 fn finds_after(alloc: Global, disk: MemDisk, count: usize) -> Result<(bool, MemDisk), Fail> {
     let rows = rows_after(alloc, count)?;
     finds(alloc, disk, &rows)
 }
 
-// Whether an opening finds the table of the events that were answered, or of one more.
+// Returns whether an opening yields the table after the answered events, or after one more.
 fn keeps_what_was_answered(alloc: Global, calls: u64) -> Result<bool, Fail> {
     let (disk, answered) = cut(alloc, calls)?;
     let (acknowledged, disk) = finds_after(alloc, disk, answered)?;
@@ -154,8 +155,8 @@ fn cut_at_each_call(rt: HostRuntime) -> Result<(), Fail> {
     Ok(())
 }
 
-// Events in turn, each beside its answer. Job 2 is more urgent than job 1, and has three stages. Job 3 is to start by the
-// moment 2000.
+// Events in order, each with its reply. Job 2 is more urgent than job 1, and has three stages. Job 3 must start by the moment
+// 2000.
 const ANSWERED: &str = "\
 05 000171 00000001 000175 0000 0001 32 0000 = Err(NoQueue)\n\
 11 000171 00000001 000175 0000 0001 32 0000 00000000000007d0 = Err(NoQueue)\n\
@@ -201,7 +202,7 @@ const ANSWERED: &str = "\
 11 000171 7fffffff 000175 0000 0001 32 0000 00000000000007d0 = Err(NoNumberLeft)\n\
 05 000171 00000003 000175 0000 0001 32 0000 = Err(NoNumberLeft)";
 
-// What an event is answered, in words.
+// Returns the reply to an event in words.
 fn answer(alloc: Global, spool: &mut Spool<Device>, spelling: &str) -> Result<String, Fail> {
     let driven = driven(alloc, spool, &[spelling])?;
     first_answer(alloc, &driven)
@@ -214,7 +215,7 @@ fn first_answer(alloc: Global, driven: &Driven) -> Result<String, Fail> {
     }
 }
 
-// The first line whose event has another answer, if there is one.
+// Returns the first line whose event has another reply, if any.
 fn other_answer(alloc: Global, spool: &mut Spool<Device>) -> Result<Option<&'static str>, Fail> {
     for line in ANSWERED.lines() {
         let (spelling, wanted) = line.split_once(" = ").ok_or("no answer")?;
@@ -234,7 +235,7 @@ fn each_event_has_its_answer(rt: HostRuntime) -> Result<(), Fail> {
     Ok(())
 }
 
-// Adds the event that is spelled so, with a number between.
+// Adds the event with this encoding, with a number inserted.
 fn add_numbered(
     alloc: Global,
     events: &mut Vec<Event>,
@@ -246,7 +247,7 @@ fn add_numbered(
     push_event(events, alloc, text.as_str())
 }
 
-// Adds a job of the queue, the cancel of it, and a clock, all of this number.
+// Adds a job of the queue, its cancel, and a clock, all with this number.
 fn add_canceled(alloc: Global, events: &mut Vec<Event>, number: u32) -> Result<(), Fail> {
     add_numbered(
         alloc,
@@ -276,13 +277,13 @@ fn canceled_jobs(alloc: Global) -> Result<Vec<Event>, Fail> {
     }
 }
 
-// How many of them are answered.
+// Returns the number of these events that are answered.
 fn answered(alloc: Global, spool: &mut Spool<Device>) -> Result<usize, Fail> {
     let driven = drive(alloc, spool, canceled_jobs(alloc)?);
     Ok(driven.replies.len())
 }
 
-// The same on a new spool, and the disk.
+// Does the same on a new spool. Returns the number and the disk.
 fn filled(alloc: Global) -> Result<(usize, MemDisk), Fail> {
     let mut spool = open(alloc, made(alloc, 1_048_576)?, u64::MAX)?;
     let answered = answered(alloc, &mut spool);
@@ -290,7 +291,7 @@ fn filled(alloc: Global) -> Result<(usize, MemDisk), Fail> {
     Ok((answered?, disk))
 }
 
-// The rows of the table after them.
+// Returns the rows of the table after these events.
 fn canceled_rows(alloc: Global) -> Result<Vec<u8>, Fail> {
     let table = replay(alloc, canceled_jobs(alloc)?)?;
     let is_whole = table.jobs().len() == 1_000 && table.now().get() == 1_000;

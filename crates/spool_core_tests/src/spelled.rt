@@ -1,6 +1,7 @@
 //! Events and rows in hexadecimal.
 //!
-//! What is owned here is held across few calls that may fail: each of these is proved to let it go.
+//! These functions hold owned values across few calls that may fail, because the proof must show for each such call that they are
+//! dropped.
 
 use event_codec::{decode, encode_job_onto, encode_queue_onto, encode_row_onto};
 use job_table::Table;
@@ -15,7 +16,7 @@ pub const CREATE: &str = "05 000171 00000001 000175 0000 0001 32 0000";
 /// The end of the job's document.
 pub const CLOSE: &str = "07 00000001 0003612f62 01 00";
 
-/// The bytes that a text in hexadecimal stands for. It may have blanks between bytes.
+/// Decodes a text in hexadecimal, which may have blanks between bytes.
 pub fn bytes_of(alloc: Global, text: &str) -> Result<Vec<u8>, Fail> {
     let mut bytes = Vec::new(alloc);
     push_bytes(&mut bytes, alloc, text)?;
@@ -34,12 +35,12 @@ fn push_word(bytes: &mut Vec<u8>, alloc: Global, word: &str) -> Result<(), Fail>
     Ok(bytes.extend_from_slice(&decoded)?)
 }
 
-/// The event that is spelled so.
+/// Decodes an event.
 pub fn event(alloc: Global, text: &str) -> Result<Event, Fail> {
     Ok(decode(alloc, &bytes_of(alloc, text)?)?)
 }
 
-/// The events that are spelled so.
+/// Decodes events.
 pub fn events(alloc: Global, texts: &[&str]) -> Result<Vec<Event>, Fail> {
     let mut events = Vec::new(alloc);
     push_events(&mut events, alloc, texts)?;
@@ -53,7 +54,7 @@ fn push_events(events: &mut Vec<Event>, alloc: Global, texts: &[&str]) -> Result
     Ok(())
 }
 
-/// Adds the event that is spelled so.
+/// Decodes an event and adds it.
 pub fn push_event(events: &mut Vec<Event>, alloc: Global, text: &str) -> Result<(), Fail> {
     let event = event(alloc, text)?;
     Ok(events.push(event)?)
@@ -64,7 +65,7 @@ fn add_head(table: &Table, bytes: &mut Vec<u8>) -> Result<(), AllocError> {
     encode_row_onto(&row, bytes)
 }
 
-/// How the rows of a table are spelled, without their documents.
+/// Encodes the rows of a table, without their documents.
 pub fn listing(alloc: Global, table: &Table) -> Result<Vec<u8>, AllocError> {
     let mut bytes = Vec::new(alloc);
     add_rows(table, &mut bytes)?;
@@ -82,7 +83,7 @@ fn add_rows(table: &Table, bytes: &mut Vec<u8>) -> Result<(), AllocError> {
     Ok(())
 }
 
-/// Whether the rows of a table are these bytes.
+/// Returns whether the encoded rows of a table are these bytes.
 pub fn lists(alloc: Global, table: &Table, rows: &[u8]) -> Result<bool, Fail> {
     Ok(listing(alloc, table)?.as_slice() == rows)
 }

@@ -1,4 +1,4 @@
-//! Spools on disks in memory, whose device fails once its calls are spent.
+//! Spools on disks in memory, with devices that fail after a number of calls.
 
 use crate::spelled::events;
 use spool_core::{Driven, Ending, Spool, drive, make};
@@ -6,13 +6,13 @@ use spool_disk::{Disk, FuseDisk, MemDisk};
 use std::alloc::Global;
 use std::test::Fail;
 
-/// A disk that fails when its calls are spent.
+/// A disk that fails after a number of calls.
 pub type Device = FuseDisk<MemDisk>;
 
-/// How many calls of the device the opening of a new spool takes.
+/// Number of device calls that opening a new spool takes.
 pub const OPENING: u64 = 4;
 
-/// A new spool of so many bytes.
+/// Returns a new spool of `len` bytes.
 pub fn made(alloc: Global, len: usize) -> Result<MemDisk, Fail> {
     let mut disk = MemDisk::new(alloc, len)?;
     match make(&mut disk) {
@@ -21,7 +21,7 @@ pub fn made(alloc: Global, len: usize) -> Result<MemDisk, Fail> {
     }
 }
 
-/// The same in the version 1: as it is made, but for that byte.
+/// Returns the same in version 1. Only the byte of the version differs.
 pub fn made_old(alloc: Global, len: usize) -> Result<MemDisk, Fail> {
     let mut disk = made(alloc, len)?;
     if 1 < disk.len() {
@@ -30,7 +30,7 @@ pub fn made_old(alloc: Global, len: usize) -> Result<MemDisk, Fail> {
     Ok(disk)
 }
 
-/// Opens a disk, with a device that fails after so many calls.
+/// Opens a disk with a device that fails after `calls` calls.
 pub fn open(alloc: Global, disk: MemDisk, calls: u64) -> Result<Spool<Device>, Fail> {
     match Spool::open(alloc, FuseDisk::new(disk, calls)) {
         Ok(spool) => Ok(spool),
@@ -38,7 +38,7 @@ pub fn open(alloc: Global, disk: MemDisk, calls: u64) -> Result<Spool<Device>, F
     }
 }
 
-/// Gives the disk of a spool back.
+/// Returns the disk of a spool.
 pub fn closed(spool: Spool<Device>) -> MemDisk {
     spool.into_disk().into_disk()
 }
@@ -48,7 +48,7 @@ pub fn driven(alloc: Global, spool: &mut Spool<Device>, texts: &[&str]) -> Resul
     Ok(drive(alloc, spool, events(alloc, texts)?))
 }
 
-/// How many events are answered, and why it ended.
+/// Returns the number of answered events, and why the run ended.
 pub fn drives(
     alloc: Global,
     spool: &mut Spool<Device>,

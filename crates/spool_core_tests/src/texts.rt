@@ -1,4 +1,4 @@
-//! What the service tells of the jobs and the queues of a table.
+//! The texts that the service sends about the jobs and the queues of a table.
 
 use crate::indexes::apply;
 use crate::spelled::event;
@@ -21,7 +21,7 @@ const EVENTS: &str = "\
 0a 00000003\n\
 0c 00000001";
 
-// The last event once more: another attempt at job 1.
+// The end of the attempt at job 1, and its start once more.
 const RETRY: [&str; 2] = ["0d 00000001 00000001 01 0001 00000000 0000", "0c 00000001"];
 
 const SHOWN: &[u8] =
@@ -80,7 +80,7 @@ fn a_job_is_told(rt: HostRuntime) -> Result<(), Fail> {
     outcome
 }
 
-// Notes what has changed, and tells it.
+// Notes what has changed, and returns whether the notices are these.
 fn news(alloc: Global, changes: &mut Changes, table: &Table, wanted: &[u8]) -> Result<bool, Fail> {
     changes.note_stages(table)?;
     let mut text = Vec::new(alloc);

@@ -1,4 +1,4 @@
-//! Spools and tables of version 1, and the moments by which jobs are to start, which it hasn't.
+//! Spools and tables of version 1, and deadlines for the start of jobs, which version 1 does not have.
 
 use crate::indexes::apply;
 use crate::listings::{finished, take_bytes};
@@ -12,18 +12,18 @@ use std::alloc::Global;
 use std::process::Abort;
 use std::test::*;
 
-// Job 2, which is to start by the moment 2000, and the end of its document.
+// Job 2, which must start by the moment 2000, and the end of its document.
 const TIMED: &str = "11 000171 00000002 000175 0000 0001 32 0000 00000000000007d0";
 
 const CLOSE_TIMED: &str = "07 00000002 0003612f62 01 00";
 
-// The rows of a table in which it is incoming and job 1 waits.
+// The rows of a table in which job 2 is incoming and job 1 waits.
 const OVER: &str = "40 00000002 0000000000000000 \
     41 000171 0003733a2f 0003612f62 00 0000001e 0005 0000 0000 01 00 0000 00 00 \
     42 00000001 000171 000175 0000 0001 32 0000 01 0003612f62 00 00000000 00000000 00000000 01 00 0000000000000000 00 00 \
     42 00000002 000171 000175 0000 0001 32 0000 00 00 00000000 00000000 00000000 00 00 01 00000000000007d0";
 
-// An old spool takes what version 1 has, and the checkpoint makes it a newer one.
+// An old spool accepts the events of version 1, and a checkpoint raises it to the newest version.
 fn goes_over<R: Abort>(rt: &R, alloc: Global, spool: &mut Spool<Device>) -> Result<(), Fail> {
     assert_eq!(rt;
         told(alloc, spool, &[TIMED, QUEUE, CREATE, CLOSE, TIMED])?.as_str(),
@@ -53,7 +53,7 @@ fn a_checkpoint_raises_an_old_spool(rt: HostRuntime) -> Result<(), Fail> {
     Ok(())
 }
 
-// The version of an old spool that is opened again, after an event of its own.
+// Returns the version of an old spool that is opened again after one of its own events.
 fn version_again(alloc: Global) -> Result<Version, Fail> {
     let mut spool = open(alloc, made_old(alloc, 512)?, u64::MAX)?;
     let driven = drives(alloc, &mut spool, &[QUEUE]);
@@ -73,7 +73,7 @@ fn events_leave_the_version(rt: HostRuntime) -> Result<(), Fail> {
     Ok(())
 }
 
-// Rows of version 1, in which job 1 waits.
+// Rows of version 1 with a waiting job 1.
 const OLD_ROWS: [&str; 3] = [
     "40 00000001 0000000000000000",
     "41 000171 0003733a2f 0003612f62 00 0000001e 0005 0000 0000 01 00 0000 00 00",
@@ -88,7 +88,7 @@ fn take_all(alloc: Global, loading: &mut Loading) -> Result<(), Fail> {
     Ok(())
 }
 
-// The table of these rows.
+// Returns the table of these rows.
 fn loaded_old(alloc: Global) -> Result<Table, Fail> {
     let mut loading = Loading::new(alloc, Version::One);
     match take_all(alloc, &mut loading) {
@@ -100,7 +100,7 @@ fn loaded_old(alloc: Global) -> Result<Table, Fail> {
     }
 }
 
-// How the job that is to start by a moment is taken, if it isn't.
+// Returns why the job with a deadline is refused, if it is.
 fn refuses(alloc: Global, table: &mut Table) -> Result<Option<PrepareFault>, Fail> {
     let event = event(alloc, TIMED)?;
     let prepared = table.prepare(&event);
@@ -108,7 +108,7 @@ fn refuses(alloc: Global, table: &mut Table) -> Result<Option<PrepareFault>, Fai
     Ok(prepared.err())
 }
 
-// Raised, an old table has the same rows, and takes the job.
+// A raised old table has the same rows, and accepts the job.
 fn is_raised<R: Abort>(rt: &R, alloc: Global, table: &mut Table) -> Result<(), Fail> {
     let refused = PrepareFault::Refused(Refusal::NeedsCheckpoint);
     assert!(rt; table.version() == Version::One);
@@ -131,13 +131,13 @@ fn a_raised_table_takes_moments(rt: HostRuntime) -> Result<(), Fail> {
     outcome
 }
 
-// The rows in which job 2 is late, and was canceled.
+// The rows after job 2 missed its deadline and was canceled.
 const LATE: &str = "40 00000002 00000000000007d1 \
     41 000171 0003733a2f 0003612f62 00 0000001e 0005 0000 0000 01 00 0000 00 00 \
     42 00000001 000171 000175 0000 0001 32 0000 01 0003612f62 00 00000000 00000000 00000000 01 00 0000000000000000 00 00 \
     42 00000002 000171 000175 0000 0001 32 0000 01 0003612f62 00 00000000 00000000 00000000 04 01 00000000000007d0";
 
-// Whether a job that was to start by a moment waits at it, and no more behind it.
+// Returns whether a job with a deadline still waits at that moment, and no longer after it.
 fn is_canceled(alloc: Global, table: &mut Table) -> Result<bool, Fail> {
     apply(table, event(alloc, "0b 00000000000007d0")?)?;
     let waits = table.jobs().iter().all(|row| row.job.phase.is_waiting());

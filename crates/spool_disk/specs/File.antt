@@ -3,15 +3,15 @@ use Rattle.std.specs.Prelude.{ℕ, None}
 use Rattle.spool_disk.specs.Disk.{DiskView}
 use Rattle.spool_disk.specs.declared.file.FileDisk.{FileDisk}
 
--- how many bytes it had when it was taken over
+-- The file's length when the disk was made.
 abbrev pub file_len : FileDisk → ℕ
 file_len d = d.len
 
--- how many failures it has counted
+-- The number of failures that it has counted.
 abbrev pub file_faults : FileDisk → ℕ
 file_faults d = d.faults
 
--- What is seen of it: its length and its failures, and nothing of its bytes.
+-- The view of the file: its length and its failures, and nothing of its bytes.
 abbrev pub seen_of_file : DiskView FileDisk
 seen_of_file = record {
   bytes = λ d. None;

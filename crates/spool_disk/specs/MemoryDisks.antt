@@ -2,6 +2,6 @@
 use Rattle.std.specs.Prelude.{ℕ, List}
 use Rattle.spool_disk.specs.declared.memory.MemDisk.{MemDisk}
 
--- what it holds, and what a crash leaves of it
+-- Its bytes, which a crash leaves.
 abbrev pub mem_bytes : MemDisk → List ℕ
 mem_bytes m = m.bytes.items

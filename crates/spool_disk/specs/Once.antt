@@ -3,23 +3,23 @@ use Rattle.spool_disk.specs.Disk.{DiskView}
 use Rattle.std.specs.Prelude.{◌≡◌, ◌<◌, ◌-◌, ℕ, Bool, true, false, Result, IsErr}
 use Rattle.spool_disk.specs.declared.once.OnceDisk.{OnceDisk}
 
--- the disk that the calls are passed on to
+-- The wrapped disk.
 abbrev pub inner_of : {D : Type 0} → OnceDisk D → D
 inner_of d = d.disk
 
--- how many calls it still passes on before the one that fails
+-- The number of calls that it still passes on before the one that fails.
 abbrev pub calls_left : {D : Type 0} → OnceDisk D → ℕ
 calls_left d = d.left
 
--- whether that one has failed
+-- Whether that call has failed.
 abbrev pub has_failed : {D : Type 0} → OnceDisk D → Bool
 has_failed d = d.has_failed
 
--- how many failures it has counted, its own and those of the disk that it passes calls on to
+-- The number of failures that it has counted, its own and those of the wrapped disk.
 abbrev pub fault_count : {D : Type 0} → OnceDisk D → ℕ
 fault_count d = d.faults
 
--- What is seen of it: what is seen of the disk behind it, but with its own count of failures.
+-- The view of the wrapped disk, but with its own count of failures.
 abbrev pub behind_once : {D : Type 0} → DiskView D → DiskView (OnceDisk D)
 behind_once v = record {
   bytes = λ d. v.bytes (inner_of d);
@@ -30,8 +30,7 @@ behind_once v = record {
   failures = λ d. fault_count d;
 }
 
--- One call fails where its turn has come, and the disk behind isn't called then. Each other one fails only where that disk
--- fails.
+-- The first call with none left fails and does not call the wrapped disk. Each other call fails only if the wrapped disk fails.
 pub record IsOnce {D T E : Type 0} (v : DiskView D) (old new : OnceDisk D) (result : Result T E) : Type 0 where
   pub takes : calls_left new ≡ calls_left old - 1
   pub notes : calls_left old ≡ 0 → has_failed new ≡ true

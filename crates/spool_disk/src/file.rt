@@ -9,11 +9,11 @@ use std::fs::File;
 use std::io;
 use std::os::unix::fs::FileExt;
 
-/// A file of the system. It tells nothing of its bytes or of what a crash leaves: what a real file holds is beyond a
-/// proof, so its clauses speak of its length and of its failures alone.
+/// A file of the system. It reports nothing of its bytes or of its images: the contents of a real file are beyond a proof, so its clauses
+/// are about its length and its failures only.
 ///
-/// Nobody else may change the file's length. `sync` answers once the system has told that the bytes have reached the
-/// device. That the file's name has reached it is left to whoever made the file.
+/// No other program may change the file's length. `sync` returns after the system has reported that the bytes are on the device. The
+/// program that makes the file must sync the file's name.
 #[derive(Drop)]
 pub struct FileDisk {
     file: File,
@@ -22,8 +22,8 @@ pub struct FileDisk {
 }
 
 impl FileDisk {
-    /// A file that is open for reading and writing, with the length that it has now. The error is the system's, where
-    /// it doesn't tell the length.
+    /// Takes a file that is open for reading and writing, with its current length. The error is the system's if it does not report the
+    /// length.
     pub fn new(file: File) -> io::Result<FileDisk>
         ensures { IfOk result (λ d. file_faults d ≡ 0) }
     {
@@ -35,8 +35,8 @@ impl FileDisk {
         })
     }
 
-    // Passes the system's answer on, and counts a failure. At the greatest count, where no call may fail, a failure is
-    // answered as Ok, which says nothing of a disk that tells nothing.
+    // Returns the system's result, and counts a failure. At the greatest count, where no call may fail, it returns Ok for a failure, which
+    // says nothing of a disk that reports nothing.
     fn counted(&mut self, answer: io::Result<()>) -> Result<(), DeviceFault>
         ensures passes { file_faults self.old < 2 ^ 64 - 1 → (IsOk result ↔ IsOk answer) }
         ensures once { IsErr result → file_faults self.new ≡ file_faults self.old + 1 }

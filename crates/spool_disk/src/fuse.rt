@@ -1,4 +1,4 @@
-// A disk that passes so many calls on, and then fails each one without effect.
+// A disk that passes a number of calls to another disk, and then fails each call without effect.
 ghost use Rattle.std.specs.Prelude.{◌≡◌, ◌+◌, ◌-◌, ◌≤◌, ◌<◌, ◌^◌, length, OnOk, IsErr};
 ghost use Rattle.spool_disk.specs.Disk.{Reads, IsSynced, IsWritten, ChangesNothing, ChangesOnly, Counts, HasCause};
 ghost use Rattle.spool_disk.specs.Fuse.{disk_of, calls_left, fault_count, behind_fuse, IsFused};
@@ -6,12 +6,11 @@ ghost use Rattle.spool_disk.specs.Fuse.{disk_of, calls_left, fault_count, behind
 use crate::surely::{read_surely, sync_surely, write_surely};
 use crate::{DeviceFault, Disk};
 
-/// A disk that passes its first calls of `read`, `write` and `sync` on to the disk behind it, and then fails each
-/// such call without effect. It stands for a device that breaks, or is cut off, at a chosen moment.
+/// A disk that passes its first calls of `read`, `write` and `sync` to the wrapped disk, and then fails each such call without effect. It
+/// represents a device that breaks, or is disconnected, at a chosen moment.
 ///
-/// What it tells, its images and its moments are those of the disk behind it; the failures are its own count, of its
-/// own failures and of those that the disk behind it answers. At the greatest count, where no call may fail, it asks
-/// the disk behind it again until that succeeds.
+/// Its bytes, images and moments are those of the wrapped disk. It has a count of failures, its own and those of the wrapped disk. At the
+/// greatest count, where no call may fail, it repeats the call of the wrapped disk until it succeeds.
 #[derive(Drop)]
 pub struct FuseDisk<D: Disk> {
     disk: D,
@@ -20,7 +19,7 @@ pub struct FuseDisk<D: Disk> {
 }
 
 impl<D: Disk> FuseDisk<D> {
-    /// A fuse before a disk, which passes so many calls of `read`, `write` and `sync` together.
+    /// Returns a disk that passes `calls` calls of `read`, `write` and `sync` together.
     pub fn new(disk: D, calls: u64) -> FuseDisk<D>
         ensures disk { disk_of result ≡ disk }
         ensures calls { calls_left result ≡ calls }
@@ -33,14 +32,14 @@ impl<D: Disk> FuseDisk<D> {
         }
     }
 
-    /// The disk behind the fuse.
+    /// Returns the wrapped disk.
     pub fn into_disk(self) -> D
         ensures { result ≡ disk_of self }
     {
         self.disk
     }
 
-    // Takes one of the calls that are left. Where none is left this counts a failure.
+    // Takes one of the calls that are left. If none is left, it counts a failure.
     fn take_call(&mut self) -> Result<(), DeviceFault>
         requires { fault_count self.old < 2 ^ 64 - 1 }
         ensures passes { OnOk result (0 < calls_left self.old) }
@@ -58,7 +57,7 @@ impl<D: Disk> FuseDisk<D> {
         Ok(())
     }
 
-    // Counts a failure of the disk behind the fuse.
+    // Counts a failure of the wrapped disk.
     fn counted(&mut self, answer: Result<(), DeviceFault>) -> Result<(), DeviceFault>
         requires { fault_count self.old < 2 ^ 64 - 1 }
         ensures same { result ≡ answer }

@@ -1,39 +1,47 @@
-//! The disk: a device of fixed length, and what a crash may leave of it. Every crate that keeps something over a crash
-//! stands on the trait `Disk` and is generic over it, so its theorems hold of every device that behaves as the trait
-//! says.
+//! The disk: a device of fixed length, and the bytes that a crash may leave on it.
 //!
-//! # What it promises to the layer above
+//! Each crate that stores something across a crash uses the trait [`Disk`] and is generic over it, so its theorems apply to every device
+//! that behaves as the trait states. The view of a disk is one value, `DiskView` (its member `device`), and every statement about disks
+//! takes it: the bytes, the length, the images, the moment, the images since a moment, and the count of failures.
 //!
-//! What is seen of a disk is one value, `DiskView` (its member `device`), and every statement about disks takes that
-//! value: its bytes, its length, its images, the moment, the images since a moment, and its count of failures.
+//! An image is as long as the device. At each byte offset it has the byte that a read returns, except at the offsets written since the last
+//! sync that returned Ok, also by a write that failed: there it may have any byte (`IsImage`). The images since a moment are those of that
+//! moment or later (`IsImageSince`).
 //!
-//! 1. *Images* (`Disk`): a disk has images, the bytes that a crash may leave now (`image`) and since an earlier moment
-//!    (`image_since`). What a read gives is always one of them. `read` and `sync` add no image (`ChangesNothing`). `write`
-//!    adds at most old images with other bytes in the written range, also where it fails (`ChangesOnly`). After a `sync`
-//!    that answers Ok what a read gives is the only image (`durable`).
-//! 2. A fault has a cause (`cause`): the count `faults` rose during the call, and after an answer Ok it is as before. At
-//!    the greatest count no call fails.
-//!    A call of a higher crate blames the device only where the count rose, and leaves it after every other answer
-//!    (`Blames`).
-//! 3. A write that answers Ok leaves exactly the given bytes at their place (`written`); one that fails may leave any
-//!    bytes there, and all others as they were (`ChangesOnly`). A length never changes.
+//! # Promises
 //!
-//! All of 1 is a bound from above. A disk that loses less than it might meets it too, and needs no record of its calls.
-//! The crate `disk_images` has a disk that keeps exactly these images, so the bound is met by the worst device too.
+//! - *Images*: [`Disk`] has the images that a crash may leave now (`image`) and since an earlier moment (`image_since`). The bytes that a
+//!   read returns are always one of them (`IsLawful`). `read` and `sync` add no image (`same`, `ChangesNothing`). `write` adds at most old
+//!   images with other bytes in the written range, also if it fails (`changes`, `ChangesOnly`). After a `sync` that returned Ok, the bytes
+//!   that a read returns are the only image (`durable`). These are upper bounds, so a disk that loses less meets them too and needs no
+//!   record of its calls. `ImageDisk` of `disk_images` has exactly the images of the definition, so the trait does not promise more than it
+//!   must.
+//! - *Data*: a `read` that returns Ok returns the bytes of the device (`data`). A `write` that returns Ok leaves exactly the given bytes at
+//!   its offset (`written`). One that fails may leave any bytes there, and leaves all others unchanged (`changes`). A length never changes.
+//! - *Failures*: a call returns a fault only if the count `faults` rose during the call, and Ok only if the count is unchanged (`cause`).
+//!   At the greatest count no call fails. A call of a higher crate blames the device only if the count rose, and after every other result
+//!   the count is unchanged (`Blames`).
+//! - [`persist`] writes and syncs, with the clauses of both (`written`, `durable`, `changes`, `cause`).
+//! - [`MemDisk`] is bytes in memory, and reports them. It never fails, and a crash leaves its bytes.
+//! - [`FuseDisk`] passes a number of calls to another disk, and then fails each call without effect (`disk`, `calls`, `count`, `fuse`). It
+//!   reports what that disk reports. It counts its own failures and those of that disk. At the greatest count it repeats the call of that
+//!   disk until it succeeds.
+//! - [`OnceDisk`] does the same, but fails exactly one call, and passes all later ones (`disk`, `calls`, `whole`, `count`, `once`).
+//! - [`FileDisk`] is a file of the system. It reports nothing of its bytes, so only lengths, failures and results are promised for it. It
+//!   counts one failure for each call that returns a fault (`once`). It takes the file's length when it is made, and syncs with
+//!   `fdatasync`. It does not sync the file's name; the program that makes the file does.
 //!
-//! # The disks
+//! # Not proved
 //!
-//! - `MemDisk` is bytes in memory. It never fails, and a crash leaves what it holds.
-//! - `FuseDisk` passes so many calls on to a disk behind it, and then fails each call without effect.
-//! - `OnceDisk` passes so many calls on, fails the next one without effect, and passes all later ones.
-//! - `FileDisk` is a file of the system. It tells nothing of its bytes: its clauses speak of length and failures, and
-//!   what is said above of bytes and images says nothing of it.
+//! - What [`FileDisk`] does with its bytes: a body that does nothing meets its clauses. Tests run it on a real file, and `tests/syncs.py`
+//!   observes its calls.
+//! - A power cut of a real device: `tests/cuts.py` builds the files that one may leave from the program's calls, provided fsync works.
 //!
-//! # Faults and what they leave
+//! # Errors
 //!
-//! The one fault is `DeviceFault`. After a failed `read` the buffer may hold anything; the disk is as before. After a
-//! failed `write` the range may hold anything, now and after a crash. After a failed `sync` nothing has changed: what
-//! wasn't on the device may still not be there.
+//! The only error is [`DeviceFault`]. After a failed `read` the buffer may have any contents, and the disk is unchanged. After a failed
+//! `write` the range may have any bytes, now and after a crash. A failed `sync` changes nothing: bytes that were not on the device may
+//! still be missing there.
 #![tactic(auto)]
 
 mod disk;

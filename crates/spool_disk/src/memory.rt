@@ -8,15 +8,15 @@ ghost use Rattle.spool_disk.specs.MemoryDisks.{mem_bytes};
 use crate::{DeviceFault, Disk};
 use std::alloc::{AllocError, Global};
 
-/// A disk in memory. It never fails, and each call is done at once, so what a crash leaves is what it holds: of all the
-/// disks of the trait the one that loses least. A test writes the bytes of any other image to it.
+/// A disk in memory. It never fails, and each call takes effect at once, so a crash leaves its bytes: of all disks of the trait it loses
+/// least. A test writes the bytes of any other image to it.
 #[derive(Drop)]
 pub struct MemDisk {
     bytes: Vec<u8>,
 }
 
 impl MemDisk {
-    /// A disk of so many zero bytes.
+    /// Returns a disk of `len` zero bytes.
     pub fn new(alloc: Global, len: usize) -> Result<MemDisk, AllocError>
         ensures { IfOk result (λ d. mem_bytes d ≡ replicate len 0) }
     {
@@ -25,7 +25,7 @@ impl MemDisk {
         })
     }
 
-    /// The bytes that it holds.
+    /// Returns its bytes.
     pub fn bytes(&self) -> &[u8]
         ensures { result.now ≡ mem_bytes self.now }
     {
@@ -33,7 +33,7 @@ impl MemDisk {
     }
 }
 
-// Writes bytes over those at a place.
+// Overwrites bytes from offset `at` on.
 fn overwrite(bytes: &mut [u8], at: usize, from: &[u8])
     requires { at + length from.now ≤ length bytes.old }
     ensures { bytes.new ≡ overwritten at from.now bytes.old }

@@ -1,4 +1,4 @@
-// A disk that passes so many calls on, fails the next one without effect, and passes all later ones.
+// A disk that passes a number of calls to another disk, fails the next one without effect, and passes all later ones.
 ghost use Rattle.std.specs.Prelude.{◌≡◌, ◌+◌, ◌-◌, ◌≤◌, ◌<◌, ◌^◌, true, false, length, OnOk, IsErr};
 ghost use Rattle.spool_disk.specs.Disk.{Reads, IsSynced, IsWritten, ChangesNothing, ChangesOnly, Counts, HasCause};
 ghost use Rattle.spool_disk.specs.Once.{inner_of, calls_left, has_failed, fault_count, behind_once, IsOnce};
@@ -6,12 +6,11 @@ ghost use Rattle.spool_disk.specs.Once.{inner_of, calls_left, has_failed, fault_
 use crate::surely::{read_surely, sync_surely, write_surely};
 use crate::{DeviceFault, Disk};
 
-/// A disk that passes its first calls of `read`, `write` and `sync` on to the disk behind it, fails the next such call
-/// without effect, and passes all later ones. It stands for a device that fails for a moment.
+/// A disk that passes its first calls of `read`, `write` and `sync` to the wrapped disk, fails the next such call without effect, and
+/// passes all later ones. It represents a device that fails temporarily.
 ///
-/// What it tells, its images and its moments are those of the disk behind it; the failures are its own count, of its
-/// own failure and of those that the disk behind it answers. At the greatest count, where no call may fail, it asks
-/// the disk behind it again until that succeeds.
+/// Its bytes, images and moments are those of the wrapped disk. It has a count of failures, its own and those of the wrapped disk. At the
+/// greatest count, where no call may fail, it repeats the call of the wrapped disk until it succeeds.
 #[derive(Drop)]
 pub struct OnceDisk<D: Disk> {
     disk: D,
@@ -21,7 +20,7 @@ pub struct OnceDisk<D: Disk> {
 }
 
 impl<D: Disk> OnceDisk<D> {
-    /// A disk that fails once, after so many calls of `read`, `write` and `sync` together.
+    /// Returns a disk that fails once, after `calls` calls of `read`, `write` and `sync` together.
     pub fn new(disk: D, calls: u64) -> OnceDisk<D>
         ensures disk { inner_of result ≡ disk }
         ensures calls { calls_left result ≡ calls }
@@ -36,14 +35,14 @@ impl<D: Disk> OnceDisk<D> {
         }
     }
 
-    /// The disk that the calls were passed on to.
+    /// Returns the wrapped disk.
     pub fn into_disk(self) -> D
         ensures { result ≡ inner_of self }
     {
         self.disk
     }
 
-    // Takes one of the calls that are left. Where none is left, and this one isn't past the failure, it counts it.
+    // Takes one of the calls that are left. If none is left and no call has failed yet, it fails and counts the failure.
     fn take_call(&mut self) -> Result<(), DeviceFault>
         requires { fault_count self.old < 2 ^ 64 - 1 }
         ensures fails { calls_left self.old ≡ 0 → has_failed self.old ≡ false → IsErr result }
@@ -68,7 +67,7 @@ impl<D: Disk> OnceDisk<D> {
         Err(DeviceFault)
     }
 
-    // Counts a failure of the disk behind this one.
+    // Counts a failure of the wrapped disk.
     fn counted(&mut self, answer: Result<(), DeviceFault>) -> Result<(), DeviceFault>
         requires { fault_count self.old < 2 ^ 64 - 1 }
         ensures same { result ≡ answer }

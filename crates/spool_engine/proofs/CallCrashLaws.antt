@@ -1,4 +1,4 @@
--- What a crash leaves of calls.
+-- Crashes in a list of calls.
 use Rattle.std.proofs.Common.{◌≡◌, ℕ, List, [], ◌∷◌, ◌++◌, refl, ap, sym, ◌∙◌, subst, inl, inr, true, false, Bool}
 use Rattle.std.specs.Prelude.{IsSome}
 use Rattle.spool_disk.specs.Disk.{DiskView, LeavesOnly}
@@ -15,7 +15,7 @@ use Rattle.spool_engine.proofs.EventLaws.{OnlyNow, unmoved, unmoved_whole}
 use Rattle.spool_engine.proofs.RoundLaws.{dead_rans}
 
 module _ {D : Type 0} (v : Setting D) where
-  -- ## Turns
+  -- ## Steps
 
   alive_turns : (s : RunState D) (ts : List (CommandStep D)) (b : Bool) → s.spool.dead ≡ b → AreCommandSteps v s ts → (last_run_state s ts).spool.dead ≡ false → s.spool.dead ≡ false
   alive_turns s ts true is are lives = let died = ap (λ x. x.dead) (dead_last v s ts is are) ∙ is in absurd cc
@@ -47,7 +47,7 @@ module _ {D : Type 0} (v : Setting D) where
       let done = subst (λ (b : Bool). IsTickWith v.device v.place s b t) is ticked.tick in
       ap (λ (c : RunState D). c.spool) done.0.1
 
-  -- a dead spool stays as it is
+  -- A dead spool does not change.
   dead_call : (s : RunState D) (c : Call D) → s.spool.dead ≡ true → IsCall v s c → (left_by s c).spool ≡ s.spool
   dead_call s (round_call r) is called = dead_rans v s (r ∷ []) r.next is (called, refl)
   dead_call s (tick_call t) is called = dead_tick s t is called
@@ -106,7 +106,7 @@ module _ {D : Type 0} (v : Setting D) where
   told_calls s [] are tells = tells
   told_calls s (c ∷ cs) are tells = told_call s c are.0 (told_calls (left_by s c) cs are.1 tells)
 
-  -- a call, and then more, of which a crash leaves what is known where the spool lives on
+  -- A crash in a call or in the calls after it. The premise for the later calls requires that the spool is alive after the first one.
   after_call : (s : RunState D) (c : Call D) (cs : List (Call D)) (P Q R : List ℕ → Type 0) (b : Bool) → (left_by s c).spool.dead ≡ b → AreCalls v (left_by s c) cs
       → LeavesOnly v.device s.spool.disk (left_by s c).spool.disk P → ((left_by s c).spool.dead ≡ false → LeavesOnly v.device (left_by s c).spool.disk (last_by (left_by s c) cs).spool.disk Q)
       → ((image : List ℕ) → P image → R image) → ((image : List ℕ) → Q image → R image) → LeavesOnly v.device s.spool.disk (last_by (left_by s c) cs).spool.disk R
@@ -133,7 +133,7 @@ module _ {D : Type 0} (v : Setting D) where
       (λ lives. whole_along_calls (left_by s c) (documents_by v.mime s documents c) cs now (kept_call s c kept are.0) are.1 lives (tells_call s c are.0 tells) (last_call s documents c are.0 lives tells has))
       (λ image some. inl some) (λ image some. inr some)
 
-  -- the same behind the first of them
+  -- The same after the first of the calls.
   pub along_later_calls : (s : RunState D) (first others : List (Call D)) → OnlyNow v.device → IsKept v.device s.spool → AreCalls v s (first ++ others) → (last_by s first).spool.dead ≡ false → IsSome (v.device.bytes (last_by s first).spool.disk)
       → LeavesOnly v.device (last_by s first).spool.disk (last_by s (first ++ others)).spool.disk (IsAlongCalls v.mime (last_by s first) others)
   along_later_calls s [] others now kept are alive tells = along_calls s others now kept are alive tells

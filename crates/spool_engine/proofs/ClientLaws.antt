@@ -1,4 +1,4 @@
--- What is one client's among the acts of a service.
+-- The acts of one client of a service.
 use Rattle.std.proofs.Common.{◌≡◌, ◌⊎◌, inl, inr, ⊎_elim, ℕ, ◌==◌, Bool, true, false, cond, List, [], ◌∷◌, ◌++◌, IsTrue, Option, Result, Ok, Err, refl, sym, ap, subst, ◌∙◌, append_assoc}
 use Rattle.std.specs.Result.{IsOk}
 use Rattle.std.specs.Io.KnownBytes.{Appends}
@@ -46,14 +46,14 @@ module _ {D : Type 0} where
       ∙ commands_both (cond (i == k) r.turns []) (steps_of i acts) _
   commands_apart v s (ticks t ∷ acts) i (is, others) more = commands_apart v (after_act s (ticks t)) acts i others more
 
-  -- of a client that had sent nothing before
+  -- The client had sent nothing before.
   pub first_apart : (v : Setting D) (s : Service D) (acts : List (Act D)) (i : ℕ) → AreActs v s acts → (s.clients i).pending ≡ nothing_read → AreFirst (commands_in (steps_of i acts)) (commands_of (sent_by i acts))
   first_apart v s acts i are none = (
     to_come ((last_service s acts).clients i).pending [],
     ap commands_of (sym (append-nil (sent_by i acts))) ∙ ap (λ (p : Pending). to_come p (sent_by i acts ++ [])) (sym none) ∙ commands_apart v s acts i are [],
   )
 
-  -- ## What it was given
+  -- ## Its output
 
   all_written : (result : Result Bool RunFault) (old new : Option (List ℕ)) (ts : List (CommandStep D)) → IsOk result → Wrote (without_count result) old new ts → Appends old new (texts_of ts)
   all_written (Ok more) old new ts well wrote = wrote

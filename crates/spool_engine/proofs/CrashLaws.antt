@@ -1,4 +1,4 @@
--- What a crash leaves of turns.
+-- Crashes in a list of steps.
 use Rattle.std.proofs.Common.{◌≡◌, ℕ, List, [], ◌∷◌, ◌++◌, refl, ap, sym, ◌∙◌, subst, inl, inr, true, false, Bool, Result, Ok, Err}
 use Rattle.std.specs.Prelude.{IsSome}
 use Rattle.spool_types.specs.declared.event.Event.{Event}
@@ -21,7 +21,7 @@ use Rattle.spool_engine.specs.EngineRuns.{CommandStep, How, answered, ran, withh
 use Rattle.spool_engine.proofs.EventLaws.{OnlyNow, unmoved, unmoved_whole}
 use Rattle.spool_engine.proofs.RoundLaws.{dead_rans}
 
--- a dead spool takes no event
+-- A dead spool takes no event.
 dead_taken : {D : Type 0} (s : OpenSpool D) (e : Event) (r : Result (State × Reply) Refusal) (s' : OpenSpool D) → s.dead ≡ true → IsTaken s e r s' → s' ≡ s
 dead_taken s e (Ok r) s' is h = let alive = h.fits.alive in cc
 dead_taken s e (Err refusal) s' is h = h.1
@@ -32,7 +32,7 @@ dead_served v s (asks e line) reply s' is h = dead_taken s e (step s.state e) s'
 dead_served v s lists reply s' is h = let alive = h.1.may.alive in cc
 dead_served v s (runs most line) reply s' is h = absurd h
 
--- nor does it list its table
+-- A dead spool does not list its table.
 dead_unlisted : {D : Type 0} (v : DiskView D) (s : OpenSpool D) (fault : CheckpointFault) (s' : OpenSpool D) → s.dead ≡ true → IsCheckpoint v s (Err fault) s' → s' ≡ s
 dead_unlisted v s listing.Dead s' is h = h.1
 dead_unlisted v s listing.EpochEnd s' is h = h.2
@@ -56,7 +56,7 @@ dead_rounds v (asks e line) s rs new reply is h = absurd h
 dead_rounds v lists s rs new reply is h = absurd h
 dead_rounds v (runs most line) s rs new reply is h = dead_rans v s rs new is h.each
 
--- a dead spool stays as it is
+-- A dead spool does not change.
 pub dead_still : {D : Type 0} (v : Setting D) (s : RunState D) (t : CommandStep D) (how : How D) → s.spool.dead ≡ true → IsHow v s t how → t.next.spool ≡ s.spool
 dead_still v s t (answered outcome) is h = dead_outcome v s.spool (event_step t outcome) outcome is h.0
 dead_still v s t withheld is h = ap (λ (c : RunState _). c.spool) h.same
@@ -68,11 +68,11 @@ dead_last v s (t ∷ ts) is h =
     let same : t.next.spool ≡ s.spool = dead_still v s t t.how is h.0.how in
     dead_last v t.next ts (ap (λ x. x.dead) same ∙ is) h.1 ∙ same
 
--- what a crash leaves of a turn is one of the tables along
+-- A crash in a step leaves one of the tables along the steps.
 one_turn : {D : Type 0} (v : Setting D) (m : RunState D) (t : CommandStep D) (ts : List (CommandStep D)) → IsCommandStep v m t → m.spool.dead ≡ false → IsSome (v.device.bytes m.spool.disk) → LeavesOnly v.device m.spool.disk t.next.spool.disk (IsAlong v.mime m (t ∷ ts))
 one_turn v m t ts one alive tells = weaker_run v.device m.spool.disk t.next.spool.disk (IsAlong v.mime m (t ∷ ts)) (HasTableIn t.command m.spool.state (tried_in v.mime m t)) (one.crash alive tells) (λ c some. inl some)
 
--- a turn, and then more turns, of which a crash leaves what is known where the spool lives on
+-- A crash in a step or in the steps after it. The premise for the later steps requires that the spool is alive after the first one.
 after_turn : {D : Type 0} (v : Setting D) (m : RunState D) (t : CommandStep D) (ts : List (CommandStep D)) (b : Bool) → t.next.spool.dead ≡ b → IsCommandStep v m t → AreCommandSteps v t.next ts → m.spool.dead ≡ false → IsSome (v.device.bytes m.spool.disk)
     → (t.next.spool.dead ≡ false → LeavesOnly v.device t.next.spool.disk (last_run_state t.next ts).spool.disk (IsAlong v.mime t.next ts))
     → LeavesOnly v.device m.spool.disk (last_run_state t.next ts).spool.disk (IsAlong v.mime m (t ∷ ts))
@@ -83,12 +83,12 @@ after_turn v m t ts false is one more alive tells rest = runs_on v.device m.spoo
 after_turn v m t ts true is one more alive tells rest = subst (λ x. LeavesOnly v.device m.spool.disk x.disk (IsAlong v.mime m (t ∷ ts))) (sym (dead_last v t.next ts is more))
     (one_turn v m t ts one alive tells)
 
--- turns from an opened spool on
+-- Steps from an open spool on.
 pub along : {D : Type 0} (v : Setting D) (m : RunState D) (ts : List (CommandStep D)) → OnlyNow v.device → IsKept v.device m.spool → AreCommandSteps v m ts → m.spool.dead ≡ false → IsSome (v.device.bytes m.spool.disk) → LeavesOnly v.device m.spool.disk (last_run_state m ts).spool.disk (IsAlong v.mime m ts)
 along v m [] now kept h alive tells = unmoved v.device m.spool (IsAlong v.mime m []) now kept (λ c has. has) alive tells
 along v m (t ∷ ts) now kept h alive tells = after_turn v m t ts t.next.spool.dead refl h.0 h.1 alive tells (λ lives. along v t.next ts now h.0.kept h.1 lives (h.0.told.1 tells))
 
--- so it is with the documents
+-- The same for the documents.
 one_whole_turn : {D : Type 0} (v : Setting D) (m : RunState D) (documents : Documents) (t : CommandStep D) (ts : List (CommandStep D)) → IsCommandStep v m t → m.spool.dead ≡ false → IsSome (v.device.bytes m.spool.disk) → LeavesDocuments v.device documents m.spool → LeavesOnly v.device m.spool.disk t.next.spool.disk (IsWholeAlong v.mime m documents (t ∷ ts))
 one_whole_turn v m documents t ts one alive tells has = weaker_run v.device m.spool.disk t.next.spool.disk (IsWholeAlong v.mime m documents (t ∷ ts)) (HasSomeIn v.mime m documents t) (one.whole alive tells documents has) (λ c some. inl some)
 
@@ -118,7 +118,7 @@ lives_first : {D : Type 0} (v : Setting D) (s : RunState D) (first others : List
 lives_first v s first others true is h lives = let died = ap (λ x. x.dead) (dead_last v s first is (first_turns v s first others h)) ∙ is in absurd cc
 lives_first v s first others false is h lives = is
 
--- the same behind the first of them
+-- The same after the first of the steps.
 pub along_others : {D : Type 0} (v : Setting D) (s : RunState D) (first others : List (CommandStep D)) → OnlyNow v.device → IsKept v.device s.spool → AreCommandSteps v s (first ++ others) → (last_run_state s first).spool.dead ≡ false → IsSome (v.device.bytes (last_run_state s first).spool.disk) → LeavesOnly v.device (last_run_state s first).spool.disk (last_run_state s (first ++ others)).spool.disk (IsAlong v.mime (last_run_state s first) others)
 along_others v s [] others now kept h alive tells = along v s others now kept h alive tells
 along_others v s (t ∷ first) others now kept h alive tells = along_others v t.next first others now h.0.kept h.1 alive tells

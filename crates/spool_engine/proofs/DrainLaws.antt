@@ -1,4 +1,4 @@
--- How many rounds there are, and how they are told.
+-- The number of rounds of a drain, and its reply.
 use Rattle.std.proofs.Common.{◌≡◌, ℕ, zero, suc, ◌+◌, ◌<◌, List, [], ◌∷◌, ◌++◌, length, refl, ap, sym, ◌∙◌, subst, arith, true, false, Bool, Result, Ok, Err}
 use Rattle.std.specs.Prelude.{IfOk}
 use Rattle.print_rounds.specs.RunStates.{RunState}
@@ -8,7 +8,7 @@ use Rattle.spool_engine.specs.Script.{round_text, drain_text}
 use Rattle.spool_engine.specs.EventSteps.{Setting}
 use Rattle.spool_engine.specs.EngineRounds.{Ran, IsRan, AreRan, AreAll, AreRun, IsRest, is_last, results_of, counts_in, with_counts, rounds_run, line_told, round_line, drain_line}
 
--- rounds that others follow
+-- No round is idle or has a fault, so others follow.
 abbrev pub AreBusy : {D : Type 0} → List (Ran D) → Type 0
 AreBusy [] = Unit {0}
 AreBusy (r ∷ rs) = (is_last r.result ≡ false) × AreBusy rs
@@ -28,14 +28,14 @@ length_more (y ∷ xs) x = omega (arith, length_more xs x)
 rest_as : (b c : Bool) (rs : List (Result Round RoundFault)) (Rest : Type 0) → b ≡ c → IsRest c rs Rest → IsRest b rs Rest
 rest_as b c rs Rest e h = subst (λ x. IsRest x rs Rest) (sym e) h
 
--- as many as may be
+-- Their number is the greatest allowed.
 pub all_at : {D : Type 0} (n : ℕ) (rs : List (Ran D)) → AreBusy rs → length rs ≡ n → AreAll n (results_of rs)
 all_at zero [] h e = refl
 all_at zero (r ∷ rs) h e = absurd (omega (arith, e))
 all_at (suc n) [] h e = absurd (omega (arith, e))
 all_at (suc n) (r ∷ rs) h e = rest_as (is_last r.result) false (results_of rs) (AreAll n (results_of rs)) h.0 (all_at n rs h.1 (omega (arith, e)))
 
--- the last of them ends them
+-- The last round ends the drain.
 pub all_last : {D : Type 0} (n : ℕ) (rs : List (Ran D)) (r : Ran D) → AreBusy rs → length rs < n → is_last r.result ≡ true → AreAll n (results_of (rs ++ r ∷ []))
 all_last zero rs r h less is = absurd (omega (arith, less))
 all_last (suc n) [] r h less is = rest_as (is_last r.result) true [] (AreAll n []) is refl
@@ -56,24 +56,24 @@ fault_behind : (q : Result (List Round) RoundFault) (r : Result Round RoundFault
 fault_behind q (Ok round) f is h = ap (with_counts (Ok round)) h
 fault_behind q (Err fault) f is h = cc
 
--- all of them
+-- All rounds are busy.
 pub run_busy : {D : Type 0} (rs : List (Ran D)) → AreBusy rs → rounds_run (counts_in (results_of rs)) ≡ Ok (length rs)
 run_busy [] h = refl
 run_busy (r ∷ rs) h = one_more (counts_in (results_of rs)) r.result (length rs) h.0 (run_busy rs h.1)
 
--- and one behind them that was idle
+-- An idle round follows.
 pub run_more : {D : Type 0} (rs : List (Ran D)) (r : Ran D) (round : Round) → AreBusy rs → r.result ≡ Ok round → rounds_run (counts_in (results_of (rs ++ r ∷ []))) ≡ Ok (suc (length rs))
 run_more [] r round h is = ap (λ q. rounds_run (with_counts q (Ok []))) is
 run_more (q ∷ rs) r round h is = one_more (counts_in (results_of (rs ++ r ∷ []))) q.result (suc (length rs)) h.0 (run_more rs r round h.1 is)
 
--- or one that had a fault
+-- A round with a fault follows.
 pub counts_fault : {D : Type 0} (rs : List (Ran D)) (r : Ran D) (f : RoundFault) → AreBusy rs → r.result ≡ Err f → counts_in (results_of (rs ++ r ∷ [])) ≡ Err f
 counts_fault [] r f h is = ap (λ q. with_counts q (Ok [])) is
 counts_fault (q ∷ rs) r f h is = fault_behind (counts_in (results_of (rs ++ r ∷ []))) q.result f h.0 (counts_fault rs r f h.1 is)
 
--- ## Their text
+-- ## Their reply
 
--- one round
+-- One round.
 one_all : (b : Bool) → IsRest b [] (AreAll 0 [])
 one_all true = refl
 one_all false = refl
@@ -85,12 +85,12 @@ pub round_told : (q : Result Round RoundFault) → line_told round_text (counts_
 round_told (Ok round) = refl
 round_told (Err fault) = refl
 
--- the rounds of a drain
+-- The rounds of a drain.
 pub drain_told : (q : Result (List Round) RoundFault) → line_told drain_text q ≡ drain_line (rounds_run q)
 drain_told (Ok rounds) = refl
 drain_told (Err fault) = refl
 
--- a text that is Ok is the reply, where it is this line and so is the reply
+-- A text with these bytes is the reply, if they are equal.
 pub as_told : {X E : Type 0} (bytes : X → List ℕ) (r : Result X E) (reply line : List ℕ) → reply ≡ line → IfOk r (λ x. bytes x ≡ line) → IfOk r (λ x. bytes x ≡ reply)
 as_told bytes (Ok x) reply line e h = h ∙ sym e
 as_told bytes (Err fault) reply line e h = h

@@ -1,4 +1,4 @@
--- A turn of a command that is no round.
+-- The step of a command without rounds.
 use Rattle.std.proofs.Common.{◌≡◌, ℕ, List, [], ◌∷◌, refl, ap, sym, ◌∙◌, subst, inl, inr, ⊎_elim, arith, true, false, cond, Option, None, Some, Result, Ok, Err}
 use Rattle.std.specs.Prelude.{◌≤◌, ◌↔◌, IfOk, OnOk, IsSome, codes}
 use Rattle.spool_types.specs.declared.event.Event.{Event}
@@ -31,67 +31,66 @@ use Rattle.print_rounds.specs.Rounds.{HasSomeOf, LeavesDocuments}
 use Rattle.spool_engine.specs.EventSteps.{Setting, Outcome, EventStep, served, no_memory, full, disk, dead, unread, unlisted, IsServedBy, IsTaken, IsOutcome, IsReadFor, MayBeRead, IsKept, HasSomeSent, HasTableIn, HasWholeIn, is_checkpoint, tried_as, checkpoint_fault_line}
 use Rattle.spool_engine.specs.EventAnswers.{answer_line, checkpoint_line, HasWholeInEitherVersion, IsApplied, IsRelisted, Takes}
 
--- since this moment there is no other
+-- The images since the current moment of a disk are its current images.
 abbrev pub OnlyNow : {D : Type 0} → DiskView D → Type 0
 OnlyNow {D} v = (d : D) (c : List ℕ) → v.image_since d (v.moment d) c → v.image d c
 
--- where nothing is done a crash leaves the table
+-- If nothing is done, a crash leaves the table.
 pub unmoved : {D : Type 0} (v : DiskView D) (s : OpenSpool D) (P : List ℕ → Type 0) → OnlyNow v → IsKept v s → ((c : List ℕ) → HasTable s.state c → P c) → s.dead ≡ false → IsSome (v.bytes s.disk) → LeavesOnly v s.disk s.disk P
 unmoved v s P now kept weaker alive tells = started v s.disk P (λ c since. weaker c (kept alive tells c (now s.disk c since)))
 
--- the state of a step is the one of the fold
+-- The state of a step is the state of the fold.
 pub step_folds : (s : State) (e : Event) (o : Option Refusal) → step_state s (answered s e o) ≡ unless_refused s e o
 step_folds s e None = refl
 step_folds s e (Some r) = refl
 
 -- ## Documents
 
--- what tells its bytes has bytes
 pub has_bytes : (o : Option (List ℕ)) → IsSome o → (bytes : List ℕ) × (o ≡ Some bytes)
 has_bytes None h = absurd cc
 has_bytes (Some bytes) h = (bytes, refl)
 
--- an event that is refused sends nothing
+-- A refused event sends nothing.
 refused_sent : (s : State) (documents : ℕ → List ℕ) (e : Event) (r : Refusal) (o : Option Refusal) → answered s e o ≡ Err r → unless_refused_sent documents e o ≡ documents
 refused_sent s documents e r None is = absurd cc
 refused_sent s documents e r (Some q) is = refl
 
--- What an answer sends is left behind it: by that of a table that is as it was nothing.
+-- The spool did not change, so its documents did not.
 same_documents : {D : Type 0} (v : DiskView D) (s s' : OpenSpool D) (documents : ℕ → List ℕ) → s' ≡ s → LeavesDocuments v documents s → LeavesDocuments v documents s'
 same_documents v s s' documents same has = subst (LeavesDocuments v documents) (sym same) has
 
--- an image of a table with its documents is one of those that events lead to from it
+-- An image of a table with its documents counts as one after none of the events.
 pub none_whole : (s : State) (documents : ℕ → List ℕ) (es : List Event) (c : List ℕ) → HasWhole s documents c → HasSomeSent s documents es c
 none_whole s documents es c has = (0, omega arith, omega arith, has)
 
 pub one_whole : (s : State) (documents : ℕ → List ℕ) (e : Event) (c : List ℕ) → HasWholeBeforeOrAfterEvent s documents e c → HasSomeSent s documents (e ∷ []) c
 one_whole s documents e c = ⊎_elim (λ before. none_whole s documents (e ∷ []) c before) (λ after. (1, omega arith, omega arith, after))
 
--- where nothing is done a crash leaves the table and its documents
+-- If nothing is done, a crash leaves the table and its documents.
 pub unmoved_whole : {D : Type 0} (v : DiskView D) (s : OpenSpool D) (documents : ℕ → List ℕ) (P : List ℕ → Type 0) → OnlyNow v → IsKept v s → ((c : List ℕ) → HasWhole s.state documents c → P c) → s.dead ≡ false → IsSome (v.bytes s.disk) → LeavesDocuments v documents s → LeavesOnly v s.disk s.disk P
 unmoved_whole v s documents P now kept weaker alive tells has = started v s.disk P (λ c since. weaker c (kept alive tells c (now s.disk c since), has c (now s.disk c since)))
 
--- what a crash leaves from one spool to another, where these events were tried
+-- The images that a crash leaves between two spools, if these events were tried.
 abbrev pub LeavesSent : {D : Type 0} → DiskView D → OpenSpool D → OpenSpool D → List Event → Type 0
 LeavesSent v s s' es = s.dead ≡ false → IsSome (v.bytes s.disk) → (documents : ℕ → List ℕ) → LeavesDocuments v documents s → LeavesOnly v s.disk s'.disk (HasSomeSent s.state documents es)
 
--- what a crash leaves of the events of a command it leaves in that command
+-- A crash in the events of a command is a crash in that command.
 pub crash_in : {D : Type 0} (v : DiskView D) (d d' : D) (c : Command) (s : State) (es : List Event) → LeavesOnly v d d' (HasSomeOf s es) → LeavesOnly v d d' (HasTableIn c s es)
 crash_in v d d' c s es run = weaker_run v d d' (HasTableIn c s es) (HasSomeOf s es) run (λ image some. inl some)
 
 pub sent_in : {D : Type 0} (v : DiskView D) (d d' : D) (c : Command) (s : State) (documents : ℕ → List ℕ) (es : List Event) → LeavesOnly v d d' (HasSomeSent s documents es) → LeavesOnly v d d' (HasWholeIn c s documents es)
 sent_in v d d' c s documents es run = weaker_run v d d' (HasWholeIn c s documents es) (HasSomeSent s documents es) run (λ image some. inl some)
 
--- ## A command that is no event
+-- ## A command without an event
 
 pub still_whole : {D : Type 0} (v : DiskView D) (s : OpenSpool D) (es : List Event) → OnlyNow v → IsKept v s → LeavesSent v s s es
 still_whole v s es now kept = λ alive tells documents has. unmoved_whole v s documents (HasSomeSent s.state documents es) now kept (none_whole s.state documents es) alive tells has
 
--- a command that closes no job reads no document
+-- A command that closes no job reads no document.
 abbrev pub ReadsNothing : {D : Type 0} → Setting D → OpenSpool D → Command → Type 0
 ReadsNothing v s c = (o : Outcome) → IsReadFor v s [] o c
 
--- a command that is no event changes nothing
+-- A command without an event changes nothing.
 said_turn : {D : Type 0} (v : Setting D) (s : OpenSpool D) (c : Command) (text : List ℕ) → OnlyNow v.device → IsKept v.device s → ReadsNothing v s c → meaning v.mime s.state [] c ≡ says text → (t : EventStep D) × Takes v s c t s × (t.text ≡ text)
 said_turn v s c text now kept none is = (
   record { command = c; document = []; outcome = served; text = text; next = s },
@@ -116,7 +115,7 @@ said_turn v s c text now kept none is = (
   refl,
 )
 
--- what a crash leaves of an event that was tried, and of one that wasn't
+-- The images that a crash leaves in an event that was tried, and in one that was not.
 tried : {D : Type 0} (v : DiskView D) (s s' : OpenSpool D) (e : Event) (a : Result Reply ApplyFault) → IsApplied v s e a s' → s.dead ≡ false → IsSome (v.bytes s.disk) → LeavesOnly v s.disk s'.disk (HasSomeOf s.state (e ∷ []))
 tried v s s' e a h alive tells = weaker_run v s.disk s'.disk (HasSomeOf s.state (e ∷ [])) (HasBeforeOrAfterEvent s.state e) (h.crash alive tells) (one_of s.state e)
 
@@ -131,7 +130,7 @@ tried_whole v s s' e a h = λ alive tells documents has.
 untried_whole : {D : Type 0} (v : DiskView D) (s s' : OpenSpool D) (e : Event) (a : Result Reply ApplyFault) → OnlyNow v → IsApplied v s e a s' → s' ≡ s → LeavesSent v s s' []
 untried_whole v s s' e a now h same = subst (λ x. LeavesSent v s x []) (sym same) (still_whole v s [] now (subst (IsKept v) same h.kept))
 
--- a turn whose event went so
+-- A step whose event had this answer.
 pub applied_turn : {D : Type 0} (v : Setting D) (s s' : OpenSpool D) (c : Command) (document : List ℕ) (e : Event) (line : Reply → List ℕ) (a : Result Reply ApplyFault) (o : Outcome) (text : List ℕ) → meaning v.mime s.state document c ≡ asks e line → IsApplied v.device s e a s'
     → IsOutcome v s (record { command = c; document = document; outcome = o; text = text; next = s' }) o → IsReadFor v s document o c → (s.dead ≡ false → IsSome (v.device.bytes s.disk) → LeavesOnly v.device s.disk s'.disk (HasSomeOf s.state (tried_as (Some e) o))) → LeavesSent v.device s s' (tried_as (Some e) o)
     → (s'.dead ≡ false → IsSome (v.device.bytes s.disk) → (documents : ℕ → List ℕ) → LeavesDocuments v.device documents s → LeavesDocuments v.device (documents_after s.state documents (tried_as (Some e) o)) s')
@@ -159,7 +158,7 @@ applied_turn v s s' c document e line a o text is h out read crash whole lasting
   refl,
 )
 
--- an event that the table refused, of a command that read nothing before
+-- An event that the table refused, of a command that read nothing before.
 pub refused_turn : {D : Type 0} (v : Setting D) (s s' : OpenSpool D) (c : Command) (e : Event) (line : Reply → List ℕ) (refusal : Refusal) → meaning v.mime s.state [] c ≡ asks e line → IsApplied v.device s e (Err (Refused refusal)) s' → IsReadFor v s [] served c
     → (t : EventStep D) × Takes v s c t s' × (t.text ≡ refusal_line refusal)
 refused_turn v s s' c e line refusal is h read = applied_turn v s s' c [] e line (Err (Refused refusal)) served (refusal_line refusal) is h
@@ -169,7 +168,7 @@ refused_turn v s s' c e line refusal is h read = applied_turn v s s' c [] e line
     (tried_whole v.device s s' e (Err (Refused refusal)) h)
     (λ lives tells documents has. subst (λ d. LeavesDocuments v.device d s') (sym (refused_sent s.state documents e refusal (refusal_of s.state e) h.cause.1)) (same_documents v.device s s' documents h.cause.2 has))
 
--- an event of a dead spool
+-- An event on a dead spool.
 pub dead_turn : {D : Type 0} (v : Setting D) (s s' : OpenSpool D) (c : Command) (e : Event) (line : Reply → List ℕ) → OnlyNow v.device → meaning v.mime s.state [] c ≡ asks e line → IsApplied v.device s e (Err Dead) s' → IsReadFor v s [] dead c
     → (t : EventStep D) × Takes v s c t s' × (t.text ≡ codes "error dead\n")
 dead_turn v s s' c e line now is h read = applied_turn v s s' c [] e line (Err Dead) dead (codes "error dead\n") is h (record { event = e; is = ap event_in is; cause = h.cause; text = refl }) read
@@ -199,12 +198,12 @@ answered_turn v s s' c e line (Err Disk) now none is h = applied_turn v s s' c [
     (tried_whole v.device s s' e (Err Disk) h)
     (λ lives tells documents has. absurd (let died = h.cause.dead in cc))
 
--- a text that is Ok has other bytes, where these are the same
+-- A text with these bytes has the other bytes, if they are equal.
 pub same_bytes : {X E : Type 0} (bytes : X → List ℕ) (r : Result X E) (a b : List ℕ) → b ≡ a → IfOk r (λ text. bytes text ≡ a) → IfOk r (λ text. bytes text ≡ b)
 same_bytes bytes (Ok x) a b e h = h ∙ sym e
 same_bytes bytes (Err fault) a b e h = h
 
--- a command that is an event, and the text that tells how it went
+-- A command that is an event, and the text of its reply.
 pub event_told : {X E D : Type 0} (bytes : X → List ℕ) (r : Result X E) (v : Setting D) (s s' : OpenSpool D) (c : Command) (e : Event) (line : Reply → List ℕ) → OnlyNow v.device → ReadsNothing v s c → meaning v.mime s.state [] c ≡ asks e line
     → (a : Result Reply ApplyFault) × IsApplied v.device s e a s' × IfOk r (λ text. bytes text ≡ answer_line line a)
     → (t : EventStep D) × Takes v s c t s' × IfOk r (λ text. bytes text ≡ t.text)
@@ -212,13 +211,13 @@ event_told bytes r v s s' c e line now none is (a, went, text) =
     let (t, takes, told) = answered_turn v s s' c e line a now none is went in
     (t, takes, same_bytes bytes r (answer_line line a) t.text told text)
 
--- a command that is no event
+-- A command without an event, and the text of its reply.
 pub said_told : {X E D : Type 0} (bytes : X → List ℕ) (r : Result X E) (v : Setting D) (s : OpenSpool D) (c : Command) (text : List ℕ) → OnlyNow v.device → IsKept v.device s → ReadsNothing v s c → meaning v.mime s.state [] c ≡ says text → IfOk r (λ x. bytes x ≡ text) → (t : EventStep D) × Takes v s c t s × IfOk r (λ x. bytes x ≡ t.text)
 said_told bytes r v s c text now kept none is h =
     let (t, takes, told) = said_turn v s c text now kept none is in
     (t, takes, same_bytes bytes r text t.text told h)
 
--- a command whose text wasn't read since there was no memory
+-- A command whose text was not read, because memory ran out.
 pub unread_told : {X E D : Type 0} (bytes : X → List ℕ) (r : Result X E) (v : Setting D) (s : OpenSpool D) (c : Command) → OnlyNow v.device → IsKept v.device s → ReadsNothing v s c → MayBeRead c → IfOk r (λ x. bytes x ≡ codes "error memory\n") → (t : EventStep D) × Takes v s c t s × IfOk r (λ x. bytes x ≡ t.text)
 unread_told bytes r v s c now kept none may h = (
   record { command = c; document = []; outcome = unread; text = codes "error memory\n"; next = s },
@@ -243,25 +242,25 @@ unread_told bytes r v s c now kept none may h = (
   h,
 )
 
--- a queue with the URI of a device is an event, and with another none
+-- A queue is an event exactly if its URI is that of a device.
 pub queue_event : (m : Mime) (s : State) (q : NewQueue) → is_device_uri q.uri ≡ true → meaning m s [] (Queue q) ≡ asks (AddQueue q) reply_line
 queue_event m s q is = ap (λ b. cond b (asks (AddQueue q) reply_line) (says (codes "error uri\n"))) is
 
 pub no_queue_event : (m : Mime) (s : State) (q : NewQueue) → is_device_uri q.uri ≡ false → meaning m s [] (Queue q) ≡ says (codes "error uri\n")
 no_queue_event m s q is = ap (λ b. cond b (asks (AddQueue q) reply_line) (says (codes "error uri\n"))) is
 
--- a job whose options can be kept is an event, and another none
+-- A job is an event exactly if its options can be stored.
 pub create_event : (m : Mime) (s : State) (n : Creation) (options : List ℕ) → job_options n.options ≡ Some options → meaning m s [] (Create n) ≡ asks (creation (job_of_creation s n options) n.by) reply_line
 create_event m s n options is = ap (creating s n) is
 
 pub no_create_event : (m : Mime) (s : State) (n : Creation) → job_options n.options ≡ None → meaning m s [] (Create n) ≡ says (codes "error options\n")
 no_create_event m s n is = ap (creating s n) is
 
--- the turn of a command by another name
+-- The same step under an equal command.
 pub same_command : {X E D : Type 0} (bytes : X → List ℕ) (r : Result X E) (v : Setting D) (s s' : OpenSpool D) (c c' : Command) → c ≡ c' → (t : EventStep D) × Takes v s c' t s' × IfOk r (λ x. bytes x ≡ t.text) → (t : EventStep D) × Takes v s c t s' × IfOk r (λ x. bytes x ≡ t.text)
 same_command bytes r v s s' c c' e (t, takes, told) = (t, record { legal = takes.legal; command = takes.command ∙ sym e; next = takes.next }, told)
 
--- an event for which there was nothing to be done, so that the spool is as it was
+-- Nothing was done for the event, so the spool did not change.
 pub unasked : {D : Type 0} (v : DiskView D) (s : OpenSpool D) (e : Event) (fault : ApplyFault) → OnlyNow v → IsKept v s → IsAnswer v s e (Err fault) s → IsApplied v s e (Err fault) s
 unasked v s e fault now kept h = record {
   cause = h;
@@ -273,11 +272,11 @@ unasked v s e fault now kept h = record {
   sent = tt;
 }
 
--- the same spool by another name
+-- The same for an equal spool.
 pub kept_as : {D : Type 0} (v : DiskView D) (s s' : OpenSpool D) → s ≡ s' → IsKept v s → IsKept v s'
 kept_as v s s' e kept = subst (IsKept v) e kept
 
--- after every answer of the spool a crash leaves the table that is shown
+-- After every answer of the spool a crash leaves the table that is shown.
 still_kept : {D : Type 0} (v : DiskView D) (s s' : OpenSpool D) (e : Event) (a : Result Reply ApplyFault) → IsAnswer v s e a s' → (IsSome (v.bytes s'.disk) ↔ IsSome (v.bytes s.disk))
     → OnOk a (IsSome (v.bytes s.disk) → (c : List ℕ) → v.image s'.disk c → HasTable s'.state c) → IsKept v s → IsKept v s'
 still_kept v s s' e (Ok reply) h told ok kept = λ alive tells c now. ok (told.0 tells) c now
@@ -287,11 +286,11 @@ still_kept v s s' e (Err Memory) h told ok kept = kept_as v s s' (sym h.2) kept
 still_kept v s s' e (Err Full) h told ok kept = kept_as v s s' (sym h.1) kept
 still_kept v s s' e (Err Disk) h told ok kept = λ alive tells c now. absurd (let died = h.dead in cc)
 
--- where each image has these documents the bytes that are told have them
+-- If each image has these documents, the reported bytes have them.
 pub told_documents : {D : Type 0} (v : DiskView D) (s : OpenSpool D) (documents : ℕ → List ℕ) (bytes : List ℕ) → IsLawful v → LeavesDocuments v documents s → v.bytes s.disk ≡ Some bytes → HasDocuments s.state documents bytes
 told_documents v s documents bytes lawful has is = has bytes (lawful.reads_image s.disk bytes is)
 
--- so a clause of the bytes is one of each image
+-- So a clause about the bytes is one about each image.
 sent_of : {D X E : Type 0} (v : DiskView D) (s : OpenSpool D) (r : Result X E) (P : (ℕ → List ℕ) → Type 0) → IsLawful v → OnOk r ((bytes : List ℕ) (documents : ℕ → List ℕ) → v.bytes s.disk ≡ Some bytes → HasDocuments s.state documents bytes → P documents)
     → OnOk r (IsSome (v.bytes s.disk) → (documents : ℕ → List ℕ) → LeavesDocuments v documents s → P documents)
 sent_of v s (Ok x) P lawful h = λ tells documents has.
@@ -299,7 +298,7 @@ sent_of v s (Ok x) P lawful h = λ tells documents has.
     h bytes documents is (told_documents v s documents bytes lawful has is)
 sent_of v s (Err f) P lawful h = tt
 
--- what the spool says of an event
+-- The contract of the spool for an event.
 pub spool_applied : {D : Type 0} (v : DiskView D) (s s' : OpenSpool D) (e : Event) (a : Result Reply ApplyFault) → IsLawful v → IsAnswer v s e a s' → v.failures s.disk ≤ v.failures s'.disk → (IsSome (v.bytes s'.disk) ↔ IsSome (v.bytes s.disk))
     → (s.dead ≡ false → IsSome (v.bytes s.disk) → LeavesOnly v s.disk s'.disk (HasBeforeOrAfterEvent s.state e))
     → (s.dead ≡ false → (bytes : List ℕ) (documents : ℕ → List ℕ) → v.bytes s.disk ≡ Some bytes → HasDocuments s.state documents bytes → LeavesOnly v s.disk s'.disk (HasWholeBeforeOrAfterEvent s.state documents e))
@@ -353,7 +352,7 @@ listed_turn v s s' c a o text quiet lists_it is h out none lasting = (
   refl,
 )
 
--- what a fault leaves of the documents
+-- The documents after a fault.
 unlisted_documents : {D : Type 0} (v : DiskView D) (s s' : OpenSpool D) (fault : CheckpointFault) (documents : ℕ → List ℕ) → IsCheckpoint v s (Err fault) s' → s'.dead ≡ false → LeavesDocuments v documents s → LeavesDocuments v documents s'
 unlisted_documents v s s' listing.Dead documents h lives has = same_documents v s s' documents h.1 has
 unlisted_documents v s s' listing.EpochEnd documents h lives has = same_documents v s s' documents h.2 has
@@ -366,7 +365,7 @@ relisted_turn v s s' c (Ok done) quiet lists_it is h = listed_turn v s s' c (Ok 
 relisted_turn v s s' c (Err fault) quiet lists_it is h = listed_turn v s s' c (Err fault) (unlisted fault) (checkpoint_fault_line fault) quiet lists_it is h (record { is = is; cause = h.cause; text = refl }) refl
     (λ lives tells documents has. unlisted_documents v.device s s' fault documents h.cause lives has)
 
--- a checkpoint, and the text that tells how it went
+-- A checkpoint, and the text of its reply.
 pub listing_told : {X E D : Type 0} (bytes : X → List ℕ) (r : Result X E) (v : Setting D) (s s' : OpenSpool D) (c : Command) → ReadsNothing v s c → is_checkpoint c ≡ true → meaning v.mime s.state [] c ≡ lists
     → (a : Result (Unit {0}) CheckpointFault) × IsRelisted v.device s a s' × IfOk r (λ text. bytes text ≡ checkpoint_line a)
     → (t : EventStep D) × Takes v s c t s' × IfOk r (λ text. bytes text ≡ t.text)
@@ -374,7 +373,7 @@ listing_told bytes r v s s' c quiet lists_it is (a, went, text) =
     let (t, takes, told) = relisted_turn v s s' c a quiet lists_it is went in
     (t, takes, same_bytes bytes r (checkpoint_line a) t.text told text)
 
--- after every answer to a checkpoint a crash leaves the table that is shown
+-- After every answer to a checkpoint a crash leaves the table that is shown.
 listing_kept : {D : Type 0} (v : DiskView D) (s s' : OpenSpool D) (a : Result (Unit {0}) CheckpointFault) → IsCheckpoint v s a s' → (IsSome (v.bytes s'.disk) ↔ IsSome (v.bytes s.disk))
     → OnOk a (IsSome (v.bytes s.disk) → (c : List ℕ) → v.image s'.disk c → HasTable s'.state c) → IsKept v s → IsKept v s'
 listing_kept v s s' (Ok done) h told ok kept = λ alive tells c now. ok (told.0 tells) c now
@@ -384,7 +383,7 @@ listing_kept v s s' (Err listing.Memory) h told ok kept = kept_as v s s' (sym h.
 listing_kept v s s' (Err listing.Full) h told ok kept = kept_as v s s' (sym h.2) kept
 listing_kept v s s' (Err listing.Disk) h told ok kept = λ alive tells c now. absurd (let died = h.dead in cc)
 
--- the documents are left behind one that was Ok
+-- The documents after a checkpoint that returned Ok.
 listing_lasts : {D : Type 0} (v : DiskView D) (s s' : OpenSpool D) (a : Result (Unit {0}) CheckpointFault) → IsLawful v → IsCheckpoint v s a s'
     → (s.dead ≡ false → (bytes : List ℕ) (documents : ℕ → List ℕ) → v.bytes s.disk ≡ Some bytes → HasDocuments s.state documents bytes → LeavesOnly v s.disk s'.disk (HasDocuments s.state documents))
     → OnOk a (IsSome (v.bytes s.disk) → (documents : ℕ → List ℕ) → LeavesDocuments v documents s → LeavesDocuments v documents s')
@@ -394,7 +393,7 @@ listing_lasts v s s' (Ok done) lawful h left = λ tells documents has.
     λ c now. subst (λ t. HasDocuments t documents c) (sym h.state) (at_return v lawful s.disk s'.disk (HasDocuments s.state documents) run c now)
 listing_lasts v s s' (Err fault) lawful h left = tt
 
--- what the spool says of a checkpoint
+-- The contract of the spool for a checkpoint.
 pub spool_relisted : {D : Type 0} (v : DiskView D) (s s' : OpenSpool D) (a : Result (Unit {0}) CheckpointFault) → IsLawful v → IsCheckpoint v s a s' → v.failures s.disk ≤ v.failures s'.disk → (IsSome (v.bytes s'.disk) ↔ IsSome (v.bytes s.disk))
     → (s.dead ≡ false → IsSome (v.bytes s.disk) → LeavesOnly v s.disk s'.disk (HasInEitherVersion s.state))
     → (s.dead ≡ false → (bytes : List ℕ) (documents : ℕ → List ℕ) → v.bytes s.disk ≡ Some bytes → HasDocuments s.state documents bytes → LeavesOnly v s.disk s'.disk (HasDocuments s.state documents))

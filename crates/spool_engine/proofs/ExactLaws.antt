@@ -1,4 +1,4 @@
--- Runs in which nothing failed.
+-- Runs without a failure.
 use Rattle.std.proofs.Common.{◌≡◌, ℕ, zero, suc, List, [], ◌∷◌, ◌++◌, cond, codes, length, map, refl, arith, ap, sym, ◌∙◌, subst, ◌⊎◌, inl, inr, ⊎_elim, true, false, Bool, Option, None, Some, Result, Ok, Err}
 use Rattle.std.specs.List.{flat_map}
 use Rattle.std.specs.Result.{IsOk}
@@ -40,20 +40,20 @@ use Rattle.spool_engine.proofs.EventLaws.{step_folds}
 use Rattle.spool_engine.proofs.SettleLaws.{FinishLaw, no_tickets, told_same, waited_state, waits_all}
 use Rattle.print_rounds.proofs.PrefixLaws.{after_both}
 
--- the children tell what is of the scene, and the slots have the tickets of those that run
+-- The children report the trace of the ScriptState, and the slots have the tickets of the running ones.
 pub record IsTelling {D : Type 0} (s : RunState D) (x : ScriptState) : Type 0 where
   pub slots : s.slots ≡ x.slots
   pub told : s.told ≡ Some x.told
   pub tickets : HasTickets x.slots x.told
 
--- ## A command that is no round
+-- ## A command without rounds
 
--- the state that the table's answer leads to
+-- The state after the table's answer.
 taken_state : {D : Type 0} (s : OpenSpool D) (e : Event) (r : Result (State × Reply) Refusal) (s' : OpenSpool D) → step s.state e ≡ r → IsTaken s e r s' → s'.state ≡ step_state s.state r
 taken_state s e (Ok r) s' is h = ap (step_state s.state) (sym h.step ∙ is)
 taken_state s e (Err refusal) s' is h = ap (λ x. x.state) h.1
 
--- in the newest version a checkpoint raises none
+-- In the newest version a checkpoint does not raise the version.
 pub raised_same : (s : State) → s.version ≡ Two → raised s ≡ s
 raised_same s is = sym (ap (λ w. record s { version = w }) is)
 
@@ -63,7 +63,7 @@ is_listing (asks e line) = false
 is_listing lists = true
 is_listing (runs most line) = false
 
--- what a scene is to a command for which these documents were read, where the table found is its own
+-- A reply and a state as Script has them for a command with these documents, on a table that is the state's own.
 pub record IsSaid (place : Place) (documents : ℕ → Documents) (x : ScriptState) (w : Meaning) (reply : List ℕ) (new : State) : Type 0 where
   pub text : reply ≡ reply_by place documents x w
   pub state : new ≡ (after_by place documents x w).state
@@ -97,7 +97,7 @@ abbrev some_or : {X : Type 0} → X → Option X → X
 some_or d None = d
 some_or d (Some x) = x
 
--- where a round was Ok its steps had no fault
+-- The steps of a round that returned Ok had no fault.
 faultless : (counts : Round) (fault : Option RoundFault) (round : Round) → Ok round ≡ result_of counts fault → (fault ≡ None) × (round ≡ counts)
 faultless counts None round e = (refl, ap (ok_or round) e)
 faultless counts (Some f) round e = absurd cc
@@ -108,7 +108,7 @@ round_with started finished = record { started = started; finished = finished }
 same_counts : (a b c d : ℕ) → a ≡ c → b ≡ d → round_with a b ≡ round_with c d
 same_counts a b c d e f = ap (λ n. round_with n b) e ∙ ap (round_with c) f
 
--- what a round is to a play
+-- A round as a play of Script.
 record IsPlayed {D : Type 0} (p : Play) (before : State) (new : RunState D) (round : Round) : Type 0 where
   counts : round ≡ counts_of p
   state : new.spool.state ≡ p.state
@@ -129,7 +129,7 @@ made_played v s r round t documents made ok told rest handed (js, once) rests =
       table = made.table ∙ ap (after_all s.spool.state) exact.events;
     }
 
--- the scene of children that were waited for
+-- The state after the running children were waited for.
 record IsQuietState {D : Type 0} (s : RunState D) (x : ScriptState) : Type 0 where
   state : s.spool.state ≡ x.state
   telling : IsTelling s x
@@ -149,7 +149,7 @@ quiet_state finish s c x is e tell =
       rest = ap (λ (u : ChildTrace). u.running) (told_same (settled x).told off.now (sym told ∙ off.tells)) ∙ off.none;
     }
 
--- what was read in a round are these documents
+-- These are the documents that were read in a round.
 abbrev pub GoesFor : {D : Type 0} → Setting D → Ran D → Documents → Type 0
 GoesFor v r documents = (made : IsRoundOf v.device v.place r.settled r.next r.result) → AreHanded r.documents made.steps.launchings → AreHanded documents made.steps.launchings
 
@@ -173,7 +173,7 @@ round_played {D} finish v s r round x documents e tell h goes ok =
 
 -- ## Several rounds
 
--- what was read in each of these rounds
+-- These are the documents that were read in each of these rounds.
 abbrev pub AreFor : {D : Type 0} → Setting D → (ℕ → Documents) → List (Ran D) → Type 0
 AreFor v documents [] = Unit {0}
 AreFor v documents (r ∷ rs) = GoesFor v r (documents 0) × AreFor v (λ k. documents (suc k)) rs
@@ -188,11 +188,11 @@ ok_rest : (round : Round) (rest : Result (List Round) RoundFault) → IsOk (with
 ok_rest round (Ok rounds) h = h
 ok_rest round (Err fault) h = h
 
--- what the rounds behind the first are to a scene
+-- The rounds after the first, as plays of Script.
 abbrev PlayRest : {D : Type 0} (v : Setting D) (documents : ℕ → Documents) (n : ℕ) (s new : RunState D) (rs : List (Ran D)) → Type 0
 PlayRest v documents n s new rs = (y : ScriptState) → s.spool.state ≡ y.state → IsTelling s y → AreRan v s rs new → AreAll n (results_of rs) → IsOk (counts_in (results_of rs)) → ArePlayed (rounds_of v.place documents n y) y s new (results_of rs)
 
--- the first, and those behind it
+-- The first round, and the rounds after it.
 both_played : {D : Type 0} (p : Play) (ps : List Play) (x : ScriptState) (s mid new : RunState D) (round : Round) (results : List (Result Round RoundFault)) → IsPlayed p s.spool.state mid round → ArePlayed ps (script_state_after p) mid new results → ArePlayed (p ∷ ps) x s new (Ok round ∷ results)
 both_played p ps x s mid new round results one more = record {
   counts = ap (with_counts (Ok round)) more.counts ∙ ap (λ (c : Round). Ok (c ∷ map counts_of ps)) one.counts;
@@ -204,7 +204,7 @@ both_played p ps x s mid new round results one more = record {
 none_more : {D : Type 0} (p : Play) (new : RunState D) → new.spool.state ≡ p.state → IsTelling new (script_state_after p) → ArePlayed [] (script_state_after p) new new []
 none_more p new state telling = record { counts = refl; state = state; telling = telling; table = refl }
 
--- by whether the first was idle
+-- By whether the first round was idle.
 rest_played : {D : Type 0} (v : Setting D) (documents : ℕ → Documents) (n : ℕ) (x : ScriptState) (s : RunState D) (r : Ran D) (rs : List (Ran D)) (new : RunState D) (round : Round) (p : Play) (b : Bool) → is_idle (counts_of p) ≡ b → IsPlayed p s.spool.state r.next round → AreRan v r.next rs new → IsRest b (results_of rs) (AreAll n (results_of rs)) → IsOk (counts_in (results_of rs)) → PlayRest v documents n r.next new rs
     → ArePlayed (p ∷ unless (is_idle (counts_of p)) (rounds_of v.place documents n (script_state_after p))) x s new (Ok round ∷ results_of rs)
 rest_played v documents n x s r [] new round p true idle one more all ok rest =
@@ -215,7 +215,7 @@ rest_played v documents n x s r rs new round p false idle one more all ok rest =
     subst (λ b. ArePlayed (p ∷ unless b (rounds_of v.place documents n (script_state_after p))) x s new (Ok round ∷ results_of rs)) (sym idle)
     (both_played p (rounds_of v.place documents n (script_state_after p)) x s r.next new round (results_of rs) one (rest (script_state_after p) one.state one.telling more all ok))
 
--- by how the first went
+-- By the result of the first round.
 first_played : {D : Type 0} (finish : FinishLaw) (v : Setting D) (documents : ℕ → Documents) (n : ℕ) (x : ScriptState) (s : RunState D) (r : Ran D) (rs : List (Ran D)) (new : RunState D) (q : Result Round RoundFault) → r.result ≡ q → s.spool.state ≡ x.state → IsTelling s x → IsRan v s r → GoesFor v r (documents 0) → AreRan v r.next rs new → IsRest (is_last q) (results_of rs) (AreAll n (results_of rs)) → IsOk (with_counts q (counts_in (results_of rs))) → PlayRest v (λ k. documents (suc k)) n r.next new rs
     → ArePlayed (rounds_of v.place documents (suc n) x) x s new (q ∷ results_of rs)
 first_played finish v documents n x s r rs new (Err f) is e tell h goes more all ok rest = absurd (let bad : false ≡ true = ok in cc)
@@ -240,7 +240,7 @@ rounds_played finish v documents (suc n) x s new [] e tell h goes all ok = absur
 rounds_played finish v documents (suc n) x s new (r ∷ rs) e tell h goes all ok =
     first_played finish v documents n x s r rs new r.result refl e tell h.0 goes.0 h.1 all ok (λ y f k more rest fine. rounds_played finish v (λ k. documents (suc k)) n y r.next new rs f k more goes.1 rest fine)
 
--- ## Turns
+-- ## Steps
 
 ran_exact : {D : Type 0} (finish : FinishLaw) (v : Setting D) (documents : ℕ → Documents) (w : Meaning) (s new : RunState D) (x : ScriptState) (rs : List (Ran D)) (text : List ℕ) → s.spool.state ≡ x.state → IsTelling s x → AreFor v documents rs → AreRunBy v w s rs new text → IsOk (counts_in (results_of rs)) → IsSaid v.place documents x w text new.spool.state × IsTelling new (after_by v.place documents x w)
 ran_exact finish v documents (says said) s new x rs text e tell goes h ok = absurd h
@@ -257,7 +257,7 @@ held_telling v place documents (asks e line) s new x reply held h tell = record 
 held_telling v place documents lists s new x reply held h tell = record { slots = held.slots ∙ tell.slots; told = held.told ∙ tell.told; tickets = tell.tickets }
 held_telling v place documents (runs most line) s new x reply held h tell = absurd h
 
--- only `round` and `drain` are told by rounds
+-- Only `round` and `drain` are answered with rounds.
 runs_none_if : {D : Type 0} (v : Setting D) (s : RunState D) (rs : List (Ran D)) (new : RunState D) (text : List ℕ) (e : Event) (line : Reply → List ℕ) (said : List ℕ) (b : Bool) → AreRunBy v (cond b (asks e line) (says said)) s rs new text → ⊥
 runs_none_if v s rs new text e line said true h = h
 runs_none_if v s rs new text e line said false h = h
@@ -279,7 +279,7 @@ runs_none v s rs new text state document (commands.Drain most) is h = cc
 runs_none v s rs new text state document commands.Checkpoint is h = h
 runs_none v s rs new text state document commands.Malformed is h = h
 
--- only `checkpoint` lists the table
+-- Only `checkpoint` lists the table.
 lists_none_if : (e : Event) (line : Reply → List ℕ) (said : List ℕ) (b : Bool) → is_listing (cond b (asks e line) (says said)) ≡ false
 lists_none_if e line said true = refl
 lists_none_if e line said false = refl
@@ -301,7 +301,7 @@ lists_none m state document (commands.Drain most) is = refl
 lists_none m state document commands.Checkpoint is = is
 lists_none m state document commands.Malformed is = refl
 
--- A command closes a job, or it is the same whatever document is read.
+-- A command closes a job, or it means the same for any document.
 pub closes_or_same : (c : Command) → ((job : ℕ) × (name : List ℕ) × (c ≡ commands.Close job name)) ⊎ ((m : Mime) (s : State) (document other : List ℕ) → meaning m s document c ≡ meaning m s other c)
 closes_or_same (commands.Apply e) = inr (λ m s document other. refl)
 closes_or_same (commands.Queue q) = inr (λ m s document other. refl)
@@ -315,7 +315,7 @@ closes_or_same (commands.Drain most) = inr (λ m s document other. refl)
 closes_or_same commands.Checkpoint = inr (λ m s document other. refl)
 closes_or_same commands.Malformed = inr (λ m s document other. refl)
 
--- what was read for a turn are these documents
+-- These are the documents that were read for a step.
 abbrev pub IsFor : {D : Type 0} → Setting D → RunState D → CommandStep D → (ℕ → Documents) → How D → Type 0
 IsFor v s t documents (answered o) =
     IsServedBy v.device s.spool (meaning v.mime s.spool.state t.document t.command) t.text t.next.spool
@@ -323,17 +323,17 @@ IsFor v s t documents (answered o) =
 IsFor v s t documents (ran rs) = AreFor v documents rs
 IsFor v s t documents withheld = Unit {0}
 
--- a command and the documents that were read for it
+-- A command and the documents that were read for it.
 abbrev pub asked_as : Command → (ℕ → Documents) → Asked
 asked_as c documents = record { command = c; documents = documents }
 
--- what a turn is to a scene
+-- A step as Script has it.
 pub record IsStepSaid {D : Type 0} (v : Setting D) (s : RunState D) (x : ScriptState) (t : CommandStep D) (documents : ℕ → Documents) : Type 0 where
   pub said : IsSaid v.place documents x (meaning_with v.mime x (documents 0) t.command) t.text t.next.spool.state
   pub slots : t.next.slots ≡ (after_command v.mime v.place x (asked_as t.command documents)).slots
   pub telling : IsTelling s x → IsTelling t.next (after_command v.mime v.place x (asked_as t.command documents))
 
--- where nothing is withheld a command means what it does on its table
+-- A command that is not withheld has its meaning on the table.
 pub plain_meaning : (m : Mime) (x : ScriptState) (slots : Slots) (document : List ℕ) (c : Command) → slots ≡ x.slots → withholds slots c ≡ false → meaning m x.state document c ≡ meaning_in m x document c
 plain_meaning m x slots document c same free = sym (ap (λ b. cond b (says withheld_line) (meaning m x.state document c)) (ap (λ z. withholds z c) (sym same) ∙ free))
 
@@ -346,7 +346,7 @@ held_slots v place documents (asks e line) s x new reply h = refl
 held_slots v place documents lists s x new reply h = refl
 held_slots v place documents (runs most line) s x new reply h = absurd h
 
--- the slots and what the children tell stay
+-- The slots and the children's trace do not change.
 held_said : {D : Type 0} (v : Setting D) (s : RunState D) (x : ScriptState) (t : CommandStep D) (documents : ℕ → Documents) → s.spool.state ≡ x.state → s.slots ≡ x.slots → IsHeld s t.next → IsServedBy v.device s.spool (meaning_with v.mime x (documents 0) t.command) t.text t.next.spool → IsStepSaid v s x t documents
 held_said v s x t documents e f held h =
     let w = meaning_with v.mime x (documents 0) t.command in
@@ -368,14 +368,14 @@ withheld_exact {D} v s x t documents e f how =
     held_said v s x t documents e f (record { slots = ap (λ (c : RunState D). c.slots) how.same; told = ap (λ (c : RunState D). c.told) how.same })
     (subst (λ w. IsServedBy v.device s.spool w t.text t.next.spool) (withheld_meaning v.mime x s.slots (document_for (documents 0) t.command) t.command f how.is) (how.text, ap (λ (c : RunState D). c.spool) how.same))
 
--- rounds are told whatever document is read
+-- A reply to rounds does not depend on the document that was read.
 runs_same : {D : Type 0} (v : Setting D) (s : RunState D) (rs : List (Ran D)) (new : RunState D) (text : List ℕ) (state : State) (document other : List ℕ) (c : Command) → AreRunBy v (meaning v.mime state document c) s rs new text → AreRunBy v (meaning v.mime state other c) s rs new text
 runs_same v s rs new text state document other c h = ⊎_elim
     (λ closes. absurd (subst (λ d. AreRunBy v (meaning v.mime state document d) s rs new text) closes.2 h))
     (λ same. subst (λ w. AreRunBy v w s rs new text) (same v.mime state document other) h)
     (closes_or_same c)
 
--- and none of them is withheld
+-- A command with rounds is not withheld.
 pub runs_free : {D : Type 0} (v : Setting D) (s : RunState D) (rs : List (Ran D)) (new : RunState D) (text : List ℕ) (state : State) (slots : Slots) (document : List ℕ) (c : Command) → AreRunBy v (meaning v.mime state document c) s rs new text → withholds slots c ≡ false
 runs_free v s rs new text state slots document (commands.Apply e) h = absurd h
 runs_free v s rs new text state slots document (commands.Queue q) h = refl
@@ -407,19 +407,19 @@ turn_exact finish v s x t documents (ran rs) well e f may goes how = ⊎_elim
     (λ plain. absurd (runs_none v s rs t.next t.text s.spool.state t.document t.command plain how))
     may
 
--- only `checkpoint` lists the table, in any scene
+-- Only `checkpoint` lists the table, in any state.
 lists_none_in : (m : Mime) (x : ScriptState) (document : List ℕ) (c : Command) (b : Bool) → is_checkpoint c ≡ false → is_listing (cond b (says withheld_line) (meaning m x.state document c)) ≡ false
 lists_none_in m x document c true is = refl
 lists_none_in m x document c false is = lists_none m x.state document c is
 
--- no event raises the version
+-- No event raises the version.
 abbrev pub VersionLaw : Type 0
 VersionLaw = (s : State) (events : List Event) → (after_all s events).version ≡ s.version
 
 abbrev pub commands_asked : List Asked → List Command
 commands_asked asked = map (λ a. a.command) asked
 
--- what turns are to a scene
+-- Steps as Script has them.
 pub record AreSaid {D : Type 0} (v : Setting D) (s : RunState D) (x : ScriptState) (ts : List (CommandStep D)) (asked : List Asked) : Type 0 where
   pub text : texts_of ts ≡ script_text v.mime v.place x asked
   pub state : (last_run_state s ts).spool.state ≡ (run_script_state v.mime v.place x asked).state
@@ -429,7 +429,7 @@ pub record AreSaid {D : Type 0} (v : Setting D) (s : RunState D) (x : ScriptStat
 pub none_said : {D : Type 0} (v : Setting D) (s : RunState D) (x : ScriptState) → s.spool.state ≡ x.state → AreSaid v s x [] []
 none_said v s x e = record { text = refl; state = e; table = λ law keeps. e; telling = λ tell. tell }
 
--- a turn, and those behind it
+-- A step, and the steps after it.
 pub then_said : {D : Type 0} (v : Setting D) (s : RunState D) (x : ScriptState) (t : CommandStep D) (ts : List (CommandStep D)) (documents : ℕ → Documents) (asked : List Asked) → IsStepSaid v s x t documents → AreSaid v t.next (after_command v.mime v.place x (asked_as t.command documents)) ts asked → AreSaid v s x (t ∷ ts) (asked_as t.command documents ∷ asked)
 then_said v s x t ts documents asked one more =
     let a = asked_as t.command documents in
@@ -450,7 +450,7 @@ then_said v s x t ts documents asked one more =
       telling = λ tell. more.telling (one.telling tell);
     }
 
--- ## With what was read
+-- ## With the documents that were read
 
 rounds_read : {D : Type 0} (v : Setting D) (rs : List (Ran D)) → AreFor v (read_in rs) rs
 rounds_read v [] = tt
@@ -484,7 +484,7 @@ script_of law v s s' x ts asked a d last wrote said = record {
 script_state_told : {D : Type 0} (s : RunState D) (x : ScriptState) → s.spool.state ≡ x.state → IsTelling s x → IsScriptState s x
 script_state_told s x e tell = record { state = e; slots = tell.slots; told = tell.told }
 
--- by what its turns are to the scenes that it may begin with
+-- By its steps, from each state that it may begin with.
 pub exact_of : {D : Type 0} (law : VersionLaw) (v : Setting D) (s s' : RunState D) (text : List ℕ) (ts : List (CommandStep D)) (asked : ScriptState → List Asked) (a d : Option (List ℕ)) → last_run_state s ts ≡ s' → commands_in ts ≡ commands_of text → Appends a d (texts_of ts)
     → ((x : ScriptState) → s.spool.state ≡ x.state → s.slots ≡ x.slots → IsTelling s x ⊎ HasNoRounds (commands_in ts) → AreSaid v s x ts (asked x)) → IsExact v s text asked s' a d
 exact_of law v s s' text ts asked a d last all wrote said = record {

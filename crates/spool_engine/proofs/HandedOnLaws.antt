@@ -1,4 +1,4 @@
--- What the stages of attempts are handed, over rounds, ticks and runs of one engine.
+-- The inputs of the stages of attempts, over rounds, ticks and runs of one engine.
 use Rattle.std.proofs.Common.{◌≡◌, ◌⊎◌, inl, inr, ℕ, Bool, true, false, List, [], ◌∷◌, ◌++◌, map, Option, Some, Result, refl, sym, ap, subst, ◌∙◌, append_assoc, append-nil}
 use Rattle.std.specs.Prelude.{IsSome}
 use Rattle.std.specs.FinMap as finite
@@ -34,18 +34,19 @@ use Rattle.spool_engine.proofs.InputLaws.{Hands, answered_none, begins_kept}
 use Rattle.spool_engine.proofs.SettleLaws.{no_tickets, told_same}
 use Rattle.spool_engine.proofs.StageHistoryLaws.{Laws, call_turn, how_turn, legal_then, quiet_after, round_turn, tick_turn}
 
--- what is so of each tick, and of children that are waited for
+-- The laws of each tick, and of waiting for children.
 pub record TickHands {D : Type 0} (device : DiskView D) : Type 0 where
   pub one : (place : Place) (earlier : List AnsweredOrder) (t : ChildTrace) (old new : RunState D) (result : Result Round RoundFault) → IsLegal old.spool.state → old.told ≡ Some t → HasTickets old.slots t → AreKeptFrom earlier old.slots → RunTheirStages t.orders old.slots
       → (r : IsTickOf device place old new result) → TickHandsOn earlier t old r.steps new
   pub finishes : (earlier : List AnsweredOrder) (t : ChildTrace) (slots : Slots) (told : Option ChildTrace) (fs : List Finishing) (new : Slots) (told_then : Option ChildTrace) → told ≡ Some t → HasTickets slots t → AreKeptFrom earlier slots → RunTheirStages t.orders slots
       → AreFinishings slots told fs new told_then → FinishesHandOn earlier t slots told fs new told_then
 
--- the device has failed, or its disk tells its bytes and a crash leaves these documents
+-- The device has failed, or its disk reports its bytes and a crash leaves these documents.
 abbrev IsKnown : {D : Type 0} → Setting D → Documents → RunState D → Type 0
 IsKnown v documents s = (s.spool.dead ≡ true) ⊎ (IsSome (v.device.bytes s.spool.disk) × LeavesDocuments v.device documents s.spool)
 
--- The course behind these answers: the slots keep what was given, their children run their stages, and they have the tickets.
+-- The run state after these answers: the slots store their outputs, the running children run the stages of their slots, and the slots have
+-- the tickets.
 record GoesOn {D : Type 0} (earlier : List AnsweredOrder) (t : ChildTrace) (s : RunState D) : Type 0 where
   pub legal : IsLegal s.spool.state
   pub tells : s.told ≡ Some t
@@ -53,18 +54,18 @@ record GoesOn {D : Type 0} (earlier : List AnsweredOrder) (t : ChildTrace) (s : 
   pub kept : AreKeptFrom earlier s.slots
   pub run : RunTheirStages t.orders s.slots
 
--- A part of what an engine does: its orders, and that they have these documents, where that is known; and what it leaves.
+-- A part of the work of an engine: its orders, their documents if these are known, and the run state after it.
 record IsPart {D : Type 0} (earlier : List AnsweredOrder) (old : RunState D) (Known : Type 0) (documents : Documents) (new : RunState D) : Type 0 where
   pub adds : AddOrders old new
   pub known : Known → HaveDocuments documents adds.orders
   pub goes : GoesOn earlier adds.now new
 
--- where no child runs each that runs runs its stage
+-- If no child runs, each running child runs the stage of its slot.
 none_run : (orders : List Placed) (slots : Slots) → HasNoneRunning slots → RunTheirStages orders slots
 none_run orders slots rest = λ j n slot there runs. absurd (subst IsTicketless there (rest j) n runs)
 
 module _ {D : Type 0} where
-  -- nothing is ordered
+  -- Nothing is ordered.
   same_part : (earlier : List AnsweredOrder) (t : ChildTrace) (old : RunState D) (Known : Type 0) (documents : Documents) (new : RunState D) → GoesOn earlier t old → new.told ≡ old.told → new.slots ≡ old.slots → IsLegal new.spool.state → IsPart earlier old Known documents new
   same_part earlier t old Known documents new goes told slots legal = record {
     adds = record { t = t; before = goes.tells; now = t; after = told ∙ goes.tells; orders = []; added = sym (append-nil t.orders) };
@@ -78,7 +79,7 @@ module _ {D : Type 0} where
     };
   }
 
-  -- a part, and another after it
+  -- A part, followed by another.
   then_part : (here there : List AnsweredOrder) (old mid new : RunState D) (Known Further : Type 0) (documents : Documents) → IsPart here old Known documents mid → (Known → Further) → IsPart there mid Further documents new → IsPart there old Known documents new
   then_part here there old mid new Known Further documents one knows two =
       let same : two.adds.t ≡ one.adds.now = told_same two.adds.t one.adds.now (sym two.adds.before ∙ one.adds.after) in
@@ -95,7 +96,7 @@ module _ {D : Type 0} where
         goes = two.goes;
       }
 
-  -- its orders are the new ones
+  -- The orders of a part are the new ones.
   hands_part : (earlier : List AnsweredOrder) (old : RunState D) (Known : Type 0) (documents : Documents) (new : RunState D) → IsPart earlier old Known documents new → Known → HandsDocuments documents old new
   hands_part earlier old Known documents new part is first now orders tells tells' added =
       let same_first : first ≡ part.adds.t = told_same first part.adds.t (sym tells ∙ part.adds.before) in
@@ -103,14 +104,14 @@ module _ {D : Type 0} where
       let split : part.adds.t.orders ++ part.adds.orders ≡ part.adds.t.orders ++ orders = sym part.adds.added ∙ ap (λ (u : ChildTrace). u.orders) (sym same_now) ∙ added ∙ ap (λ (u : ChildTrace). u.orders ++ orders) same_first in
       subst (HaveDocuments documents) (append_cancel_left part.adds.t.orders part.adds.orders orders split) (part.known is)
 
-  -- the answers go by another name
+  -- The same after an equal list of answers.
   renamed_part : (earlier others : List AnsweredOrder) (old : RunState D) (Known : Type 0) (documents : Documents) (new : RunState D) → earlier ≡ others → IsPart earlier old Known documents new → IsPart others old Known documents new
   renamed_part earlier others old Known documents new same part = subst (λ xs. IsPart xs old Known documents new) same part
 
 module _ {D : Type 0} (laws : Laws D) (v : Setting D) (lawful : IsLawful v.device) (hands : Hands v.device) (ticks : TickHands v.device) where
   -- ## A round
 
-  -- what a round comes to behind earlier answers
+  -- A round as a part, after earlier answers.
   abbrev IsRoundOn : List AnsweredOrder → RunState D → Ran D → Documents → Type 0
   IsRoundOn earlier s r documents = (answers : List AnsweredOrder) × IsRoundRight earlier s r answers × IsPart (earlier ++ answers) s (IsKnown v documents s) documents r.next
 
@@ -219,7 +220,7 @@ module _ {D : Type 0} (laws : Laws D) (v : Setting D) (lawful : IsLawful v.devic
         | inr made ↦ made_on lives made.0
       ]
 
-  -- after a call the same is known
+  -- After a call the same is known.
   dies_or : (documents : Documents) (old new : RunState D) → (old.spool.dead ≡ true → new.spool.dead ≡ true) → (IsSome (v.device.bytes old.spool.disk) → IsSome (v.device.bytes new.spool.disk))
       → (others : Documents) → (new.spool.dead ≡ false → IsSome (v.device.bytes old.spool.disk) → LeavesDocuments v.device documents old.spool → LeavesDocuments v.device others new.spool) → IsKnown v documents old → IsKnown v others new
   dies_or documents old new over tells others lasting has = by_death new.spool.dead refl
@@ -290,7 +291,7 @@ module _ {D : Type 0} (laws : Laws D) (v : Setting D) (lawful : IsLawful v.devic
       let turn = tick_turn laws t v s k goes.legal (goes.tells, goes.has) is in
       dies_or documents s k.next (λ died. (turn.1.after_over died).1) (λ some. is.told.1 some) documents (λ lives some leaves. is.lasting lives some documents leaves)
 
-  -- ## A turn
+  -- ## A step
 
   rounds_on : (documents : Documents) (rs : List (Ran D)) (earlier : List AnsweredOrder) (t : ChildTrace) (s new : RunState D) → GoesOn earlier t s → AreRan v s rs new
       → (answers : List AnsweredOrder) × AreRoundsRight earlier s rs answers × IsPart (earlier ++ answers) s (IsKnown v documents s) documents new
@@ -334,7 +335,7 @@ module _ {D : Type 0} (laws : Laws D) (v : Setting D) (lawful : IsLawful v.devic
 
   -- ## A run
 
-  -- with the documents that are known all along
+  -- The documents are known throughout.
   abbrev IsRunOn : List AnsweredOrder → RunState D → List (CommandStep D) → Documents → Type 0
   IsRunOn earlier s turns documents =
       (answers : List AnsweredOrder) × AreStepsRight earlier s turns answers × (t : ChildTrace) × GoesOn (earlier ++ answers) t (last_run_state s turns)
@@ -379,7 +380,7 @@ module _ {D : Type 0} (laws : Laws D) (v : Setting D) (lawful : IsLawful v.devic
       let (rights, more) = calls_on (documents_by v.mime s documents c) cs (earlier ++ answers) now (left_by s c) goes_then others in
       ((answers, right, rights), λ has. let (here, known) = first has in (here, more known))
 
-  -- an engine begins without slots
+  -- An engine begins without slots.
   begins : (s : RunState D) (t : ChildTrace) → IsLegal s.spool.state → s.slots ≡ finite.empty → s.told ≡ Some t → t.running ≡ [] → GoesOn [] t s
   begins s t legal none tells quiet =
       let both = begins_kept s.slots none in

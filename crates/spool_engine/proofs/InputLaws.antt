@@ -1,4 +1,4 @@
--- What the stages of attempts are handed, over the rounds and runs of one engine: the answers come in the order of the starts.
+-- The inputs of the stages of attempts, over the rounds and runs of one engine: the answers come in the order of the starts.
 use Rattle.std.proofs.Common.{◌≡◌, inl, inr, ℕ, Bool, true, false, List, [], ◌∷◌, ◌++◌, map, Option, Some, None, Result, Ok, Err, refl, sym, ap, subst, ◌∙◌, append_assoc, append-nil}
 use Rattle.std.specs.FinMap as finite
 use Rattle.std.proofs.lemmas.List.{append_cancel_left, map-append}
@@ -28,13 +28,13 @@ use Rattle.spool_engine.specs.Script.{Meaning, says, asks, lists, runs, meaning}
 use Rattle.spool_engine.proofs.SettleLaws.{empty_rests, no_tickets}
 use Rattle.spool_engine.proofs.StageHistoryLaws.{Laws, IsTicketCall, IsTold, call_turn, how_turn, legal_then, quiet_after, round_turn, same_call, some_same, then_call}
 
--- without orders there is nothing that was answered
+-- Without orders nothing was answered.
 pub answered_none : (starts : List (Result (Unit {0}) ChildFault)) (finishes : List (Result Finish ChildFault)) → answered starts finishes [] ≡ []
 answered_none [] finishes = refl
 answered_none (Ok done ∷ starts) finishes = refl
 answered_none (Err fault ∷ starts) finishes = refl
 
--- The orders of a part of what an engine does, behind the earlier ones.
+-- The orders of a part of the work of an engine, after the earlier ones.
 record AreOn {D : Type 0} (earlier : List AnsweredOrder) (t : ChildTrace) (new : RunState D) : Type 0 where
   pub now : ChildTrace
   pub tells : new.told ≡ Some now
@@ -49,7 +49,7 @@ record AreOn {D : Type 0} (earlier : List AnsweredOrder) (t : ChildTrace) (new :
   pub rests : HasNoneRunning new.slots
 
 module _ {D : Type 0} where
-  -- no order
+  -- No order.
   none_on : (earlier : List AnsweredOrder) (t : ChildTrace) (new : RunState D) → t.running ≡ [] → new.told ≡ Some t → AreKeptFrom earlier new.slots → HasNoneRunning new.slots → AreOn earlier t new
   none_on earlier t new quiet tells kept rests = record {
     now = t;
@@ -69,7 +69,7 @@ module _ {D : Type 0} where
   same_on earlier t old new quiet tells kept rests told slots =
       none_on earlier t new quiet (told ∙ tells) (subst (AreKeptFrom earlier) (sym slots) kept) (subst HasNoneRunning (sym slots) rests)
 
-  -- a part, and another after it
+  -- A part, followed by another.
   then_on : (earlier : List AnsweredOrder) (t : ChildTrace) (mid new : RunState D) (one : AreOn earlier t mid) → AreOn (earlier ++ one.each) one.now new → AreOn earlier t new
   then_on earlier t mid new one two = record {
     now = two.now;
@@ -89,7 +89,7 @@ module _ {D : Type 0} where
     rests = two.rests;
   }
 
--- an engine begins without slots
+-- An engine begins without slots.
 pub begins_kept : (slots : Slots) → slots ≡ finite.empty → AreKeptFrom [] slots × HasNoneRunning slots
 begins_kept slots none = (λ j slot there. absurd (never (finite.get slots j) slot (absent j) there), empty_rests slots none)
   where
@@ -99,7 +99,7 @@ begins_kept slots none = (λ j slot there. absurd (never (finite.get slots j) sl
     never : (o : Option (Slot ℕ)) (slot : Slot ℕ) → o ≡ None → o ≡ Some slot → ⊥
     never o slot is_none is_some = cc
 
--- what is so of each round
+-- The law of each round.
 abbrev pub Hands : {D : Type 0} → DiskView D → Type 0
 Hands {D} device = (place : Place) (earlier : List AnsweredOrder) (t : ChildTrace) (old new : RunState D) (result : Result Round RoundFault) → IsLegal old.spool.state → old.told ≡ Some t → t.running ≡ [] → HasNoneRunning old.slots → AreKeptFrom earlier old.slots
     → (r : IsRoundOf device place old new result) → HandsOn earlier t r.steps.launchings new
@@ -108,7 +108,7 @@ module _ {D : Type 0} (laws : Laws D) (v : Setting D) (hands : Hands v.device) w
   round_on : (earlier : List AnsweredOrder) (t : ChildTrace) (old : RunState D) (r : Ran D) → IsLegal old.spool.state → old.told ≡ Some t → t.running ≡ [] → HasNoneRunning old.slots → AreKeptFrom earlier old.slots → IsRan v old r → AreOn earlier t r.next
   round_on earlier t old r legal tells quiet rests kept is = by_death old.spool.dead refl (subst (λ (c : RunState D). IsRoundWith v.device v.place c c.spool.dead r) same is.round)
     where
-      -- no child runs that is waited for
+      -- No child runs that the round would wait for.
       same : r.settled ≡ old
       same = is.settles.same rests
 
@@ -185,7 +185,7 @@ module _ {D : Type 0} (laws : Laws D) (v : Setting D) (hands : Hands v.device) w
       let legal_next = call_legal c t old legal tells quiet rests is in
       then_on earlier t (left_by old c) (last_by (left_by old c) cs) one (calls_on cs (earlier ++ one.each) one.now (left_by old c) no_ticks.1 legal_next one.tells one.quiet one.rests one.kept others)
 
-  -- the calls are one turn of World
+  -- The calls are one call of a StageHistory.
   calls_turn : (calls : List (Call D)) (t : ChildTrace) (old : RunState D) → IsLegal old.spool.state → IsTold t old → AreCalls v old calls → IsTicketCall t old (last_by old calls)
   calls_turn [] t old legal tells are = same_call laws t old legal tells
   calls_turn (c ∷ cs) t old legal tells (is, others) =

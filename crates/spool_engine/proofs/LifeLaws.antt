@@ -1,4 +1,4 @@
--- The calls of one engine, one after the other, are the turns of a life, and engines over many lives make a world.
+-- The calls of one engine are the calls of a life, and engines over many lives form a StageHistory.
 use Rattle.std.proofs.Common.{◌≡◌, List, [], ◌∷◌, ◌++◌, Some, refl, sym, ap, subst, ◌∙◌}
 use Rattle.std.specs.FinMap as finite
 use Rattle.spool_disk.specs.Disk.{DiskView}
@@ -20,15 +20,15 @@ use Rattle.spool_engine.specs.EngineLives.{EngineLife, last_of, IsEngineLife, Ar
 use Rattle.spool_engine.proofs.SettleLaws.{empty_rests, no_tickets}
 use Rattle.spool_engine.proofs.StageHistoryLaws.{Laws, IsTold, call_turn, legal_then}
 
--- calls that are turns, and leave this course
+-- Calls of a StageHistory that end in this run state.
 abbrev IsTurnedTo : {D : Type 0} → ChildTrace → RunState D → RunState D → Type 0
 IsTurnedTo {D} t s last = (steps : List (List Event × RunState D)) × AreStageCalls t s steps × (last_left s steps ≡ last)
 
--- the same of one call at least
+-- The same for at least one call.
 abbrev IsOneTurnedTo : {D : Type 0} → ChildTrace → RunState D → RunState D → Type 0
 IsOneTurnedTo {D} t s last = (c : List Event × RunState D) × (cs : List (List Event × RunState D)) × AreStageCalls t s (c ∷ cs) × (last_left c.1 cs ≡ last)
 
--- what is so of calls that are a life, and of worlds
+-- The laws of calls that form a life, and of StageHistories.
 pub record LifeLaws (D : Type 0) : Type 0 where
   pub turns : Laws D
   pub life : (t : ChildTrace) (old : RunState D) (c : List Event × RunState D) (cs : List (List Event × RunState D)) (calls : AreStageCalls t old (c ∷ cs)) →
@@ -53,7 +53,7 @@ module _ {D : Type 0} (laws : LifeLaws D) where
       let rest = engine_turns v cs one.1.now (left_by s c) (legal_then laws.turns t s (left_by s c) one.0 one.1) (one.1.tells, one.2) others in
       ((one.0, left_by s c), rest.0, (one.1, rest.1), rest.2)
 
-  -- an engine's life as one
+  -- An engine's life as a life of stages.
   as_life : (device : DiskView D) (l : EngineLife D) → IsEngineLife device l → (m : Life) × IsLife m × ((m.first).table ≡ (l.start).spool.state) × (end_of m ≡ (last_of l).spool.state) × (keys_of_life m ≡ keys_in l.orders)
   as_life device l is =
       let (c, cs, calls, last) = first_turns (setting device l.mime l.place) l.first l.later l.told l.start is.legal (is.tells, no_tickets (l.start).slots l.told (empty_rests (l.start).slots is.empty) is.quiet) is.calls in (

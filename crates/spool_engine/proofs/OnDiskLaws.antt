@@ -1,4 +1,4 @@
--- Runs in which nothing failed, on a disk that tells its bytes: what is read are the documents that were sent.
+-- Runs without a failure, on a disk that reports its bytes: the documents as they are read equal the documents as they were sent.
 use Rattle.std.proofs.Common.{◌≡◌, ℕ, List, [], ◌∷◌, refl, ap, sym, ◌∙◌, subst, ◌⊎◌, inl, inr, ⊎_elim, true, false, Bool, Option, None, Some}
 use Rattle.std.specs.Prelude.{IsSome}
 use Rattle.std.specs.Io.KnownBytes.{Appends}
@@ -45,9 +45,9 @@ rounds_on {D} v s (r ∷ rs) new documents lawful h lives tells has =
       rounds_on v r.next rs new documents lawful h.1 lives (h.0.told.1 tells) (h.0.lasting alive tells documents has),
     )
 
--- ## A job that is closed
+-- ## Closing a job
 
--- a refused event, by its refusal
+-- An event with this refusal.
 module _ {D : Type 0} (v : DiskView D) (s s' : OpenSpool D) (text : List ℕ) (r : Refusal) where
   abbrev IsRefused : Event → (Reply → List ℕ) → Option Refusal → Type 0
   IsRefused e line o = (text ≡ step_line line (answered_by s.state e o)) × IsTaken s e (answered_by s.state e o) s'
@@ -57,7 +57,7 @@ module _ {D : Type 0} (v : DiskView D) (s s' : OpenSpool D) (text : List ℕ) (r
       let k : IsRefused e line (Some r) = subst (IsRefused e line) is h in
       subst (IsRefused f other) (sym also) k
 
--- by whether it is refused
+-- By whether the close is refused.
 close_by : {D : Type 0} (v : Setting D) (s s' : OpenSpool D) (job : ℕ) (name document other text : List ℕ) (o : Option Refusal) → refusal_of s.state (events.Close (closing_of v.mime s.state document job name)) ≡ o → (o ≡ None → document ≡ other)
     → IsServedBy v.device s (meaning v.mime s.state document (commands.Close job name)) text s' → IsServedBy v.device s (meaning v.mime s.state other (commands.Close job name)) text s'
 close_by v s s' job name document other text None is same h = subst (λ d. IsServedBy v.device s (meaning v.mime s.state d (commands.Close job name)) text s') (same refl) h
@@ -72,7 +72,7 @@ close_on v s s' job name document text documents lawful read tells has h =
     (λ none. (read refl none).own bytes (documents job) is (told_documents v.device s documents bytes lawful has is job (not_over s.state (closing_of v.mime s.state document job name) none)))
     h
 
--- ## A turn
+-- ## A step
 
 answered_on : {D : Type 0} (v : Setting D) (s : RunState D) (t : CommandStep D) (documents : Documents) → IsLawful v.device → IsReadFor v s.spool t.document served t.command → IsSome (v.device.bytes s.spool.disk) → LeavesDocuments v.device documents s.spool → IsFor v s t (λ k. documents) (answered served)
 answered_on v s t documents lawful read tells has h = ⊎_elim
@@ -93,7 +93,7 @@ turn_on v s t documents (ran rs) well lawful how read lives tells has = rans_on 
     rans_on v s t documents rs lists lawful h lives tells has = absurd h
     rans_on v s t documents rs (runs most line) lawful h lives tells has = rounds_on v s rs t.next documents lawful h.each lives tells has
 
--- ## The documents behind it
+-- ## The documents after it
 
 sent_by_meaning : (s : State) (documents : Documents) (w : Meaning) → documents_sent s documents (listed (event_in w)) ≡ documents_by s documents w
 sent_by_meaning s documents (says text) = refl
@@ -101,7 +101,7 @@ sent_by_meaning s documents (asks e line) = refl
 sent_by_meaning s documents lists = refl
 sent_by_meaning s documents (runs most line) = refl
 
--- a job that is closed is sent nothing
+-- A close sends nothing.
 close_sends : (m : Mime) (s : State) (job : ℕ) (name document other : List ℕ) (documents : Documents) (o : Option Refusal)
     → unless_refused_sent documents (events.Close (closing_of m s document job name)) o ≡ unless_refused_sent documents (events.Close (closing_of m s other job name)) o
 close_sends m s job name document other documents None = refl
@@ -120,7 +120,7 @@ rounds_send v (asks e line) s rs new text documents h = absurd h
 rounds_send v lists s rs new text documents h = absurd h
 rounds_send v (runs most line) s rs new text documents h = refl
 
--- where nothing is withheld
+-- The command is not withheld.
 plain_after : {D : Type 0} (v : Setting D) (s : RunState D) (x : ScriptState) (t : CommandStep D) (documents : Documents) → s.spool.state ≡ x.state → s.slots ≡ x.slots → withholds s.slots t.command ≡ false → documents_by s.spool.state documents (meaning v.mime s.spool.state t.document t.command) ≡ documents_after v.mime x documents t.command
 plain_after v s x t documents e f free =
     sends_same v.mime s.spool.state t.document documents t.command

@@ -1,4 +1,4 @@
--- Queues as they are shown: one is processing where the table tells its processing job.
+-- Queues as the listing shows them: a queue is processing if the table returns its processing job.
 use Rattle.std.proofs.Common.{◌≡◌, ℕ, ◌+◌, ◌<◌, ◌≤◌, Bool, true, false, List, [], ◌∷◌, ◌++◌, length, take, get_or, codes, arith, refl, sym, ap, ◌∙◌, length-append, append-nil}
 use Rattle.std.specs.Prelude.{is_some}
 use Rattle.std.specs.Fmt.{decimal}
@@ -13,7 +13,7 @@ use Rattle.spool_types.specs.declared.rows.QueueRow.{QueueRow}
 use Rattle.command_lines.specs.Replies.{queue_text, queues_text, shown_text}
 use Rattle.command_lines.specs.declared.reply.ShownQueue.{ShownQueue}
 
--- what is found passes the test, whatever is told of it
+-- An element is found exactly if some element passes the test, whatever is returned of it.
 pub found_any : {X : Type 0} (f : X → ℕ) (p : X → Bool) (xs : List X) → is_some (option_map f (find p xs)) ≡ list_any p xs
 found_any f p [] = refl
 found_any f p (x ∷ xs) = either (p x) refl (found_any f p xs)
@@ -28,7 +28,7 @@ shown_line q = queue_text q.busy q.row.now
 abbrev pub queue_line : List Job → QueueRow → List ℕ
 queue_line jobs q = queue_text (is_busy jobs q.name) q
 
--- so many queues are shown
+-- These queues are shown.
 pub record AreShown (jobs : List Job) (rows : List QueueRow) (shown : List ShownQueue) : Type 0 where
   pub count : length shown ≡ length rows
   pub lines : flat_map shown_line shown ≡ flat_map (queue_line jobs) rows
@@ -36,7 +36,7 @@ pub record AreShown (jobs : List Job) (rows : List QueueRow) (shown : List Shown
 one : {X : Type 0} (f : X → List ℕ) (x : X) → flat_map f (x ∷ []) ≡ f x
 one f x = flat_map-cons f x [] ∙ append-nil (f x)
 
--- and one more
+-- One more queue is shown.
 pub shown_more : (jobs : List Job) (rows : List QueueRow) (i : ℕ) (row : QueueRow) (shown new : List ShownQueue) (q : ShownQueue)
     → i < length rows → row ≡ get_or rows i row → q.row.now ≡ row → q.busy ≡ is_busy jobs row.name → new ≡ shown ++ q ∷ []
     → AreShown jobs (take i rows) shown → AreShown jobs (take (i + 1) rows) new
@@ -54,7 +54,7 @@ shown_more jobs rows i row shown new q inside is own busy all so_far =
       lines = shown_then ∙ ap (λ l. l ++ flat_map shown_line (q ∷ [])) so_far.lines ∙ ap (λ l. before ++ l) same ∙ sym added;
     }
 
--- all of them
+-- All queues are shown.
 pub shown_all : (jobs : List Job) (rows queues : List QueueRow) (n : ℕ) (shown : List ShownQueue) → length rows ≤ n → rows ≡ queues
     → AreShown jobs (take n rows) shown → shown_text shown ≡ queues_text jobs queues
 shown_all jobs rows queues n shown past is so_far =

@@ -1,4 +1,4 @@
--- Where no child ran before some turns none runs after them.
+-- If no child ran before the steps, none runs after them.
 use Rattle.std.proofs.Common.{List, [], ◌∷◌, ℕ, sym, subst}
 use Rattle.print_rounds.specs.RunStates.{RunState}
 use Rattle.print_rounds.specs.Finished.{HasNoneRunning}

@@ -1,4 +1,4 @@
--- Rounds, one after another.
+-- Rounds in order.
 use Rattle.std.proofs.Math.Seq.{take-append-add}
 use Rattle.std.proofs.lemmas.List.{take-append-le}
 use Rattle.std.proofs.Common.{◌≡◌, ℕ, ◌≤◌, ◌+◌, List, [], ◌∷◌, ◌++◌, length, length-append, take, refl, ap, sym, ◌∙◌, subst, inl, inr, ⊎_elim, arith, true, false, Bool, Option, Some, Result}
@@ -31,16 +31,16 @@ use Rattle.spool_engine.specs.EngineTicks.{IsTickWith, IsTicked}
 use Rattle.spool_engine.specs.EngineRuns.{CommandStep, TakesStep, IsHeld, HasSomeIn, answered, ran, withheld}
 use Rattle.spool_engine.proofs.EventLaws.{OnlyNow, crash_in, unmoved, unmoved_whole}
 
--- ## Some events that send nothing
+-- ## Events that send nothing
 
 whole_none : (s : State) (documents : ℕ → List ℕ) (es : List Event) (c : List ℕ) → HasWhole s documents c → HasSomeWhole s documents es c
 whole_none s documents es c has = (0, omega arith, has)
 
--- some of the first, and then more
+-- Some of the first events count as some of all events.
 whole_first : (s : State) (documents : ℕ → List ℕ) (es fs : List Event) (c : List ℕ) → HasSomeWhole s documents es c → HasSomeWhole s documents (es ++ fs) c
 whole_first s documents es fs c (k, high, has) = (k, omega (arith, high, length-append es fs), subst (λ l. HasWhole (after_all s l) documents c) (sym (take-append-le k es fs high)) has)
 
--- all of the first, and some more
+-- All of the first events, followed by some more.
 whole_later : (s t : State) (documents : ℕ → List ℕ) (es fs : List Event) (c : List ℕ) → t ≡ after_all s es → HasSomeWhole t documents fs c → HasSomeWhole s documents (es ++ fs) c
 whole_later s t documents es fs c is (k, high, has) = (
   length es + k,
@@ -50,7 +50,7 @@ whole_later s t documents es fs c is (k, high, has) = (
 
 -- ## A round
 
--- after a fault of the device nothing is done
+-- After a fault of the device nothing is done.
 pub dead_ran : {D : Type 0} (v : Setting D) (s : RunState D) (r : Ran D) → s.spool.dead ≡ true → IsRan v s r → r.next.spool ≡ s.spool
 dead_ran {D} v s r is h =
     let died : r.settled.spool.dead ≡ true = ap (λ (x : OpenSpool D). x.dead) h.settles.spool ∙ is in
@@ -62,7 +62,7 @@ dead_rans v s (r ∷ rs) new is h =
     let same : r.next.spool ≡ s.spool = dead_ran v s r is h.0 in
     dead_rans v r.next rs new (ap (λ x. x.dead) same ∙ is) h.1 ∙ same
 
--- while the device works the table is that of all the events that were tried
+-- While the device works, the table is that after all the events that were tried.
 tried_from : {D : Type 0} (v : Setting D) (s : RunState D) (r : Ran D) → r.next.spool.dead ≡ false → IsRoundWith v.device v.place s false r → r.next.spool.state ≡ after_all s.spool.state r.tried
 tried_from v s r lives h = ⊎_elim
     (λ unbegun. ap (λ x. x.spool.state) unbegun.0.1 ∙ ap (after_all s.spool.state) (sym unbegun.1))
@@ -74,7 +74,7 @@ tried_table {D} v s r lives alive h =
     let works : r.settled.spool.dead ≡ false = ap (λ (x : OpenSpool D). x.dead) h.settles.spool ∙ alive in
     tried_from v r.settled r lives (subst (λ b. IsRoundWith v.device v.place r.settled b r) works h.round) ∙ ap (λ (x : OpenSpool D). after_all x.state r.tried) h.settles.spool
 
--- a round from where no child runs, by how it went, and what a crash leaves of it
+-- A round that begins without running children, by its result, with the images that a crash in it leaves.
 pub ran_of : {D : Type 0} (v : Setting D) (s : OpenSpool D) (slots slots' : Slots) (told told' : Option ChildTrace) (new : RunState D) (result : Result Round RoundFault) (b : Bool) → s.dead ≡ b → IsSettled (run_state s slots told) (run_state s slots' told') → OnlyNow v.device → IsKept v.device s → IsKept v.device new.spool
     → v.device.failures s.disk ≤ v.device.failures new.spool.disk → (IsSome (v.device.bytes new.spool.disk) ↔ IsSome (v.device.bytes s.disk))
     → ((t : ChildTrace) → told' ≡ Some t → t.running ≡ [] → (js : List ℕ) × EachFinishedOnce t new.told js) → HasNoneRunning new.slots
@@ -134,13 +134,13 @@ ran_of {D} v s slots slots' told told' new result false is settles now kept late
     ))
     h
 
--- a tick, whatever places the children were asked for
+-- A tick, whatever room the children had for starts.
 pub tick_by : {D : Type 0} (asked : Option StartRoom → Type 0) (device : DiskView D) (place : Place) (old new : RunState D) (result : Result Round RoundFault) (b : Bool) → IsTickAsked asked device place old b new result → IsTickBy device place old b new result
 tick_by asked device place old new result true h = h
 tick_by asked device place old new result false (inl unbegun) = inl unbegun
 tick_by asked device place old new result false (inr made) = inr made.0
 
--- a tick, by how it went
+-- A tick, by its result.
 pub ticked_of : {D : Type 0} (v : Setting D) (old new : RunState D) (result : Result Round RoundFault) (b : Bool) → old.spool.dead ≡ b → OnlyNow v.device → IsKept v.device old.spool → IsKept v.device new.spool
     → v.device.failures old.spool.disk ≤ v.device.failures new.spool.disk → (IsSome (v.device.bytes new.spool.disk) ↔ IsSome (v.device.bytes old.spool.disk))
     → IsTickBy v.device v.place old b new result → (tried : List Event) × IsTicked v old (record { next = new; result = result; tried = tried })
@@ -203,7 +203,7 @@ rounds_kept : {D : Type 0} (v : Setting D) (s : RunState D) (rs : List (Ran D)) 
 rounds_kept v s [] new kept h = subst (λ x. IsKept v.device x.spool) (sym h) kept
 rounds_kept v s (r ∷ rs) new kept h = rounds_kept v r.next rs new h.0.kept h.1
 
--- by whether the device works after the first
+-- By whether the device works after the first round.
 lasting_by : {D : Type 0} (v : Setting D) (s : RunState D) (r : Ran D) (rs : List (Ran D)) (new : RunState D) (documents : ℕ → List ℕ) (b : Bool) → r.next.spool.dead ≡ b → IsRan v s r → AreRan v r.next rs new → new.spool.dead ≡ false → IsSome (v.device.bytes s.spool.disk)
     → LeavesDocuments v.device documents s.spool → (LeavesDocuments v.device documents r.next.spool → LeavesDocuments v.device documents new.spool) → LeavesDocuments v.device documents new.spool
 lasting_by v s r rs new documents true is h more lives tells has rest = absurd (let died = ap (λ x. x.dead) (dead_rans v r.next rs new is more) ∙ is in cc)
@@ -215,7 +215,7 @@ rounds_lasting v s (r ∷ rs) new documents h lives tells has =
     lasting_by v s r rs new documents r.next.spool.dead refl h.0 h.1 lives tells has (λ left. rounds_lasting v r.next rs new documents h.1 lives (h.0.told.1 tells) left)
 
 module _ {D : Type 0} (v : Setting D) (now : OnlyNow v.device) where
-  -- by whether the device works after the first
+  -- By whether the device works after the first round.
   crash_by : (s : RunState D) (r : Ran D) (rs : List (Ran D)) (new : RunState D) (b : Bool) → r.next.spool.dead ≡ b → IsRan v s r → AreRan v r.next rs new → s.spool.dead ≡ false → IsSome (v.device.bytes s.spool.disk)
       → (r.next.spool.dead ≡ false → LeavesOnly v.device r.next.spool.disk new.spool.disk (HasSomeOf r.next.spool.state (all_tried rs)))
       → LeavesOnly v.device s.spool.disk new.spool.disk (HasSomeOf s.spool.state (r.tried ++ all_tried rs))
@@ -234,7 +234,7 @@ module _ {D : Type 0} (v : Setting D) (now : OnlyNow v.device) where
       (unmoved v.device s.spool (HasSomeOf s.spool.state []) now kept (none_of s.spool.state []) alive tells)
   rounds_crash s (r ∷ rs) new kept h alive tells = crash_by s r rs new r.next.spool.dead refl h.0 h.1 alive tells (λ lives. rounds_crash r.next rs new h.0.kept h.1 lives (h.0.told.1 tells))
 
-  -- so it is with the documents
+  -- The same for the documents.
   whole_by : (s : RunState D) (r : Ran D) (rs : List (Ran D)) (new : RunState D) (documents : ℕ → List ℕ) (b : Bool) → r.next.spool.dead ≡ b → IsRan v s r → AreRan v r.next rs new → s.spool.dead ≡ false → IsSome (v.device.bytes s.spool.disk) → LeavesDocuments v.device documents s.spool
       → (r.next.spool.dead ≡ false → LeavesDocuments v.device documents r.next.spool → LeavesOnly v.device r.next.spool.disk new.spool.disk (HasSomeWhole r.next.spool.state documents (all_tried rs)))
       → LeavesOnly v.device s.spool.disk new.spool.disk (HasSomeWhole s.spool.state documents (r.tried ++ all_tried rs))
@@ -253,7 +253,7 @@ module _ {D : Type 0} (v : Setting D) (now : OnlyNow v.device) where
       (unmoved_whole v.device s.spool documents (HasSomeWhole s.spool.state documents []) now kept (whole_none s.spool.state documents []) alive tells has)
   rounds_whole s (r ∷ rs) new documents kept h alive tells has = whole_by s r rs new documents r.next.spool.dead refl h.0 h.1 alive tells has (λ lives left. rounds_whole r.next rs new documents h.0.kept h.1 lives (h.0.told.1 tells) left)
 
-  -- the turn of a command that is told by rounds
+  -- The step of a command that is answered with rounds.
   pub rounds_turn : {X E : Type 0} (bytes : X → List ℕ) (result : Result X E) (s new : RunState D) (c : Command) (most : ℕ) (line : List Round → List ℕ) → IsKept v.device s.spool → meaning v.mime s.spool.state [] c ≡ runs most line
       → (rs : List (Ran D)) × (reply : List ℕ) × AreRun v most line s rs new reply × IfOk result (λ x. bytes x ≡ reply) → (t : CommandStep D) × TakesStep v s c t new × IfOk result (λ x. bytes x ≡ t.text)
   rounds_turn bytes result s new c most line kept is (rs, reply, run, told) = (
@@ -278,7 +278,7 @@ module _ {D : Type 0} (v : Setting D) (now : OnlyNow v.device) where
     told,
   )
 
--- ## A command that is no round, beside slots and children that stay as they are
+-- ## A command without rounds, with slots and children that do not change
 
 same_turn : {D : Type 0} (t : EventStep D) (c : Command) (s' : OpenSpool D) → t.command ≡ c → t.next ≡ s' → t ≡ record { command = c; document = t.document; outcome = t.outcome; text = t.text; next = s' }
 same_turn t c s' e f =
@@ -322,19 +322,19 @@ held_turn bytes result v s new c held free (t, takes, told) =
       told,
     )
 
--- the same, where what was found goes by another name
+-- The same from an equal run state.
 pub event_lifted : {X E D : Type 0} (bytes : X → List ℕ) (result : Result X E) (v : Setting D) (e e' : OpenSpool D) (slots : Slots) (told : Option ChildTrace) (s : RunState D) (c : Command) → run_state e slots told ≡ s → withholds slots c ≡ false
     → (t : EventStep D) × Takes v e c t e' × IfOk result (λ x. bytes x ≡ t.text) → (t : CommandStep D) × TakesStep v s c t (run_state e' slots told) × IfOk result (λ x. bytes x ≡ t.text)
 event_lifted bytes result v e e' slots told s c is free h =
     subst (λ y. (t : CommandStep _) × TakesStep v y c t (run_state e' slots told) × IfOk result (λ x. bytes x ≡ t.text)) is
     (held_turn bytes result v (run_state e slots told) (run_state e' slots told) c (record { slots = refl; told = refl }) free h)
 
--- the same, where nothing has changed
+-- The same if the spool did not change.
 pub said_lifted : {X E D : Type 0} (bytes : X → List ℕ) (result : Result X E) (v : Setting D) (s : RunState D) (c : Command) → withholds s.slots c ≡ false
     → (t : EventStep D) × Takes v s.spool c t s.spool × IfOk result (λ x. bytes x ≡ t.text) → (t : CommandStep D) × TakesStep v s c t s × IfOk result (λ x. bytes x ≡ t.text)
 said_lifted bytes result v s c free h = held_turn bytes result v s s c (record { slots = refl; told = refl }) free h
 
--- the same, where what was found goes by another name and hasn't changed
+-- The same from an equal run state, if the spool did not change.
 pub listed : {X E D : Type 0} (bytes : X → List ℕ) (result : Result X E) (v : Setting D) (e : OpenSpool D) (slots : Slots) (told : Option ChildTrace) (s : RunState D) (c : Command) → run_state e slots told ≡ s → withholds slots c ≡ false
     → (t : EventStep D) × Takes v e c t e × IfOk result (λ x. bytes x ≡ t.text) → (t : CommandStep D) × TakesStep v s c t s × IfOk result (λ x. bytes x ≡ t.text)
 listed bytes result v e slots told s c is free h =

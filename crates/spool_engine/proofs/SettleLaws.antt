@@ -1,4 +1,4 @@
--- Children that run are waited for: before a round, and where an engine is taken apart.
+-- Waiting for the running children: before a round, and when an engine is taken apart.
 use Rattle.std.proofs.Common.{◌≡◌, ℕ, Bool, true, false, cond, ◌==◌, List, [], ◌∷◌, length, map, Option, Some, None, unwrap_or, refl, sym, ap, subst, ◌∙◌, arith, nat_cmp}
 use Rattle.std.specs.List.{filter}
 use Rattle.std.specs.FinMap as finite
@@ -23,14 +23,14 @@ use Rattle.print_rounds.specs.StageHistory.{IsBegunSlot}
 use Rattle.spool_engine.specs.EngineRounds.{IsSettled}
 use Rattle.spool_engine.specs.Script.{ScriptState, script_state_after, settled}
 
--- a finish takes one ticket out of its slot
+-- A finish removes one ticket from its slot.
 abbrev pub FinishLaw : Type 0
 FinishLaw = (slots : Slots) (j n : ℕ) (t : ChildTrace) (new : Slots) (told : Option ChildTrace) → HasTickets slots t → IsRunningAs slots j n → Waits (Some t) n slots j new told → AreKeptBy t 0 new told
 
 pub told_same : (x y : ChildTrace) → Some x ≡ Some y → x ≡ y
 told_same x y e = cc
 
--- ## Where none runs
+-- ## If no child runs
 
 rests_so : (o : Option (Slot ℕ)) → IsTicketless o → has_child o ≡ false
 rests_so None rest = refl
@@ -62,11 +62,11 @@ settled_of {D} old s slots told fs same steps jobs rest finished = record {
       ap (λ (x : OpenSpool D). run_state x slots told) same ∙ ap (λ m. run_state old.spool m told) both.0 ∙ ap (λ o. run_state old.spool old.slots o) both.1;
 }
 
--- nobody is waited for
+-- No child is waited for.
 pub settled_same : (x : ScriptState) → HasNoneRunning x.slots → settled x ≡ x
 settled_same x rest = ap (λ js. script_state_after (plays waited (play_from x.state x.slots x.told) js)) (none_run x.slots (finite.keys x.slots) rest)
 
--- where no child runs there is no ticket
+-- If no child runs, there is no ticket.
 pub no_tickets : (slots : Slots) (t : ChildTrace) → HasNoneRunning slots → t.running ≡ [] → HasTickets slots t
 no_tickets slots t rest quiet = record {
   running = λ j n r. absurd (none_there j n r);
@@ -124,7 +124,7 @@ pub begun_then : (fs : List Finishing) (slots : Slots) (told : Option ChildTrace
 begun_then [] slots told new told' k are b = subst (λ m. IsBegunSlot m k) (sym are.0) b
 begun_then (f ∷ fs) slots told new told' k are b = begun_then fs f.slots f.told new told' k are.1 (begun_from (slot_in slots f.job).progress told slots f.job f.slots f.told k are.0 b)
 
--- ## They are waited for as Script does
+-- ## Script waits for the same children
 
 running_as : (slots : Slots) (j n : ℕ) → (slot_in slots j).progress ≡ Running n → IsRunningAs slots j n
 running_as slots j n is = by_slot (finite.get slots j) refl
@@ -133,7 +133,7 @@ running_as slots j n is = by_slot (finite.get slots j) refl
     by_slot None there = let bad : (begun 0 0).progress ≡ Running n = ap (λ o. (unwrap_or o (begun 0 0)).progress) (sym there) ∙ is in absurd cc
     by_slot (Some slot) there = record { slot = slot; there = there; runs = ap (λ o. (unwrap_or o (begun 0 0)).progress) (sym there) ∙ is }
 
--- the slots and what is told are a play's, and the slots have the tickets
+-- The slots and the trace are those of the play, and the slots have the tickets.
 pub record IsAsPlay (p : Play) (slots : Slots) (told : Option ChildTrace) : Type 0 where
   pub slots_are : slots ≡ p.slots
   pub told_is : told ≡ Some p.told
@@ -162,7 +162,7 @@ pub waits_all : (law : FinishLaw) (fs : List Finishing) (p : Play) (slots : Slot
 waits_all law [] p slots told new told' like are = record { slots_are = are.0 ∙ like.slots_are; told_is = are.1 ∙ like.told_is; tickets = like.tickets }
 waits_all law (f ∷ fs) p slots told new told' like are = waits_all law fs (waited p f.job) f.slots f.told new told' (waits_play law p slots told f.job f.slots f.told like are.0) are.1
 
--- the table stays
+-- The table does not change.
 waits_state : (p : Play) (j : ℕ) (q : Progress ℕ) → (waited_by p j q).state ≡ p.state
 waits_state p j (Ready input) = refl
 waits_state p j (Running n) = refl

@@ -1,4 +1,4 @@
--- A round, a tick, and a run, is a turn of World.
+-- Each round, tick and run is a call of a StageHistory.
 use Rattle.std.proofs.Common.{◌≡◌, ◌⊎◌, inl, inr, ℕ, true, false, Bool, List, [], ◌∷◌, ◌++◌, Some, None, Option, Result, Ok, Err, refl, sym, ap, subst, ◌∙◌, append_assoc, append-nil}
 use Rattle.std.specs.List.{flat_map}
 use Rattle.std.proofs.lemmas.Bool.{both_ways}
@@ -63,12 +63,12 @@ accepted_append s (e ∷ es) fs =
     ap (λ l. if_accepted e l (refusal_of s e)) (accepted_append (after_one s e) es fs)
     ∙ accepted_first e (accepted (after_one s e) es) (accepted (after_all (after_one s e) es) fs) (refusal_of s e)
 
--- nothing comes of an event that is refused
+-- A refused event adds nothing to the accepted ones.
 refused_alone : (s : State) (e : Event) (refusal : Refusal) (o : Option Refusal) → answered s e o ≡ Err refusal → [] ≡ if_accepted e (accepted (after_one s e) []) o
 refused_alone s e refusal None is = absurd (cc)
 refused_alone s e refusal (Some x) is = refl
 
--- where none was tried none was acknowledged
+-- If no event was tried, none was acknowledged.
 never_more : (xs : List Event) (x : Event) → [] ≡ xs ++ x ∷ [] → ⊥
 never_more [] x is = cc
 never_more (y ∷ xs) x is = cc
@@ -79,7 +79,7 @@ none_acknowledged over tried acknowledged hand none = elim hand [
   | inr failed ↦ absurd (never_more acknowledged failed.1 (sym none ∙ failed.2))
 ]
 
--- what was acknowledged first, and then more: after a fault of the device nothing is tried
+-- The events that were acknowledged first, followed by more. After a fault of the device no event is tried.
 acknowledged_both : (over then : Bool) (tried others a b : List Event) → AreAcknowledged over tried a → AreAcknowledged then others b → (over ≡ true → others ≡ []) → (over ≡ true → then ≡ true) → AreAcknowledged then (tried ++ others) (a ++ b)
 acknowledged_both over then tried others a b (inl all) (inl rest) none stays = inl (ap (λ l. l ++ others) all ∙ ap (λ l. a ++ l) rest)
 acknowledged_both over then tried others a b (inl all) (inr failed) none stays =
@@ -89,34 +89,34 @@ acknowledged_both over then tried others a b (inr failed) later none stays =
     let empty : b ≡ [] = none_acknowledged then others b later nothing in
     inr (stays failed.0, failed.1, ap (λ l. tried ++ l) nothing ∙ append-nil tried ∙ failed.2 ∙ ap (λ l. l ++ failed.1 ∷ []) (sym (append-nil a) ∙ ap (λ l. a ++ l) (sym empty)))
 
--- the accepted ones of both
+-- The accepted events of both parts.
 accepted_both : (s t : State) (a b more further : List Event) → more ≡ accepted s a → t ≡ after_all s more → further ≡ accepted t b → more ++ further ≡ accepted s (a ++ b)
 accepted_both s t a b more further taken table then =
     ap (λ l. l ++ further) taken
     ∙ ap (λ l. accepted s a ++ l) (then ∙ ap (λ u. accepted u b) (table ∙ ap (after_all s) taken ∙ skipped s a))
     ∙ sym (accepted_append s a b)
 
--- ## The table behind a turn
+-- ## The table after a call
 
--- it is that of the events, or a checkpoint has raised its version
+-- The table is that after the events, or a checkpoint has raised its version.
 abbrev pub IsBehind : Bool → State → List Event → State → Type 0
 IsBehind raises s events s' = (s' ≡ after_all s events) ⊎ ((raises ≡ true) × (events ≡ []) × (s' ≡ raised s))
 
--- where none raises it it is that of the events
+-- If no checkpoint raises the version, the table is that after the events.
 exact_behind : (raises : Bool) (s : State) (events : List Event) (s' : State) → IsBehind raises s events s' → (s.version ≡ Two) ⊎ (raises ≡ false) → s' ≡ after_all s events
 exact_behind raises s events s' (inl is) keeps = is
 exact_behind raises s events s' (inr (raised_it, none, is)) (inl newest) = is ∙ raised_same s newest ∙ ap (after_all s) (sym none)
 exact_behind raises s events s' (inr (raised_it, none, is)) (inr plain) = absurd (both_ways _ plain raised_it)
 
--- the same row is there in the newest version
+-- The same row exists in the newest version.
 in_raised : (s : State) (k : Key) → IsIn s k → IsIn (raised s) k
 in_raised s k now = record { row = now.row; stages = now.stages; there = now.there; phase = now.phase }
 
--- what is so of each table is so of its rows
+-- A table that is legal in the newest version is legal, since only its rows count.
 legal_rows : (s : State) → IsLegal (raised s) → IsLegal s
 legal_rows s legal = record { few_queues = legal.few_queues; names = legal.names; in_order = legal.in_order; numbers = legal.numbers; jobs = legal.jobs; one_processing = legal.one_processing }
 
--- what is so of each legal table, and of calls
+-- The laws of legal tables and of calls.
 pub record Laws (D : Type 0) : Type 0 where
   pub legal : (s : State) (events : List Event) → IsLegal s → IsLegal (after_all s events)
   pub left : (s : State) (k : Key) (events : List Event) → IsLegal s → IsIn s k → IsIn (after_all s events) k ⊎ IsSpent (after_all s events) k
@@ -128,17 +128,17 @@ pub record Laws (D : Type 0) : Type 0 where
 pub some_same : (x y : ChildTrace) → Some x ≡ Some y → x ≡ y
 some_same x y e = cc
 
--- the children tell this, and the slots have the tickets of those that run
+-- The children report this trace, and the slots have the tickets of the running ones.
 abbrev pub IsTold : {D : Type 0} → ChildTrace → RunState D → Type 0
 IsTold t s = (s.told ≡ Some t) × HasTickets s.slots t
 
--- A turn, and the table behind it. Where no child ran before it none runs after it.
+-- A call, and the table after it. If no child ran before it, none runs after it.
 pub record IsStepped {D : Type 0} (t : ChildTrace) (old : RunState D) (raises : Bool) (tried : List Event) (new : RunState D) : Type 0 where
   pub turn : IsTicketedCall t old tried new
   pub behind : IsBehind raises old.spool.state turn.0 new.spool.state
   pub quiet : t.running ≡ [] → turn.1.now.running ≡ []
 
--- A turn of World, after which the slots have the tickets.
+-- A call of a StageHistory, after which the slots have the tickets.
 abbrev pub IsTicketCall : {D : Type 0} → ChildTrace → RunState D → RunState D → Type 0
 IsTicketCall t old new = (more : List Event) × (c : IsStageCall t old more new) × HasTickets new.slots c.now
 
@@ -151,7 +151,7 @@ module _ {D : Type 0} (laws : Laws D) (t : ChildTrace) where
   behind_left raises s events s' k legal (inl is) now = subst (λ u. IsIn u k ⊎ IsSpent u k) (sym is) (laws.left s k events legal now)
   behind_left raises s events s' k legal (inr (raised_it, none, is)) now = inl (subst (λ u. IsIn u k) (sym is) (in_raised s k now))
 
-  -- events without a round: the slots are as they were
+  -- Events without a round do not change the slots.
   pub plain_call : (old new : RunState D) (raises : Bool) (events : List Event) → IsLegal old.spool.state → IsTold t old → AreAccepted old.spool.state events → IsBehind raises old.spool.state events new.spool.state
       → HasSlotsOf old new → (old.spool.dead ≡ true → new.spool.dead ≡ true) → (c : IsStageCall t old events new) × HasTickets new.slots c.now × (t.running ≡ [] → c.now.running ≡ [])
   plain_call old new raises events legal tells taken behind held over = (
@@ -188,7 +188,7 @@ module _ {D : Type 0} (laws : Laws D) (t : ChildTrace) where
       let one = plain_call old new raises events legal tells taken behind held over in
       record { turn = (events, one.0, one.1, acknowledged, none); behind = behind; quiet = one.2 }
 
-  -- all of them were acknowledged
+  -- All events were acknowledged.
   plain_turn : (old new : RunState D) (raises : Bool) (events : List Event) → IsLegal old.spool.state → IsTold t old → AreAccepted old.spool.state events → IsBehind raises old.spool.state events new.spool.state
       → HasSlotsOf old new → (old.spool.dead ≡ true → new.spool.dead ≡ true) → (old.spool.dead ≡ true → events ≡ []) → IsStepped t old raises events new
   plain_turn old new raises events legal tells taken behind held over none =
@@ -197,7 +197,7 @@ module _ {D : Type 0} (laws : Laws D) (t : ChildTrace) where
   still_turn : (old new : RunState D) (raises : Bool) → IsLegal old.spool.state → IsTold t old → new.spool ≡ old.spool → HasSlotsOf old new → IsStepped t old raises [] new
   still_turn old new raises legal tells same held = plain_turn old new raises [] legal tells tt (inl (ap (λ (x : OpenSpool D). x.state) same)) held (λ died. ap (λ (x : OpenSpool D). x.dead) same ∙ died) (λ died. refl)
 
-  -- ## A command of one event, or of none
+  -- ## A command with at most one event
 
   done_state : (s : State) (e : Event) (new : State) (reply : Reply) → refusal_of s e ≡ None → step s e ≡ Ok (new, reply) → new ≡ after_all s (e ∷ [])
   done_state s e new reply accepted stepped =
@@ -262,7 +262,7 @@ module _ {D : Type 0} (laws : Laws D) (t : ChildTrace) where
       let one = plain_call old old false [] legal tells tt (inl refl) (record { slots = refl; told = refl }) (λ died. died) in
       ([], one.0, one.1)
 
-  -- the children that ran were waited for
+  -- The running children were waited for.
   settle_turned : (old settled : RunState D) → IsLegal old.spool.state → IsTold t old → IsSettled old settled → IsStepped t old false [] settled
   settle_turned old settled legal tells is =
       let off = is.finished t tells.0 tells.1 in
@@ -299,13 +299,13 @@ module _ {D : Type 0} (laws : Laws D) (t : ChildTrace) where
         quiet = λ quiet. off.none;
       }
 
-  -- what is told after a round, whose children have all been finished
+  -- The trace after a round whose children have all been finished.
   pub quiet_after : (v : Setting D) (old : RunState D) (r : Ran D) → IsRan v old r → r.settled.told ≡ Some t → t.running ≡ [] → (now : ChildTrace) → r.next.told ≡ Some now → now.running ≡ []
   quiet_after v old r is tells quiet now tells' =
       let (js, once) = is.finished t tells quiet in
       ap (λ (u : ChildTrace). u.running) (some_same now once.now (sym tells' ∙ once.tells)) ∙ once.finished.running
 
-  -- a round from where no child runs
+  -- A round that begins without running children.
   made_turned : (v : Setting D) (old : RunState D) (r : Ran D) → IsLegal r.settled.spool.state → IsTold t r.settled → t.running ≡ [] → IsRan v old r → IsStepped t r.settled false r.tried r.next
   made_turned v old r legal tells quiet is = by_death r.settled.spool.dead refl is.round
     where
@@ -351,7 +351,7 @@ module _ {D : Type 0} (laws : Laws D) (t : ChildTrace) where
             )
       ]
 
--- ## Rounds, and turns, one after the other
+-- ## Rounds and steps in order
 
 module _ {D : Type 0} (laws : Laws D) where
   now_of_both : (t : ChildTrace) (old mid new : RunState D) (more further : List Event) (one : IsStageCall t old more mid) (two : IsStageCall one.now mid further new) → two.now ≡ (laws.joined old mid new t more further one two).now
@@ -366,7 +366,7 @@ module _ {D : Type 0} (laws : Laws D) where
   pub legal_then : (t : ChildTrace) (old mid : RunState D) (more : List Event) → IsStageCall t old more mid → IsLegal mid.spool.state
   legal_then t old mid more one = legal_rows mid.spool.state (subst IsLegal (sym one.turn.table) (laws.legal (raised old.spool.state) more (laws.raised_legal old.spool.state one.turn.legal)))
 
-  -- rounds raise no version
+  -- Rounds do not raise the version.
   then_round : (t : ChildTrace) (old mid new : RunState D) (tried others : List Event) → (one : IsStepped t old false tried mid) → IsStepped one.turn.1.now mid false others new → IsStepped t old false (tried ++ others) new
   then_round t old mid new tried others first second =
       let (more, one, has, (a, hand, taken), none) = first.turn in
@@ -389,7 +389,7 @@ module _ {D : Type 0} (laws : Laws D) where
         quiet = λ quiet. sym (ap (λ (u : ChildTrace). u.running) same) ∙ second.quiet (first.quiet quiet);
       }
 
-  -- a round: first those that run are waited for
+  -- A round first waits for the running children.
   round_behind : (v : Setting D) (t : ChildTrace) (old : RunState D) (r : Ran D) → IsLegal old.spool.state → IsTold t old → IsRan v old r → IsStepped t old false r.tried r.next
   round_behind v t old r legal tells is =
       let first = settle_turned laws t old r.settled legal tells is.settles in
@@ -430,11 +430,11 @@ module _ {D : Type 0} (laws : Laws D) where
   pub how_turn : (v : Setting D) (t : ChildTrace) (old : RunState D) (turn : CommandStep D) → IsLegal old.spool.state → IsTold t old → IsHow v old turn turn.how → (one : IsTicketCall t old turn.next) × (t.running ≡ [] → one.1.now.running ≡ [])
   how_turn v t old turn legal tells is = let one = how_behind v t old turn turn.how legal tells is in ((one.turn.0, one.turn.1, one.turn.2), one.quiet)
 
-  -- a run, and where no child ran before it none runs after it
+  -- A run. If no child ran before it, none runs after it.
   abbrev pub IsRunStepped : Mime → ChildTrace → RunState D → List (CommandStep D) → Type 0
   IsRunStepped m t old turns = (one : IsTicketRun t m old turns) × (t.running ≡ [] → one.1.now.running ≡ [])
 
-  -- a turn, and then more
+  -- A step, followed by more.
   then_turns : (v : Setting D) (t : ChildTrace) (old : RunState D) (turn : CommandStep D) (turns : List (CommandStep D)) → (one : IsStepped t old (is_listing (meaning v.mime old.spool.state turn.document turn.command)) (tried_in v.mime old turn) turn.next)
       → IsRunStepped v.mime one.turn.1.now turn.next turns → IsRunStepped v.mime t old (turn ∷ turns)
   then_turns v t old turn turns first ((further, two, has_then, (b, hand_then, taken_then, kept_then), none_then), quiet_then) =
@@ -460,7 +460,7 @@ module _ {D : Type 0} (laws : Laws D) where
       state : State
       state = old.spool.state
 
-      -- where no checkpoint raises the version
+      -- No checkpoint raises the version.
       kept : KeepVersion state (commands_in (turn ∷ turns)) → first.turn.0 ++ further ≡ accepted state (first.turn.3.0 ++ b)
       kept keeps =
           let here : (state.version ≡ Two) ⊎ (is_listing (meaning v.mime state turn.document turn.command) ≡ false) = elim keeps [
@@ -483,7 +483,7 @@ module _ {D : Type 0} (laws : Laws D) where
       let c = one.turn.1 in
       then_turns v t old turn turns one (turns_turn v turns c.now turn.next (legal_then t old turn.next one.turn.0 c) (c.tells, one.turn.2) others)
 
-  -- a call of any kind
+  -- A call of any kind.
   pub call_turn : (v : Setting D) (t : ChildTrace) (s : RunState D) (c : Call D) → IsLegal s.spool.state → IsTold t s → IsCall v s c → IsTicketCall t s (left_by s c)
   call_turn v t s (round_call r) legal tells is = let one = round_turn v t s r legal tells is in (one.0.0, one.0.1, one.0.2)
   call_turn v t s (tick_call k) legal tells is = let one = tick_turn laws t v s k legal tells is in (one.0, one.1, one.2)

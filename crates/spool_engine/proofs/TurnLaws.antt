@@ -1,4 +1,4 @@
--- Turns, one after another.
+-- Steps in order.
 use Rattle.std.proofs.Common.{◌≡◌, ℕ, suc, ◌+◌, List, [], ◌∷◌, ◌++◌, length, take, refl, ap, sym, ◌∙◌, subst, arith, append_assoc, Option, Result, Ok, Err}
 use Rattle.std.proofs.lemmas.List.{append-nil, map-append}
 use Rattle.std.specs.Io.KnownBytes.{Appends}
@@ -13,7 +13,7 @@ use Rattle.whole_writes.specs.Writes.{WroteSome}
 use Rattle.spool_engine.specs.declared.fault.RunFault.{RunFault}
 use Rattle.spool_engine.specs.declared.fault.RunFault.TheVariants.{Read, Write, Memory as Wanted}
 
--- a turn is put behind turns
+-- A step is appended to steps.
 are_more : {D : Type 0} (v : Setting D) (s : RunState D) (ts : List (CommandStep D)) (t : CommandStep D) → AreCommandSteps v s ts → IsCommandStep v (last_run_state s ts) t → AreCommandSteps v s (ts ++ t ∷ [])
 are_more v s [] t h k = (k, tt)
 are_more v s (u ∷ ts) t h k = (h.0, are_more v u.next ts t h.1 k)
@@ -55,7 +55,7 @@ take_past (x ∷ xs) ys n =
     let e : suc (length xs) + n ≡ suc (length xs + n) = omega arith in
     ap (λ m. take m (x ∷ (xs ++ ys))) e ∙ ap (λ l. x ∷ l) (take_past xs ys n)
 
--- what was written before, and then
+-- More is written after the earlier bytes.
 pub wrote_more : {D : Type 0} (r : Result (Unit {0}) RunFault) (a b d : Option (List ℕ)) (ts us : List (CommandStep D)) → Appends a b (texts_of ts) → Wrote r b d us → Wrote r a d (ts ++ us)
 wrote_more (Ok x) a b d ts us h k = subst (Appends a d) (sym (texts_of-append ts us)) (Appends-trans a b d (texts_of ts) (texts_of us) h k)
 wrote_more (Err Read) a b d ts us h k = subst (Appends a d) (sym (texts_of-append ts us)) (Appends-trans a b d (texts_of ts) (texts_of us) h k)
@@ -75,11 +75,11 @@ wrote_more (Err Wanted) a b d ts us h k = record {
   wrote = subst (Appends a d) (sym (texts_of-append ts k.told)) (Appends-trans a b d (texts_of ts) (texts_of k.told) h k.wrote);
 }
 
--- all replies were written when no memory was found for what comes next
+-- All replies were written before memory ran out for what follows.
 pub wrote_all : {D : Type 0} (a b : Option (List ℕ)) (ts : List (CommandStep D)) → Appends a b (texts_of ts) → Wrote (Err Wanted) a b ts
 wrote_all a b ts h = record { told = ts; untold = []; split = sym (append-nil ts); at_most_one = omega arith; wrote = h }
 
--- one turn, by how its text was written
+-- One step, by the bytes that were written of its reply.
 pub wrote_one : {D : Type 0} (a b : Option (List ℕ)) (t : CommandStep D) → Appends a b t.text → Wrote (Ok tt) a b (t ∷ [])
 wrote_one a b t h = subst (Appends a b) (sym (append-nil t.text)) h
 
@@ -115,11 +115,11 @@ module _ {D : Type 0} (v : Setting D) (r : Result (Unit {0}) RunFault) where
 pub drains_none : {D : Type 0} (v : Setting D) (s : RunState D) (p : Pending) (a : Option (List ℕ)) → Drains v s p [] s p (Ok tt) a a
 drains_none v s p a = record { lead = lead_none v s; commands = λ more. refl; wrote = Appends-nil a }
 
--- no whole command was held
+-- No whole command was buffered.
 pub drains_wait : {D : Type 0} (v : Setting D) (s : RunState D) (p q : Pending) (a : Option (List ℕ)) → Leads p [] q → Drains v s p [] s q (Ok tt) a a
 drains_wait v s p q a leads = record { lead = lead_none v s; commands = leads; wrote = Appends-nil a }
 
--- no command was given, and the reader of commands found no memory
+-- No command was returned, and memory ran out in the reader of commands.
 pub drains_stop : {D : Type 0} (v : Setting D) (s m : RunState D) (p q q' : Pending) (ts : List (CommandStep D)) (a b : Option (List ℕ)) → Drains v s p ts m q (Ok tt) a b → Leads q [] q' → Drains v s p ts m q' (Err Wanted) a b
 drains_stop v s m p q q' ts a b h leads = record {
   lead = h.lead;

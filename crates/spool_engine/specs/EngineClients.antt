@@ -1,5 +1,5 @@
--- Several clients of one engine: each sends a text of its own, is served one command at a time, and is given the replies to its
--- own commands, between ticks and the commands of others.
+-- Several clients of one engine. Each sends a text of its own, is served one command at a time, and gets the replies to its own commands,
+-- between ticks and the commands of others.
 use Rattle.std.specs.Prelude.{◌≡◌, ◌⊎◌, ℕ, ◌==◌, Bool, false, cond, List, [], ◌∷◌, ◌++◌, IsTrue, Option, Some, Result}
 use Rattle.std.specs.Result.{IsOk}
 use Rattle.command_lines.specs.PendingCommands.{Pending}
@@ -13,25 +13,25 @@ use Rattle.spool_engine.specs.Script.{reply_of}
 use Rattle.spool_engine.specs.EngineTicks.{Ticked, IsTicked}
 use Rattle.spool_engine.specs.declared.fault.RunFault.{RunFault}
 
--- what a client's reader of commands holds, and what was written to the client, if its writer tells
+-- The contents of a client's reader of commands, and the bytes that were written to the client, if its writer reports them.
 pub record Client : Type 0 where
   pub pending : Pending
   pub written : Option (List ℕ)
 
--- one call of `serve_next`: its turn, if a whole command was held, what it leaves, and its answer
+-- One call of `serve_next`: its step, if a whole command was buffered, and its result.
 pub record Served (D : Type 0) : Type 0 where
   pub turns : List (CommandStep D)
   pub next : RunState D
   pub client : Client
   pub result : Result Bool RunFault
 
--- a client sends some bytes, or its next command is served, or there is a tick
+-- A client sends some bytes, or its next command is served, or a tick runs.
 pub data Act (D : Type 0) : Type 0 where
   sends : ℕ → List ℕ → Act D
   serves : ℕ → Served D → Act D
   ticks : Ticked D → Act D
 
--- an engine, and each client by its number
+-- The run state of an engine, and each client by its number.
 pub record Service (D : Type 0) : Type 0 where
   pub run_state : RunState D
   pub clients : ℕ → Client
@@ -39,7 +39,7 @@ pub record Service (D : Type 0) : Type 0 where
 abbrev pub with_client : (ℕ → Client) → ℕ → Client → ℕ → Client
 with_client clients k c j = cond (j == k) c (clients j)
 
--- more bytes are held
+-- The client after it sent these bytes.
 abbrev pub fed : Client → List ℕ → Client
 fed c piece = record c { pending = record c.pending { held = c.pending.held ++ piece } }
 
@@ -57,19 +57,19 @@ IsAct v s (sends k piece) = Unit {0}
 IsAct v s (serves k r) = ServesNext v s.run_state (s.clients k).pending r.turns r.next r.client.pending r.result (s.clients k).written r.client.written
 IsAct v s (ticks t) = IsTicked v s.run_state t
 
--- each act is one on what the acts before it left
+-- Each act starts from the state that the previous acts left.
 abbrev pub AreActs : {D : Type 0} → Setting D → Service D → List (Act D) → Type 0
 AreActs v s [] = Unit {0}
 AreActs v s (a ∷ acts) = IsAct v s a × AreActs v (after_act s a) acts
 
--- ## What is one client's
+-- ## The acts of one client
 
 abbrev pub sent_in : {D : Type 0} → ℕ → Act D → List ℕ
 sent_in i (sends k piece) = cond (i == k) piece []
 sent_in i (serves k r) = []
 sent_in i (ticks t) = []
 
--- what it sent, in order
+-- The bytes that the client sent, in order.
 abbrev pub sent_by : {D : Type 0} → ℕ → List (Act D) → List ℕ
 sent_by i [] = []
 sent_by i (a ∷ acts) = sent_in i a ++ sent_by i acts
@@ -79,7 +79,7 @@ steps_in i (sends k piece) = []
 steps_in i (serves k r) = cond (i == k) r.turns []
 steps_in i (ticks t) = []
 
--- its turns, in order
+-- The client's steps, in order.
 abbrev pub steps_of : {D : Type 0} → ℕ → List (Act D) → List (CommandStep D)
 steps_of i [] = []
 steps_of i (a ∷ acts) = steps_in i a ++ steps_of i acts
@@ -89,13 +89,13 @@ IsUnbrokenIn i (sends k piece) = Unit {0}
 IsUnbrokenIn i (serves k r) = IsTrue (i == k) → IsOk r.result
 IsUnbrokenIn i (ticks t) = Unit {0}
 
--- no call for it had a fault
+-- No call for the client had a fault.
 abbrev pub IsUnbroken : {D : Type 0} → ℕ → List (Act D) → Type 0
 IsUnbroken i [] = Unit {0}
 IsUnbroken i (a ∷ acts) = IsUnbrokenIn i a × IsUnbroken i acts
 
--- A turn on what it found. Where nothing failed in it, its reply is Script's on the scene that it found: of `round` and `drain`
--- where the children tell and the slots have the tickets of those that run.
+-- A step on the run state that it found. If nothing failed in it, its reply is Script's on that state. For `round` and `drain` this
+-- requires that the children report and that the slots have the tickets of the running ones.
 pub record IsReplied {D : Type 0} (v : Setting D) (s : RunState D) (t : CommandStep D) : Type 0 where
   pub turn : IsCommandStep v s t
   pub reply : (told : ChildTrace) → (is_round t.command ≡ false) ⊎ ((s.told ≡ Some told) × HasTickets s.slots told) → IsWell t.how → t.text ≡ reply_of v.mime v.place (script_state_with s told) (asked_by t)
@@ -109,7 +109,7 @@ IsAnswered v i s (sends k piece) = Unit {0}
 IsAnswered v i s (serves k r) = IsTrue (i == k) → AreReplied v s r.turns
 IsAnswered v i s (ticks t) = Unit {0}
 
--- so each of its turns is replied to
+-- Each step of the client has such a reply.
 abbrev pub AreAnswered : {D : Type 0} → Setting D → ℕ → Service D → List (Act D) → Type 0
 AreAnswered v i s [] = Unit {0}
 AreAnswered v i s (a ∷ acts) = IsAnswered v i s.run_state a × AreAnswered v i (after_act s a) acts

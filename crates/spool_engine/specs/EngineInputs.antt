@@ -1,5 +1,5 @@
--- *RightInput* over calls of which some are ticks: a child may end in a later call than it was started in, and another order may
--- be answered before.
+-- *RightInput* over calls that include ticks: a child may end in a later call than it was started in, and another order may be answered
+-- before it.
 use Rattle.std.specs.Prelude.{◌≡◌, ◌⊎◌, List, [], ◌∷◌, ◌++◌, map, Some}
 use Rattle.child_pipeline.specs.ChildTraces.{ChildTrace}
 use Rattle.child_pipeline.specs.declared.order.Placed.{Placed}
@@ -13,7 +13,7 @@ use Rattle.spool_engine.specs.EngineRounds.{Ran}
 use Rattle.spool_engine.specs.EngineRuns.{CommandStep, How, answered as replied, ran, withheld}
 use Rattle.spool_engine.specs.EngineTicks.{Ticked}
 
--- the orders that are new between two courses, whose children tell
+-- The new orders between two run states whose children report.
 pub record AddOrders {D : Type 0} (old new : RunState D) : Type 0 where
   pub t : ChildTrace
   pub before : old.told ≡ Some t
@@ -22,8 +22,8 @@ pub record AddOrders {D : Type 0} (old new : RunState D) : Type 0 where
   pub orders : List Placed
   pub added : now.orders ≡ t.orders ++ orders
 
--- A round behind these answers. First come the answers of the children that ran before it, and behind them each of its orders
--- is right, and is answered in it. These are all its answers.
+-- A round after these earlier answers. Its answers are those of the children that ran before it, followed by those of its own orders. Each
+-- of its orders is right and is answered in it.
 pub record IsRoundRight {D : Type 0} (earlier : List AnsweredOrder) (s : RunState D) (r : Ran D) (answers : List AnsweredOrder) : Type 0 where
   pub waited : List Finishing
   pub jobs : map (λ f. f.job) waited ≡ running_jobs s.slots
@@ -35,17 +35,17 @@ pub record IsRoundRight {D : Type 0} (earlier : List AnsweredOrder) (s : RunStat
   pub right : AreRight (earlier ++ finished_in s.slots s.told waited) (answered between.starts between.finishes adds.orders)
   pub given : answers ≡ finished_in s.slots s.told waited ++ answered between.starts between.finishes adds.orders
 
--- the answers of a tick, by its steps; where nothing was done there is none
+-- The answers of a tick, by its steps. A tick that did nothing has none.
 abbrev pub IsTickGiven : {D : Type 0} → Setting D → RunState D → Ticked D → List AnsweredOrder → Type 0
 IsTickGiven v s k answers = ((k.next ≡ s) × (answers ≡ [])) ⊎ ((made : IsTickOf v.device v.place s k.next k.result) × (answers ≡ answers_in s made.steps))
 
--- A tick behind these answers: its orders come before all of its own.
+-- A tick after these earlier answers. Its orders depend only on them, because they precede the tick's own answers.
 pub record IsTickRight {D : Type 0} (v : Setting D) (earlier : List AnsweredOrder) (s : RunState D) (k : Ticked D) (answers : List AnsweredOrder) : Type 0 where
   pub adds : AddOrders s k.next
   pub right : AllRight earlier adds.orders
   pub given : IsTickGiven v s k answers
 
--- rounds in turn, each behind the answers of those before it, too
+-- Each round is right after the earlier answers and those of the previous rounds.
 abbrev pub AreRoundsRight : {D : Type 0} → List AnsweredOrder → RunState D → List (Ran D) → List AnsweredOrder → Type 0
 AreRoundsRight earlier s [] answers = answers ≡ []
 AreRoundsRight earlier s (r ∷ rs) answers =
@@ -66,7 +66,7 @@ IsCallRight v earlier s (round_call r) answers = IsRoundRight earlier s r answer
 IsCallRight v earlier s (tick_call k) answers = IsTickRight v earlier s k answers
 IsCallRight v earlier s (run_call turns) answers = AreStepsRight earlier s turns answers
 
--- calls in turn, each behind the answers of those before it
+-- Each call is right after the earlier answers and those of the previous calls.
 abbrev pub AreCallsRight : {D : Type 0} → Setting D → List AnsweredOrder → RunState D → List (Call D) → Type 0
 AreCallsRight v earlier s [] = Unit {0}
 AreCallsRight v earlier s (c ∷ cs) = (answers : List AnsweredOrder) × IsCallRight v earlier s c answers × AreCallsRight v (earlier ++ answers) (left_by s c) cs

@@ -1,4 +1,4 @@
--- The calls of engines over any number of lives of a spool, and the orders that come in them.
+-- The calls of engines over any number of lives of a spool, and their orders.
 use Rattle.std.specs.Prelude.{◌≡◌, List, [], ◌∷◌, ◌++◌, Some}
 use Rattle.std.specs.FinMap as finite
 use Rattle.spool_disk.specs.Disk.{DiskView}
@@ -18,8 +18,8 @@ use Rattle.spool_engine.specs.EngineCalls.{Call, AreCalls, last_by}
 use Rattle.spool_engine.specs.EventSteps.{setting}
 use Rattle.spool_engine.specs.Mime.{Mime}
 
--- an engine: the types, the place and the course that it was made with, what its children had told by then, its calls (one at
--- least), and the orders that came in them
+-- An engine: the MIME database, the `Place` and the run state that it was made with, the children's trace at that time, its calls (at least
+-- one), and the orders made in them.
 pub record EngineLife (D : Type 0) : Type 0 where
   pub mime : Mime
   pub place : Place
@@ -32,7 +32,7 @@ pub record EngineLife (D : Type 0) : Type 0 where
 abbrev pub last_of : {D : Type 0} → EngineLife D → RunState D
 last_of l = last_by l.start (l.first ∷ l.later)
 
--- It was made on a legal table without a processing job, as an opening leaves it. It holds no slot, its children tell, and none
+-- The engine was made on a legal table without a processing job, as an opening leaves it. It had no slots, its children report, and none
 -- was running.
 pub record IsEngineLife {D : Type 0} (device : DiskView D) (l : EngineLife D) : Type 0 where
   pub legal : IsLegal (l.start).spool.state
@@ -45,8 +45,8 @@ pub record IsEngineLife {D : Type 0} (device : DiskView D) (l : EngineLife D) : 
   pub tells_then : (last_of l).told ≡ Some now
   pub added : now.orders ≡ (l.told).orders ++ l.orders
 
--- Each is made on the table after the one that the engine before left and some further events: the one in hand, and the
--- opening's Reopen. A checkpoint in hand may have raised the version, so the tables are seen as the newest has them.
+-- Each engine is made on the table that the previous one left, after some further events: the current one at the crash, and the Reopen of
+-- the opening. A checkpoint may have raised the version in the crash, so the tables are compared in the newest version.
 abbrev pub AreEngineLives : {D : Type 0} → DiskView D → State → List (EngineLife D) → Type 0
 AreEngineLives device s [] = Unit {0}
 AreEngineLives device s (l ∷ ls) =
@@ -56,7 +56,7 @@ abbrev pub IsEngineHistory : {D : Type 0} → DiskView D → List (EngineLife D)
 IsEngineHistory device [] = Unit {0}
 IsEngineHistory device (l ∷ ls) = IsEngineLife device l × AreEngineLives device (last_of l).spool.state ls
 
--- the stages of all orders
+-- The stages of all orders.
 abbrev pub keys_told : {D : Type 0} → List (EngineLife D) → List Key
 keys_told [] = []
 keys_told (l ∷ ls) = keys_in l.orders ++ keys_told ls

@@ -1,4 +1,4 @@
--- Rounds that an engine runs, also where something failed.
+-- Rounds of an engine, also if something failed.
 use Rattle.std.specs.Prelude.{◌≡◌, ◌≤◌, ◌↔◌, ◌⊎◌, ℕ, zero, suc, Bool, true, false, List, [], ◌∷◌, codes, length, map, IsSome, Some, Result, Ok, Err}
 use Rattle.spool_types.specs.declared.event.Event.{Event}
 use Rattle.filter_args.specs.declared.place.Place.{Place}
@@ -16,18 +16,18 @@ use Rattle.print_rounds.specs.declared.outcome.RoundFault.TheVariants as faults
 use Rattle.spool_engine.specs.EventSteps.{Setting, IsKept}
 use Rattle.spool_engine.specs.Script.{Meaning, says, asks, lists, runs, is_idle}
 
--- Each child that ran has been waited for. Its finish is kept in its slot, and no event was applied.
+-- Each child that ran was waited for. Its finish is stored in its slot, and no event was applied.
 pub record IsSettled {D : Type 0} (old settled : RunState D) : Type 0 where
   pub spool : settled.spool ≡ old.spool
   pub steps : (fs : List Finishing) × AreFinishings old.slots old.told fs settled.slots settled.told × (map (λ f. f.job) fs ≡ running_jobs old.slots)
   pub rest : HasNoneRunning settled.slots
-  -- where the children tell, each that ran has been finished, once
+  -- If the children report, each child that ran has been finished once.
   pub finished : (t : ChildTrace) → old.told ≡ Some t → HasTickets old.slots t → IsFinishedOff t settled.told
-  -- where none ran nothing has changed
+  -- If no child ran, nothing has changed.
   pub same : HasNoneRunning old.slots → settled ≡ old
 
--- a round: what it begins with, once no child runs, what it leaves, its answer, the events that were tried in it, and what was
--- read in it as the document of each job
+-- A round: its run state once no child runs, the run state after it, its result, the events that were tried in it, and the document of each
+-- job as it was read in it.
 pub record Ran (D : Type 0) : Type 0 where
   pub settled : RunState D
   pub next : RunState D
@@ -35,17 +35,17 @@ pub record Ran (D : Type 0) : Type 0 where
   pub tried : List Event
   pub documents : ℕ → List ℕ
 
--- A round, and the events that were tried in it: those that were acknowledged, and behind them the one at which the device
--- failed. Where nothing was done none was tried. Each first stage was handed what was read.
+-- The events that were tried in a round: the acknowledged ones, followed by the current one if the device failed. A round that did
+-- nothing tried none. Each first stage got the document that was read.
 abbrev pub IsRoundWith : {D : Type 0} → DiskView D → Place → RunState D → Bool → Ran D → Type 0
 IsRoundWith device place old true r = IsRoundBy device place old true r.next r.result × (r.tried ≡ [])
 IsRoundWith device place old false r =
     (IsUnbegun old r.next r.result × (r.tried ≡ []))
     ⊎ ((made : IsRoundOf device place old r.next r.result) × (r.tried ≡ tried_in old made.steps) × AreHanded r.documents made.steps.launchings)
 
--- A round, and its children: those that ran before it are waited for, and whatever failed, each that was started is finished,
--- once, so that none runs after it. Unless the device had failed before, a crash at any moment of it leaves the table after some
--- of the events that were tried, the first of them.
+-- A round with its children. It waits for the children that ran before it. Whatever failed, each child that it started is finished once, so
+-- none runs after it. Unless the device had failed before, a crash at any moment of the round leaves the table after the first of the
+-- events that were tried, some or all.
 pub record IsRan {D : Type 0} (v : Setting D) (old : RunState D) (r : Ran D) : Type 0 where
   pub settles : IsSettled old r.settled
   pub round : IsRoundWith v.device v.place r.settled r.settled.spool.dead r
@@ -56,13 +56,13 @@ pub record IsRan {D : Type 0} (v : Setting D) (old : RunState D) (r : Ran D) : T
   pub crash : old.spool.dead ≡ false → IsSome (v.device.bytes old.spool.disk) →
       LeavesOnly v.device old.spool.disk r.next.spool.disk (HasSomeOf old.spool.state r.tried)
   pub kept : IsKept v.device r.next.spool
-  -- so it is with the documents, which a round leaves as they are
+  -- The same with the documents, which a round does not change.
   pub whole : old.spool.dead ≡ false → IsSome (v.device.bytes old.spool.disk) → (documents : ℕ → List ℕ) → LeavesDocuments v.device documents old.spool →
       LeavesOnly v.device old.spool.disk r.next.spool.disk (HasSomeWhole old.spool.state documents r.tried)
   pub lasting : r.next.spool.dead ≡ false → IsSome (v.device.bytes old.spool.disk) → (documents : ℕ → List ℕ) → LeavesDocuments v.device documents old.spool →
       LeavesDocuments v.device documents r.next.spool
 
--- rounds in turn
+-- Rounds in order.
 abbrev pub AreRan : {D : Type 0} → Setting D → RunState D → List (Ran D) → RunState D → Type 0
 AreRan v old [] new = new ≡ old
 AreRan v old (r ∷ rs) new = IsRan v old r × AreRan v r.next rs new
@@ -70,9 +70,9 @@ AreRan v old (r ∷ rs) new = IsRan v old r × AreRan v r.next rs new
 abbrev pub results_of : {D : Type 0} → List (Ran D) → List (Result Round RoundFault)
 results_of rs = map (λ r. r.result) rs
 
--- ## How many there are
+-- ## The number of rounds
 
--- no round follows one that was idle, or had a fault
+-- No round follows an idle one or one with a fault.
 abbrev pub is_last : Result Round RoundFault → Bool
 is_last (Ok round) = is_idle round
 is_last (Err fault) = true
@@ -81,13 +81,13 @@ abbrev pub IsRest : Bool → List (Result Round RoundFault) → Type 0 → Type 
 IsRest true rs Rest = rs ≡ []
 IsRest false rs Rest = Rest
 
--- these are all: there are as many as may be, or the last one ends them
+-- These are all rounds: their number is the greatest allowed, or the last one ends them.
 abbrev pub AreAll : ℕ → List (Result Round RoundFault) → Type 0
 AreAll zero rs = rs ≡ []
 AreAll (suc n) [] = ⊥
 AreAll (suc n) (r ∷ rs) = IsRest (is_last r) rs (AreAll n rs)
 
--- ## How they are told
+-- ## Their replies
 
 abbrev pub round_fault_line : RoundFault → List ℕ
 round_fault_line faults.Dead = codes "error dead\n"
@@ -95,7 +95,7 @@ round_fault_line faults.Memory = codes "error memory\n"
 round_fault_line faults.Full = codes "error full\n"
 round_fault_line faults.Disk = codes "error disk\n"
 
--- the line that tells one round, and the line that tells how many were run
+-- The reply to one round, and the reply to a drain by the number of its rounds.
 abbrev pub round_line : Result Round RoundFault → List ℕ
 round_line (Ok round) = rounded_line round.started round.finished
 round_line (Err fault) = round_fault_line fault
@@ -109,12 +109,12 @@ with_counts (Ok round) (Ok rounds) = Ok (round ∷ rounds)
 with_counts (Ok round) (Err fault) = Err fault
 with_counts (Err fault) rest = Err fault
 
--- the counts of all, or the first fault
+-- The counts of all rounds, or the first fault.
 abbrev pub counts_in : List (Result Round RoundFault) → Result (List Round) RoundFault
 counts_in [] = Ok []
 counts_in (r ∷ rs) = with_counts r (counts_in rs)
 
--- how many they were, or the first fault
+-- The number of rounds, or the first fault.
 abbrev pub rounds_run : Result (List Round) RoundFault → Result ℕ RoundFault
 rounds_run (Ok rounds) = Ok (length rounds)
 rounds_run (Err fault) = Err fault
@@ -123,13 +123,13 @@ abbrev pub line_told : (List Round → List ℕ) → Result (List Round) RoundFa
 line_told line (Ok rounds) = line rounds
 line_told line (Err fault) = round_fault_line fault
 
--- rounds that were run, as many as may be at the most, and their text
+-- Rounds that were run, at most this many, and their reply.
 pub record AreRun {D : Type 0} (v : Setting D) (most : ℕ) (line : List Round → List ℕ) (old : RunState D) (rs : List (Ran D)) (new : RunState D) (reply : List ℕ) : Type 0 where
   pub each : AreRan v old rs new
   pub all : AreAll most (results_of rs)
   pub text : reply ≡ line_told line (counts_in (results_of rs))
 
--- only a row of rounds is told by rounds
+-- Only `round` and `drain` are answered with rounds.
 abbrev pub AreRunBy : {D : Type 0} → Setting D → Meaning → RunState D → List (Ran D) → RunState D → List ℕ → Type 0
 AreRunBy v (says text) old rs new reply = ⊥
 AreRunBy v (asks e line) old rs new reply = ⊥

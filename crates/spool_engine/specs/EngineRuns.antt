@@ -1,4 +1,4 @@
--- What a run did, turn by turn, also where something failed.
+-- The steps of a run, also if something failed.
 use Rattle.std.specs.Prelude.{◌≡◌, ℕ, zero, suc, ◌<◌, ◌≤◌, ◌↔◌, ◌⊎◌, Bool, true, false, List, [], ◌∷◌, ◌++◌, take, length, map, ⊤, IsSome, Option, None, Some, Result, Ok, Err, OnOk, IfErr, ◌≢◌}
 use Rattle.std.specs.List.{flat_map}
 use Rattle.std.specs.Result.{IsOk}
@@ -27,23 +27,23 @@ use Rattle.spool_engine.specs.Script.{Documents, Asked, ScriptState, meaning, ev
 use Rattle.spool_engine.specs.declared.fault.RunFault.{RunFault}
 use Rattle.spool_engine.specs.declared.fault.RunFault.TheVariants.{Read, Write, Memory}
 
--- whoever hands in the commands himself is told of no reader that failed
+-- A call that reads nothing does not report a failed reader.
 abbrev pub ReadsNothing : {A : Type 0} → Result A RunFault → Type 0
 ReadsNothing result = IfErr result (λ fault. fault ≢ Read)
 
--- an engine as its callers see it
+-- An engine as its callers see it.
 pub record Engine (D : Type 0) : Type 0 where
   pub mime : Mime
   pub place : Place
   pub run_state : RunState D
 
--- how a command went: as one that says something or has one event, by rounds, or as a purge of a job whose child runs
+-- The way a command was answered: with a text or after at most one event, by rounds, or as a withheld purge of a job whose child runs.
 pub data How (D : Type 0) : Type 0 where
   answered : Outcome → How D
   ran : List (Ran D) → How D
   withheld : How D
 
--- a command, the document that was read to close a job, how it went, its reply, and what it leaves
+-- A command, the document that was read to close a job, the way it was answered, its reply, and the run state after it.
 pub record CommandStep (D : Type 0) : Type 0 where
   pub command : Command
   pub document : List ℕ
@@ -51,28 +51,28 @@ pub record CommandStep (D : Type 0) : Type 0 where
   pub text : List ℕ
   pub next : RunState D
 
--- as the spool sees it
+-- The step as one over the spool alone.
 abbrev pub event_step : {D : Type 0} → CommandStep D → Outcome → EventStep D
 event_step t outcome = record { command = t.command; document = t.document; outcome = outcome; text = t.text; next = t.next.spool }
 
--- the slots are as they were, and so is what the children tell
+-- The slots and the children's trace did not change.
 pub record IsHeld {D : Type 0} (old new : RunState D) : Type 0 where
   pub slots : new.slots ≡ old.slots
   pub told : new.told ≡ old.told
 
--- such a purge is told so, and nothing changes
+-- A withheld purge gets this reply, and nothing changes.
 pub record IsWithheld {D : Type 0} (s : RunState D) (t : CommandStep D) : Type 0 where
   pub is : withholds s.slots t.command ≡ true
   pub text : t.text ≡ withheld_line
   pub same : t.next ≡ s
 
--- a command that is no round runs no child
+-- A command without rounds runs no child.
 abbrev pub IsHow : {D : Type 0} → Setting D → RunState D → CommandStep D → How D → Type 0
 IsHow v s t (answered outcome) = IsOutcome v s.spool (event_step t outcome) outcome × IsHeld s t.next × (withholds s.slots t.command ≡ false)
 IsHow v s t (ran rs) = AreRunBy v (meaning v.mime s.spool.state t.document t.command) s rs t.next t.text
 IsHow v s t withheld = IsWithheld s t
 
--- the document that a job was closed by is its own
+-- The document that was read to close a job is the job's.
 abbrev pub IsReadIn : {D : Type 0} → Setting D → RunState D → CommandStep D → How D → Type 0
 IsReadIn v s t (answered outcome) = IsReadFor v s.spool t.document outcome t.command
 IsReadIn v s t (ran rs) = Unit {0}
@@ -83,11 +83,11 @@ tried_by asked (answered outcome) = tried_as asked outcome
 tried_by asked (ran rs) = flat_map (λ r. r.tried) rs
 tried_by asked withheld = []
 
--- the events that were tried in a turn
+-- The events that were tried in a step.
 abbrev pub tried_in : {D : Type 0} → Mime → RunState D → CommandStep D → List Event
 tried_in m s t = tried_by (event_of m s.spool.state t.document t.command) t.how
 
--- the documents after a turn: with what its event sends, if it was tried
+-- The documents after a step: with the bytes that its event sends, if it was tried.
 abbrev pub documents_by_how : {D : Type 0} → RunState D → Documents → Option Event → How D → Documents
 documents_by_how s documents asked (answered outcome) = documents_after s.spool.state documents (tried_as asked outcome)
 documents_by_how s documents asked (ran rs) = documents
@@ -96,21 +96,21 @@ documents_by_how s documents asked withheld = documents
 abbrev pub documents_left : {D : Type 0} → Mime → RunState D → Documents → CommandStep D → Documents
 documents_left m s documents t = documents_by_how s documents (event_of m s.spool.state t.document t.command) t.how
 
--- a crash left the table after some of the events that were tried, and the documents with what they sent
+-- The image has the table after the first of the events that were tried, some or all, and the documents with the bytes that they sent.
 abbrev pub HasSomeBy : {D : Type 0} → RunState D → Documents → Option Event → How D → List ℕ → Type 0
 HasSomeBy s documents asked (answered outcome) image = HasSomeSent s.spool.state documents (tried_as asked outcome) image
 HasSomeBy s documents asked (ran rs) image = HasSomeWhole s.spool.state documents (tried_by asked (ran rs)) image
 HasSomeBy s documents asked withheld image = HasWhole s.spool.state documents image
 
--- in a checkpoint it is the table, also in the newest version
+-- The same, and for a checkpoint also the table in the newest version.
 abbrev pub HasSomeIn : {D : Type 0} → Mime → RunState D → Documents → CommandStep D → List ℕ → Type 0
 HasSomeIn m s documents t image =
     HasSomeBy s documents (event_of m s.spool.state t.document t.command) t.how image ⊎ ((is_checkpoint t.command ≡ true) × HasWhole (raised s.spool.state) documents image)
 
--- A turn on the spool that it found. Unless the device had failed before, a crash at any moment of it leaves the table
--- after some of the events that were tried in it, the first of them: for a command of one event the table before it or
--- the one after it, and for a checkpoint the table in its version or in the newest. Unless the device has failed by then, a
--- crash after the turn leaves the table that is shown. So it is with the documents.
+-- A step on the run state that it found. Unless the device had failed before, a crash at any moment of it leaves the table after the first
+-- of the events that were tried in it, some or all. For a command of one event this is the table before it or the one after it, and for a
+-- checkpoint the table in its version or in the newest. If the device has not failed by the end of the step, a crash after it leaves the
+-- table that is shown. The same holds for the documents.
 pub record IsCommandStep {D : Type 0} (v : Setting D) (s : RunState D) (t : CommandStep D) : Type 0 where
   pub how : IsHow v s t t.how
   pub read : IsReadIn v s t t.how
@@ -124,7 +124,7 @@ pub record IsCommandStep {D : Type 0} (v : Setting D) (s : RunState D) (t : Comm
   pub lasting : t.next.spool.dead ≡ false → IsSome (v.device.bytes s.spool.disk) → (documents : Documents) → LeavesDocuments v.device documents s.spool →
       LeavesDocuments v.device (documents_left v.mime s documents t) t.next.spool
 
--- each turn is one on what it found
+-- Each step starts from the run state that the previous one left.
 abbrev pub AreCommandSteps : {D : Type 0} → Setting D → RunState D → List (CommandStep D) → Type 0
 AreCommandSteps v s [] = Unit {0}
 AreCommandSteps v s (t ∷ ts) = IsCommandStep v s t × AreCommandSteps v t.next ts
@@ -139,33 +139,33 @@ texts_of ts = flat_map (λ t. t.text) ts
 abbrev pub commands_in : {D : Type 0} → List (CommandStep D) → List Command
 commands_in ts = map (λ t. t.command) ts
 
--- nothing failed in it
+-- Nothing failed in the command.
 abbrev pub IsWell : {D : Type 0} → How D → Type 0
 IsWell (answered outcome) = outcome ≡ served
 IsWell (ran rs) = IsOk (counts_in (results_of rs))
 IsWell withheld = Unit {0}
 
--- nothing failed
+-- Nothing failed in any step.
 abbrev pub AllServed : {D : Type 0} → List (CommandStep D) → Type 0
 AllServed [] = Unit {0}
 AllServed (t ∷ ts) = IsWell t.how × AllServed ts
 
--- the table that some of these turns' events and checkpoints lead to, the first of them, in order
+-- The image has the table after the first of the events and checkpoints of these steps, some or all.
 abbrev pub IsAlong : {D : Type 0} → Mime → RunState D → List (CommandStep D) → List ℕ → Type 0
 IsAlong m s [] image = HasTable s.spool.state image
 IsAlong m s (t ∷ ts) image = HasTableIn t.command s.spool.state (tried_in m s t) image ⊎ IsAlong m t.next ts image
 
--- and these documents, with what the events sent
+-- The same with these documents and the bytes that the events sent.
 abbrev pub IsWholeAlong : {D : Type 0} → Mime → RunState D → Documents → List (CommandStep D) → List ℕ → Type 0
 IsWholeAlong m s documents [] image = HasWhole s.spool.state documents image
 IsWholeAlong m s documents (t ∷ ts) image = HasSomeIn m s documents t image ⊎ IsWholeAlong m t.next (documents_left m s documents t) ts image
 
--- the documents behind these turns
+-- The documents after these steps.
 abbrev pub last_documents : {D : Type 0} → Mime → RunState D → Documents → List (CommandStep D) → Documents
 last_documents m s documents [] = documents
 last_documents m s documents (t ∷ ts) = last_documents m t.next (documents_left m s documents t) ts
 
--- the replies but for the last, and of the last a front and not all
+-- All replies except the last, and a part of the last but not all of it.
 pub record WroteUpTo {D : Type 0} (old new : Option (List ℕ)) (turns : List (CommandStep D)) : Type 0 where
   pub told : List (CommandStep D)
   pub cut : CommandStep D
@@ -174,7 +174,7 @@ pub record WroteUpTo {D : Type 0} (old new : Option (List ℕ)) (turns : List (C
   pub short : count < length cut.text
   pub front : Appends old new (texts_of told ++ take count cut.text)
 
--- the turns but for the last, whose text found no memory, or all of them
+-- All replies, or all except the last, which ran out of memory.
 pub record WroteBefore {D : Type 0} (old new : Option (List ℕ)) (turns : List (CommandStep D)) : Type 0 where
   pub told : List (CommandStep D)
   pub untold : List (CommandStep D)
@@ -182,78 +182,78 @@ pub record WroteBefore {D : Type 0} (old new : Option (List ℕ)) (turns : List 
   pub at_most_one : length untold ≤ 1
   pub wrote : Appends old new (texts_of told)
 
--- What was written of the turns' replies, by how the run ended.
+-- The bytes that were written of the replies, by the result of the run.
 abbrev pub Wrote : {D : Type 0} → Result (Unit {0}) RunFault → Option (List ℕ) → Option (List ℕ) → List (CommandStep D) → Type 0
 Wrote (Ok done) old new turns = Appends old new (texts_of turns)
 Wrote (Err Read) old new turns = Appends old new (texts_of turns)
 Wrote (Err Write) old new turns = WroteUpTo old new turns
 Wrote (Err Memory) old new turns = WroteBefore old new turns
 
--- turns that lead from one to another
+-- The steps start from one run state and end in the other.
 pub record Lead {D : Type 0} (v : Setting D) (s : RunState D) (turns : List (CommandStep D)) (s' : RunState D) : Type 0 where
   pub legal : AreCommandSteps v s turns
   pub last : last_run_state s turns ≡ s'
 
--- a turn of this command, before its text is written
+-- A step of this command, before its reply is written.
 pub record TakesStep {D : Type 0} (v : Setting D) (s : RunState D) (c : Command) (t : CommandStep D) (s' : RunState D) : Type 0 where
   pub legal : IsCommandStep v s t
   pub command : t.command ≡ c
   pub next : t.next ≡ s'
 
--- the one turn of a command
+-- The one step of a command.
 pub record Serves {D : Type 0} (v : Setting D) (s : RunState D) (c : Command) (t : CommandStep D) (s' : RunState D) (result : Result (Unit {0}) RunFault) (old new : Option (List ℕ)) : Type 0 where
   pub legal : IsCommandStep v s t
   pub command : t.command ≡ c
   pub next : t.next ≡ s'
   pub wrote : Wrote result old new (t ∷ [])
 
--- the commands are the first of the others
+-- The commands are the first of the others.
 abbrev pub AreFirst : List Command → List Command → Type 0
 AreFirst cs all = (rest : List Command) × (all ≡ cs ++ rest)
 
--- turns of the commands that were given on the way from one state of the reader of commands to another
+-- The steps of the commands that the reader of commands yields between two of its states.
 pub record Drains {D : Type 0} (v : Setting D) (s : RunState D) (p : Pending) (turns : List (CommandStep D)) (s' : RunState D) (p' : Pending) (result : Result (Unit {0}) RunFault) (old new : Option (List ℕ)) : Type 0 where
   pub lead : Lead v s turns s'
   pub commands : Leads p (commands_in turns) p'
   pub wrote : Wrote result old new turns
 
--- how a run ends that goes no further
+-- The result without whether there was a command.
 abbrev pub without_count : Result Bool RunFault → Result (Unit {0}) RunFault
 without_count (Ok more) = Ok tt
 without_count (Err fault) = Err fault
 
--- One turn where there was a command, and less is held then. None where no whole one was held.
+-- One step if there was a command, and then less is buffered. None if no whole command was buffered.
 abbrev pub IsOneWhere : {D : Type 0} → Result Bool RunFault → Pending → List (CommandStep D) → Pending → Type 0
 IsOneWhere (Ok true) p turns p' = (length turns ≡ 1) × (weight p' < weight p)
 IsOneWhere (Ok false) p turns p' = (turns ≡ []) × IsPartial p'.mode p'.held
 IsOneWhere (Err fault) p turns p' = length turns ≤ 1
 
--- the next command was served, if a whole one was held
+-- The next command was served, if a whole one was buffered.
 pub record ServesNext {D : Type 0} (v : Setting D) (s : RunState D) (p : Pending) (turns : List (CommandStep D)) (s' : RunState D) (p' : Pending) (result : Result Bool RunFault) (old new : Option (List ℕ)) : Type 0 where
   pub served : Drains v s p turns s' p' (without_count result) old new
   pub count : IsOneWhere result p turns p'
 
--- the same of a piece that was fed, or after a fault wasn't
+-- The same for a piece, which after a fault may not have been fed.
 pub record DrainsPiece {D : Type 0} (v : Setting D) (piece : List ℕ) (s : RunState D) (p : Pending) (turns : List (CommandStep D)) (s' : RunState D) (p' : Pending) (result : Result (Unit {0}) RunFault) (old new : Option (List ℕ)) : Type 0 where
   pub lead : Lead v s turns s'
   pub commands : (more : List ℕ) → AreFirst (commands_in turns) (to_come p (piece ++ more))
   pub on_ok : OnOk result ((more : List ℕ) → to_come p (piece ++ more) ≡ commands_in turns ++ to_come p' more)
   pub wrote : Wrote result old new turns
 
--- the same where the text ends here, and these commands are still to come
+-- The same at the end of the text, with these commands still to come.
 pub record DrainsEnd {D : Type 0} (v : Setting D) (s : RunState D) (p : Pending) (turns : List (CommandStep D)) (s' : RunState D) (rest : List Command) (result : Result (Unit {0}) RunFault) (old new : Option (List ℕ)) : Type 0 where
   pub lead : Lead v s turns s'
   pub commands : to_come p [] ≡ commands_in turns ++ rest
   pub wrote : Wrote result old new turns
 
--- the text is what the reader had, if it tells
+-- The text is the rest of the reader, if the reader reports it.
 abbrev pub Tells : Option (List ℕ) → List ℕ → Type 0
 Tells None text = ⊤
 Tells (Some known) text = known ≡ text
 
--- ## Runs in which nothing failed
+-- ## Runs without a failure
 
--- what was read in each of these rounds
+-- The documents as they were read in each of these rounds.
 abbrev pub read_in : {D : Type 0} → List (Ran D) → ℕ → Documents
 read_in [] k = λ j. []
 read_in (r ∷ rs) zero = r.documents
@@ -264,7 +264,7 @@ read_by document (answered outcome) = λ k j. document
 read_by document (ran rs) = read_in rs
 read_by document withheld = λ k j. document
 
--- the commands, each with what was read in its turn
+-- The commands, each with the documents that were read in its step.
 abbrev pub asked_by : {D : Type 0} → CommandStep D → Asked
 asked_by t = record { command = t.command; documents = read_by t.document t.how }
 
@@ -275,12 +275,12 @@ abbrev pub HasNoCheckpoints : List Command → Type 0
 HasNoCheckpoints [] = Unit {0}
 HasNoCheckpoints (c ∷ cs) = (is_checkpoint c ≡ false) × HasNoCheckpoints cs
 
--- no checkpoint of these raises the version: it is the newest already, or there is none
+-- No checkpoint raises the version: it is already the newest, or no command is a checkpoint.
 abbrev pub KeepVersion : State → List Command → Type 0
 KeepVersion s cs = (s.version ≡ Two) ⊎ HasNoCheckpoints cs
 
--- exactly the replies of Script were written, and the table is Script's: the fold of Script's events, where no checkpoint
--- raises its version between them
+-- Exactly Script's replies were written, and the table is Script's. If no checkpoint raises the version in between, it is the fold of
+-- Script's events.
 pub record IsScript {D : Type 0} (v : Setting D) (x : ScriptState) (asked : List Asked) (s' : RunState D) (old new : Option (List ℕ)) : Type 0 where
   pub wrote : Appends old new (script_text v.mime v.place x asked)
   pub table : s'.spool.state ≡ (run_script_state v.mime v.place x asked).state
@@ -295,41 +295,40 @@ abbrev pub HasNoRounds : List Command → Type 0
 HasNoRounds [] = Unit {0}
 HasNoRounds (c ∷ cs) = (is_round c ≡ false) × HasNoRounds cs
 
--- what stands, and these are what the children tell
+-- The run state as a ScriptState, with this trace.
 abbrev pub script_state_with : {D : Type 0} → RunState D → ChildTrace → ScriptState
 script_state_with s told = record { state = s.spool.state; slots = s.slots; told = told }
 
--- what stands is this, and the children tell their part of it
+-- The ScriptState is that of the run state, and the children report its trace.
 pub record IsScriptState {D : Type 0} (s : RunState D) (x : ScriptState) : Type 0 where
   pub state : s.spool.state ≡ x.state
   pub slots : s.slots ≡ x.slots
   pub told : s.told ≡ Some x.told
 
--- A run is Script of these commands, without rounds whatever the children are, and with rounds where they tell and the slots
--- have the tickets of those that run. Their new orders are Script's then, and so is what is held.
+-- The run is Script of these commands: without rounds for any children, and with rounds if the children report and the slots have the
+-- tickets of the running ones. Then the new orders and the slots are Script's too.
 pub record IsExact {D : Type 0} (v : Setting D) (s : RunState D) (text : List ℕ) (asked : ScriptState → List Asked) (s' : RunState D) (old new : Option (List ℕ)) : Type 0 where
   pub plain : HasNoRounds (commands_of text) → (t : ChildTrace) → IsScript v (script_state_with s t) (asked (script_state_with s t)) s' old new
   pub telling : (t : ChildTrace) → s.told ≡ Some t → HasTickets s.slots t →
       IsScript v (script_state_with s t) (asked (script_state_with s t)) s' old new × IsScriptState s' (run_script_state v.mime v.place (script_state_with s t) (asked (script_state_with s t)))
 
--- Where the disk tells its bytes, a crash leaves these documents, and the device doesn't fail, the run is Script of a text
--- with these documents, and with what is sent meanwhile. Behind it a crash leaves the documents that Script leaves.
+-- If the disk reports its bytes, a crash leaves these documents, and the device does not fail, then the run is Script of a text with these
+-- documents and the bytes that the text sends. A crash after it leaves the documents that Script leaves.
 pub record IsExactWith {D : Type 0} (v : Setting D) (s : RunState D) (text : List ℕ) (documents : Documents) (s' : RunState D) (old new : Option (List ℕ)) : Type 0 where
   pub script : IsExact v s text (λ x. asked_on v.mime v.place x documents (commands_of text)) s' old new
   pub lasting : (t : ChildTrace) → HasNoRounds (commands_of text) ⊎ ((s.told ≡ Some t) × HasTickets s.slots t) →
       LeavesDocuments v.device (documents_on v.mime v.place (script_state_with s t) documents (commands_of text)) s'.spool
 
--- A run over a text: the commands of the text, or after a fault the first of them, each with its turn; and what was
--- written.
+-- A run over a text: the commands of the text, or after a fault the first of them, each with its step, and the bytes that were written.
 pub record IsRun {D : Type 0} (v : Setting D) (known : Option (List ℕ)) (s : RunState D) (text : List ℕ) (turns : List (CommandStep D)) (s' : RunState D) (result : Result (Unit {0}) RunFault) (old new : Option (List ℕ)) : Type 0 where
   pub tells : Tells known text
   pub begins : IsKept v.device s.spool
   pub lead : Lead v s turns s'
   pub first : AreFirst (commands_in turns) (commands_of text)
   pub all : OnOk result (commands_in turns ≡ commands_of text)
-  -- where nothing failed it is Script, with what was read in each turn
+  -- If nothing failed, the run is Script, with the documents that were read in each step.
   pub exact : OnOk result (AllServed turns → IsExact v s text (λ x. asked_of turns) s' old new)
-  -- and with the documents that the disk had, where it tells its bytes
+  -- The same with the documents that the disk had, if it reports its bytes.
   pub exact_with : OnOk result (AllServed turns → s'.spool.dead ≡ false → IsSome (v.device.bytes s.spool.disk) → (documents : Documents) → LeavesDocuments v.device documents s.spool →
       IsExactWith v s text documents s' old new)
   pub wrote : Wrote result old new turns

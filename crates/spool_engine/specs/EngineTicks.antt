@@ -1,4 +1,4 @@
--- A tick of an engine, also where something failed.
+-- A tick of an engine, also if something failed.
 use Rattle.std.specs.Prelude.{◌≡◌, ◌≤◌, ◌↔◌, ◌⊎◌, ℕ, Bool, true, false, List, [], IsSome, Result}
 use Rattle.spool_types.specs.declared.event.Event.{Event}
 use Rattle.filter_args.specs.declared.place.Place.{Place}
@@ -10,22 +10,22 @@ use Rattle.print_rounds.specs.declared.outcome.Round.{Round}
 use Rattle.print_rounds.specs.declared.outcome.RoundFault.{RoundFault}
 use Rattle.spool_engine.specs.EventSteps.{Setting, IsKept}
 
--- a tick: what it leaves, its answer, and the events that were tried in it
+-- A tick: the run state after it, its result, and the events that were tried in it.
 pub record Ticked (D : Type 0) : Type 0 where
   pub next : RunState D
   pub result : Result Round RoundFault
   pub tried : List Event
 
--- A tick, and the events that were tried in it: those that were acknowledged, and behind them the one at which the device
--- failed. Where nothing was done none was tried.
+-- The events that were tried in a tick: the acknowledged ones, followed by the current one if the device failed. A tick that did
+-- nothing tried none.
 abbrev pub IsTickWith : {D : Type 0} → DiskView D → Place → RunState D → Bool → Ticked D → Type 0
 IsTickWith device place old true t = IsTickBy device place old true t.next t.result × (t.tried ≡ [])
 IsTickWith device place old false t =
     (IsUnbegun old t.next t.result × (t.tried ≡ []))
     ⊎ ((made : IsTickOf device place old t.next t.result) × (t.tried ≡ tried_in old made.steps.parts))
 
--- A tick. Unless the device had failed before, a crash at any moment of it leaves the table after some of the events that were
--- tried, the first of them.
+-- A tick. Unless the device had failed before, a crash at any moment of it leaves the table after the first of the events that were tried,
+-- some or all.
 pub record IsTicked {D : Type 0} (v : Setting D) (old : RunState D) (t : Ticked D) : Type 0 where
   pub tick : IsTickWith v.device v.place old old.spool.dead t
   pub counted : v.device.failures old.spool.disk ≤ v.device.failures t.next.spool.disk
@@ -33,7 +33,7 @@ pub record IsTicked {D : Type 0} (v : Setting D) (old : RunState D) (t : Ticked 
   pub crash : old.spool.dead ≡ false → IsSome (v.device.bytes old.spool.disk) →
       LeavesOnly v.device old.spool.disk t.next.spool.disk (HasSomeOf old.spool.state t.tried)
   pub kept : IsKept v.device t.next.spool
-  -- so it is with the documents, which a tick leaves as they are
+  -- The same with the documents, which a tick does not change.
   pub whole : old.spool.dead ≡ false → IsSome (v.device.bytes old.spool.disk) → (documents : ℕ → List ℕ) → LeavesDocuments v.device documents old.spool →
       LeavesOnly v.device old.spool.disk t.next.spool.disk (HasSomeWhole old.spool.state documents t.tried)
   pub lasting : t.next.spool.dead ≡ false → IsSome (v.device.bytes old.spool.disk) → (documents : ℕ → List ℕ) → LeavesDocuments v.device documents old.spool →

@@ -1,4 +1,4 @@
--- How an event, or a checkpoint, went.
+-- The spool's answer to an event or a checkpoint, and the reply.
 use Rattle.std.specs.Prelude.{◌≡◌, ◌≤◌, ◌↔◌, ◌⊎◌, ℕ, List, take, codes, false, IsSome, Result, Ok, Err, OnOk}
 use Rattle.spool_types.specs.declared.event.Event.{Event}
 use Rattle.spool_types.specs.declared.event.Reply.{Reply}
@@ -18,7 +18,7 @@ use Rattle.spool_engine.specs.EventSteps.{Setting, EventStep, IsEventStep, IsKep
 use Rattle.spool_core.specs.declared.reading.Unread.{Unread}
 use Rattle.spool_core.specs.declared.reading.Unread.TheVariants as unread
 
--- the line for a fault
+-- The line for a fault.
 abbrev pub fault_line : ApplyFault → List ℕ
 fault_line Dead = codes "error dead\n"
 fault_line (Refused refusal) = refusal_line refusal
@@ -26,12 +26,12 @@ fault_line Memory = codes "error memory\n"
 fault_line Full = codes "error full\n"
 fault_line Disk = codes "error disk\n"
 
--- the line that tells how an event went, where this line tells its reply
+-- The reply to an event, given the line for the table's reply.
 abbrev pub answer_line : (Reply → List ℕ) → Result Reply ApplyFault → List ℕ
 answer_line line (Ok reply) = line reply
 answer_line line (Err fault) = fault_line fault
 
--- an event that was answered so, and what a crash meanwhile and behind it leaves
+-- An event with this answer, and the images that a crash leaves during it and after it.
 pub record IsApplied {D : Type 0} (device : DiskView D) (old : OpenSpool D) (e : Event) (answer : Result Reply ApplyFault) (new : OpenSpool D) : Type 0 where
   pub cause : IsAnswer device old e answer new
   pub counted : device.failures old.disk ≤ device.failures new.disk
@@ -44,28 +44,28 @@ pub record IsApplied {D : Type 0} (device : DiskView D) (old : OpenSpool D) (e :
   pub sent : OnOk answer (IsSome (device.bytes old.disk) → (documents : ℕ → List ℕ) → LeavesDocuments device documents old →
       LeavesDocuments device (documents_after_one old.state documents e) new)
 
--- the first bytes of a job's document
+-- The first bytes of a job's document.
 pub record IsFrontOf {D : Type 0} (device : DiskView D) (s : OpenSpool D) (j count : ℕ) (front : List ℕ) : Type 0 where
   pub document : List ℕ
   pub own : IsDocumentOf device s j document
   pub front_is : front ≡ take count document
 
--- they were read, or there was no memory for them, or the device failed
+-- The bytes were read, or memory ran out, or the device failed.
 abbrev pub IsFrontRead : {D : Type 0} → DiskView D → OpenSpool D → ℕ → ℕ → Result (List ℕ) Unread → OpenSpool D → Type 0
 IsFrontRead device old j count (Ok front) new = IsStill device old new × IsFrontOf device old j count front
 IsFrontRead device old j count (Err unread.Memory) new = new ≡ old
 IsFrontRead device old j count (Err unread.Disk) new = IsCut device old new
 
--- the line that tells how a checkpoint went
+-- The reply to a checkpoint.
 abbrev pub checkpoint_line : Result (Unit {0}) CheckpointFault → List ℕ
 checkpoint_line (Ok done) = codes "ok\n"
 checkpoint_line (Err fault) = checkpoint_fault_line fault
 
--- the table with these documents, in its version or in the newest
+-- The image has the table with these documents, in its version or in the newest.
 abbrev pub HasWholeInEitherVersion : State → (ℕ → List ℕ) → List ℕ → Type 0
 HasWholeInEitherVersion s documents image = HasWhole s documents image ⊎ HasWhole (raised s) documents image
 
--- a checkpoint that was answered so, and what a crash meanwhile and behind it leaves
+-- A checkpoint with this answer, and the images that a crash leaves during it and after it.
 pub record IsRelisted {D : Type 0} (device : DiskView D) (old : OpenSpool D) (answer : Result (Unit {0}) CheckpointFault) (new : OpenSpool D) : Type 0 where
   pub cause : IsCheckpoint device old answer new
   pub counted : device.failures old.disk ≤ device.failures new.disk
@@ -77,7 +77,7 @@ pub record IsRelisted {D : Type 0} (device : DiskView D) (old : OpenSpool D) (an
   pub kept : IsKept device new
   pub lasting : OnOk answer (IsSome (device.bytes old.disk) → (documents : ℕ → List ℕ) → LeavesDocuments device documents old → LeavesDocuments device documents new)
 
--- a turn of this command on the spool, before its text is written
+-- A step of this command on the spool, before its reply is written.
 pub record Takes {D : Type 0} (v : Setting D) (s : OpenSpool D) (c : Command) (t : EventStep D) (s' : OpenSpool D) : Type 0 where
   pub legal : IsEventStep v s t
   pub command : t.command ≡ c

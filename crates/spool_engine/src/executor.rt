@@ -1,4 +1,4 @@
-//! The executor of commands of one event, of checkpoints, and of listings: it serves each on the spool that it finds.
+//! The executor of commands of one event, of checkpoints and of listings, over the spool alone.
 ghost use Rattle.std.specs.Prelude.{◌≡◌, ◌≤◌, ℕ, List, Some, None, Result, false, [], IfOk, IsSome};
 ghost use Rattle.std.specs.Option.{option_and_then, option_copied};
 ghost use Rattle.std.specs.FinMap as finite;
@@ -42,7 +42,7 @@ use spool_types::{
 use std::alloc::{AllocError, Global};
 use std::marker::Model;
 
-/// An executor over a spool, seen as what the spool shows.
+/// An executor over a spool. Its view is the spool's.
 #[derive(Drop)]
 pub(crate) struct Executor<D: Disk> {
     alloc: Global,
@@ -65,16 +65,16 @@ impl<D: Disk> Model for Executor<D> {
 }
 
 impl<D: Disk> Executor<D> {
-    /// An executor that goes on from this spool.
+    /// Returns an executor over this spool.
     pub fn new(alloc: Global, spool: Spool<D>) -> Executor<D>
         ensures { result ≡ spool }
     {
-        // A crash leaves this table, which is the executor's invariant.
+        // `table` states that a crash leaves this table, which is the executor's invariant.
         let _table = spool.table();
         Executor { alloc, spool }
     }
 
-    /// The spool as it is now.
+    /// Returns the spool.
     pub fn into_spool(self) -> Spool<D>
         ensures { result ≡ self }
     {
@@ -82,37 +82,36 @@ impl<D: Disk> Executor<D> {
         spool
     }
 
-    /// Whether the device has failed. Then every event is answered `error dead`.
+    /// Returns whether the device has failed. Every event is then answered `error dead`.
     pub fn met_fault(&self) -> bool
         ensures dead { result ≡ self.now.dead }
-        // Until then a crash leaves the table that is shown.
+        // Until the device has failed, a crash leaves the table that is shown.
         ensures kept { IsKept D.device self.now }
     {
         self.spool.is_dead()
     }
 
-    /// How many bytes there are for records of events until a checkpoint.
+    /// Returns the number of bytes left for records of events until a checkpoint.
     pub fn room(&self) -> u64
         ensures { result ≡ self.now.room }
     {
         self.spool.room()
     }
 
-    /// The table as it is now.
+    /// Returns the current table.
     pub fn table(&self) -> &Table
         ensures { result.now.state ≡ self.now.state }
     {
         self.spool.table()
     }
 
-    // Applies an event.
     fn apply(&mut self, event: Event) -> Result<Reply, ApplyFault>
         ensures { IsApplied D.device self.old event result self.new }
     {
         self.spool.apply(event)
     }
 
-    /// Applies an event, and makes the text of its reply, where that is told by the reply alone.
+    /// Applies an event, and returns the text of its reply, which depends only on the spool's answer.
     pub fn execute_event(&mut self, event: Event) -> Result<Vec<u8>, AllocError>
         ensures { (answer : Result Reply ApplyFault) ×
             IsApplied D.device self.old event answer self.new ×
@@ -122,7 +121,7 @@ impl<D: Disk> Executor<D> {
         answer_text(self.alloc, answer)
     }
 
-    /// Makes a queue, where its URI is that of a device, and the text of the reply.
+    /// Adds a queue if its URI is that of a device, and returns the text of the reply.
     pub fn add_queue(&mut self, queue: NewQueue) -> Result<Vec<u8>, AllocError>
         ensures { (m : MimeDatabase) (p : PlaceOf) → (t : EventStep D) ×
             Takes (setting D.device m p) self.old (Command.Queue queue) t self.new ×
@@ -135,7 +134,7 @@ impl<D: Disk> Executor<D> {
         }
     }
 
-    /// Makes a job, where its options are read and can be kept, and the text of the reply.
+    /// Creates a job if its options contain no error and are short enough, and returns the text of the reply.
     pub fn create(&mut self, creation: Creation) -> Result<Vec<u8>, AllocError>
         ensures { (m : MimeDatabase) (p : PlaceOf) → (t : EventStep D) ×
             Takes (setting D.device m p) self.old (Command.Create creation) t self.new ×
@@ -152,8 +151,8 @@ impl<D: Disk> Executor<D> {
         }
     }
 
-    /// Closes a job, and makes the text of its reply. A document is read only where the job can be closed, and no further than
-    /// its type depends on it.
+    /// Closes a job, and returns the text of the reply. The document is read only if the job can be closed, and only as far as its type
+    /// depends on it.
     pub fn close(&mut self, mime: &Mime<'_>, job: JobId, name: &str) -> Result<Vec<u8>, AllocError>
         ensures { (p : PlaceOf) → (t : EventStep D) ×
             Takes (setting D.device mime.now p) self.old (Command.Close job name.now) t self.new ×
@@ -173,7 +172,7 @@ impl<D: Disk> Executor<D> {
         }
     }
 
-    // How many of its first bytes tell the type of a job's document.
+    // Returns the number of first bytes that determine the type of the job's document.
     fn reach(&self, mime: &Mime<'_>, job: JobId) -> usize
         requires { IsSome (job_at self.now.state job) }
         ensures within { result ≤ len_at self.now.state job }
@@ -185,7 +184,7 @@ impl<D: Disk> Executor<D> {
         }
     }
 
-    // The first bytes of a job's document so far.
+    // Reads the first bytes of the job's document.
     fn front(&mut self, job: JobId, count: usize) -> Result<Content, Unread>
         requires alive { self.old.dead ≡ false }
         requires there { IsSome (job_at self.old.state job) }
@@ -196,7 +195,7 @@ impl<D: Disk> Executor<D> {
         read_content(self.alloc, &mut self.spool, job, count)
     }
 
-    // Closes a job by these bytes of its document, and makes the text of its reply.
+    // Closes a job whose document begins with these bytes, and returns the text of the reply.
     fn close_typed(
         &mut self,
         mime: &Mime<'_>,
@@ -222,7 +221,7 @@ impl<D: Disk> Executor<D> {
         }
     }
 
-    // The event that closes a job with this document, and its media type once more for the reply.
+    // Returns the event that closes the job with this document, and a copy of its media type for the reply.
     fn closing(
         &self,
         mime: &Mime<'_>,
@@ -244,7 +243,7 @@ impl<D: Disk> Executor<D> {
         Ok((closing, told))
     }
 
-    // The filters that lead a job's document of this type to what its queue takes.
+    // Returns the filters that convert a document of this type into the type that the job's queue takes.
     fn filters(
         &self,
         mime: &Mime<'_>,
@@ -259,7 +258,6 @@ impl<D: Disk> Executor<D> {
         }
     }
 
-    // The queue of a job.
     fn queue_of_job(&self, job: JobId) -> Option<&QueueRow>
         ensures { option_copied result ≡ queue_of_job self.now.state job }
     {
@@ -267,7 +265,7 @@ impl<D: Disk> Executor<D> {
         self.table().queue(&row.job.queue)
     }
 
-    /// Lists the table in the other area, so that the journal has room again, and makes the text of the reply.
+    /// Lists the table in the other area, so that the journal has room again, and returns the text of the reply.
     pub fn checkpoint(&mut self) -> Result<Vec<u8>, AllocError>
         ensures { (answer : Result (Unit {0}) CheckpointFault) ×
             IsRelisted D.device self.old answer self.new ×
@@ -277,14 +275,13 @@ impl<D: Disk> Executor<D> {
         checkpoint_text(self.alloc, done)
     }
 
-    // Lists the table in the other area.
     fn relist(&mut self) -> Result<(), CheckpointFault>
         ensures { IsRelisted D.device self.old result self.new }
     {
         self.spool.checkpoint()
     }
 
-    /// Waits for each child that runs, and then runs a round.
+    /// Waits for each child that runs, then runs a round.
     pub fn round<C: Children>(
         &mut self,
         place: &Place,
@@ -297,7 +294,7 @@ impl<D: Disk> Executor<D> {
     {
         finish_children(runner, children);
         let ran = print_rounds::round(self.alloc, place, &mut self.spool, runner, children);
-        // A crash leaves this table, which is the executor's invariant.
+        // `table` states that a crash leaves this table, which is the executor's invariant.
         let _table = self.spool.table();
         ran
     }
@@ -314,7 +311,7 @@ impl<D: Disk> Executor<D> {
             (record { next = run_state self.new runner.new (C.tells children.new); result = result; tried = tried }) }
     {
         let ran = print_rounds::tick(self.alloc, place, &mut self.spool, runner, children);
-        // A crash leaves this table, which is the executor's invariant.
+        // `table` states that a crash leaves this table, which is the executor's invariant.
         let _table = self.spool.table();
         ran
     }
@@ -326,11 +323,11 @@ impl<D: Disk> Executor<D> {
         JobId::new(next.min(JobId::GREATEST)).unwrap()
     }
 
-    /// The text that lists the jobs.
+    /// Returns the listing of the jobs.
     pub fn jobs(&self) -> Result<Vec<u8>, AllocError>
         ensures text { IfOk result (λ text.
             text.items ≡ jobs_text self.now.state.moment (finite.values self.now.state.jobs)) }
-        // Until the device has failed a crash leaves what is listed.
+        // Until the device has failed, a crash leaves the table that is listed.
         ensures kept { IsKept D.device self.now }
     {
         let rows = self.table().jobs();
@@ -338,11 +335,11 @@ impl<D: Disk> Executor<D> {
         print_reply(self.alloc, &Answer::Jobs { rows, now })
     }
 
-    /// The text that lists the queues.
+    /// Returns the listing of the queues.
     pub fn queues(&self) -> Result<Vec<u8>, AllocError>
         ensures text { IfOk result (λ text.
             text.items ≡ queues_text (finite.values self.now.state.jobs) (finite.values self.now.state.queues)) }
-        // Until the device has failed a crash leaves what is listed.
+        // Until the device has failed, a crash leaves the table that is listed.
         ensures kept { IsKept D.device self.now }
     {
         let shown = shown_queues(self.alloc, self.table())?;
@@ -350,7 +347,7 @@ impl<D: Disk> Executor<D> {
     }
 }
 
-// The first bytes of a job's document.
+// Reads the first bytes of a job's document.
 fn read_content<D: Disk>(
     alloc: Global,
     spool: &mut Spool<D>,
@@ -368,7 +365,7 @@ fn read_content<D: Disk>(
     }
 }
 
-// The queues of a table. Whether one is processing is asked of its lane, so that no job is looked at.
+// Returns the queues of a table, each with whether it is processing. That is read from its lane, so no job is examined.
 fn shown_queues(alloc: Global, table: &Table) -> Result<Vec<ShownQueue<'_>>, AllocError>
     ensures { IfOk result (λ shown.
         shown_text shown.items ≡ queues_text (finite.values table.now.state.jobs) (finite.values table.now.state.queues)) }
@@ -382,7 +379,7 @@ fn shown_queues(alloc: Global, table: &Table) -> Result<Vec<ShownQueue<'_>>, All
     Ok(shown)
 }
 
-// How many stages a closed job has: its filters, and then the backend.
+// Returns the number of stages of a closed job: its filters and the backend. `None` if no chain of conversions exists.
 fn stages(closing: &Closing) -> Option<u8>
     ensures { result ≡ stages_of closing.now.filters }
 {
@@ -392,7 +389,7 @@ fn stages(closing: &Closing) -> Option<u8>
     }
 }
 
-// The event that makes a job, which is to start by a moment if one is told.
+// Returns the event that creates the job, which must start by this moment if there is one.
 fn event_of_creation(job: NewJob, by: Option<Moment>) -> Event
     ensures { result ≡ creation job by }
 {

@@ -1,12 +1,12 @@
-//! Why a run ended.
+//! The errors that end a run.
 
-/// Why a run ended before its text did.
+/// Why a run ended before the end of its text.
 #[derive(Clone, Copy, Debug, PartialEq, Eq)]
 pub enum RunFault {
-    /// The reader failed, or went on for 4,294,967,295 reads.
+    /// The reader failed, or 4,294,967,295 reads did not reach the end of the text.
     Read,
     /// The writer failed.
     Write,
-    /// A piece of the text, a command or the text of a reply found no memory.
+    /// Memory ran out for a piece of the text, a command or the text of a reply.
     Memory,
 }

@@ -1,4 +1,4 @@
-//! The MIME database: what documents are read by.
+//! The MIME database, by which documents are typed and filters are chosen.
 ghost use Rattle.std.specs.Prelude.{◌≡◌, ◌≤◌, IfOk, min};
 ghost use Rattle.mime_costs.specs.LeastWalk.{filters_between};
 ghost use Rattle.mime_rules.specs.Reach.{reach};
@@ -10,15 +10,15 @@ use spool_types::{Filters, MediaType, TextFault};
 use std::alloc::{AllocError, Global};
 use std::marker::Model;
 
-// The type of a document that no rule tells.
+// The type of a document for which no rule is true.
 const UNKNOWN_TYPE: &str = "application/octet-stream";
 
-/// By which rules documents are typed and in which locale, and which filters change one type into another.
+/// The rules and the locale by which documents are typed, and the conversions from one type into another.
 #[derive(Drop)]
 pub(crate) struct Mime<'a> {
     pub types: &'a Types,
     pub convs: &'a Convs,
-    /// The locale of the place where the children run.
+    /// The locale of the children.
     pub locale: &'a str,
 }
 
@@ -33,7 +33,7 @@ impl<'a> Model for Mime<'a> {
 }
 
 impl<'a> Mime<'a> {
-    /// The type of a document with this name and these bytes.
+    /// Returns the type of a document with this name and these bytes.
     pub fn type_of(
         &self,
         alloc: Global,
@@ -48,7 +48,7 @@ impl<'a> Mime<'a> {
         }
     }
 
-    /// How many of its first bytes tell the type of a document of this length.
+    /// Returns the number of first bytes that determine the type of a document of this length.
     pub fn reach(&self, len: usize) -> usize
         ensures value { result ≡ min len (reach self.now.types) }
         ensures within { result ≤ len }
@@ -57,7 +57,7 @@ impl<'a> Mime<'a> {
         self.types.reach(len)
     }
 
-    /// The filters that lead from one type to another, if there is a way.
+    /// Returns the filters that convert one type into another, or `None` if no chain of conversions does.
     pub fn filters(&self, from: &MediaType, to: &MediaType) -> Result<Option<Filters>, AllocError>
         ensures { IfOk result (λ filters. filters ≡ filters_between self.now.convs from.now to.now) }
     {

@@ -1,4 +1,4 @@
-//! The options that a job keeps.
+//! The options that a job stores.
 ghost use Rattle.std.specs.Prelude.{◌≡◌, cond, None, Some, IfOk, OnErr};
 ghost use Rattle.std.specs.Result.{IsOk};
 ghost use Rattle.spool_types.specs.Values.{is_options};
@@ -9,10 +9,10 @@ use filter_args::{OptionFault, Options};
 use spool_types::{OptionText, TextFault};
 use std::alloc::{AllocError, Global};
 
-/// What a job keeps of these options: their printed form, if they are read and it isn't too long.
+/// Returns the printed form of these options, which the job stores, or `None` if they contain an error or are too long.
 pub fn job_options(alloc: Global, text: &str) -> Result<Option<OptionText>, AllocError>
     ensures value { IfOk result (λ options. options ≡ job_options text.now) }
-    // Only of options without a fault it says that memory is wanting.
+    // Out of memory is returned only if the options contain no error.
     ensures memory { OnErr result (IsOk (reading text.now)) }
 {
     match Options::parse(alloc, text) {
@@ -25,7 +25,7 @@ pub fn job_options(alloc: Global, text: &str) -> Result<Option<OptionText>, Allo
     }
 }
 
-// The text as one of options, if it isn't too long.
+// Returns the text as a value of its type, or `None` if it is too long.
 fn option_text(alloc: Global, text: &str) -> Result<Option<OptionText>, AllocError>
     ensures { IfOk result (λ options. options ≡ cond (is_options text.now) (Some text.now) None) }
 {

@@ -1,4 +1,4 @@
-//! The printer: it serves the commands of a text, each on what it finds.
+//! The printer: serves the commands of a text, each on the run state that it finds.
 ghost use Rattle.std.specs.Prelude.{◌≡◌, ℕ, List, [], IfOk, OnOk};
 ghost use Rattle.std.specs.FinMap as finite;
 ghost use Rattle.spool_types.specs.declared.event.Event.{Event as EventOf};
@@ -30,11 +30,11 @@ use std::io::{ErrorKind, Read, Write};
 use std::marker::Model;
 use whole_writes::write_whole;
 
-// How many bytes are asked of the reader at once.
+// The number of bytes requested from the reader at once.
 const PIECE: usize = 16_384;
 
-/// An executor, and beside it the slots and the children by which rounds and ticks are run. It is seen as what the spool shows,
-/// the slots, and what the children tell.
+/// An executor, with the slots and the children that rounds and ticks use. Its view is the run state: the spool, the slots, and the trace
+/// that the children report.
 #[derive(Drop)]
 pub(crate) struct Printer<D: Disk, C: Children> {
     alloc: Global,
@@ -56,7 +56,7 @@ impl<D: Disk, C: Children> Model for Printer<D, C> {
 }
 
 impl<D: Disk, C: Children> Printer<D, C> {
-    /// A printer that goes on from this spool.
+    /// Returns a printer over this spool.
     pub fn new(alloc: Global, spool: Spool<D>, children: C) -> Printer<D, C>
         ensures { result ≡ run_state spool finite.empty (C.tells children) }
     {
@@ -68,7 +68,7 @@ impl<D: Disk, C: Children> Printer<D, C> {
         }
     }
 
-    /// The spool as it is now, and the children, once none of them runs.
+    /// Waits for each child that runs, and returns the spool and the children.
     pub fn into_parts(self) -> (Spool<D>, C)
         ensures { (slots : Slots) × IsSettled self (run_state result.0 slots (C.tells result.1)) }
     {
@@ -84,30 +84,30 @@ impl<D: Disk, C: Children> Printer<D, C> {
         (executor.into_spool(), children)
     }
 
-    /// Whether the device has failed. Then every event is answered `error dead`.
+    /// Returns whether the device has failed. Every event is then answered `error dead`.
     pub fn met_fault(&self) -> bool
         ensures dead { result ≡ self.now.spool.dead }
-        // Until then a crash leaves the table that is shown.
+        // Until the device has failed, a crash leaves the table that is shown.
         ensures kept { IsKept D.device self.now.spool }
     {
         self.executor.met_fault()
     }
 
-    /// How many bytes there are for records of events until a checkpoint.
+    /// Returns the number of bytes left for records of events until a checkpoint.
     pub fn room(&self) -> u64
         ensures { result ≡ self.now.spool.room }
     {
         self.executor.room()
     }
 
-    /// The table as it is now.
+    /// Returns the current table.
     pub fn table(&self) -> &Table
         ensures { result.now.state ≡ self.now.spool.state }
     {
         self.executor.table()
     }
 
-    /// Waits for each child that runs, and then runs a round.
+    /// Waits for each child that runs, then runs a round.
     pub fn round(&mut self, place: &Place) -> Result<Round, RoundFault>
         ensures { (m : MimeDatabase) → (settled : RunState D) × (tried : List EventOf) × (documents : ℕ → List ℕ) × IsRan (setting D.device m place.now) self.old
             (record { settled = settled; next = self.new; result = result; tried = tried; documents = documents }) }
@@ -125,7 +125,7 @@ impl<D: Disk, C: Children> Printer<D, C> {
             .tick(place, &mut self.runner, &mut self.children)
     }
 
-    // Runs rounds until one starts and finishes nothing, or these were run, and tells how many there were.
+    // Runs rounds until one starts and finishes nothing, at most `most`, and returns how many it ran.
     fn drain(&mut self, place: &Place, most: Rounds) -> Result<u32, RoundFault>
         ensures { (m : MimeDatabase) → (rs : List (Ran D)) × AreRan (setting D.device m place.now) self.old rs self.new
             × AreAll most (results_of rs) × (result ≡ rounds_run (counts_in (results_of rs))) }
@@ -143,7 +143,7 @@ impl<D: Disk, C: Children> Printer<D, C> {
         Ok(most.get())
     }
 
-    // The text that tells a round.
+    // Runs a round, and returns the text of the reply.
     fn round_text(&mut self, place: &Place) -> Result<Vec<u8>, AllocError>
         ensures { (m : MimeDatabase) → (rs : List (Ran D)) × (reply : List ℕ)
             × AreRun (setting D.device m place.now) 1 round_text self.old rs self.new reply
@@ -153,7 +153,7 @@ impl<D: Disk, C: Children> Printer<D, C> {
         rounded_text(self.alloc, ran)
     }
 
-    // The text that tells the rounds of a drain.
+    // Runs the rounds of a drain, and returns the text of the reply.
     fn drain_text(&mut self, place: &Place, most: Rounds) -> Result<Vec<u8>, AllocError>
         ensures { (m : MimeDatabase) → (rs : List (Ran D)) × (reply : List ℕ)
             × AreRun (setting D.device m place.now) most drain_text self.old rs self.new reply
@@ -163,7 +163,7 @@ impl<D: Disk, C: Children> Printer<D, C> {
         drained_text(self.alloc, run)
     }
 
-    // Whether this is a purge of a job whose child runs.
+    // Returns whether the event is a purge of a job whose child runs.
     fn withholds(&self, event: &Event) -> bool
         ensures { result ≡ withholds_event self.now.slots event.now }
     {
@@ -173,13 +173,13 @@ impl<D: Disk, C: Children> Printer<D, C> {
         }
     }
 
-    // Applies an event, unless it is a purge of a job whose child runs, and makes the text of its reply.
+    // Applies an event, unless it is a purge of a job whose child runs, and returns the text of the reply.
     fn apply(&mut self, event: Event) -> Result<Vec<u8>, AllocError>
         ensures { (m : MimeDatabase) (p : PlaceOf) → (t : CommandStep D) ×
             TakesStep (setting D.device m p) self.old (Command.Apply event) t self.new ×
             IfOk result (λ text. text.items ≡ t.text) }
     {
-        // Until the device has failed a crash leaves the table that is shown.
+        // Until the device has failed, a crash leaves the table that is shown.
         let _kept = self.met_fault();
         if self.withholds(&event) {
             print_reply(self.alloc, &Answer::Refused(Refusal::NotEnded))
@@ -188,7 +188,7 @@ impl<D: Disk, C: Children> Printer<D, C> {
         }
     }
 
-    // Serves a command, and makes the text of its reply.
+    // Serves a command, and returns the text of the reply.
     fn execute(
         &mut self,
         mime: &Mime<'_>,
@@ -199,7 +199,7 @@ impl<D: Disk, C: Children> Printer<D, C> {
             TakesStep (setting D.device mime.now place.now) self.old command t self.new ×
             IfOk result (λ text. text.items ≡ t.text) }
     {
-        // Until the device has failed a crash leaves the table that is shown.
+        // Until the device has failed, a crash leaves the table that is shown.
         let _kept = self.met_fault();
         match command {
             Command::Apply(event) => self.apply(event),
@@ -218,7 +218,7 @@ impl<D: Disk, C: Children> Printer<D, C> {
         }
     }
 
-    /// Serves a command, and writes its reply.
+    /// Serves a command and writes the reply.
     pub fn answer<W: Write>(
         &mut self,
         mime: &Mime<'_>,
@@ -239,7 +239,7 @@ impl<D: Disk, C: Children> Printer<D, C> {
         }
     }
 
-    /// Serves one command, if a whole one is held, and tells whether there was one.
+    /// If a whole command is buffered, serves it. Returns whether there was one.
     pub fn serve_next<W: Write>(
         &mut self,
         mime: &Mime<'_>,
@@ -284,7 +284,7 @@ impl<D: Disk, C: Children> Printer<D, C> {
         }
     }
 
-    // Serves the commands that are left where the text ends.
+    // Serves the commands that remain at the end of the text.
     fn serve_end<W: Write>(
         &mut self,
         mime: &Mime<'_>,
@@ -309,7 +309,7 @@ impl<D: Disk, C: Children> Printer<D, C> {
         }
     }
 
-    // Takes a piece of the text, and serves the commands that are whole then.
+    // Takes a piece of the text, and serves the commands that are then whole.
     fn take_piece<W: Write>(
         &mut self,
         mime: &Mime<'_>,
@@ -327,8 +327,7 @@ impl<D: Disk, C: Children> Printer<D, C> {
         }
     }
 
-    /// Serves the commands of a text, and writes the reply to each before the next is looked at. A read that was
-    /// interrupted is made again.
+    /// Serves the commands of a text. Writes the reply to each before it takes the next. An interrupted read is repeated.
     pub fn serve<R: Read, W: Write>(
         &mut self,
         mime: &Mime<'_>,
@@ -340,7 +339,7 @@ impl<D: Disk, C: Children> Printer<D, C> {
             IsRun (setting D.device mime.now place.now) (R.remaining reader.old)
             self.old text turns self.new result (W.contents writer.old) (W.contents writer.new) }
     {
-        // Until the device has failed a crash leaves the table that is shown.
+        // Until the device has failed, a crash leaves the table that is shown.
         let _kept = self.met_fault();
         // No event raises the version.
         versions_rise();
@@ -368,7 +367,7 @@ impl<D: Disk, C: Children> Printer<D, C> {
     }
 }
 
-// Whether a round started and finished nothing.
+// Returns whether a round started and finished nothing.
 fn is_idle(round: Round) -> bool
     ensures { result ≡ is_idle round }
 {

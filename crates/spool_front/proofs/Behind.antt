@@ -1,4 +1,4 @@
--- Nothing of a document is left to send only where its end was read.
+-- Nothing of a document is left to send only if its end was read.
 use Rattle.std.proofs.Common.{◌≡◌, ℕ, ◌<◌, ◌⊎◌, inl, inr, Bool, true, false, cond, ◌==◌, ◌+◌, refl, ap, sym, ◌∙◌, subst, arith, Option, None, Some}
 use Rattle.front_submission.specs.declared.step.Step.{Step}
 use Rattle.front_submission.specs.declared.step.Step.TheVariants.{Creating, Finding, Clearing, Reading, Sending, Measuring, Holding, Closing, Checking, Canceling, Ended}
@@ -92,7 +92,7 @@ answered_behind step next (inr (inl is)) h = lost_behind step (ap is_behind (sym
 answered_behind step next (inr (inr (inl is))) h = deserted_behind step (ap is_behind (sym is) ∙ h)
 answered_behind step next (inr (inr (inr is))) h = lost_behind step (deserted_behind (lost step) (ap is_behind (sym is) ∙ h))
 
--- where a piece is read, something is left to read
+-- If a piece is read, something is left to read.
 reads : (step : Step) (size : ℕ) → request step ≡ Read size → is_behind step ≡ true → ⊥
 reads (Reading job at) size is h = cc
 reads (Creating tries) size is h = cc

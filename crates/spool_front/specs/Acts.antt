@@ -1,4 +1,4 @@
--- What is done to a job or a queue, as commands.
+-- The commands for actions on jobs and queues.
 use Rattle.std.specs.Prelude.{◌≡◌, ℕ, Bool, true, ◌&&◌, ◌||◌, not, cond, ◌==◌, List, length, codes, Option, None, Some}
 use Rattle.std.specs.List.{list_any}
 use Rattle.command_lines.specs.CommandGrammar.{is_word}
@@ -12,7 +12,7 @@ use Rattle.spool_front.specs.SentCommands.{hold_line, info_line, job_line, name_
 use Rattle.spool_front.specs.JobDrafts.{IsMoment}
 use Rattle.spool_front.specs.declared.commands.Until.TheVariants.{Released, Reached}
 
--- the command for one job
+-- The command for one job.
 abbrev pub IsActLine : JobAct → ℕ → List ℕ → Type 0
 IsActLine Cancel job line = line ≡ job_line (codes "cancel") job
 IsActLine Release job line = line ≡ job_line (codes "release") job
@@ -21,7 +21,7 @@ IsActLine End job line = line ≡ job_line (codes "end") job
 IsActLine (Hold None) job line = line ≡ hold_line job Released
 IsActLine (Hold (Some moment)) job line = (told : ℕ) × IsMoment moment told × (line ≡ hold_line job (Reached told))
 
--- the command for a queue
+-- The command for a queue.
 abbrev pub queue_act_line : List ℕ → QueueAct → List ℕ
 queue_act_line name (Add queue) = queue_line name queue
 queue_act_line name (Set info location) = info_line name info.now location.now
@@ -30,12 +30,12 @@ queue_act_line name Reject = name_line (codes "reject") name
 queue_act_line name Enable = name_line (codes "enable") name
 queue_act_line name Disable = name_line (codes "disable") name
 
--- whether a job is of this queue; with none all are
+-- The job is of this queue, or no queue is named.
 abbrev pub is_of : Option (List ℕ) → JobLine → Bool
 is_of None job = true
 is_of (Some queue) job = is_word job.queue queue
 
--- whether a job is of one of these queues, or of any where none is named, and hasn't ended
+-- The job is of one of these queues, or none is named, and it has not ended.
 abbrev pub is_cleared : {T : Type 0} → List T → (T → List ℕ) → JobLine → Bool
 is_cleared names text job = ((length names == 0) || list_any (λ name. is_word (text name) job.queue) names) && not (is_ended job.state)
 

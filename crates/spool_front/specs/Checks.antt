@@ -9,13 +9,13 @@ use Rattle.spool_front.specs.declared.chains.Chains.{Chains}
 use Rattle.spool_front.specs.declared.check.Hindrance.{Hindrance}
 use Rattle.spool_front.specs.declared.check.Hindrance.TheVariants as found
 
--- what keeps documents from being printed, by whether filters lead to the printer's type, its state, and whether it takes jobs
+-- Why documents cannot be printed, from whether filters convert to the printer's type, the queue's state, and whether it accepts jobs.
 abbrev pub hindrance_of : Bool → PrinterState → Bool → Option Hindrance
 hindrance_of false state accepting = Some found.NoChain
 hindrance_of true Stopped accepting = Some found.Stopped
 hindrance_of true state false = Some found.Rejecting
 hindrance_of true state true = None
 
--- whether a queue can print and takes jobs
+-- The queue can print and accepts jobs.
 abbrev pub prints : Chains → QueueLine → Bool
 prints chains queue = is_none (hindrance_of (list_any (leads chains.convs queue.target) chains.kinds.items) queue.state queue.accepting)

@@ -1,4 +1,4 @@
--- What lpstat and lpq are asked for.
+-- The requests of lpstat and lpq.
 use Rattle.std.specs.Prelude.{ℕ, Bool, true, not, ◌||◌, ◌==◌, cond, List, [], ◌∷◌, ◌++◌, length, codes, String, string_bytes, Option, None, Some, is_some, unwrap_or}
 use Rattle.std.specs.Global.{Global}
 use Rattle.std.specs.Fmt.{decimal}
@@ -9,7 +9,7 @@ use Rattle.front_texts.specs.declared.job_line.JobLine.{JobLine}
 use Rattle.front_texts.specs.declared.queue_line.QueueLine.{QueueLine}
 use Rattle.front_words.specs.declared.asked.Lpstat.{Lpstat}
 
--- the names that are asked for, where all are none
+-- The requested names. The empty list means all.
 abbrev pub list_of : Option (List ℕ) → Bool → Option (List ℕ)
 list_of (Some names) all = Some names
 list_of None true = Some []
@@ -19,43 +19,43 @@ abbrev pub has_some : {T : Type 0} → List T → Bool
 has_some [] = not true
 has_some (x ∷ xs) = true
 
--- whether jobs are asked for, or nothing is
+-- Jobs were requested, or nothing was.
 abbrev pub lists_jobs : Lpstat → Bool
 lists_jobs asked =
     asked.all || (is_some asked.jobs || (has_some asked.names.items
     || not (asked.scheduler || (asked.usual || (is_some asked.accepting || is_some asked.printers)))))
 
--- whether a queue is the one that is meant; with no name all are
+-- The queue was requested. Without a name all are.
 abbrev pub is_meant : Option (String Global) → QueueLine → Bool
 is_meant None queue = true
 is_meant (Some name) queue = is_word (string_bytes name) queue.name
 
--- a comma or a blank stands between two names
+-- A comma or a blank separates two names.
 abbrev pub is_between : ℕ → Bool
 is_between b = (b == 44) || (b == 32)
 
 abbrev pub is_part : List ℕ → List ℕ → Bool
 is_part names name = list_any (λ part. is_word part name) (slice_split is_between names)
 
--- whether a name is in a list; the empty one has all
+-- The name is in the list. The empty list contains all names.
 abbrev pub has_name : List ℕ → List ℕ → Bool
 has_name names name = (length names == 0) || is_part names name
 
--- the id of a job: its queue and its number
+-- The id of a job: its queue and its number.
 abbrev pub job_id : JobLine → List ℕ
 job_id job = job.queue ++ codes "-" ++ decimal job.number
 
--- whether a list has a job's queue, or its id
+-- The list contains the job's queue or its id.
 abbrev pub lists_job : List ℕ → JobLine → Bool
 lists_job names job = has_name names job.queue || has_name names (job_id job)
 
--- whether a job is asked for: by one of the names, or with none of them by the list of jobs
+-- The job was requested: by one of the names or, if there are none, by the list of jobs.
 abbrev pub is_named : Lpstat → JobLine → Bool
 is_named asked job =
     cond (length asked.names.items == 0)
     (lists_job (unwrap_or (option_map (λ names. names.now) asked.jobs) []) job)
     (list_any (λ names. lists_job names.now job) asked.names.items)
 
--- whether a job has one of these numbers; with no number all have
+-- The job has one of these numbers, or there are no numbers.
 abbrev pub is_numbered : List ℕ → JobLine → Bool
 is_numbered numbers job = (length numbers == 0) || list_any (λ number. number == job.number) numbers

@@ -1,4 +1,4 @@
--- What the environment tells, or else what is usual.
+-- The values of environment variables, and their defaults.
 use Rattle.std.specs.Prelude.{◌≡◌, ℕ, List, String, string_bytes, Option, None, Some}
 use Rattle.std.specs.Global.{Global}
 use Rattle.std.specs.Str.Parse.{digits_value, without_leading_plus}
@@ -8,7 +8,7 @@ abbrev pub text_or : Option (String Global) → List ℕ → List ℕ
 text_or None usual = usual
 text_or (Some text) usual = string_bytes text
 
--- the number of decimal digits, where a plus may stand first; what is none, or is above the greatest, counts as not told
+-- The decimal number, optionally after a plus sign. If the value is no number, or is greater than the greatest, the default is used.
 abbrev pub IsNumberOr : ℕ → ℕ → Option (String Global) → ℕ → Type 0
 IsNumberOr most usual None number = number ≡ usual
 IsNumberOr most usual (Some text) number =

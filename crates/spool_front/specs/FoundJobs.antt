@@ -1,4 +1,4 @@
--- The jobs that a submission looks for.
+-- The jobs that a submission searches for.
 use Rattle.std.specs.Prelude.{ℕ, Bool, ◌&&◌, cond, List, codes, string_bytes, Option, None, Some}
 use Rattle.command_lines.specs.CommandGrammar.{is_word}
 use Rattle.front_submission.specs.declared.reply.Found.{Found}
@@ -8,7 +8,7 @@ use Rattle.front_texts.specs.declared.job_line.JobLine.{JobLine}
 use Rattle.spool_front.specs.ServiceReplies.{has_reason}
 use Rattle.spool_front.specs.declared.commands.Draft.{Draft}
 
--- whether a job arrives for this queue and this user
+-- The job is incoming and has the draft's queue and owner.
 abbrev pub may_be_own : Draft → JobLine → Bool
 may_be_own draft job =
     has_reason (codes "job-incoming") job.reason
@@ -18,11 +18,11 @@ abbrev pub own_as : Draft → Option JobLine → Option ℕ
 own_as draft None = None
 own_as draft (Some job) = cond (may_be_own draft job) (Some job.number) None
 
--- the number of a row's job, if it may be the submission's own
+-- The number of the job in a row, if it may be the submission's own.
 abbrev pub own_job : Draft → List ℕ → Option ℕ
 own_job draft row = own_as draft (job_row row)
 
--- the first one is the submission's own, and another one is more than is wanted
+-- The first job is the submission's own. Any other one is surplus.
 abbrev pub found_as : Option Own → Option ℕ → ℕ → ℕ → Found
 found_as None another job size = record { own = Some (record { job = job; size = size }); another = another }
 found_as (Some own) another job size = record { own = Some own; another = Some job }

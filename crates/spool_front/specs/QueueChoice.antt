@@ -1,19 +1,19 @@
--- Which queue is meant.
+-- The choice of a queue.
 use Rattle.std.specs.Prelude.{ℕ, Bool, List, [], ◌∷◌, String, string_bytes, Option, None, Some}
 use Rattle.std.specs.Global.{Global}
 use Rattle.std.specs.List.{list_any}
 use Rattle.command_lines.specs.CommandGrammar.{is_word}
 use Rattle.front_texts.specs.declared.queue_line.QueueLine.{QueueLine}
 
--- whether there is a queue of this name
+-- A queue has this name.
 abbrev pub has_queue : List QueueLine → List ℕ → Bool
 has_queue queues name = list_any (λ queue. is_word queue.name name) queues
 
--- the queue of a row, at the service of this socket
+-- The queue of a row, at the service of this socket.
 abbrev pub place_at : List ℕ → QueueLine → List ℕ × List ℕ
 place_at socket row = (socket, row.name)
 
--- what is known of the only queue: nothing, or where it is
+-- The queue stored so far, with its socket, as a list of at most one element.
 abbrev pub noted : {T : Type 0} → Option (T × String Global) → (T → List ℕ) → List (List ℕ × List ℕ)
 noted None text = []
 noted (Some service) text = (text service.0, string_bytes service.1) ∷ []

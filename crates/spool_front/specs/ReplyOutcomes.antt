@@ -1,4 +1,4 @@
--- What the client of a service makes of a reply.
+-- The outcome of a reply.
 use Rattle.std.specs.Prelude.{ℕ, Bool, true, false, cond, List, ◌++◌, codes, string_bytes, Option, Some, Result, Ok, Err, Vec}
 use Rattle.std.specs.Global.{Global}
 use Rattle.std.specs.List.{flat_map}
@@ -11,17 +11,17 @@ abbrev pub says_done : Option Last → Bool
 says_done (Some (done words)) = true
 says_done last = false
 
--- whether a reply with this last line is no refusal
+-- The reply with this last line is not a refusal.
 abbrev pub is_done : List ℕ → Bool
 is_done line = says_done (last_line line)
 
--- a refusal is told by its last line
+-- A refusal is reported with its last line.
 abbrev pub accepted : Answer → Result Answer Fault
 accepted answer = cond (is_done (string_bytes answer.last)) (Ok answer) (Err (Refused answer.last))
 
 abbrev pub row_text : Vec ℕ Global → List ℕ
 row_text row = row.items ++ codes "\n"
 
--- the rows, each with its line feed
+-- The rows, each with its line feed.
 abbrev pub rows_text : List (Vec ℕ Global) → List ℕ
 rows_text rows = flat_map row_text rows

@@ -7,7 +7,7 @@ use Rattle.spool_front.specs.declared.commands.Draft.{Draft}
 use Rattle.spool_front.specs.declared.commands.Until.{Until}
 use Rattle.spool_front.specs.declared.commands.Until.TheVariants.{Released, Reached}
 
--- a blank, and a text in quotes
+-- A blank, followed by a text in quotes.
 abbrev pub text_word : List ℕ → List ℕ
 text_word text = codes " " ++ quoted text
 
@@ -22,7 +22,7 @@ create_word (Some moment) = codes "createby"
 abbrev pub ranks : Draft → List ℕ
 ranks d = codes " " ++ decimal d.copies ++ codes " " ++ decimal d.priority
 
--- whose job it is, and what it is called
+-- The queue, the owner and the title.
 abbrev pub names : Draft → List ℕ
 names d = text_word (string_bytes d.queue) ++ text_word (string_bytes d.user) ++ text_word (string_bytes d.title)
 
@@ -39,11 +39,11 @@ abbrev pub hold_line : ℕ → Until → List ℕ
 hold_line job Released = codes "hold " ++ decimal job ++ codes " indefinite\n"
 hold_line job (Reached moment) = codes "hold " ++ decimal job ++ codes " " ++ decimal moment ++ codes "\n"
 
--- a word, and the number of a job
+-- A word, followed by a job number.
 abbrev pub job_line : List ℕ → ℕ → List ℕ
 job_line word job = word ++ codes " " ++ decimal job ++ codes "\n"
 
--- a word, and the name of a queue
+-- A word, followed by the name of a queue.
 abbrev pub name_line : List ℕ → List ℕ → List ℕ
 name_line word name = word ++ text_word name ++ codes "\n"
 
@@ -55,6 +55,6 @@ queue_line name q =
     codes "queue" ++ text_word name ++ text_word q.uri.now ++ text_word q.media.now
     ++ (codes " " ++ q.policy.now ++ codes " " ++ decimal q.interval ++ codes " " ++ decimal q.limit ++ codes "\n")
 
--- a byte that no text may have
+-- A control character, which no text may contain.
 abbrev pub is_control : ℕ → Bool
 is_control b = nat_lt b 32 || (b == 127)

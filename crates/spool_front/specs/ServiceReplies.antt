@@ -1,4 +1,4 @@
--- What a service says of a submission.
+-- The meaning of a service's replies for a submission.
 use Rattle.std.specs.Prelude.{ℕ, Bool, true, false, ◌||◌, cond, ◌==◌, List, [], ◌∷◌, codes, Option, None, Some, is_some}
 use Rattle.std.specs.List.{before_first, after_first}
 use Rattle.line_words.specs.DecimalNumbers.{decimal}
@@ -12,7 +12,7 @@ use Rattle.front_submission.specs.declared.reply.Reply.TheVariants.{Created, Sen
 use Rattle.front_submission.specs.declared.reply.Shown.{Shown}
 use Rattle.front_submission.specs.declared.reply.Shown.TheVariants.{Arriving, WasClosed, NoFilters, NeverClosed}
 
--- the number that a job got
+-- The number of the created job.
 abbrev pub job_of : Option ℕ → Reply
 job_of None = Unclear
 job_of (Some job) = Created job
@@ -27,7 +27,7 @@ size_of (Some size) = Sent size
 abbrev pub bytes_as : List ℕ → Reply
 bytes_as text = size_of (decimal 1099511627776 text)
 
--- the type of the document, and then the stages, or that there are none
+-- The type of the document, followed by the stages or by `unprintable`.
 abbrev pub type_as : List ℕ → Reply
 type_as text =
     cond (is_word (before_first is_space (after_first is_space text)) (codes "stages")) (Closed true)
@@ -41,12 +41,12 @@ word_as word rest =
     (cond (is_word word (codes "type")) (type_as rest)
     Unclear))
 
--- what follows `ok`
+-- The words after `ok`.
 abbrev pub done_as : List ℕ → Reply
 done_as [] = Done
 done_as (b ∷ bs) = word_as (before_first is_space (b ∷ bs)) (after_first is_space (b ∷ bs))
 
--- what follows `error`, where it is a word. After a fault of the disk it isn't known what was done
+-- A word after `error`. After an error of the disk it is unknown whether the command was executed.
 abbrev pub failed_as : List ℕ → Reply
 failed_as word =
     cond (is_word word (codes "job")) Gone
@@ -60,7 +60,7 @@ reply_as (Some (done words)) = done_as words
 reply_as (Some (refused number name)) = cond (number == 6) NotIncoming Denied
 reply_as (Some (failed word)) = failed_as word
 
--- the last line of a reply
+-- The last line of a reply.
 abbrev pub reply_in : List ℕ → Reply
 reply_in line = reply_as (last_line line)
 
@@ -68,22 +68,22 @@ abbrev pub says_gone : Reply → Bool
 says_gone Gone = true
 says_gone reply = false
 
--- whether there is no such job
+-- The job does not exist.
 abbrev pub is_gone : List ℕ → Bool
 is_gone line = says_gone (reply_in line)
 
--- what has become of a job that was closed, by its state and whether its reason is that no filters lead to its printer
+-- The state of a job that was closed, from its state and whether its reason is that no filters convert to its printer's type.
 abbrev pub closed_as : JobState → Bool → Shown
 closed_as Aborted true = NoFilters
 closed_as state no_filter = WasClosed
 
--- a job that was closed has a type; one that wasn't arrives, or has ended
+-- A job that was closed has a type. One that was not closed is incoming or has ended.
 abbrev pub shown_as : Bool → JobState → Bool → Bool → ℕ → Shown
 shown_as true state no_filter incoming size = closed_as state no_filter
 shown_as false state no_filter true size = Arriving size
 shown_as false state no_filter false size = NeverClosed
 
--- whether the reason of a state is this word
+-- The reason of a state is this word.
 abbrev pub has_reason : List ℕ → Option (List ℕ) → Bool
 has_reason word None = false
 has_reason word (Some reason) = is_word reason word
@@ -93,7 +93,7 @@ shown_of job =
     shown_as (is_some job.job_status.media) job.job_status.state
     (has_reason (codes "no-filter") job.job_status.reason) (has_reason (codes "job-incoming") job.job_status.reason) job.job_status.size
 
--- the status of a job that is waited for, once it has ended
+-- The exit status for a job that the program waits for, once the job has ended.
 abbrev pub status_at : JobState → Option ℕ
 status_at Completed = Some 0
 status_at Canceled = Some 5

@@ -1,4 +1,4 @@
--- What a submission makes of what comes.
+-- The steps of a submission.
 use Rattle.std.specs.Prelude.{◌≡◌, ℕ, ◌+◌, ◌⊎◌, Bool, true, false, min, List, codes, String, string_bytes, Option, None, Some}
 use Rattle.std.specs.Global.{Global}
 use Rattle.front_submission.specs.SubmissionSteps.{deserted, heard, lost, supplied, unread}
@@ -13,21 +13,21 @@ use Rattle.front_submission.specs.declared.step.Step.{Step}
 use Rattle.front_submission.specs.declared.step.Step.TheVariants.{Holding, Closing, Checking, Ended}
 use Rattle.spool_front.specs.FoundJobs.{with_job}
 
--- why a document is refused, for a person, by the words of the last refusal and whether there was no memory
+-- Why a document is refused, as a message, from the last refusal and whether memory ran out.
 abbrev pub cause_text : Option (String Global) → Bool → Cause → List ℕ
 cause_text (Some text) memory Declined = string_bytes text
-cause_text None memory Declined = codes "refused"
-cause_text refusal memory OtherSize = codes "the job has another size than what was sent"
-cause_text refusal memory EndedEarly = codes "somebody has ended the job"
-cause_text refusal memory Unreadable = codes "the document can't be read"
-cause_text refusal true Deserted = codes "memory"
-cause_text refusal false Deserted = codes "nobody serves"
+cause_text None memory Declined = codes "the service refused the document"
+cause_text refusal memory OtherSize = codes "the size of the job differs from the number of bytes sent"
+cause_text refusal memory EndedEarly = codes "the job was ended before the document was complete"
+cause_text refusal memory Unreadable = codes "cannot read the document"
+cause_text refusal true Deserted = codes "out of memory"
+cause_text refusal false Deserted = codes "cannot reach the service"
 
--- one more reply was lost, or not clear, as far as that is counted
+-- One more lost or unclear reply, up to the greatest number.
 abbrev pub one_more : ℕ → ℕ
 one_more n = min (n + 1) 18446744073709551615
 
--- how many were, behind a reply, since the document last came further
+-- The number of lost or unclear replies since the document last made progress, after a reply.
 abbrev pub lost_after : ℕ → Reply → ℕ
 lost_after n Unclear = one_more n
 lost_after n Later = one_more n
@@ -36,7 +36,7 @@ lost_after n (Sent size) = 0
 lost_after n Done = 0
 lost_after n reply = n
 
--- whether the words of a reply are those of a refusal
+-- The reply is a refusal.
 abbrev pub is_refusal : Reply → Bool
 is_refusal Denied = true
 is_refusal NotIncoming = true
@@ -44,26 +44,26 @@ is_refusal Later = true
 is_refusal Gone = true
 is_refusal reply = false
 
--- the step behind a request: its reply was heard, it was lost, or it was given up
+-- The step after a request: its reply was received, it was lost, or the submission was given up.
 abbrev pub IsAnswered : Step → Step → Type 0
 IsAnswered step next =
     ((reply : Reply) × (next ≡ heard step reply)) ⊎ ((next ≡ lost step) ⊎ ((next ≡ deserted step) ⊎ (next ≡ deserted (lost step))))
 
--- the step behind the next piece, which has so many bytes, or can't be read
+-- The step after the next piece, which has this length or cannot be read.
 abbrev pub IsSupplied : Step → ℕ → Bool → Step → Type 0
 IsSupplied step count holds next = (next ≡ supplied step count holds) ⊎ (next ≡ unread step)
 
--- what was found, where a job has the token or hasn't
+-- The found jobs, with this job if it has the token.
 abbrev pub IsLooked : ℕ → Found → Found → Type 0
 IsLooked job before after = (after ≡ before) ⊎ ((size : ℕ) × (after ≡ with_job before job size))
 
--- whether its job was closed, with filters that lead to the printer or not
+-- The job was closed, whether or not filters convert it for its printer.
 abbrev pub was_closed : End → Bool
 was_closed (Accepted job) = true
 was_closed (Unprintable job) = true
 was_closed end = false
 
--- whether nothing of the document is left to send
+-- Nothing of the document is left to send.
 abbrev pub is_behind : Step → Bool
 is_behind (Holding job size tries) = true
 is_behind (Closing job size tries again) = true

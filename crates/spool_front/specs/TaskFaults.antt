@@ -1,4 +1,4 @@
--- Why tasks fail, and their statuses.
+-- Why tasks fail, and their exit statuses.
 use Rattle.std.specs.Prelude.{◌≡◌, ℕ, List, Option, None, Some, Result, Ok, Err, String, alloc_error, string_bytes}
 use Rattle.std.specs.Global.{Global}
 use Rattle.std.specs.declared.alloc.AllocError.{AllocError}
@@ -11,37 +11,37 @@ use Rattle.spool_front.specs.declared.connection.ConnectionFault.TheVariants as 
 use Rattle.spool_front.specs.declared.fault.Fault.{Fault}
 use Rattle.spool_front.specs.declared.fault.Fault.TheVariants.{Memory, Nobody, Gone, Unknown, Write, File}
 
--- 3 where it isn't known whether something was done, and else 1: it wasn't
+-- The status is 3 if it is unknown whether the task was done, and otherwise 1: it was not done.
 abbrev pub status_of : Fault → ℕ
 status_of Unknown = 3
 status_of fault = 1
 
--- a call on the connection failed so
+-- The fault of a failed call on the connection.
 abbrev pub lost_by : ErrorKind → ConnectionFault
 lost_by OutOfMemory = connection.Memory
 lost_by kind = connection.Lost
 
--- a call on standard output, or on standard error, failed so
+-- The fault of a failed call on standard output or standard error.
 abbrev pub unwritten_by : ErrorKind → Fault
 unwritten_by OutOfMemory = Memory
 unwritten_by kind = Write
 
--- the connection on which the service is listened to
+-- The fault if the connection fails while waiting for lines from the service.
 abbrev pub gone_by : ConnectionFault → Fault
 gone_by connection.Lost = Gone
 gone_by connection.Memory = Memory
 
--- the file of this name can't be read
+-- The fault of a file that cannot be read.
 abbrev pub unread_by : ErrorKind → String Global → Fault
 unread_by OutOfMemory name = Memory
 unread_by kind name = File name
 
--- a variable: none where it isn't there, or is no text
+-- A variable, which is `None` if it is not set or is not valid UTF-8.
 abbrev pub variable_as : {T : Type 0} → Result T VarError → Result (Option T) AllocError
 variable_as (Ok text) = Ok (Some text)
 variable_as (Err told.OutOfMemory) = Err alloc_error
 variable_as (Err fault) = Ok None
 
--- nobody serves at this socket
+-- No service can be reached at this socket.
 abbrev pub IsNobodyAt : List ℕ → Fault → Type 0
 IsNobodyAt socket fault = (name : String Global) × (fault ≡ Nobody name) × (string_bytes name ≡ socket)

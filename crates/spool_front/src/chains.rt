@@ -1,4 +1,4 @@
-//! Which types of printers documents can reach, by the service's files of types and of conversions.
+//! The types of printers that documents can be converted to, by the service's files of types and conversions.
 ghost use Rattle.std.specs.Prelude.{◌≡◌, ◌++◌, IfOk, OnOk};
 ghost use Rattle.std.specs.List.{list_any};
 ghost use Rattle.spool_front.specs.ReachableTypes.{kinds_in, leads, listed};
@@ -12,12 +12,12 @@ use mime_lines::joined_lines;
 use spool_types::MediaType;
 use std::alloc::{AllocError, Global};
 
-// The files where the environment names none.
+// The default files.
 const USUAL_TYPES: &str = "/etc/cegmandi/types";
 
 const USUAL_CONVS: &str = "/etc/cegmandi/convs";
 
-// The type of a document of which nothing is known.
+// The type of an unrecognized document.
 const UNKNOWN_TYPE: &str = "application/octet-stream";
 
 /// The types that documents may have, and the conversions between types.
@@ -27,7 +27,7 @@ pub struct Chains {
     convs: Convs,
 }
 
-/// Reads both files, by the names of the environment or else the usual ones.
+/// Reads both files, whose names are in the environment or are the defaults.
 pub fn read_chains(rt: &HostRuntime) -> Result<Chains, Fault> {
     let kinds = kinds_of_file(rt)?;
     let convs = convs_of_file(rt)?;
@@ -45,7 +45,7 @@ fn convs_of_file(rt: &HostRuntime) -> Result<Convs, Fault> {
     Ok(convs)
 }
 
-// The types that the lines of the file of types are about, and that of a document of which nothing is known.
+// Returns the types that the file of types defines, and that of an unrecognized document.
 fn kinds_in(alloc: Global, text: &str) -> Result<Vec<MediaType>, AllocError>
     ensures { IfOk result (λ kinds. kinds.items ≡ kinds_in text.now) }
 {
@@ -58,7 +58,7 @@ fn kinds_in(alloc: Global, text: &str) -> Result<Vec<MediaType>, AllocError>
     Ok(kinds)
 }
 
-// Adds a type, if the word is one.
+// Adds a type if the word is a valid one.
 fn push_kind(alloc: Global, kinds: &mut Vec<MediaType>, word: &[u8]) -> Result<(), AllocError>
     ensures { OnOk result (kinds.new.items ≡ kinds.old.items ++ listed (media_in word.now)) }
 {
@@ -69,7 +69,7 @@ fn push_kind(alloc: Global, kinds: &mut Vec<MediaType>, word: &[u8]) -> Result<(
 }
 
 impl Chains {
-    /// Whether a document of some type can be printed as this type.
+    /// Returns whether a document of some type can be converted to this type.
     pub fn lead_to(&self, target: &MediaType) -> Result<bool, AllocError>
         ensures { IfOk result (λ found. found ≡ list_any (leads self.now.convs target.now) self.now.kinds.items) }
     {

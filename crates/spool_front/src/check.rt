@@ -1,4 +1,4 @@
-//! Whether the service's programs can be run, and each service and each queue can print.
+//! The check of programs, services and queues.
 ghost use Rattle.std.specs.Prelude.{◌≡◌, ◌⊎◌, IfOk};
 ghost use Rattle.std.specs.List.{list_all, list_any};
 ghost use Rattle.spool_front.specs.ReachableTypes.{leads};
@@ -12,19 +12,19 @@ use front_texts::{PrinterState, QueueLine};
 use std::alloc::AllocError;
 use std::io;
 
-/// What keeps documents from being printed by a queue.
+/// Why a queue cannot print documents.
 #[derive(Clone, Copy)]
 pub enum Hindrance {
-    /// No chain of filters leads to the type of its printer.
+    /// No chain of filters converts to the type of its printer.
     NoChain,
-    /// It is stopped.
+    /// The queue is stopped.
     Stopped,
-    /// It takes no jobs.
+    /// The queue rejects jobs.
     Rejecting,
 }
 
-/// Tells each program that can't be run, of each service that it serves, and of each queue whether documents can be printed by
-/// it. The status is 0 where nothing is in the way.
+/// Prints each program that cannot be run, each service that is running, and whether each queue can print. The status is 0 if there is no
+/// problem, and otherwise 1.
 pub fn check(rt: &HostRuntime, services: Services<'_, '_>) -> Result<u8, Fault>
     ensures { IfOk result (λ status. (status ≡ 0) ⊎ (status ≡ 1)) }
 {
@@ -35,7 +35,7 @@ pub fn check(rt: &HostRuntime, services: Services<'_, '_>) -> Result<u8, Fault>
     if print? && run { Ok(0) } else { Ok(1) }
 }
 
-// Whether all queues of all services print. It is told.
+// Returns whether all queues of all services can print, and prints it for each.
 fn report_services(
     rt: &HostRuntime,
     services: Services<'_, '_>,
@@ -69,7 +69,7 @@ fn report_queues(
 ) -> Result<bool, Fault>
     ensures { IfOk result (λ all. all ≡ list_all (prints chains.now) queues.now) }
 {
-    println!(rt; "{socket} serves")?;
+    println!(rt; "service {socket} is running")?;
     let mut all = true;
     for queue in queues {
         let hindrance = hindrance_of(chains, queue)?;
@@ -103,9 +103,9 @@ fn report_queue(
     let target = queue.target.as_str();
     let (says, target) = match hindrance {
         None => ("prints ", target),
-        Some(Hindrance::NoChain) => ("prints nothing: no chain of filters leads to ", target),
+        Some(Hindrance::NoChain) => ("cannot print: no chain of filters converts to ", target),
         Some(Hindrance::Stopped) => ("is stopped", ""),
-        Some(Hindrance::Rejecting) => ("takes no jobs", ""),
+        Some(Hindrance::Rejecting) => ("rejects jobs", ""),
     };
     println!(rt; "queue {name} {says}{target}")
 }

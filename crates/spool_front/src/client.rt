@@ -1,4 +1,4 @@
-//! The client of a service: a command is sent, and all of its reply is read.
+//! The client of a service, which sends a command and reads the complete reply.
 ghost use Rattle.std.specs.Prelude.{◌≡◌, ◌*◌, ◌↔◌, IfErr, IfNone, IfOk, IfSome, IsSome, IsTrue, IsUtf8, MatchResult, None, filter_map, string_bytes};
 ghost use Rattle.front_texts.specs.JobPage.{shown_job};
 ghost use Rattle.front_texts.specs.JobRows.{job_row};
@@ -18,12 +18,12 @@ use front_texts::{
 use std::alloc::{AllocError, Global};
 use std::time::Duration;
 
-// The pause before a connection is tried again, and how many of them are a second.
+// The pause before another attempt to connect, in milliseconds, and the number of pauses in a second.
 const PAUSE: u64 = 100;
 
 const PAUSES_A_SECOND: u64 = 10;
 
-/// A reply: its rows, and its last line.
+/// A reply: its rows and its last line.
 #[derive(Drop)]
 pub struct Answer {
     pub rows: Vec<Vec<u8>>,
@@ -31,7 +31,7 @@ pub struct Answer {
 }
 
 impl Answer {
-    /// Whether it is no refusal.
+    /// Returns whether the reply is not a refusal.
     pub fn is_done(&self) -> bool
         ensures { result ≡ is_done (string_bytes self.now.last) }
     {
@@ -41,7 +41,7 @@ impl Answer {
         )
     }
 
-    /// The rows, each with its line feed.
+    /// Returns the rows, each with its line feed.
     pub fn text(&self, alloc: Global) -> Result<Vec<u8>, AllocError>
         ensures { IfOk result (λ text. text.items ≡ rows_text self.now.rows.items) }
     {
@@ -54,17 +54,17 @@ impl Answer {
     }
 }
 
-/// A pause before something is tried again.
+/// Waits before another attempt.
 pub fn pause(rt: &HostRuntime) {
     std::thread::sleep(rt, Duration::from_millis(PAUSE));
 }
 
-/// A service, and the connection to it, if there is one.
+/// A service, and the connection to it if one is open.
 #[derive(Drop)]
 pub struct Client<'a> {
     rt: &'a HostRuntime,
     socket: &'a str,
-    // The pauses that are made before the service is given up.
+    // The number of pauses before the client gives up.
     pauses: u64,
     connection: Option<Connection>,
 }
@@ -82,14 +82,14 @@ impl<'a> Client<'a> {
         }
     }
 
-    /// How many pauses are made before the service is given up.
+    /// Returns the number of pauses before the client gives up.
     pub fn patience(&self) -> u64
         ensures { result ≡ self.now.pauses }
     {
         self.pauses
     }
 
-    /// Connects where there is no connection, and tries that until its patience is over. Whether there is one then.
+    /// Connects unless a connection is open, and repeats this until the patience is over. Returns whether a connection is open.
     pub fn connect(&mut self) -> Result<bool, AllocError>
         ensures connected { IfOk result (λ connected. IsTrue connected ↔ IsSome self.new.connection) }
         ensures kept { self.new ≡ record self.old { connection = self.new.connection } }
@@ -121,14 +121,14 @@ impl<'a> Client<'a> {
         }
     }
 
-    /// Ends the connection.
+    /// Closes the connection.
     pub fn disconnect(&mut self)
         ensures { self.new ≡ record self.old { connection = None } }
     {
         self.connection = None;
     }
 
-    /// Sends a command, and reads its reply. The connection is over after a fault.
+    /// Sends a command and reads its reply. After a fault the connection is closed.
     pub fn exchange(&mut self, text: &[u8]) -> Result<Answer, ConnectionFault>
         ensures over { IfErr result (λ _. self.new.connection ≡ None) }
         ensures kept { self.new ≡ record self.old { connection = self.new.connection } }
@@ -159,7 +159,7 @@ impl<'a> Client<'a> {
         Err(ConnectionFault::Lost)
     }
 
-    /// The next line of those that come unasked.
+    /// Returns the next line that the service sends without a request.
     pub fn read_line(&mut self) -> Result<Vec<u8>, ConnectionFault> {
         let alloc = self.rt.alloc();
         match &mut self.connection {
@@ -168,7 +168,7 @@ impl<'a> Client<'a> {
         }
     }
 
-    /// Sends what changes nothing, and sends it again where the connection is lost. The reply is no refusal.
+    /// Sends a command that changes nothing, again if the connection is lost. A refusal is a fault.
     pub fn ask(&mut self, text: &[u8]) -> Result<Answer, Fault>
         ensures done { IfOk result (λ answer. IsTrue (is_done (string_bytes answer.last))) }
         ensures kept { self.new ≡ record self.old { connection = self.new.connection } }
@@ -176,7 +176,7 @@ impl<'a> Client<'a> {
         accepted(self.ask_or_refused(text)?)
     }
 
-    // The same, where the reply may be a refusal.
+    // Does the same, but may return a refusal.
     fn ask_or_refused(&mut self, text: &[u8]) -> Result<Answer, Fault>
         ensures { self.new ≡ record self.old { connection = self.new.connection } }
     {
@@ -193,7 +193,7 @@ impl<'a> Client<'a> {
         Err(self.nobody()?)
     }
 
-    /// Sends a command once. Where its reply is lost it isn't known whether it was done.
+    /// Sends a command once. If its reply is lost, it is unknown whether the command was executed.
     pub fn order(&mut self, text: &[u8]) -> Result<(), Fault> {
         if !self.connect()? {
             return Err(self.nobody()?);
@@ -211,7 +211,7 @@ impl<'a> Client<'a> {
         Ok(Fault::Nobody(String::from_str(self.rt.alloc(), self.socket)?))
     }
 
-    /// The jobs, in the order of their numbers.
+    /// Returns the jobs, in the order of their numbers.
     pub fn jobs(&mut self) -> Result<Vec<JobLine>, Fault> {
         let answer = self.ask(b"jobs\n")?;
         let jobs = jobs_in(self.rt.alloc(), &answer.rows);
@@ -219,7 +219,7 @@ impl<'a> Client<'a> {
         Ok(jobs?)
     }
 
-    /// A job as it is, and none where it isn't there.
+    /// Returns a job, or `None` if it does not exist.
     pub fn job(&mut self, job: u32) -> Result<Option<JobShown>, Fault> {
         let line = job_line(self.rt.alloc(), "job", job)?;
         let answer = self.ask_or_refused(line.as_slice())?;
@@ -230,7 +230,7 @@ impl<'a> Client<'a> {
         shown_of_answer(self.rt.alloc(), accepted(answer)?)
     }
 
-    /// The queues, in the order of their names.
+    /// Returns the queues, in the order of their names.
     pub fn queues(&mut self) -> Result<Vec<QueueLine>, Fault> {
         let answer = self.ask(b"queues\n")?;
         let queues = queues_in(self.rt.alloc(), &answer.rows);
@@ -239,7 +239,7 @@ impl<'a> Client<'a> {
     }
 }
 
-// The line as a text, where it is the last one of a reply.
+// Returns the line as text if it is the last one of a reply.
 fn last_line(alloc: Global, line: &[u8]) -> Result<Option<String>, AllocError>
     ensures last { IfOk result (λ last. IfSome last (λ text. (string_bytes text ≡ line.now) × IsSome (last_line line.now))) }
     ensures row { IfOk result (λ last. IfNone last (IsUtf8 line.now → last_line line.now ≡ None)) }
@@ -253,7 +253,7 @@ fn last_line(alloc: Global, line: &[u8]) -> Result<Option<String>, AllocError>
     }
 }
 
-// A reply, if it is no refusal.
+// Returns the reply unless it is a refusal.
 fn accepted(answer: Answer) -> Result<Answer, Fault>
     ensures { result ≡ accepted answer }
 {
@@ -264,7 +264,7 @@ fn accepted(answer: Answer) -> Result<Answer, Fault>
     }
 }
 
-// That something was done, if it wasn't refused.
+// Returns an error if the reply is a refusal.
 fn done(answer: Answer) -> Result<(), Fault>
     ensures { MatchResult result (λ _. IsTrue (is_done (string_bytes answer.last))) (λ fault. fault ≡ Fault.Refused answer.last) }
 {
@@ -280,18 +280,18 @@ fn shown_of_answer(alloc: Global, answer: Answer) -> Result<Option<JobShown>, Fa
     shown
 }
 
-// The job of these rows.
+// Returns the job that the rows describe.
 fn shown_in(alloc: Global, answer: &Answer) -> Result<Option<JobShown>, Fault>
     ensures { IfOk result (λ job. IsSome job × (job ≡ shown_job (rows_text answer.now.rows.items))) }
 {
     let text = answer.text(alloc)?;
     match read_job_shown(alloc, text.as_slice())? {
         Some(shown) => Ok(Some(shown)),
-        None => Err(Fault::Words("the service's reply isn't understood")),
+        None => Err(Fault::Words("the reply of the service is invalid")),
     }
 }
 
-// The jobs of these rows. What is none is left out.
+// Returns the jobs in the rows. Invalid rows are left out.
 fn jobs_in(alloc: Global, rows: &[Vec<u8>]) -> Result<Vec<JobLine>, AllocError>
     ensures { IfOk result (λ jobs. jobs.items ≡ filter_map (λ row. job_row row.items) rows.now) }
 {

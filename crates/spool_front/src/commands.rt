@@ -8,14 +8,14 @@ use front_words::NewQueue;
 use std::alloc::{AllocError, Global};
 use std::io::Write;
 
-/// Until when a job waits.
+/// The end of a hold.
 #[derive(Clone, Copy)]
 pub enum Until {
     Released,
     Reached(u64),
 }
 
-/// A job that is to be made.
+/// A job to be created.
 #[derive(Drop)]
 pub struct Draft {
     pub queue: String,
@@ -23,26 +23,26 @@ pub struct Draft {
     pub title: String,
     pub copies: u32,
     pub priority: u32,
-    /// The options, and among them the token.
+    /// The options, including the token.
     pub options: String,
-    /// The option that no other job has, by which this one is found.
+    /// The option that no other job has, which identifies this job.
     pub token: String,
-    /// The moment by which it is to start.
+    /// The moment by which the job must have started.
     pub by: Option<u64>,
-    /// Whether it waits, once it is closed.
+    /// The end of the job's hold, if it is held.
     pub hold: Option<Until>,
-    /// The name of its file, by which it is typed.
+    /// The name of its file, from which the type is detected.
     pub name: String,
 }
 
-/// Whether a text has a control character. It could end the line that it stands in.
+/// Returns whether a text contains a control character. It could end the line of the command that contains the text.
 pub fn has_control(text: &str) -> bool
     ensures { result ≡ list_any is_control text.now }
 {
     text.as_bytes().iter().any(|b| *b < 32 || *b == 127)
 }
 
-/// `create`, or `createby` where there is a moment.
+/// Returns `create`, or `createby` if the draft has a moment.
 pub fn create_line(alloc: Global, draft: &Draft) -> Result<Vec<u8>, AllocError>
     ensures { IfOk result (λ line. line.items ≡ create_line draft.now) }
 {
@@ -80,7 +80,7 @@ fn push_ranks(line: &mut Vec<u8>, draft: &Draft) -> Result<(), AllocError>
     write!(line, " {copies} {priority}").map_err(|_| AllocError)
 }
 
-// A blank, and a text in quotes.
+// Appends a blank and a text in quotes.
 fn push_text(line: &mut Vec<u8>, text: &str) -> Result<(), AllocError>
     ensures { OnOk result (line.new.items ≡ line.old.items ++ text_word text.now) }
 {
@@ -97,7 +97,7 @@ fn push_moment(line: &mut Vec<u8>, moment: Option<u64>) -> Result<(), AllocError
     write!(line, " {moment}").map_err(|_| AllocError)
 }
 
-/// `send`, and the piece.
+/// Returns `send` and the piece.
 pub fn send_line(alloc: Global, job: u32, piece: &[u8]) -> Result<Vec<u8>, AllocError>
     ensures { IfOk result (λ line. line.items ≡ send_line job piece.now) }
 {
@@ -109,7 +109,7 @@ pub fn send_line(alloc: Global, job: u32, piece: &[u8]) -> Result<Vec<u8>, Alloc
     Ok(line)
 }
 
-/// `close`.
+/// Returns `close`.
 pub fn close_line(alloc: Global, job: u32, name: &str) -> Result<Vec<u8>, AllocError>
     ensures { IfOk result (λ line. line.items ≡ close_line job name.now) }
 {
@@ -120,7 +120,7 @@ pub fn close_line(alloc: Global, job: u32, name: &str) -> Result<Vec<u8>, AllocE
     Ok(line)
 }
 
-/// `hold`.
+/// Returns `hold`.
 pub fn hold_line(alloc: Global, job: u32, until: Until) -> Result<Vec<u8>, AllocError>
     ensures { IfOk result (λ line. line.items ≡ hold_line job until) }
 {
@@ -132,7 +132,7 @@ pub fn hold_line(alloc: Global, job: u32, until: Until) -> Result<Vec<u8>, Alloc
     Ok(line)
 }
 
-/// A word, and the number of a job.
+/// Returns a command of a word and a job number.
 pub fn job_line(alloc: Global, word: &str, job: u32) -> Result<Vec<u8>, AllocError>
     ensures { IfOk result (λ line. line.items ≡ job_line word.now job) }
 {
@@ -141,7 +141,7 @@ pub fn job_line(alloc: Global, word: &str, job: u32) -> Result<Vec<u8>, AllocErr
     Ok(line)
 }
 
-/// A word, and the name of a queue.
+/// Returns a command of a word and the name of a queue.
 pub fn name_line(alloc: Global, word: &str, name: &str) -> Result<Vec<u8>, AllocError>
     ensures { IfOk result (λ line. line.items ≡ name_line word.now name.now) }
 {
@@ -151,7 +151,7 @@ pub fn name_line(alloc: Global, word: &str, name: &str) -> Result<Vec<u8>, Alloc
     Ok(line)
 }
 
-/// `info`.
+/// Returns `info`.
 pub fn info_line(
     alloc: Global,
     name: &str,
@@ -168,7 +168,7 @@ pub fn info_line(
     Ok(line)
 }
 
-/// `queue`.
+/// Returns `queue`.
 pub fn queue_line(alloc: Global, name: &str, queue: NewQueue<'_>) -> Result<Vec<u8>, AllocError>
     ensures { IfOk result (λ line. line.items ≡ queue_line name.now queue.entry) }
 {

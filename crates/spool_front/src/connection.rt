@@ -1,4 +1,4 @@
-//! One connection to a service: bytes are sent, and lines are read.
+//! A connection to a service, which sends bytes and reads lines.
 ghost use Rattle.std.specs.Prelude.{◌≡◌, ◌≢◌, ◌<◌, ℕ, IfOk, length, slice_index};
 ghost use Rattle.std.specs.IoError.{error_kind};
 ghost use Rattle.spool_front.specs.TaskFaults.{lost_by};
@@ -8,15 +8,15 @@ use std::io;
 use std::io::{BufRead, BufReader, ErrorKind, Read, Write};
 use std::os::unix::net::UnixStream;
 
-// The longest line that is read.
+// The longest line that is read, in bytes.
 const LONGEST_LINE: u64 = 65_536;
 
-/// Why nothing more is sent or read.
+/// Why sending or reading fails.
 #[derive(Clone, Copy)]
 pub enum ConnectionFault {
-    /// There is no connection any more.
+    /// The connection is lost.
     Lost,
-    /// There is no memory.
+    /// Out of memory.
     Memory,
 }
 
@@ -51,7 +51,6 @@ impl From<io::Error> for ConnectionFault {
     }
 }
 
-/// A connection.
 #[derive(Drop)]
 pub struct Connection {
     reader: BufReader<UnixStream>,
@@ -64,14 +63,14 @@ impl Connection {
         Ok(Connection { reader })
     }
 
-    /// Sends these bytes, all of them.
+    /// Sends all of these bytes.
     pub fn send(&mut self, text: &[u8]) -> Result<(), ConnectionFault> {
         let mut stream = self.reader.get_ref();
         stream.write_all(text)?;
         Ok(())
     }
 
-    /// Reads the next line, and gives it without its line feed. One that is too long, or is cut off, ends the connection.
+    /// Reads the next line and returns it without its line feed. If it is too long or incomplete, the connection counts as lost.
     pub fn read_line(&mut self, alloc: Global) -> Result<Vec<u8>, ConnectionFault>
         ensures { IfOk result (λ line. (i : ℕ) → i < length line.items → slice_index line.items i ≢ 10) }
     {

@@ -1,4 +1,4 @@
-//! What is told in the forms of lpstat and lpq.
+//! The output of lpstat and lpq.
 ghost use Rattle.std.specs.Prelude.{◌≡◌, ◌||◌, IfOk, filter, string_bytes};
 ghost use Rattle.std.specs.List.{list_any};
 ghost use Rattle.std.specs.Option.{option_map};
@@ -11,7 +11,7 @@ use front_texts::{JobLine, QueueLine, lpq, lpstat_accepting, lpstat_jobs, lpstat
 use front_words::{Lpq, Lpstat};
 use std::alloc::{AllocError, Global};
 
-/// Prints what lpstat was asked for. With nothing asked these are the jobs.
+/// Prints what lpstat was asked for, or the jobs if it was asked for nothing.
 pub fn show_lpstat(
     rt: &HostRuntime,
     services: Services<'_, '_>,
@@ -20,7 +20,7 @@ pub fn show_lpstat(
     ensures { IfOk result (λ status. status ≡ 0) }
 {
     if asked.devices.is_some() {
-        return Err(Fault::Words("the service doesn't tell its devices"));
+        return Err(Fault::Words("the service does not report its devices"));
     }
     if asked.scheduler || asked.all {
         all_queues(rt, services)?;
@@ -84,7 +84,7 @@ fn report_jobs(
     Ok(())
 }
 
-// The names that are asked for, where all are none.
+// Returns the requested names. The empty list means all.
 fn list_of<'a>(names: Option<&'a str>, all: bool) -> Option<&'a str>
     ensures { option_map (λ text. text.now) result ≡ list_of (option_map (λ text. text.now) names.entry) all }
 {
@@ -95,7 +95,7 @@ fn list_of<'a>(names: Option<&'a str>, all: bool) -> Option<&'a str>
     }
 }
 
-// Whether jobs are asked for, or nothing is.
+// Returns whether jobs were requested, or nothing was.
 fn lists_jobs(asked: &Lpstat<'_>) -> bool
     ensures { result ≡ lists_jobs asked.now }
 {
@@ -106,7 +106,7 @@ fn lists_jobs(asked: &Lpstat<'_>) -> bool
     asked.all || asked.jobs.is_some() || !asked.names.is_empty() || !others
 }
 
-// Whether a name is in a list with commas or blanks between its names. The empty list has all.
+// Returns whether a name is in a list, whose names are separated by commas or blanks. The empty list contains all names.
 fn has_name(names: &str, name: &str) -> bool
     ensures { result ≡ has_name names.now name.now }
 {
@@ -161,7 +161,7 @@ fn named_jobs(
     Ok(named)
 }
 
-// Whether a job is among those that are asked for, by its queue, or by its queue and its number.
+// Returns whether a job was requested, by its queue or by its id.
 fn is_named(alloc: Global, asked: &Lpstat<'_>, job: &JobLine) -> Result<bool, AllocError>
     ensures { IfOk result (λ named. named ≡ is_named asked.now job.now) }
 {
@@ -215,10 +215,10 @@ pub fn show_lpq(rt: &HostRuntime, services: Services<'_, '_>, asked: &Lpq<'_>) -
     if found? || asked.all {
         return Ok(0);
     }
-    Err(Fault::Words("there is no such queue"))
+    Err(Fault::Words("no such queue"))
 }
 
-// Whether one of the queues is asked for. Each that is is told, with its jobs.
+// Prints each requested queue with its jobs. Returns whether there is one.
 fn report_queues(
     rt: &HostRuntime,
     services: Services<'_, '_>,
@@ -266,7 +266,7 @@ fn print_meant(
     Ok(found)
 }
 
-// Whether a queue is the one that is meant; with no name all are.
+// Returns whether a queue was requested. Without a name all are.
 fn is_meant(name: &Option<String>, queue: &QueueLine) -> bool
     ensures { result ≡ is_meant name.now queue.now }
 {
@@ -276,7 +276,7 @@ fn is_meant(name: &Option<String>, queue: &QueueLine) -> bool
     }
 }
 
-// Leaves the jobs of these numbers, and all where there is none.
+// Retains the jobs with these numbers, or all if there are no numbers.
 fn keep_numbered(jobs: &mut Vec<JobLine>, numbers: &[u32])
     ensures { jobs.new.items ≡ filter (is_numbered numbers.now) jobs.old.items }
 {

@@ -1,4 +1,4 @@
-//! A document that is sent by pieces.
+//! A document that is sent in pieces.
 ghost use Rattle.std.specs.Prelude.{◌≡◌, ◌<◌, ◌≤◌, IfOk, [], length, take};
 ghost use Rattle.std.specs.Io.KnownBytes.{Consumes, IsAtEnd};
 
@@ -6,10 +6,10 @@ use std::alloc::{AllocError, Global};
 use std::io;
 use std::io::Read;
 
-// How many bytes a piece has at most.
+// The greatest length of a piece, in bytes.
 const PIECE: usize = 65_536;
 
-/// A document. Its last piece is kept until the next one is read, so that it can be sent again.
+/// A document. Its last piece is stored until the next one is read, so that it can be sent again.
 #[derive(Drop)]
 pub struct Document<S> {
     source: S,
@@ -34,14 +34,14 @@ impl<S: Read + Drop> Document<S> {
         })
     }
 
-    /// The piece that was read last.
+    /// Returns the piece that was read last.
     pub fn piece(&self) -> &[u8]
         ensures { result.now ≡ piece_of self.now }
     {
         &self.buffer[..self.filled]
     }
 
-    /// Reads the next piece, and tells how many bytes it has: none behind the document's end.
+    /// Reads the next piece and returns its length, which is 0 at the document's end.
     pub fn next_piece(&mut self) -> io::Result<u32>
         ensures bytes { IfOk result (λ count. Consumes (S.remaining self.old.source) (S.remaining self.new.source) (piece_of self.new)) }
         ensures count { IfOk result (λ count. count ≡ length (piece_of self.new)) }
@@ -52,7 +52,7 @@ impl<S: Read + Drop> Document<S> {
     }
 }
 
-// Reads until the buffer is full, or up to the end. How many bytes were read.
+// Reads until the buffer is full or the source ends. Returns the number of bytes read.
 fn fill<S: Read>(source: &mut S, buffer: &mut [u8]) -> io::Result<usize>
     ensures bound { IfOk result (λ filled. filled ≤ length buffer.new) }
     ensures bytes { IfOk result (λ filled. Consumes (S.remaining source.old) (S.remaining source.new) (take filled buffer.new)) }

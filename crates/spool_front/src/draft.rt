@@ -1,4 +1,4 @@
-//! What is said of the job of a document.
+//! The fields of the job that a document becomes.
 ghost use Rattle.std.specs.Prelude.{◌≡◌, ◌++◌, IfOk, IfSome, OnOk, string_bytes, unwrap_or};
 ghost use Rattle.std.specs.Option.{option_map};
 ghost use Rattle.spool_front.specs.JobDrafts.{IsBy, IsMoment, IsUntil, option_text, options_of, pages_option, plain_char, plain_text};
@@ -11,7 +11,7 @@ use std::alloc::{AllocError, Global};
 use std::random::RandomSource;
 use std::time::SystemTime;
 
-/// The job of a document for a queue. `title` is its title where none is asked for, and `name` that of its file.
+/// Returns the job of a document for a queue. `title` is the title if the user gives none, and `name` is the name of the document's file.
 pub fn draft_of(
     rt: &HostRuntime,
     asked: &Submission<'_>,
@@ -66,7 +66,7 @@ fn until_of(rt: &HostRuntime, hold: Hold) -> Result<Option<Until>, Fault>
     }
 }
 
-// The text with `?` for each control character, which no command may have.
+// Returns the text with `?` for each control character. No command may contain a control character.
 fn plain_text(alloc: Global, text: &str) -> Result<String, AllocError>
     ensures { IfOk result (λ plain. string_bytes plain ≡ plain_text text.now) }
 {
@@ -79,7 +79,7 @@ fn plain_char(c: char) -> char
     if c.is_ascii_control() { '?' } else { c }
 }
 
-// In whose name: the one that is given, or that of the environment.
+// Returns the owner: the given one, that of the environment, or `anonymous`.
 fn user_of(rt: &HostRuntime, user: Option<&str>) -> Result<String, AllocError>
     ensures { IfOk result (λ name. IfSome user.entry (λ user. string_bytes name ≡ user.now)) }
 {
@@ -94,7 +94,7 @@ fn user_of(rt: &HostRuntime, user: Option<&str>) -> Result<String, AllocError>
     String::from_str(rt.alloc(), "anonymous")
 }
 
-// An option whose value are 32 hexadecimal digits that no other submission has.
+// Returns an option whose value is 32 random hexadecimal digits, which no other submission has.
 fn token_option(rt: &HostRuntime) -> Result<String, Fault> {
     let high = random_number(rt)?;
     let low = random_number(rt)?;
@@ -105,11 +105,11 @@ fn random_number(rt: &HostRuntime) -> Result<u64, Fault> {
     let mut bytes = [0u8; 8];
     match rt.fill_bytes(&mut bytes) {
         Ok(()) => Ok(u64::from_be_bytes(bytes)),
-        Err(_) => Err(Fault::Words("the system has no random bytes")),
+        Err(_) => Err(Fault::Words("cannot get random bytes from the system")),
     }
 }
 
-// The options with blanks between them, the ranges of pages, and the token.
+// Returns the options, the page ranges and the token, separated by blanks.
 fn options_of(alloc: Global, asked: &Submission<'_>, token: &str) -> Result<String, AllocError>
     ensures { IfOk result (λ options. string_bytes options ≡ options_of asked.now token.now) }
 {
@@ -133,7 +133,7 @@ fn push_pages(options: &mut String, pages: Option<&str>) -> Result<(), AllocErro
     Ok(())
 }
 
-// A text, and a blank behind it.
+// Appends a text and a blank.
 fn push_option(options: &mut String, text: &str) -> Result<(), AllocError>
     ensures { OnOk result (string_bytes options.new ≡ string_bytes options.old ++ option_text text.now) }
 {
@@ -141,7 +141,7 @@ fn push_option(options: &mut String, text: &str) -> Result<(), AllocError>
     options.push_str(" ")
 }
 
-/// The seconds of a moment since the epoch.
+/// Returns a moment in seconds since 1970.
 pub fn seconds_of(rt: &HostRuntime, moment: Moment) -> Result<u64, Fault>
     ensures { IfOk result (IsMoment moment) }
 {
@@ -151,10 +151,10 @@ pub fn seconds_of(rt: &HostRuntime, moment: Moment) -> Result<u64, Fault>
     }
 }
 
-/// The seconds since the epoch.
+/// Returns the seconds since 1970, or 0 if the clock is before 1970.
 pub fn now(rt: &HostRuntime) -> Result<u64, Fault> {
     let Ok(now) = SystemTime::now(rt) else {
-        return Err(Fault::Words("the clock can't be read"));
+        return Err(Fault::Words("cannot read the clock"));
     };
     match now.duration_since(SystemTime::UNIX_EPOCH) {
         Ok(passed) => Ok(passed.as_secs()),

@@ -11,33 +11,39 @@ use thiserror::Error;
 /// Why a task fails.
 #[derive(Debug, Drop, Error)]
 pub enum Fault {
-    #[error("memory")]
+    #[error("out of memory")]
     Memory,
-    /// Nobody serves at this socket.
-    #[error("nobody serves at {0}")]
+    /// No service can be reached at this socket.
+    #[error("cannot reach the service at {0}")]
     Nobody(String),
-    /// The service went while it was listened to.
-    #[error("the service went")]
+    /// The connection was lost while waiting for lines from the service.
+    #[error("the connection to the service was lost")]
     Gone,
-    /// The service went before it had replied to a command that changes something.
-    #[error("the service went before it replied: it isn't known whether this was done")]
+    /// The connection was lost before the service replied to a command that changes something.
+    #[error("the connection was lost before the service replied; the command may have been executed")]
     Unknown,
-    /// What the service refused, and its words.
+    /// The service refused the command. The text is its reply.
     #[error("{0}")]
     Refused(String),
-    /// Standard output, or standard error, takes no more.
-    #[error("write")]
+    /// Standard output or standard error cannot be written.
+    #[error("cannot write the output")]
     Write,
-    /// A file can't be read or written.
-    #[error("file {0}")]
+    /// A file cannot be read.
+    #[error("cannot read {0}")]
     File(String),
-    /// What can't be done as it was asked.
+    /// A file cannot be written.
+    #[error("cannot write {0}")]
+    NotWritten(String),
+    /// A line of a file is invalid.
+    #[error("{0} is invalid")]
+    Invalid(String),
+    /// The task cannot be done as requested.
     #[error("{0}")]
     Words(&'static str),
 }
 
 impl Fault {
-    /// The status of the program.
+    /// Returns the exit status of the program.
     pub fn status(&self) -> u8
         ensures { result ≡ status_of self.now }
     {
@@ -48,8 +54,8 @@ impl Fault {
     }
 }
 
-/// The status of several things that were done in turn: that of the first which failed. Here is what those before it ended with,
-/// and what the next one did.
+/// Returns the status of several actions, which is that of the first one that failed. `status` is that of the actions so far, `next` that
+/// of the next one.
 pub fn first_failure(status: u8, next: u8) -> u8
     ensures { result ≡ cond (status == 0) next status }
 {
@@ -87,7 +93,7 @@ impl From<ConnectionFault> for Fault {
     }
 }
 
-/// A fault of standard output, or of standard error.
+/// An error on standard output or standard error.
 impl From<io::Error> for Fault {
     ghost from_gives = { λ error fault. fault ≡ unwritten_by (error_kind error) };
 

@@ -1,4 +1,4 @@
-//! The service's files, by the names of the environment or else the usual ones.
+//! The service's files, whose names are in the environment or are the defaults.
 ghost use Rattle.std.specs.Prelude.{◌≡◌};
 ghost use Rattle.std.specs.IoError.{error_kind};
 ghost use Rattle.spool_front.specs.TaskFaults.{unread_by};
@@ -8,7 +8,7 @@ use crate::host::variable_or;
 use std::io::ErrorKind;
 use std::{fs, io};
 
-/// The text of a file, by the variable that names it.
+/// Returns the text of the file that the variable names.
 pub fn file_text(rt: &HostRuntime, of_name: &str, usual: &str) -> Result<String, Fault> {
     let name = variable_or(rt, of_name, usual)?;
     match fs::read_to_string(rt, name.as_str()) {
@@ -17,7 +17,7 @@ pub fn file_text(rt: &HostRuntime, of_name: &str, usual: &str) -> Result<String,
     }
 }
 
-// Why the file of this name isn't read.
+// Returns why the file cannot be read.
 fn unread(error: &io::Error, name: String) -> Fault
     ensures { result ≡ unread_by (error_kind error.now) name }
 {

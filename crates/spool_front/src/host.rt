@@ -1,4 +1,4 @@
-//! What the program asks of its system.
+//! The environment and the terminal.
 ghost use Rattle.std.specs.Prelude.{◌≡◌, ◌≤◌, IfOk, string_bytes};
 ghost use Rattle.spool_front.specs.TaskFaults.{variable_as};
 ghost use Rattle.spool_front.specs.EnvironmentValues.{IsNumberOr, text_or};
@@ -6,12 +6,12 @@ ghost use Rattle.spool_front.specs.EnvironmentValues.{IsNumberOr, text_or};
 use std::alloc::{AllocError, Global};
 use std::env::{self, VarError};
 
-/// A variable of the environment, if it is there and a text.
+/// Returns the value of an environment variable, or `None` if it is not set or is not valid UTF-8.
 pub fn variable(rt: &HostRuntime, name: &str) -> Result<Option<String>, AllocError> {
     variable_as(env::var(rt, name))
 }
 
-// One that finds no memory isn't taken for one that isn't there.
+// Out of memory is an error: it is not treated as an unset variable.
 fn variable_as(told: Result<String, VarError>) -> Result<Option<String>, AllocError>
     ensures { result ≡ variable_as told }
 {
@@ -22,7 +22,7 @@ fn variable_as(told: Result<String, VarError>) -> Result<Option<String>, AllocEr
     }
 }
 
-/// What a variable of the environment tells, or else a usual text.
+/// Returns the value of an environment variable, or the default.
 pub fn variable_or(rt: &HostRuntime, name: &str, usual: &str) -> Result<String, AllocError> {
     text_or(rt.alloc(), variable(rt, name)?, usual)
 }
@@ -36,7 +36,7 @@ fn text_or(alloc: Global, told: Option<String>, usual: &str) -> Result<String, A
     }
 }
 
-/// The number that was told, if it is none above `most`, or else the usual one.
+/// Returns the number in the value if it is at most `most`, or else the default.
 pub fn number_or(told: &Option<String>, most: u64, usual: u64) -> u64
     requires { usual ≤ most }
     ensures value { IsNumberOr most usual told.now result }
@@ -51,11 +51,11 @@ pub fn number_or(told: &Option<String>, most: u64, usual: u64) -> u64
     }
 }
 
-/// What standard error is.
+/// The terminal that standard error is connected to.
 #[derive(Clone, Copy)]
 pub struct Screen {
-    /// Whether it is a terminal, on which the way of a job is told.
+    /// Whether standard error is a terminal, which shows the progress of a job.
     pub shows: bool,
-    /// The columns of a line.
+    /// The width of a line in columns.
     pub width: usize,
 }

@@ -1,26 +1,83 @@
-//! What a person touches: it prints files by a service, and shows and changes what waits there.
+//! The front end: prints files through a service, and shows and changes jobs and queues.
 //!
-//! Words: those of `front_words`, by the program's name: `spool`, `lp`, `lpr`, `lpstat`, `cancel`, `lpq` or `lprm`. The environment
-//! gives `SPOOL_SOCKET` (the service's socket), `SPOOL_PATIENCE` (how many seconds it is waited for, 30 if not said), `USER` or
-//! `LOGNAME` (in whose name), `LPDEST` or `PRINTER` (the queue where none is named), `COLUMNS` (the width of a terminal), and
-//! `SPOOL_TYPES`, `SPOOL_CONVS` and `SPOOL_PROGRAMS` (the service's files, by which `check` looks whether documents reach a printer,
-//! and whether the programs can be run).
+//! The program's name selects the command line, which `front_words` reads: `spool`, `lp`, `lpr`, `lpstat`, `cancel`, `lpq` or `lprm`. These
+//! environment variables are used:
 //!
-//! # Parts
+//! - `SPOOL_SOCKET`: the socket of the service. `SPOOL_PATIENCE`: how many seconds to wait for a service, by default 30.
+//! - `USER` or `LOGNAME`: the owner of jobs. `LPDEST` or `PRINTER`: the queue if none is named. `COLUMNS`: the width of the terminal.
+//! - `SPOOL_TYPES`, `SPOOL_CONVS` and `SPOOL_PROGRAMS`: the service's files, from which `check` determines whether documents can be
+//!   converted for a printer and whether the programs can be run.
 //!
-//! - [`connection`]: bytes and lines over a socket. [`client`]: commands and replies over it, and connecting again.
-//! - [`commands`], [`replies`]: the bytes of each command, and what each reply says (`Commands`, `Replies`).
-//! - [`submit`]: one document becomes one job, by the decisions of `front_submission`. [`document`]: its pieces. [`draft`]: what
-//!   is said of its job. [`printing`]: the task of printing files.
+//! A command that changes something, and is not part of a submission, is sent once. If its reply is lost, the task ends with status 3. A
+//! job number is looked up at one service, since each service numbers its own jobs. The name of a queue is looked up at all services. A
+//! submission that runs out of memory ends as if no service were reachable: the reply to its last request counts as lost.
+//!
+//! # Modules
+//!
+//! - [`connection`]: bytes and lines over a socket. [`client`]: commands and replies over a connection, and reconnecting.
+//! - [`commands`], [`replies`]: the bytes of each command, and the meaning of each reply (`SentCommands`, `ServiceReplies`).
+//! - [`submit`]: submits one document as one job, by the decisions of `front_submission`. [`document`]: the pieces of a document.
+//!   [`draft`]: the fields of its job. [`printing`]: printing files.
 //! - [`tasks`]: the other tasks of `spool`. [`check`], [`programs`] and [`chains`]: whether a queue can print. [`web_page`]: the page.
-//!   [`cups_forms`]: lpstat and lpq. [`output`]: standard output. [`places`]: which services are asked, and which queue is meant.
+//!   [`cups_forms`]: lpstat and lpq. [`output`]: standard output. [`services`]: the choice of services and queues.
 //!
-//! # Faults
+//! # Promises
 //!
-//! A line `spool: ..` on standard error. The status is 0; or 1 where something failed, or a document won't print; 2 for words that
-//! are refused; 3 where it isn't known whether a job prints, or whether something was done; 4 where a job's type can't be printed;
-//! and 5 where a job that was waited for ended otherwise than completed. Once a job is accepted the status says so, whatever
-//! happens to the line that tells it.
+//! - Commands: the bytes of each command are exact, with each text in quotes (`create_line`, `send_line`, `close_line`, `hold_line`,
+//!   `job_line`, `name_line`, `info_line`, `queue_line`). A text with a control character, which could end its line, is detected
+//!   (`has_control`). An action on a job or a queue is sent as the command for that action (`act_line`, `act_text`).
+//! - Replies: `reply_in` returns the meaning of a reply for a submission. After `error disk`, `error dead` or `error busy` it is unknown
+//!   whether the command was executed, so such a reply is never taken for a refusal (`failed_as`). `shown_as` returns the state of a job.
+//! - Pieces: a piece of a document consists of the bytes that were read last, up to 65,536 bytes, and fewer only at the document's end
+//!   (`next_piece`, `piece`).
+//! - System errors are reported by their kind (`lost_by`, `unwritten_by`, `unread_by`, `no_words`).
+//! - Drafts: the draft of a job has the requested fields, and a title and a file name without control characters (`draft_of`,
+//!   `plain_text`). The file name is the part of the path after the last slash (`base_name`).
+//! - Queues and services: the named queue is used, at one of the named services (`queue_of`). If there is only one service, it is not asked
+//!   for its queues (`socket_of`). A queue is the only one if no other row exists (`note_only`).
+//! - Selections: the jobs of a queue, with numbers and with names are shown, in their order (`keep_of`, `keep_numbered`, `named_jobs`), and
+//!   the queues with names (`keep_queues`). A variable that is not set, or is not a number, has its default (`text_or`, `number_or`).
+//! - Status: showing, watching, writing a page and changing a queue end with 0 or a fault (`show_status`, `show_queues`, `show_lpstat`,
+//!   `show_lpq`, `watch`, `write_page`, `act_on_queue`), and `check` ends with 0, 1 or a fault. `first_failure` returns the first failure
+//!   of two statuses.
+//! - Steps: after a request the next step is that of a received reply, of a lost reply, or of an unreachable service (`request`). After a
+//!   piece it is that of its bytes, or of a document that cannot be read (`read_piece`). A submission is reported as accepted or
+//!   unprintable only if the end of the document was read (`submit`), for a reader that reports what is left. Files and standard input use
+//!   the same code.
+//! - Connections: a line from the service contains no line feed (`read_line`). A connection is closed after a fault (`exchange`) and after
+//!   an unclear reply (`after`), and the client knows whether a connection is open (`connect`, `is_connected`). A client changes only its
+//!   connection (`kept`).
+//! - `spool check`: `lead_to` returns whether filters convert from a type in the file of types, or from that of an unknown document, to a
+//!   printer's type (`leads`), by the least chain of `mime_costs`. `kinds_in` returns these types.
+//! - The page is that of the rows that were read (`page_at`).
+//!
+//! # Not proved
+//!
+//! - That the program sends what the decisions ask for, with the piece that was read last; that it passes them the reply that it received,
+//!   and no other; that it reports a lost connection as lost; and that the service executes each request completely or not at all. This was
+//!   read in the code. `tests/front.py` tests it with services that are simulated and killed, and refuses each allocation in turn.
+//! - What a file, a socket, the clock or the environment returns, and what is printed. So the contracts allow: a listing of the queues or
+//!   jobs of all services that is empty, fails at once, asks no service, or reports none of its faults (`show_lpstat`, `show_lpq`,
+//!   `write_page`); a `variable` that is never set; a wait that ends at once with another status; a status for several files, jobs or
+//!   services that does not use `first_failure`; a submission that is refused at once (`submit`); a request that is sent twice, is another
+//!   request, or has another piece (`request`); a service that is never reachable (`is_connected`); jobs that are not inspected (`look`); a
+//!   queue that is refused although it exists (`queue_of`); a command with other text, or sent twice (`exchange`, `ask`); and job lines
+//!   that are not read (`shown_in`).
+//! - A command other than a submission that runs out of memory while reading its reply ends with 1, like a command that was not sent,
+//!   though it may have been executed.
+//!
+//! # Errors
+//!
+//! An error is a line `spool: ..` on standard error. The exit status is:
+//!
+//! - 0: success.
+//! - 1: a failure, or a document that is not printed.
+//! - 2: the command line is refused. The line then begins with `error:`.
+//! - 3: it is unknown whether a job will be printed, or whether a command was executed.
+//! - 4: the document of a job cannot be converted for its printer.
+//! - 5: a job that the program waited for was not completed.
+//!
+//! Once a job is accepted, the status says so, even if the line with its number cannot be written.
 #![tactic(auto)]
 
 ghost use Rattle.std.specs.Prelude.{◌≡◌, ◌≢◌, MatchResult};
@@ -59,7 +116,7 @@ use std::io::{ErrorKind, IsTerminal};
 use std::process::ExitCode;
 use std::{env, io};
 
-// The columns where the environment doesn't tell them.
+// The width if `COLUMNS` does not specify it.
 const USUAL_WIDTH: u64 = 80;
 
 fn main(rt: HostRuntime) -> ExitCode {
@@ -69,7 +126,7 @@ fn main(rt: HostRuntime) -> ExitCode {
         Err(error) => return no_words(&rt, &error),
     };
     if words.iter().any(|word| has_control(word.as_str())) {
-        let _ = eprintln!(rt; "error: a word of the command line has a control character");
+        let _ = eprintln!(rt; "error: an argument contains a control character");
         return ExitCode::from(2);
     }
     let told = match environment_of(&rt) {
@@ -94,7 +151,7 @@ fn given_words(rt: &HostRuntime) -> io::Result<Vec<String>> {
     Ok(words)
 }
 
-// Tells that the words couldn't be had: they are no text, or there was no memory.
+// Reports that the arguments could not be read: one is not valid UTF-8, or memory ran out.
 fn no_words(rt: &HostRuntime, error: &io::Error) -> ExitCode
     ensures no_text { error_kind error.now ≡ ErrorKind.InvalidData → exit_status result ≡ 2 }
     ensures memory { error_kind error.now ≢ ErrorKind.InvalidData → exit_status result ≡ 1 }
@@ -102,11 +159,11 @@ fn no_words(rt: &HostRuntime, error: &io::Error) -> ExitCode
     if error.kind() != ErrorKind::InvalidData {
         return ended(rt, Err(Fault::Memory));
     }
-    let _ = eprintln!(rt; "error: the words of the command line are no text");
+    let _ = eprintln!(rt; "error: an argument is not valid UTF-8");
     ExitCode::from(2)
 }
 
-// What the environment tells: the usual socket, how long it is waited for, and the columns of the terminal.
+// The values of the environment: the default socket, the patience in seconds, and the width of the terminal in columns.
 #[derive(Drop)]
 struct Environment {
     socket: String,
@@ -136,7 +193,7 @@ fn width_in(told: &Option<String>) -> usize
     number_or(told, u64::MAX, USUAL_WIDTH) as usize
 }
 
-// The status, and a fault's line on standard error.
+// Prints a fault on standard error, and returns the exit status.
 fn ended(rt: &HostRuntime, ended: Result<u8, Fault>) -> ExitCode
     ensures { MatchResult ended (λ status. exit_status result ≡ status) (λ fault. exit_status result ≡ status_of fault) }
 {
@@ -149,7 +206,7 @@ fn ended(rt: &HostRuntime, ended: Result<u8, Fault>) -> ExitCode
     }
 }
 
-// Does what is asked for, at the usual socket where the words name none. `shows` tells whether standard error is a terminal.
+// Executes the task, at the default socket if the command line names none. `shows` states whether standard error is a terminal.
 fn run(rt: &HostRuntime, asked: &Asked<'_>, told: &Environment, shows: bool) -> Result<u8, Fault> {
     let patience = told.patience;
     let screen = Screen {
@@ -186,7 +243,7 @@ fn run_task(
         Task::Clear { queues } => tasks::clear(rt, services, queues.as_slice()),
         Task::Queue { name, act } => tasks::act_on_queue(rt, services, name, *act),
         Task::Devices => Err(Fault::Words(
-            "run `spool_shell --devices`: the service doesn't list devices",
+            "the service does not list devices; use `spool_shell --devices`",
         )),
         Task::Check => check::check(rt, services),
         Task::Page { file, follow } => web_page::write_page(rt, services, file, *follow),

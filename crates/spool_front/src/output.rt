@@ -3,7 +3,6 @@
 use std::io;
 use std::io::Write;
 
-/// Prints lines.
 pub fn print_lines(rt: &HostRuntime, lines: &[String]) -> io::Result<()> {
     for line in lines {
         println!(rt; "{line}")?;
@@ -11,7 +10,6 @@ pub fn print_lines(rt: &HostRuntime, lines: &[String]) -> io::Result<()> {
     Ok(())
 }
 
-/// Prints bytes.
 pub fn print_bytes(rt: &HostRuntime, bytes: &[u8]) -> io::Result<()> {
     io::writer(rt).write_all(bytes)
 }

@@ -1,4 +1,4 @@
-//! The task of printing files: each becomes a job.
+//! Printing files, each of which becomes a job.
 ghost use Rattle.std.specs.Prelude.{◌≡◌, IsTrue};
 ghost use Rattle.std.specs.Io.KnownBytes.{IsAtEnd};
 ghost use Rattle.spool_front.specs.JobDrafts.{IsLastPart};
@@ -19,14 +19,14 @@ use front_words::Submission;
 use std::fs;
 use std::io::Read;
 
-// The status where a document can't be read, where it isn't known how a job ended, and where it ended otherwise than completed.
+// The status if a document cannot be read, if the outcome of a job is unknown, and if a job was not completed.
 const FAILED: u8 = 1;
 
 const NOT_KNOWN: u8 = 3;
 
 const NOT_COMPLETED: u8 = 5;
 
-/// Prints the files, one after the other, and gives the status of the first that fails.
+/// Prints the files in order, and returns the status of the first one that fails.
 pub fn print_files(
     rt: &HostRuntime,
     services: Services<'_, '_>,
@@ -72,7 +72,7 @@ fn print_named(
     let source = match fs::open(rt, file) {
         Ok(source) => source,
         Err(_) => {
-            let _ = eprintln!(rt; "spool: file {file}");
+            let _ = eprintln!(rt; "spool: cannot open {file}");
             return Ok(FAILED);
         }
     };
@@ -92,7 +92,7 @@ fn print_input(
     print_document(rt, client, asked, &draft, rt.reader(), screen)
 }
 
-// The last part of a path.
+// Returns the last part of a path.
 fn base_name(path: &str) -> &str
     ensures { IsLastPart path.now result.now }
 {
@@ -119,7 +119,7 @@ fn print_document<S: Read + Drop>(
     }
 }
 
-// Makes a job of a document, and tells how that ended.
+// Submits a document and reports the outcome.
 fn submit<S: Read + Drop>(
     rt: &HostRuntime,
     client: &mut Client<'_>,
@@ -140,7 +140,7 @@ fn submit<S: Read + Drop>(
     end
 }
 
-// Tells how a submission ended. That stays its status, also where nobody can be told.
+// Reports the outcome of a submission. A report that cannot be written does not change the status.
 fn report(rt: &HostRuntime, quiet: bool, queue: &str, end: End, submitting: &Submitting<'_>) {
     match end {
         End::Accepted { .. } if quiet => {}
@@ -148,10 +148,12 @@ fn report(rt: &HostRuntime, quiet: bool, queue: &str, end: End, submitting: &Sub
             let _ = println!(rt; "request id is {queue}-{job} (1 file(s))");
         }
         End::Unprintable { job } => {
-            let _ = eprintln!(rt; "spool: job {job} has a type that can't be printed on {queue}");
+            let _ = eprintln!(rt;
+                "spool: job {job} cannot be printed: no chain of filters converts it for {queue}"
+            );
         }
         End::Unknown { job } => {
-            let _ = eprintln!(rt; "spool: it isn't known whether job {job} prints");
+            let _ = eprintln!(rt; "spool: cannot determine whether job {job} will be printed");
         }
         End::Refused {
             job,
@@ -163,13 +165,13 @@ fn report(rt: &HostRuntime, quiet: bool, queue: &str, end: End, submitting: &Sub
 
 fn report_refused(rt: &HostRuntime, job: Option<u32>, cause: &str, canceled: bool) {
     let _ = match job {
-        Some(job) if canceled => eprintln!(rt; "spool: {cause}, job {job} canceled"),
-        Some(job) => eprintln!(rt; "spool: {cause}, job {job} isn't printed"),
+        Some(job) if canceled => eprintln!(rt; "spool: {cause}; job {job} was canceled"),
+        Some(job) => eprintln!(rt; "spool: {cause}; job {job} is not printed"),
         None => eprintln!(rt; "spool: {cause}"),
     };
 }
 
-// Waits until the job has ended, and gives the status. On a terminal its way is told.
+// Waits until the job has ended, and returns the status. On a terminal it shows the progress.
 fn wait_for(rt: &HostRuntime, client: &mut Client<'_>, job: u32, screen: Screen) -> u8 {
     for _ in 0..u64::MAX {
         if let Some(status) = status_of(rt, client, job, screen) {
@@ -180,12 +182,12 @@ fn wait_for(rt: &HostRuntime, client: &mut Client<'_>, job: u32, screen: Screen)
     NOT_KNOWN
 }
 
-// The status, where the job has ended, or can't be seen.
+// Returns the status if the job has ended or cannot be queried.
 fn status_of(rt: &HostRuntime, client: &mut Client<'_>, job: u32, screen: Screen) -> Option<u8> {
     match client.job(job) {
         Ok(Some(shown)) => report_shown(rt, shown, screen),
         Ok(None) => {
-            let _ = eprintln!(rt; "spool: job {job} has ended, and is gone");
+            let _ = eprintln!(rt; "spool: job {job} has ended and was removed");
             Some(NOT_COMPLETED)
         }
         Err(fault) => Some(report_unknown(rt, job, fault)),
@@ -204,7 +206,7 @@ fn report_shown(rt: &HostRuntime, shown: JobShown, screen: Screen) -> Option<u8>
 fn report_unknown(rt: &HostRuntime, job: u32, fault: Fault) -> u8
     ensures { result ≡ 3 }
 {
-    let _ = eprintln!(rt; "spool: it isn't known how job {job} ends: {fault}");
+    let _ = eprintln!(rt; "spool: cannot determine the outcome of job {job}: {fault}");
     drop(fault);
     NOT_KNOWN
 }
@@ -221,7 +223,7 @@ fn report_way(rt: &HostRuntime, shown: &JobShown, screen: Screen) {
     };
 }
 
-// The status where the job has ended. Why it isn't completed is told.
+// Returns the status if the job has ended, and reports why it is not completed.
 fn end_of(rt: &HostRuntime, shown: &JobShown) -> Option<u8>
     ensures { result ≡ status_at shown.now.job_status.state }
 {
@@ -241,8 +243,8 @@ fn report_end(rt: &HostRuntime, shown: &JobShown) {
     let _ = match &shown.job_status.reason {
         Some(reason) => {
             let reason = reason.as_str();
-            eprintln!(rt; "spool: job {job} is {state}: {reason}")
+            eprintln!(rt; "spool: job {job} was {state}: {reason}")
         }
-        None => eprintln!(rt; "spool: job {job} is {state}"),
+        None => eprintln!(rt; "spool: job {job} was {state}"),
     };
 }

@@ -1,4 +1,4 @@
-//! Which programs of the service's file can't be run.
+//! The programs in the service's file that cannot be run.
 
 use crate::fault::Fault;
 use crate::files::file_text;
@@ -7,12 +7,12 @@ use program_fitness::obstacle_of_program;
 use program_lists::{ListFault, ListedProgram, ProgramList};
 use std::io;
 
-// What names the file in the environment, and the file where nothing does.
+// The environment variable that names the file, and the default file.
 const VARIABLE: &str = "SPOOL_PROGRAMS";
 
 const USUAL_PROGRAMS: &str = "/etc/cegmandi/programs";
 
-/// Tells each program of the service's file that can't be run as it is. Whether all can.
+/// Prints each program in the service's file that cannot be run. Returns whether all can be run.
 pub fn report_programs(rt: &HostRuntime) -> Result<bool, Fault> {
     let list = list_of_file(rt)?;
     let all = report_list(rt, &list);
@@ -24,7 +24,7 @@ fn list_of_file(rt: &HostRuntime) -> Result<ProgramList, Fault> {
     let text = file_text(rt, VARIABLE, USUAL_PROGRAMS)?;
     match ProgramList::read(rt.alloc(), text.as_str()) {
         Ok(list) => Ok(list),
-        Err(ListFault::Unread) => Err(Fault::File(variable_or(rt, VARIABLE, USUAL_PROGRAMS)?)),
+        Err(ListFault::Unread) => Err(Fault::Invalid(variable_or(rt, VARIABLE, USUAL_PROGRAMS)?)),
         Err(ListFault::Memory) => Err(Fault::Memory),
     }
 }
@@ -46,7 +46,7 @@ fn report_list(rt: &HostRuntime, list: &ProgramList) -> io::Result<bool> {
     Ok(all)
 }
 
-// Whether a program can be run. Where it can't it is told.
+// Returns whether a program can be run, and prints why if it cannot.
 fn report_program(
     rt: &HostRuntime,
     kind: &str,
@@ -55,7 +55,7 @@ fn report_program(
 ) -> io::Result<bool> {
     match obstacle_of_program(rt, program) {
         Some(obstacle) => {
-            println!(rt; "{kind} {name} can't be run: {obstacle}")?;
+            println!(rt; "{kind} {name} cannot be run: {obstacle}")?;
             Ok(false)
         }
         None => Ok(true),

@@ -1,4 +1,4 @@
-//! What the replies of a service say of a submission.
+//! The meaning of a service's replies for a submission.
 ghost use Rattle.std.specs.Prelude.{◌≡◌};
 ghost use Rattle.std.specs.List.{after_first, before_first};
 ghost use Rattle.front_texts.specs.ReplyLines.{is_space};
@@ -10,10 +10,10 @@ use front_texts::{JobShown, JobState, LastLine, read_last_line};
 use line_words::decimal;
 use spool_types::Reason;
 
-// The greatest size of a job that is read.
+// The greatest size of a job that is read, in bytes.
 const GREATEST_SIZE: u64 = 1 << 40;
 
-/// What the last line of a reply says.
+/// Returns the meaning of the last line of a reply.
 pub fn reply_in(line: &str) -> Reply
     ensures { result ≡ reply_in line.now }
 {
@@ -31,7 +31,7 @@ pub fn reply_in(line: &str) -> Reply
     }
 }
 
-// What follows `ok`.
+// Returns the meaning of the words after `ok`.
 fn done_as(words: &str) -> Reply
     ensures { result ≡ done_as words.now }
 {
@@ -51,7 +51,7 @@ fn done_as(words: &str) -> Reply
     Reply::Unclear
 }
 
-// What stands before the first blank, and what follows it.
+// Splits the line at its first blank, which is dropped.
 fn parted(line: &str) -> (&str, &str)
     ensures word { result.0.now ≡ before_first is_space line.now }
     ensures rest { result.1.now ≡ after_first is_space line.now }
@@ -80,7 +80,7 @@ fn bytes_as(text: &str) -> Reply
     }
 }
 
-// What follows `ok type`: the type, and then the stages, or that there are none.
+// Returns the meaning of the words after `ok type`: the type, followed by the stages or by `unprintable`.
 fn type_as(text: &str) -> Reply
     ensures { result ≡ type_as text.now }
 {
@@ -95,7 +95,7 @@ fn type_as(text: &str) -> Reply
     Reply::Unclear
 }
 
-// What follows `error`, where it is a word.
+// Returns the meaning of a word after `error`.
 fn failed_as(word: &str) -> Reply
     ensures { result ≡ failed_as word.now }
 {
@@ -111,14 +111,14 @@ fn failed_as(word: &str) -> Reply
     Reply::Denied
 }
 
-/// Whether the last line of a reply says that there is no such job.
+/// Returns whether the last line of a reply states that the job does not exist.
 pub fn is_gone(line: &str) -> bool
     ensures { result ≡ is_gone line.now }
 {
     matches!(reply_in(line), Reply::Gone)
 }
 
-/// What has become of a job. One that was closed has a type.
+/// Returns the current state of a job. A job that was closed has a type.
 pub fn shown_of(job: &JobShown) -> Shown
     ensures { result ≡ shown_of job.now }
 {
@@ -132,7 +132,7 @@ pub fn shown_of(job: &JobShown) -> Shown
     )
 }
 
-// What has become of a job, by whether it was closed, its state, and whether its reason is one of two.
+// Returns the state of a job from whether it was closed, its state, and whether its reason is `no-filter` or `job-incoming`.
 fn shown_as(closed: bool, state: JobState, no_filter: bool, incoming: bool, size: u32) -> Shown
     ensures { result ≡ shown_as closed state no_filter incoming size }
 {
@@ -149,7 +149,7 @@ fn shown_as(closed: bool, state: JobState, no_filter: bool, incoming: bool, size
     Shown::NeverClosed
 }
 
-/// Whether the reason of a state is this one.
+/// Returns whether the reason of a state is this word.
 pub fn has_reason(reason: &Option<Reason>, word: &str) -> bool
     ensures { result ≡ has_reason word.now reason.now }
 {

@@ -1,4 +1,4 @@
-//! Which services are asked, and which queue is meant.
+//! The choice of services and queues.
 ghost use Rattle.std.specs.Prelude.{◌≡◌, ◌≢◌, ◌*◌, IfErr, IfOk, IfSome, IsOk, OnOk, [], ◌∷◌, ◌++◌, length, map, string_bytes};
 ghost use Rattle.std.specs.List.{Contains};
 ghost use Rattle.spool_front.specs.QueueChoice.{has_queue, noted, place_at};
@@ -11,26 +11,26 @@ use crate::host::{number_or, variable, variable_or};
 use front_texts::{JobLine, QueueLine};
 use std::alloc::{AllocError, Global};
 
-// The socket where none is named, and the seconds for which a service is waited for.
+// The default socket, and the default patience in seconds.
 const USUAL_SOCKET: &str = "/run/cegmandi/spool.sock";
 
 const USUAL_PATIENCE: u64 = 30;
 
 const MOST_PATIENCE: u64 = 4_294_967_295;
 
-/// The sockets of the services, of which there is one at least, and how long each is waited for.
+/// The sockets of the services, at least one, and how long to wait for each, in seconds.
 #[derive(Clone, Copy)]
 pub struct Services<'p, 'a> {
     pub sockets: &'p [&'a str],
     pub patience: u32,
 }
 
-/// The socket of the environment, or else the usual one.
+/// Returns the socket of the environment, or the default.
 pub fn usual_socket(rt: &HostRuntime) -> Result<String, AllocError> {
     variable_or(rt, "SPOOL_SOCKET", USUAL_SOCKET)
 }
 
-/// For how many seconds a service is waited for.
+/// Returns how long to wait for a service, in seconds.
 pub fn patience(rt: &HostRuntime) -> Result<u32, AllocError> {
     let told = variable(rt, "SPOOL_PATIENCE")?;
     Ok(patience_in(&told))
@@ -42,7 +42,7 @@ fn patience_in(told: &Option<String>) -> u32
     number_or(told, MOST_PATIENCE, USUAL_PATIENCE) as u32
 }
 
-/// The client of the service at a socket.
+/// Returns the client of the service at a socket.
 pub fn client_at<'a>(rt: &'a HostRuntime, services: Services<'_, '_>, socket: &'a str) -> Client<'a>
     ensures patience { result.pauses ≡ services.entry.patience * 10 }
     ensures socket { result.socket.now ≡ socket.now }
@@ -50,18 +50,18 @@ pub fn client_at<'a>(rt: &'a HostRuntime, services: Services<'_, '_>, socket: &'
     Client::new(rt, socket, services.patience)
 }
 
-/// The socket of the one service that is named. A job's number says nothing where there are several.
+/// Returns the socket of the only service. A job number is ambiguous if there are several services.
 pub fn only_socket<'a>(services: Services<'_, 'a>) -> Result<&'a str, Fault>
     ensures one { IfOk result (λ socket. map (λ service. service.now) services.entry.sockets.now ≡ socket.now ∷ []) }
     ensures others { IfErr result (λ _. length services.entry.sockets.now ≢ 1) }
 {
     match services.sockets {
         [socket] => Ok(*socket),
-        _ => Err(Fault::Words("several services are named, and this is asked of one")),
+        _ => Err(Fault::Words("this task needs exactly one --socket")),
     }
 }
 
-/// The queues of the service at a socket.
+/// Returns the queues of the service at a socket.
 pub fn queues_at(
     rt: &HostRuntime,
     services: Services<'_, '_>,
@@ -73,7 +73,7 @@ pub fn queues_at(
     queues
 }
 
-/// The queues of all services.
+/// Returns the queues of all services.
 pub fn all_queues(rt: &HostRuntime, services: Services<'_, '_>) -> Result<Vec<QueueLine>, Fault> {
     let mut queues = Vec::new(rt.alloc());
     for socket in services.sockets {
@@ -84,7 +84,7 @@ pub fn all_queues(rt: &HostRuntime, services: Services<'_, '_>) -> Result<Vec<Qu
     Ok(queues)
 }
 
-/// The jobs of all services.
+/// Returns the jobs of all services.
 pub fn all_jobs(rt: &HostRuntime, services: Services<'_, '_>) -> Result<Vec<JobLine>, Fault> {
     let mut jobs = Vec::new(rt.alloc());
     for socket in services.sockets {
@@ -106,7 +106,7 @@ fn jobs_at(
     jobs
 }
 
-/// The socket and the name of the queue that is meant: the one that is named, that of the environment, or the only one.
+/// Returns the socket and the name of the requested queue: the named one, that of the environment, or the only one.
 pub fn queue_of<'a>(
     rt: &HostRuntime,
     services: Services<'_, 'a>,
@@ -122,7 +122,9 @@ pub fn queue_of<'a>(
     for name in ["LPDEST", "PRINTER"] {
         if let Some(queue) = variable(rt, name)? {
             if has_control(queue.as_str()) {
-                return Err(Fault::Words("the environment's queue has a control character"));
+                return Err(Fault::Words(
+                    "the queue in LPDEST or PRINTER contains a control character",
+                ));
             }
             return place_of(rt, services, queue);
         }
@@ -142,7 +144,7 @@ fn place_of<'a>(
     Ok((socket, queue))
 }
 
-/// The socket of the service that has this queue. With one service nobody is asked.
+/// Returns the socket of the service that has this queue. If there is only one service, it is not asked.
 pub fn socket_of<'a>(
     rt: &HostRuntime,
     services: Services<'_, 'a>,
@@ -162,7 +164,7 @@ pub fn socket_of<'a>(
     Err(Fault::Words("no service has this queue"))
 }
 
-/// Whether there is a queue of this name.
+/// Returns whether a queue has this name.
 pub fn has_queue(queues: &[QueueLine], name: &str) -> bool
     ensures { result ≡ has_queue queues.now name.now }
 {
@@ -183,11 +185,11 @@ fn only_queue<'a>(rt: &HostRuntime, services: Services<'_, 'a>) -> Result<(&'a s
     }
     match only {
         Some(service) => Ok(service),
-        None => Err(Fault::Words("there is no queue")),
+        None => Err(Fault::Words("no queue exists")),
     }
 }
 
-// Notes the queue of a service, where it is the only one.
+// Stores the queue of a service if it is the only one.
 fn note_only<'a>(
     alloc: Global,
     socket: &'a str,
@@ -198,7 +200,7 @@ fn note_only<'a>(
 {
     for row in queues {
         if only.is_some() {
-            return Err(Fault::Words("no queue is named, and there are several"));
+            return Err(Fault::Words("no queue is given, and there are several"));
         }
         *only = Some((socket, String::from_str(alloc, row.name.as_str())?));
     }

@@ -1,4 +1,4 @@
-//! Making a job of a document, exactly once.
+//! Submitting a document as exactly one job.
 ghost use Rattle.std.specs.Prelude.{◌≡◌, ◌<◌, ◌↔◌, ◌⊎◌, IfOk, IsSome, IsTrue, None, Some, cond, false, is_some, length, string_bytes};
 ghost use Rattle.std.specs.Io.KnownBytes.{IsAtEnd};
 ghost use Rattle.std.specs.Str.Iter.{HasSubslice};
@@ -20,17 +20,17 @@ use front_texts::{JobLine, JobShown, read_job_line, read_job_shown};
 use std::alloc::{AllocError, Global};
 use std::io::Read;
 
-/// A submission, and what its messages speak of.
+/// A submission and the data for its messages.
 #[derive(Drop)]
 pub struct Submitting<'a> {
     rt: &'a HostRuntime,
     draft: &'a Draft,
     screen: Screen,
-    // The words of the last refusal.
+    // The last refusal, in the service's words.
     refusal: Option<String>,
-    // Whether it was given up for want of memory.
+    // Whether the submission was given up because memory ran out.
     memory: bool,
-    // How many replies were lost, or not clear, since the document last came further.
+    // The number of replies that were lost or unclear since the document last made progress.
     lost: u64,
 }
 
@@ -52,24 +52,24 @@ impl<'a> Submitting<'a> {
         }
     }
 
-    /// Why the document is refused, for a person.
+    /// Returns the message that explains why the document was refused.
     pub fn cause_text(&self, cause: Cause) -> &str
         ensures { result.now ≡ cause_text self.now.refusal self.now.memory cause }
     {
         match cause {
             Cause::Declined => match &self.refusal {
                 Some(text) => text.as_str(),
-                None => "refused",
+                None => "the service refused the document",
             },
-            Cause::OtherSize => "the job has another size than what was sent",
-            Cause::EndedEarly => "somebody has ended the job",
-            Cause::Unreadable => "the document can't be read",
-            Cause::Deserted if self.memory => "memory",
-            Cause::Deserted => "nobody serves",
+            Cause::OtherSize => "the size of the job differs from the number of bytes sent",
+            Cause::EndedEarly => "the job was ended before the document was complete",
+            Cause::Unreadable => "cannot read the document",
+            Cause::Deserted if self.memory => "out of memory",
+            Cause::Deserted => "cannot reach the service",
         }
     }
 
-    /// Makes one job of the document, and gives how that ends. Whatever happens it has an end, whose status is true.
+    /// Submits the document as one job and returns the outcome. Every submission ends, with a status that is correct.
     pub fn submit<S: Read + Drop>(
         &mut self,
         client: &mut Client<'_>,
@@ -103,8 +103,8 @@ impl<'a> Submitting<'a> {
         }
     }
 
-    // Sends one request, and gives what becomes of the step. Without memory it is given up, as where nobody serves: what was
-    // sent may have been done.
+    // Sends one request and returns the next step. If memory runs out, the submission is given up as if no service were reachable: the
+    // request may have been executed.
     fn request(
         &mut self,
         client: &mut Client<'_>,
@@ -144,7 +144,7 @@ impl<'a> Submitting<'a> {
         }
     }
 
-    // What a reply makes of the step. What isn't clear ends the connection, and what was put off is sent again later.
+    // Returns the step after a reply. After an unclear reply the connection is closed. A request that was put off is sent again later.
     fn after(&mut self, client: &mut Client<'_>, step: Step, reply: Reply) -> Step
         ensures step { result ≡ heard step reply }
         ensures unclear { reply ≡ Reply.Unclear → client.new.connection ≡ None }
@@ -169,7 +169,7 @@ impl<'a> Submitting<'a> {
         pause(self.rt);
     }
 
-    // The reply to a request.
+    // Sends the request and returns its reply.
     fn reply(
         &mut self,
         client: &mut Client<'_>,
@@ -194,7 +194,7 @@ impl<'a> Submitting<'a> {
         }
     }
 
-    // A refusal of a `cancel` isn't kept: that of the document is told.
+    // Cancels the job. A refusal of `cancel` is not stored, since the message reports that of the document.
     fn cancel(&mut self, client: &mut Client<'_>, job: u32) -> Result<Reply, ConnectionFault> {
         let line = job_line(self.rt.alloc(), "cancel", job)?;
         let answer = client.exchange(line.as_slice())?;
@@ -220,7 +220,7 @@ impl<'a> Submitting<'a> {
         reply
     }
 
-    // What has become of a job.
+    // Returns the current state of a job.
     fn show(&mut self, client: &mut Client<'_>, job: u32) -> Result<Reply, ConnectionFault> {
         match self.shown(client, job)? {
             Ok(job) => {
@@ -250,7 +250,7 @@ impl<'a> Submitting<'a> {
         }
     }
 
-    // The jobs that arrive with the token.
+    // Finds the incoming jobs that have the token.
     fn find(&mut self, client: &mut Client<'_>) -> Result<Reply, ConnectionFault> {
         let answer = client.exchange(b"jobs\n")?;
         if !answer.is_done() {
@@ -280,7 +280,7 @@ impl<'a> Submitting<'a> {
         Ok(Reply::Jobs { found })
     }
 
-    // Adds a job to those that were found, if it has the token.
+    // Adds a job to the found ones if it has the token.
     fn look(
         &mut self,
         client: &mut Client<'_>,
@@ -303,7 +303,7 @@ impl<'a> Submitting<'a> {
     }
 }
 
-// The number of a row's job, if it arrives for this queue and this user.
+// Returns the number of the job in a row if it is incoming and has the draft's queue and owner.
 fn own_job(alloc: Global, draft: &Draft, row: &[u8]) -> Result<Option<u32>, AllocError>
     ensures { IfOk result (λ job. job ≡ own_job draft.now row.now) }
 {
@@ -319,7 +319,7 @@ fn own_job(alloc: Global, draft: &Draft, row: &[u8]) -> Result<Option<u32>, Allo
     Ok(own)
 }
 
-// Whether a job arrives for this queue and this user.
+// Returns whether a job is incoming and has the draft's queue and owner.
 fn may_be_own(draft: &Draft, job: &JobLine) -> bool
     ensures { result ≡ may_be_own draft.now job.now }
 {
@@ -334,7 +334,7 @@ fn has_token(options: &str, token: &str) -> bool
     options.contains(token)
 }
 
-// What was found, and one more job with the token.
+// Returns the found jobs with one more job that has the token.
 fn with_job(found: Found, job: u32, size: u32) -> Found
     ensures { result ≡ with_job found job size }
 {
@@ -353,7 +353,7 @@ fn with_job(found: Found, job: u32, size: u32) -> Found
     }
 }
 
-// How a submission ends that has made so many steps that it is given up.
+// Returns the outcome of a submission that is given up after too many steps.
 fn ended(step: Step) -> End
     ensures { deserted (lost step) ≡ Step.Ended result }
 {

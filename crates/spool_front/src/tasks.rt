@@ -1,4 +1,4 @@
-//! What is shown of jobs and queues, and what is done to them.
+//! The tasks that show and change jobs and queues.
 ghost use Rattle.std.specs.Prelude.{◌≡◌, IfOk, filter, filter_map};
 ghost use Rattle.std.specs.List.{list_any};
 ghost use Rattle.std.specs.Option.{option_map};
@@ -23,7 +23,7 @@ use front_words::{JobAct, QueueAct, Status};
 use serde_json::Value;
 use std::alloc::{AllocError, Global};
 
-/// Shows one job, those of a queue, or all.
+/// Shows one job, the jobs of a queue, or all jobs.
 pub fn show_status(
     rt: &HostRuntime,
     services: Services<'_, '_>,
@@ -60,7 +60,7 @@ fn print_json(rt: &HostRuntime, value: Value) -> Result<(), Fault> {
     Ok(())
 }
 
-// Leaves the jobs of a queue, if one is named, and else all.
+// Retains the jobs of the queue, or all if no queue is named.
 fn keep_of(jobs: &mut Vec<JobLine>, queue: Option<&str>)
     ensures { jobs.new.items ≡ filter (is_of (option_map (λ name. name.now) queue.entry)) jobs.old.items }
 {
@@ -76,7 +76,7 @@ fn is_of(queue: Option<&str>, job: &JobLine) -> bool
     }
 }
 
-// Shows the job of this number of each service that has one.
+// Shows the job with this number of each service that has one.
 fn show_job(
     rt: &HostRuntime,
     services: Services<'_, '_>,
@@ -99,7 +99,7 @@ fn show_job(
     if found {
         Ok(0)
     } else {
-        Err(Fault::Words("there is no such job"))
+        Err(Fault::Words("no such job"))
     }
 }
 
@@ -118,7 +118,6 @@ fn print_job(rt: &HostRuntime, shown: &JobShown, json: bool, screen: Screen) -> 
     Ok(())
 }
 
-/// Shows the queues.
 pub fn show_queues(
     rt: &HostRuntime,
     services: Services<'_, '_>,
@@ -148,7 +147,7 @@ fn print_queues(
     Ok(())
 }
 
-/// Prints each line that the service tells of what changes, until it goes.
+/// Prints each line that the service sends about a change, until the connection is lost.
 pub fn watch(rt: &HostRuntime, services: Services<'_, '_>) -> Result<u8, Fault>
     ensures { IfOk result (λ status. status ≡ 0) }
 {
@@ -169,7 +168,7 @@ fn watch_by(rt: &HostRuntime, client: &mut Client<'_>) -> Result<(), Fault> {
     Ok(())
 }
 
-/// Does the same to each of these jobs.
+/// Applies the same action to each of these jobs.
 pub fn act_on_jobs(
     rt: &HostRuntime,
     services: Services<'_, '_>,
@@ -182,7 +181,7 @@ pub fn act_on_jobs(
     ended
 }
 
-// Where it is refused for a job, or the reply is lost, that is told, and the other jobs have their turn.
+// If the action is refused for a job, or the reply is lost, this is reported and the next job follows.
 fn act_by(
     rt: &HostRuntime,
     client: &mut Client<'_>,
@@ -200,7 +199,7 @@ fn act_by(
     Ok(status)
 }
 
-// Tells why something wasn't done to a job, and gives the status. Any other fault is one of all jobs.
+// Reports why the action failed for a job, and returns the status. Any other fault concerns all jobs.
 fn report_fault(rt: &HostRuntime, job: u32, fault: Fault) -> Result<u8, Fault>
     ensures { IfOk result (λ status. status ≡ status_of fault) }
 {
@@ -231,13 +230,13 @@ fn act_line(rt: &HostRuntime, act: JobAct, job: u32) -> Result<Vec<u8>, Fault>
     Ok(line?)
 }
 
-/// Cancels each job of these queues, or of all, that hasn't ended.
+/// Cancels all jobs of these queues, or of all queues, that have not ended.
 pub fn clear(rt: &HostRuntime, services: Services<'_, '_>, names: &[&str]) -> Result<u8, Fault> {
     let queues = all_queues(rt, services)?;
     let known = names.iter().all(|name| has_queue(&queues, name));
     drop(queues);
     if !known {
-        return Err(Fault::Words("there is no such queue"));
+        return Err(Fault::Words("no such queue"));
     }
     let mut status = 0;
     for socket in services.sockets {
@@ -256,7 +255,7 @@ fn clear_by(rt: &HostRuntime, client: &mut Client<'_>, names: &[&str]) -> Result
     act_by(rt, client, JobAct::Cancel, numbers?.as_slice())
 }
 
-// The numbers of the jobs of these queues, or of all, that haven't ended.
+// Returns the numbers of the jobs of these queues, or of all queues, that have not ended.
 fn numbers_of(alloc: Global, jobs: &[JobLine], names: &[&str]) -> Result<Vec<u32>, AllocError>
     ensures { IfOk result (λ numbers. numbers.items ≡ filter_map (number_of names.now (λ name. name.now)) jobs.now) }
 {
@@ -281,7 +280,7 @@ fn is_among(names: &[&str], queue: &str) -> bool
     names.iter().any(|name| *name == queue)
 }
 
-/// Does something to a queue.
+/// Applies an action to a queue.
 pub fn act_on_queue(
     rt: &HostRuntime,
     services: Services<'_, '_>,

@@ -1,4 +1,4 @@
-//! The queues and jobs as a page, written to a file.
+//! The page of the queues and jobs, written to a file.
 ghost use Rattle.std.specs.Prelude.{◌≡◌, IfOk};
 ghost use Rattle.spool_front.specs.StatusPages.{IsPage};
 
@@ -13,7 +13,7 @@ use std::time::Duration;
 // The seconds between two pages.
 const PAGE_SECONDS: u64 = 5;
 
-/// Writes the page: to another file first, which then takes its name. With `follow` it does so every five seconds.
+/// Writes the page to a temporary file, which is then renamed. With `follow` this is repeated every five seconds.
 pub fn write_page(
     rt: &HostRuntime,
     services: Services<'_, '_>,
@@ -44,7 +44,7 @@ fn write_one_page(
     write_as(rt, file, &text?)
 }
 
-// The page of these queues, and of the jobs.
+// Returns the page of these queues and of all jobs.
 fn page_of(
     rt: &HostRuntime,
     services: Services<'_, '_>,
@@ -57,7 +57,7 @@ fn page_of(
     text
 }
 
-// The page as it is now.
+// Returns the page with the current time.
 fn page_at(
     rt: &HostRuntime,
     queues: &[QueueLine],
@@ -77,7 +77,7 @@ fn write_as(rt: &HostRuntime, file: &str, text: &[u8]) -> Result<(), Fault> {
     if fs::write(rt, unfinished.as_str(), text).is_err()
         || fs::rename(rt, unfinished.as_str(), file).is_err()
     {
-        return Err(Fault::File(String::from_str(alloc, file)?));
+        return Err(Fault::NotWritten(String::from_str(alloc, file)?));
     }
     Ok(())
 }

@@ -29,7 +29,7 @@ module _ {X : Type 0} (p : X → Bool) where
   either_kept true y ys x there = later y ys x there
   either_kept false y ys x there = there
 
-  -- one that passes is kept
+  -- An element that passes is kept.
   pub kept : (xs : List X) (x : X) → Contains xs x → p x ≡ true → Contains (filter p xs) x
   kept [] x (k, lt, is) passes = absurd (omega (arith, lt))
   kept (y ∷ xs) x (zero, lt, is) passes = subst (λ b. Contains (cond b (y ∷ filter p xs) (filter p xs)) x) (sym (ap p is ∙ passes)) (0, omega arith, is)
@@ -44,7 +44,7 @@ module _ {X : Type 0} (p : X → Bool) where
       let found = rest there in
       (later y ys x found.0, found.1)
 
-  -- what is kept was there, and passes
+  -- An element that is kept was in the list, and passes.
   pub unkept : (xs : List X) (x : X) → Contains (filter p xs) x → Contains xs x × (p x ≡ true)
   unkept [] x (k, lt, is) = absurd (omega (arith, lt))
   unkept (y ∷ xs) x there = first_or_later (p y) y xs (filter p xs) x refl (unkept xs x) there
@@ -60,11 +60,11 @@ found_in R [] k x found = absurd (cc)
 found_in R (e ∷ es) k x found = first_found (eq_by_cmp R k e.0) (finite.find R k es) e.1 (map (λ e. e.1) es) x found (found_in R es k x)
 
 module _ {K X : Type 0} (R : K → K → Ordering) (total : IsTotalOrder R) where
-  -- what is found is a value
+  -- An element that is found is a value.
   pub value_there : (m : finite.FinMap R X) (k : K) (x : X) → finite.get m k ≡ Some x → Contains (finite.values m) x
   value_there m k x there = found_in R (finite.entries m) k x (sym (finite.get-entries m k) ∙ there)
 
-  -- a value is found at the key beside it
+  -- A value is found at its key.
   module _ (es : List (K × X)) (sorted : IsTrue (finite.is_sorted R es)) (k : K) (x : X) (there : Contains (map (λ e. e.1) es) x) where
     abbrev entry : K × X
     entry = get_or es there.0 (k, x)
@@ -92,7 +92,7 @@ module _ {K X : Type 0} (R : K → K → Ordering) (total : IsTotalOrder R) wher
       let at_key : finite.get m found.0 ≡ Some x = finite.get-entries m found.0 ∙ found.1 in
       subst (λ k. finite.get m k ≡ Some x) (sym (own found.0 x at_key)) at_key
 
-  -- ## Two maps, of which the second has the values of the first that pass a test
+  -- ## Two maps, the second with the values of the first that pass a test
   module _ (m n : finite.FinMap R X) (key : X → K) (p : X → Bool)
       (own_m : (k : K) (y : X) → finite.get m k ≡ Some y → key y ≡ k) (own_n : (k : K) (y : X) → finite.get n k ≡ Some y → key y ≡ k)
       (half : finite.values n ≡ filter p (finite.values m)) where

@@ -1,4 +1,4 @@
--- How a half goes on.
+-- A half after further events.
 use Rattle.std.proofs.Common.{◌≡◌, ◌∙◌, ℕ, Bool, true, false, cond, List, None, Some, Option, IsSome, refl, sym, ap, subst, arith}
 use Rattle.spool_types.specs.State.{State, Job, queue_at, job_at}
 use Rattle.spool_types.specs.declared.rows.QueueRow.{QueueRow}
@@ -21,7 +21,7 @@ module _ (named : Bool) (names : List (List ℕ)) (s t p : State) (legal_s : IsL
   own_name : (r : Job) → is_of name r ≡ true → r.queue ≡ name
   own_name r is = (bytes_decides r.queue name).0 is
 
-  -- and so are its jobs
+  -- Its jobs are the same.
   pub same_jobs : (j : ℕ) → own_of name (job_at s j) ≡ own_of name (job_at t j)
   same_jobs j = either (job_at s j) refl
     where
@@ -40,7 +40,7 @@ module _ (named : Bool) (names : List (List ℕ)) (s t p : State) (legal_s : IsL
       either None e = sym (ap (own_of name) (some_or_none (job_at t j) (λ r at. let bad : None ≡ Some r = sym e ∙ (job_from named names s t legal_s legal_t half j r at).0 in cc)))
       either (Some r) e = of_queue r (is_of name r) refl e
 
-  -- a part of the whole is one of the half
+  -- A part of the whole is one of the half.
   pub part_of_half : s.version ≡ Two → IsPart name t p
   part_of_half newest = record {
     queue = part.queue ∙ sym (queue_same named names s t legal_s legal_t half name own);
@@ -51,6 +51,6 @@ module _ (named : Bool) (names : List (List ℕ)) (s t p : State) (legal_s : IsL
     highest = subst (λ n. p.highest ≤ n) (sym half.highest) part.highest;
   }
 
--- two tables with one part have the same rows of the queue
+-- Two tables with one part have the same rows of the queue.
 pub same_rows : (name : List ℕ) (s t p : State) → IsPart name s p → IsPart name t p → ((j : ℕ) → own_of name (job_at s j) ≡ own_of name (job_at t j)) × (queue_at s name ≡ queue_at t name)
 same_rows name s t p one two = (λ j. sym (one.jobs j) ∙ two.jobs j, sym one.queue ∙ two.queue)

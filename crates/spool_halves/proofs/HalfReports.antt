@@ -1,4 +1,4 @@
--- What is so of the rows of a table that can be listed.
+-- Properties of the rows of a table that can be listed.
 use Rattle.std.proofs.Common.{◌≡◌, ℕ, ◌≤◌, List, [], ◌∷◌, length, sym, subst}
 use Rattle.std.specs.FinMap as finite
 use Rattle.std.specs.List.{AllByRecursion}

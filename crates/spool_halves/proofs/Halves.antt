@@ -1,4 +1,4 @@
--- What a half has of the whole table.
+-- The rows and documents of the whole that a half has.
 use Rattle.std.proofs.Common.{◌≡◌, ◌∙◌, ℕ, ◌≤◌, Bool, true, false, not, List, map, None, Some, Option, IsSome, refl, sym, ap, subst, arith}
 use Rattle.std.specs.Prelude.{◌⊎◌}
 use Rattle.std.proofs.Common.{inl, inr}
@@ -36,7 +36,7 @@ module _ (named : Bool) (names : List (List ℕ)) (s t : State) (legal_s : IsLeg
   pub queue_from : (name : List ℕ) (q : QueueRow) → queue_at t name ≡ Some q → (queue_at s name ≡ Some q) × (takes named names q.name ≡ true)
   queue_from = from_half (slice_cmp nat_cmp) nat_list_cmp_total s.queues t.queues (λ (q : QueueRow). q.name) (λ (q : QueueRow). takes named names q.name) legal_s.names legal_t.names half.queues
 
-  -- the row of a queue of the half
+  -- The row of a queue of the half.
   pub queue_same : (name : List ℕ) → takes named names name ≡ true → queue_at t name ≡ queue_at s name
   queue_same name own = either (queue_at s name) refl
     where
@@ -50,7 +50,7 @@ module _ (named : Bool) (names : List (List ℕ)) (s t : State) (legal_s : IsLeg
       either None e = no_queue (queue_at t name) e refl
       either (Some q) e = queue_to name q e (ap (takes named names) (legal_s.names name q e) ∙ own)
 
-  -- no job of the other queues
+  -- No job of the other queues.
   pub job_absent : (j : ℕ) (r : Job) → job_at s j ≡ Some r → takes named names r.queue ≡ false → job_at t j ≡ None
   job_absent j r at other = either (job_at t j) refl
     where
@@ -78,6 +78,6 @@ module _ (named : Bool) (names : List (List ℕ)) (s t : State) (legal_s : IsLeg
         let is : documents j ≡ document = all_there (IsSameDocument s t bytes image) numbers j same in_numbers over_s over_t document (documents j) there (has j over_t) in
         subst (λ (d : List ℕ). HasDocument j d image) is (has j over_t)
 
--- what is in the one half isn't in the other
+-- A queue in one half is not in the other.
 pub other_half : (names : List (List ℕ)) (name : List ℕ) (b : Bool) → takes true names name ≡ b → takes false names name ≡ not b
 other_half names name b is = ap not is

@@ -9,7 +9,7 @@ use Rattle.spool_core.specs.DocumentReading.{IsDocument}
 use Rattle.spool_core.specs.OpenSpools.{OpenSpool}
 use Rattle.spool_halves.specs.Halves.{IsSameDocument}
 
--- what was read is the document of each, so equal bytes are equal documents
+-- The bytes read are the document of each, so equal bytes are equal documents.
 pub same_document : {D E : Type 0} (v : DiskView D) (w : DiskView E) (whole : OpenSpool D) (part : OpenSpool E) (s p : State) (j : ℕ) (a b r t : List ℕ)
     → whole.state ≡ s → part.state ≡ p → IsDocument v whole j a → IsDocument w part j b → a ≡ b → v.bytes whole.disk ≡ Some r → w.bytes part.disk ≡ Some t
     → IsSameDocument s p r t j

@@ -9,8 +9,8 @@ use Rattle.split_rows.specs.Half.{takes}
 use Rattle.job_table.specs.Over.{is_over}
 use Rattle.spool_core.specs.Image.{HasDocument, HasTable}
 
--- The second table has the rows of the first that are in the half, in the newest version, and nothing else. The highest number and
--- the moment are those of the whole.
+-- The second table has exactly the rows of the first that are in the half, in the newest version. Its highest number and its
+-- moment are those of the whole.
 pub record IsHalf (named : Bool) (names : List (List ℕ)) (s t : State) : Type 0 where
   pub queues : finite.values t.queues ≡ filter (λ (q : QueueRow). takes named names q.name) (finite.values s.queues)
   pub jobs : finite.values t.jobs ≡ filter (λ (r : Job). takes named names r.queue) (finite.values s.jobs)
@@ -18,19 +18,19 @@ pub record IsHalf (named : Bool) (names : List (List ℕ)) (s t : State) : Type 
   pub moment : t.moment ≡ s.moment
   pub version : t.version ≡ Two
 
--- the image has the table of a half
+-- The image has the table of a half.
 pub record HasHalf (named : Bool) (names : List (List ℕ)) (s : State) (image : List ℕ) : Type 0 where
   pub half : State
   pub found : HasTable half image
   pub rows : IsHalf named names s half
 
--- Each job of the half that hasn't ended has the document in the image that it has in the bytes.
+-- Each job of the half that has not ended has the same document in the image as in the bytes.
 abbrev pub KeepsDocuments : Bool → List (List ℕ) → State → List ℕ → List ℕ → Type 0
 KeepsDocuments named names s bytes image =
     (j : ℕ) (row : Job) (document : List ℕ) → job_at s j ≡ Some row → takes named names row.queue ≡ true → has_ended row.phase ≡ false
     → HasDocument j document bytes → HasDocument j document image
 
--- a job that hasn't ended has the same document in both
+-- A job that has not ended has the same document in both.
 abbrev pub IsSameDocument : State → State → List ℕ → List ℕ → ℕ → Type 0
 IsSameDocument s t bytes image j =
     is_over s j ≡ false → is_over t j ≡ false → (d e : List ℕ) → HasDocument j d bytes → HasDocument j e image → e ≡ d

@@ -11,7 +11,8 @@ use spool_disk::Disk;
 use spool_types::{JobId, LONGEST_SEND, Piece, QueueRow, Row};
 use std::alloc::{AllocError, Global};
 
-/// Makes the disk a spool that lists the rows of a half, with their documents. What it holds is looked at by whoever reads it back.
+/// Makes the disk a spool that lists the rows of a half, with their documents. The caller reads the disk back to check its
+/// contents.
 pub(crate) fn write_half<S: Disk, T: Disk + Drop>(
     alloc: Global,
     whole: &mut Spool<S>,
@@ -48,7 +49,7 @@ fn put_queues<T: Disk + Drop>(
     Ok(())
 }
 
-// The numbers of the half's jobs.
+// Returns the numbers of the half's jobs.
 fn jobs_of(alloc: Global, half: Half<'_>, jobs: &Rows) -> Result<Vec<JobId>, AllocError> {
     let mut found = Vec::new(alloc);
     for row in jobs.iter() {

@@ -1,4 +1,4 @@
-//! What is so of the halves of every table. The functions do nothing: their clauses are the laws.
+//! Laws about the halves of every table. The functions do nothing: their clauses are the laws.
 ghost use Rattle.std.specs.Prelude.{◌≡◌, ◌⊎◌, ℕ, true, false, Bool, List, None, Some};
 ghost use Rattle.spool_types.specs.declared.event.Event.{Event};
 ghost use Rattle.spool_types.specs.declared.rows.QueueRow.{QueueRow};
@@ -12,7 +12,7 @@ ghost use Rattle.spool_halves.specs.Halves.{IsHalf};
 
 use job_table::{legal_tables_stay_legal, queues_stay_apart};
 
-/// Each row is in one half and not in the other, as it was, and no half has any other row.
+/// Each row is in one half and not in the other, unchanged, and no half has any other row.
 pub fn each_row_in_one_half()
     ensures jobs { (names : List (List ℕ)) (s t u : State) (j : ℕ) (r : Job) → IsLegal s → IsLegal t → IsLegal u → IsHalf true names s t → IsHalf false names s u → job_at s j ≡ Some r →
         ((job_at t j ≡ Some r) × (job_at u j ≡ None)) ⊎ ((job_at t j ≡ None) × (job_at u j ≡ Some r)) }
@@ -23,8 +23,8 @@ pub fn each_row_in_one_half()
         (queue_at s name ≡ Some q) × (takes named names q.name ≡ true) }
 {}
 
-/// *QueuesApart* for a half: a queue's part of the whole table is its part of the half, so with the same events of its own it goes
-/// on in the half as it would have in the whole.
+/// *QueuesApart* for a half: a queue's part of the whole table is its part of the half. So with the same events of its own the
+/// queue changes in the half as it would have in the whole.
 pub fn halves_go_on()
     ensures part { (named : Bool) (names : List (List ℕ)) (s t p : State) (name : List ℕ) → IsLegal s → IsLegal t → s.version ≡ Two → IsHalf named names s t → takes named names name ≡ true →
         IsPart name s p → IsPart name t p }

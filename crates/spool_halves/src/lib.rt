@@ -1,28 +1,40 @@
-//! The halves of a spool that is split by queues.
+//! The two halves of a spool that is split by queues.
 //!
-//! [`list_half`] makes one half of a spool on a disk of its own: the queues of some names with their jobs and documents, or all
-//! others. Called twice, once for each half, it gives the two spools that take the place of the one.
+//! [`list_half`] writes one half of a spool to a disk of its own: the queues with the given names, their jobs and documents, or
+//! all others. Two calls, one for each half, produce the two spools that replace the old one.
 //!
-//! # Promises, on every disk that meets `Disk`
+//! # Promises
 //!
-//! - [`list_half`]: a crash leaves only images whose table has exactly the rows of the half (`half`, `IsHalf`), with the highest number and
-//!   the moment of the whole, in the newest version. Each job of it that hasn't ended has the document there that the whole spool's
-//!   disk has for it (`documents`). The new disk is synced (`synced`). The whole spool's table stays, and nothing changes on its disk
-//!   (`state`, `still`).
-//! - [`each_row_in_one_half`]: of a legal table each job is in exactly one of the two halves, and no half has a row that the table hasn't.
-//! - [`halves_go_on`]: with the same events of its own, a queue and its jobs become the same in the half and in the whole
-//!   (`queues_stay_apart` of `job_table`).
+//! These hold on every disk that meets `Disk`.
 //!
-//! # How it keeps them
+//! - [`list_half`]: a crash afterwards leaves only images whose table has exactly the rows of the half (`takes` of `split_rows`),
+//!   each as it was and in order, with the highest number and the moment of the whole, in the newest version (`half`, `IsHalf`).
+//!   Each job of the half that has not ended has the document there that the whole spool's disk has for it (`documents`,
+//!   `KeepsDocuments`). The new disk is synced (`synced`). The whole spool's table and disk are as before (`state`, `still`).
+//! - [`each_row_in_one_half`]: of two halves by the same names, of a legal table, each job is in exactly one, and neither half
+//!   has a job or a queue that the whole does not have (`jobs`, `no_others`, `no_other_queues`). A queue's row is in its half as
+//!   it was (`queues`).
+//! - [`halves_go_on`]: a queue's part of the whole table is its part of its half (`part`). So if it gets the same events of its
+//!   own in both, the queue and its jobs are the same afterwards, whatever other events happen (`jobs`, `queue`,
+//!   `queues_stay_apart` of `job_table`).
 //!
-//! The rows are written ([`split_rows`]) and the new disk is opened as any spool. Its rows are compared with those of the whole table,
-//! and its documents with those of the old disk. Only a disk that passes is handed back, so what is promised rests on what was
-//! read, and not on how it was written.
+//! # Not proved
 //!
-//! # Faults
+//! - That `list_half` never returns `Disk` on a sound disk, which means that the rows read back are those written. Of the writer
+//!   it is only proved that it may call the steps of a checkpoint. Tests show the rest.
+//! - That `list_half` succeeds: a body that always returns a fault meets its clauses.
 //!
-//! [`HalfFault`]: no memory, for twice the longest document; rows that don't fit into half of the disk; or a disk that failed. That what is
-//! read back isn't what was written counts as such. The whole spool is as it was.
+//! # How it works
+//!
+//! `list_half` writes the rows ([`split_rows`]) and opens the new disk like any spool (`Spool::load`). It compares the encoded
+//! rows with those of the whole table, and the documents with those of the old disk. It returns only a disk that passes, so the
+//! promises depend on the bytes that were read, not on the writer. It applies no policy: opening a half gives up an attempt that
+//! was running, as opening the whole would.
+//!
+//! # Errors
+//!
+//! [`HalfFault`]: memory ran out, which includes memory for twice the longest document; the rows do not fit into half of the
+//! disk; or a disk failed, which includes rows read back that differ from those written. The whole spool is as before.
 #![tactic(auto)]
 
 mod filling;

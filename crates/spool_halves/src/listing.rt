@@ -13,16 +13,16 @@ use spool_disk::Disk;
 use spool_types::JobId;
 use std::alloc::{AllocError, Global};
 
-/// Lists a half of a spool, with its documents, on a disk of its own, whatever that held, and gives that disk back, synced. The rows
-/// are those that the whole spool shows: an attempt that is under way is still so. What was written is read back and compared, and
-/// where it isn't the half this is `Disk`.
+/// Lists a half of a spool, with its documents, on a disk of its own, whatever the disk held. Returns that disk, synced. The rows
+/// are those that the whole spool shows: an attempt that is running is listed as such. The function reads the result back and
+/// compares it, and fails with `Disk` if it is not the half.
 pub fn list_half<S: Disk, T: Disk + Drop>(
     alloc: Global,
     whole: &mut Spool<S>,
     half: Half<'_>,
     disk: T,
 ) -> Result<T, HalfFault>
-    // A crash leaves the table of the half, with the documents that the whole spool's disk has.
+    // A crash leaves the table of the half, with the documents of the whole spool's disk.
     ensures half { IfOk result (λ made. IsSome (T.device.bytes made) → (c : List ℕ) → T.device.image made c →
         HasHalf half.entry.named half.entry.names.now whole.old.state c) }
     ensures documents { IfOk result (λ made. (r : List ℕ) → S.device.bytes whole.old.disk ≡ Some r → IsSome (T.device.bytes made) → (c : List ℕ) → T.device.image made c →
@@ -41,7 +41,7 @@ pub fn list_half<S: Disk, T: Disk + Drop>(
     Ok(part.into_disk())
 }
 
-// Sees that the part is the half of the whole spool, with the same documents. Where it isn't this is `Disk`.
+// Checks that the part is the half of the whole spool, with the same documents. Fails with `Disk` if it is not.
 fn look_back<S: Disk, T: Disk>(
     alloc: Global,
     whole: &mut Spool<S>,
@@ -74,7 +74,7 @@ fn look_back<S: Disk, T: Disk>(
     Ok(())
 }
 
-// The numbers of all jobs.
+// Returns the numbers of all jobs.
 fn numbers_of(alloc: Global, jobs: &Rows) -> Result<Vec<JobId>, AllocError>
     ensures { IfOk result (λ numbers. numbers.items ≡ map (λ row. row.job.id) jobs.now.items) }
 {

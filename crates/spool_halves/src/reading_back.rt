@@ -1,4 +1,4 @@
-//! Looking whether documents are the same on two disks.
+//! Comparing documents on two disks.
 ghost use Rattle.std.specs.Prelude.{◌≡◌, List, ℕ, Some, IfOk, IsTrue};
 ghost use Rattle.std.specs.List.{AllByRecursion};
 ghost use Rattle.spool_disk.specs.Disk.{ChangesNothing};
@@ -11,7 +11,7 @@ use spool_disk::Disk;
 use spool_types::JobId;
 use std::alloc::Global;
 
-/// The document of a job that is there.
+/// Returns the document of a job. Fails with `Disk` if the spool has no such job.
 pub(crate) fn document_of<S: Disk>(
     alloc: Global,
     spool: &mut Spool<S>,
@@ -31,7 +31,7 @@ pub(crate) fn document_of<S: Disk>(
     }
 }
 
-/// Whether each of these jobs has the same document in both spools.
+/// Returns whether each of these jobs has the same document in both spools.
 pub(crate) fn are_same_documents<S: Disk, T: Disk>(
     alloc: Global,
     whole: &mut Spool<S>,

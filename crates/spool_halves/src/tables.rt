@@ -1,4 +1,4 @@
-//! Looking whether a table is a half of another.
+//! Comparing a table with a half of another.
 ghost use Rattle.std.specs.Prelude.{IfOk, IsTrue};
 ghost use Rattle.spool_halves.specs.Halves.{IsHalf};
 
@@ -7,7 +7,7 @@ use split_rows::{Half, are_jobs, are_queues};
 use spool_types::Version;
 use std::alloc::{AllocError, Global};
 
-/// Whether the part is that half of the whole table.
+/// Returns whether the part is that half of the whole table.
 pub(crate) fn is_half(
     alloc: Global,
     whole: &Table,

@@ -1,4 +1,4 @@
--- What a value that a parse found is, by the parser of its argument.
+-- The values that a parse finds, by the parsers of their arguments.
 use Rattle.std.proofs.Common.{◌≡◌, ◌⊎◌, ◌∙◌, ◌<◌, ℕ, List, [], ◌∷◌, Bool as Truth, Option, Some, None, true, false, refl, sym, ap}
 use Rattle.std.proofs.Common.{subst, inl, inr, arith, length, map, codes, suc, cond, ◌||◌, ◌&&◌, ◌≤◌}
 use Rattle.std.specs.Prelude.{filter, option_map, slice_get, unwrap_or}
@@ -30,11 +30,11 @@ use Rattle.spool_runtime.specs.ProgramArguments.{HasFlag, HasNumberIn, HasOption
 
 -- ---- the command's arguments
 
--- an argument with this id has this parser
+-- Each argument with this id has this parser.
 abbrev Takes : Text → ValueParser → Rule → Type 0
 Takes id parser r = bytes_eq r.id id ≡ true → r.parser ≡ Some parser
 
--- if all parsers of the arguments with this id are this one, each of these arguments has it
+-- If the parsers of the arguments with this id are all this one, each of these arguments has it.
 takes_one : (id : Text) (parser : ValueParser) (r : Rule) (rs : List Rule) (b : Truth) → bytes_eq r.id id ≡ b
     → All (λ p. p ≡ Some parser) (map (λ (x : Rule). x.parser) (cond b (r ∷ filter (λ (x : Rule). bytes_eq x.id id) rs) (filter (λ (x : Rule). bytes_eq x.id id) rs)))
     → Takes id parser r × All (λ p. p ≡ Some parser) (parsers_of id rs)
@@ -54,7 +54,7 @@ one_takes id parser rules is =
     takes_all id parser rules (subst (All (λ p. p ≡ Some parser)) (sym is)
     (All-cons (λ p. p ≡ Some parser) (Some parser) [] refl (All-nil (λ p. p ≡ Some parser))))
 
--- the command before a parse, or as the parse built it
+-- The command before a parse, or as the parse built it.
 abbrev pub IsFor : App → Command → Type 0
 IsFor app c = (app_of c ≡ app) ⊎ (app_of c ≡ built app)
 
@@ -62,7 +62,7 @@ both : (a b : Truth) → (a && b) ≡ true → (a ≡ true) × (b ≡ true)
 both true b is = (refl, is)
 both false b is = cc
 
--- a simple command can be built, and is plain before and after it
+-- A simple command can be built, and is plain before and after.
 pub is_simple_by : (app : App) → is_simple_and_free app ≡ true → is_simple app ≡ true
 is_simple_by app simple = (both (is_simple app) _ simple).0
 
@@ -84,7 +84,7 @@ first_read Q [] all text some = cc
 first_read Q (v ∷ vs) all text some =
     subst Q (ap (λ (o : Option Text). unwrap_or o []) some) (All-get_or (λ w. Q w.now) (v ∷ vs) 0 v (omega arith) all)
 
--- ---- the entry of an argument whose values are read as they are written
+-- ---- the entry of an argument whose values are read as written
 
 module _ (app : App) (simple : is_simple_and_free app ≡ true) (id : Text) (parser : ValueParser) (some_id : id ≡ [] → ⊥)
     (plain : reading_of parser ≡ AsWritten) (option : HasOption app id parser) where
@@ -147,12 +147,12 @@ module _ (app : App) (simple : is_simple_and_free app ≡ true) (id : Text) (par
 
 -- ---- numbers and flags
 
--- a number that was found is in its range
+-- A number that was found is in its range.
 pub has_number : (app : App) (m : ArgMatches) (id : Text) (least most : ℕ) → PassParsers app m → (id ≡ [] → ⊥) → HasOption app id (Unsigned least most)
     → HasNumberIn least most id m
 has_number app m id least most pass some_id option text some = (pass id text (Unsigned least most) some_id refl option some).1
 
--- numbers of a range are those of a wider one
+-- The numbers of a range are also numbers of a wider range.
 pub wider : (m : ArgMatches) (id : Text) (least most low high : ℕ) → low ≤ least → most ≤ high → HasNumberIn least most id m → HasNumberIn low high id m
 wider m id least most low high below above has text some =
     let given = has text some in
@@ -162,7 +162,7 @@ either : (b d : Truth) (p q : Type 0) → (b ≡ true → p) → (d ≡ true →
 either true d p q x y h = inl (x refl)
 either false d p q x y h = inr (y h)
 
--- a flag that was found is one of the two that there are
+-- A flag that was found has one of its two values.
 pub has_flag : (app : App) (m : ArgMatches) (id : Text) → PassParsers app m → (id ≡ [] → ⊥) → HasOption app id Bool → HasFlag id m
 has_flag app m id pass some_id option text some =
     either (bytes_eq text (codes "true")) (bytes_eq text (codes "false")) (text ≡ codes "true") (text ≡ codes "false")
@@ -170,7 +170,7 @@ has_flag app m id pass some_id option text some =
 
 -- ---- the flag
 
--- `r` is what `get_flag` made of the text that was found
+-- `r` is the result of `get_flag` for the text that was found.
 pub flag_read : (found : Option Text) (r : Truth) → (found ≡ None → r ≡ false) → (found ≡ Some (codes "true") → r ≡ true)
     → (found ≡ Some (codes "false") → r ≡ false) → ((t : Text) → found ≡ Some t → (t ≡ codes "true") ⊎ (t ≡ codes "false")) → r ≡ is_told found
 flag_read None r none set unset range = none refl
@@ -179,15 +179,15 @@ flag_read (Some t) r none set unset range = elim (range t refl) [
   | inr is ↦ unset (ap Some is) ∙ sym (ap is_told (ap Some is))
 ]
 
--- ---- what was found by a program's own command
+-- ---- values found by a program's own command
 
--- a text that `get_str` answers is the first value in the words
+-- A text that `get_str` returns is the first value in the arguments.
 pub text_found : (app other : App) (words : List Text) (f : Found) (id : Text) (r : Option (Bor Text)) → option_map (λ s. s.now) r ≡ first_value f id
     → rows_of f ≡ matches_of other words → other ≡ app → option_map (λ s. s.now) r ≡ first_of id (matches_of app words)
 text_found app other words f id r gives found is =
     gives ∙ first_value-rows f id ∙ ap (first_of id) found ∙ ap (λ (a : App). first_of id (matches_of a words)) is
 
--- what is made of the value that was found is made of that in the words
+-- A result computed from the value that was found is the result for the value in the arguments.
 pub one_found : {T : Type 0} (made : Option Text → T) (app other : App) (words : List Text) (f : Found) (id : Text) (r : T) → r ≡ made (one_of id (rows_of f))
     → rows_of f ≡ matches_of other words → other ≡ app → r ≡ made (one_of id (matches_of app words))
 one_found made app other words f id r gives found is =

@@ -1,4 +1,4 @@
--- A name is split at its dashes in one way, since neither a kind nor a number has one.
+-- A name is split at its dashes in one way, since neither a kind nor a number contains a dash.
 use Rattle.std.proofs.Common.{◌≡◌, ◌≢◌, ◌∙◌, ℕ, ◌<◌, Bool, true, false, List, ◌∷◌, ◌++◌, length, get_or, None, Some, refl, ap, sym, arith, append_assoc}
 use Rattle.std.proofs.lemmas.Bool.{false≢true}
 use Rattle.std.proofs.lemmas.List.Folds.{list_all_at}
@@ -43,7 +43,7 @@ no_dash_in_numbers job attempt stage are =
     let two = first_two (is_number job) (is_number attempt) (is_number stage) are in
     (no_dash_in_number job two.0, no_dash_in_number attempt two.1)
 
--- ---- the parts round a dash
+-- ---- the parts around a dash
 
 unsplit : (text front back : List ℕ) → IsSplitOnceResult 45 text None → text ≡ front ++ (45 ∷ back) → HasNoDash front → ⊥
 unsplit text front back h e free = split_after 45 text front back None h (omega arith) e free
@@ -57,7 +57,7 @@ parts text x h = (split_parts 45 text (Some x) h (omega arith)).0
 spelled : (kind job attempt stage : List ℕ) → kind ++ codes "-" ++ job ++ codes "-" ++ attempt ++ codes "-" ++ stage ≡ kind ++ (45 ∷ (job ++ (45 ∷ (attempt ++ (45 ∷ stage)))))
 spelled kind job attempt stage = simp append_assoc
 
--- ---- a name's first dash
+-- ---- the first dash of a name
 
 pub record FirstParts (name kind rest : List ℕ) : Type 0 where
   pub whole : name ≡ kind ++ (45 ∷ rest)
@@ -78,7 +78,7 @@ first_parts name x h = record {
       same_parts name (prefix_of file) (job ++ (45 ∷ (attempt ++ (45 ∷ stage)))) x h (behind_kind name file job attempt stage n) (no_dash_in_prefix file);
 }
 
--- ---- its second
+-- ---- the second dash
 
 pub record TwoParts (name kind job rest : List ℕ) : Type 0 where
   pub whole : name ≡ kind ++ (45 ∷ (job ++ (45 ∷ rest)))
@@ -98,7 +98,7 @@ two_parts name kind rest x p h = record {
       (first.0, second.0, second.1);
 }
 
--- ---- its third
+-- ---- the third dash
 
 pub record AllParts (name kind job attempt stage : List ℕ) : Type 0 where
   pub whole : name ≡ kind ++ (45 ∷ (job ++ (45 ∷ (attempt ++ (45 ∷ stage)))))
@@ -117,7 +117,7 @@ all_parts name kind job rest x p h = record {
       (two.0, two.1, third.0, third.1);
 }
 
--- ---- what the parts are
+-- ---- the parts
 
 pub other_kind : (name kind job attempt stage : List ℕ) → AllParts name kind job attempt stage → ((file : ChildFile) → kind ≢ prefix_of file) → IsNoName name
 other_kind name kind job attempt stage p not file j a s n = not file (p.only file j a s n).0

@@ -1,4 +1,4 @@
--- Lines that are printed one after another.
+-- Lines that are printed in order.
 use Rattle.std.proofs.Common.{◌≡◌, ◌∙◌, ℕ, List, [], ◌∷◌, ◌++◌, Option, None, Some, Result, Ok, Err, IfErr, IfOk, OnErr, refl, sym, ap, subst, inl, inr}
 use Rattle.std.proofs.lemmas.List.{append_assoc, append-nil, flat_map_more}
 use Rattle.std.specs.List.{AllZip, flat_map}
@@ -33,7 +33,7 @@ both [] ys s t e h = subst (λ x. ArePrinted ys (x ++ t)) (sym e) h
 both (x ∷ xs) ys s t (inl (is, g)) h = inl (is, record { rest = g.rest ++ t; whole = joined x g.rest t s g.whole; are = both xs ys g.rest t g.are h })
 both (x ∷ xs) ys s t (inr (none, g)) h = inr (none, both xs ys s t g h)
 
--- what was told is printed after the lines before
+-- The lines that a backend prints follow the lines before.
 lines_more : (lines others : List (List ℕ)) (a b c : Option (List ℕ)) → PrintsDevices lines a b → PrintsDevices others b c → PrintsDevices (lines ++ others) a c
 lines_more lines others a b c h more = record {
   text = h.text ++ more.text;
@@ -41,14 +41,14 @@ lines_more lines others a b c h more = record {
   wrote = Appends-trans a b c h.text more.text h.wrote more.wrote;
 }
 
--- one more at the end of each list
+-- Appends one element to each list.
 zip_more : {A B : Type 0} (R : A → B → Type 0) (xs : List A) (ys : List B) (x : A) (y : B) → AllZip R xs ys → R x y → AllZip R (xs ++ x ∷ []) (ys ++ y ∷ [])
 zip_more R [] [] x y h r = (r, tt)
 zip_more R [] (b ∷ ys) x y h r = absurd h
 zip_more R (a ∷ xs) [] x y h r = absurd h
 zip_more R (a ∷ xs) (b ∷ ys) x y h r = (h.0, zip_more R xs ys x y h.1 r)
 
--- one backend more told this
+-- One more backend has printed this.
 pub tells_more : (tells : ListedProgram → Option (Option (List ℕ))) (backends : List (Listed BackendNameKind)) (backend : Listed BackendNameKind) (told : Option (List ℕ)) (a b c : Option (List ℕ))
     → PrintsTold tells backends a b → Knows (tells backend.program) told → PrintsDevices (lines_told told) b c → PrintsTold tells (backends ++ backend ∷ []) a c
 tells_more tells backends backend told a b c h knows more =
@@ -59,7 +59,7 @@ tells_more tells backends backend told a b c h knows more =
       printed = subst (λ ls. PrintsDevices ls a c) lines (lines_more (flat_map lines_told h.told) (lines_told told) a b c h.printed more);
     }
 
--- The same of what was asked. What found no memory ends the printing.
+-- The same for the result of asking a backend. Running out of memory ends the printing.
 pub asked_more : {V E : Type 0} (text_of : V → List ℕ) (is_memory : E → Type 0) (asked : Result V E)
     (tells : ListedProgram → Option (Option (List ℕ))) (backends : List (Listed BackendNameKind)) (backend : Listed BackendNameKind) (a b c : Option (List ℕ))
     → PrintsTold tells backends a b
@@ -72,7 +72,7 @@ asked_more text_of is_memory (Err e) tells backends backend a b c h knows none l
     let no_lines : PrintsDevices [] b c = record { text = []; are = refl; wrote = subst (λ x. Appends b x []) (sym nothing) (Appends-nil b) } in
     tells_more tells backends backend None a b c h (none other) no_lines
 
--- a call that went well although nothing was told met no want of memory
+-- If the call succeeded although the backend reported nothing, memory did not run out.
 pub no_memory : {V E U F : Type 0} (is_memory : E → Type 0) (asked : Result V E) (done : U) (fault : F)
     → IfErr asked (λ e. is_memory e → Ok done ≡ Err fault) → IfErr asked (λ e. ¬ (is_memory e))
 no_memory is_memory (Ok v) done fault h = tt

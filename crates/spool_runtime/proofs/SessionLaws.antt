@@ -1,4 +1,4 @@
--- A client's requests are answered one after the other.
+-- A client's requests are answered in order.
 use Rattle.std.proofs.Common.{◌≡◌, ◌∙◌, ℕ, ◌+◌, ◌-◌, List, [], ◌++◌, length, take, drop, Some, Ok, Err, false, refl, ap, sym, arith, append_assoc, append-nil, length-drop, take_all, take-append-drop}
 use lib.Seq.{take-append-add}
 use Rattle.side_channel.specs.SessionPieces.{Finished, Takes, Wanting, to_come}
@@ -11,7 +11,7 @@ use Rattle.side_channel.specs.declared.pieces.Held.{Held}
 use Rattle.side_channel.proofs.SessionLaws.{after_both}
 use Rattle.spool_runtime.specs.ClientSessions.{AnswersPiece, AnswersToEnd}
 
--- the answers to a piece were written up to this rest of it
+-- The answers to a piece were written, except for this rest of the piece.
 pub record Progress (d : Device) (old new : Held) (piece rest had has : List ℕ) : Type 0 where
   pub front : List ℕ
   pub whole : piece ≡ front ++ rest
@@ -40,7 +40,7 @@ behind had mid has t u first second = second ∙ ap (λ l. l ++ u) first ∙ app
 left : (xs : List ℕ) (n : ℕ) → drop n xs ≡ take (length xs - n) (drop n xs)
 left xs n = sym (take_all (length xs - n) (drop n xs) (omega (arith, length-drop n xs)))
 
--- one more request is answered
+-- One more request is answered.
 pub further : (d : Device) (a b c : Held) (piece rest had mid has u : List ℕ) (count : ℕ) → Progress d a b piece rest had mid → Takes d b (take count rest) u c → has ≡ mid ++ u
     → Progress d a c piece (take (length rest - count) (drop count rest)) had has
 further d a b c piece rest had mid has u count p takes wrote =

@@ -1,4 +1,4 @@
--- The number that the text of an option stands for.
+-- The number that the text of an option represents.
 use Rattle.std.proofs.Common.{◌≡◌, ◌≤◌, ℕ, Option, Some, None, refl, ap}
 use Rattle.std.specs.Prelude.{Ok, Err, Result, option_map, unwrap_or}
 use Rattle.std.specs.Str.Parse.{ParsesUnsigned}
@@ -7,7 +7,7 @@ use Rattle.clap.specs.Values.{IsUnsignedIn}
 use Rattle.clap.specs.Walk.{Text}
 use Rattle.spool_runtime.specs.ProgramArguments.{number_of}
 
--- `r` is what `get_one` made of the text that was found
+-- `r` is the result of `get_one` for the text that was found.
 pub number_read : {E : Type 0} (least most : ℕ) (G : Text → Result ℕ E → Type 0) (found : Option Text) (r : Option ℕ)
     → ((u : Text) (x : Result ℕ E) → G u x → ParsesUnsigned 64 10 u x)
     → (found ≡ None → r ≡ None) → ((t : Text) → found ≡ Some t → ReadsOne G t r)
@@ -20,7 +20,7 @@ number_read least most G (Some t) None only none some range =
     let given = range t refl in
     absurd (only t (Err unread.0) unread.1 (given.0, given.1))
 
--- so the number that counts is in the range of the option
+-- So the number that counts is in the range of the option.
 pub number_within : {E : Type 0} (least most usual : ℕ) (G : Text → Result ℕ E → Type 0) (found : Option Text) (r : Option ℕ)
     → ((u : Text) (x : Result ℕ E) → G u x → ParsesUnsigned 64 10 u x)
     → (found ≡ None → r ≡ None) → ((t : Text) → found ≡ Some t → ReadsOne G t r)

@@ -1,16 +1,16 @@
--- What the system tells of the signals that a process ignores.
+-- Whether a process ignores SIGCHLD, as the system shows it.
 use Rattle.std.specs.Prelude.{ℕ, ◌-◌, Bool, ◌&&◌, ◌==◌, nat_eq, nat_le, List, codes, length, slice_index_or}
 use Rattle.std.specs.List.{list_any, slice_split, starts_with}
 
--- the hexadecimal digits of odd numbers, as codes
+-- The codes of the odd hexadecimal digits, in lower case.
 abbrev pub is_odd : ℕ → Bool
 is_odd digit = list_any (λ odd. digit == odd) (codes "13579bdf")
 
--- The line is that of the ignored signals, and SIGCHLD, number 17, is among them: the fifth digit from the end has the
--- signals 17 to 20, of which 17 is the lowest.
+-- The line lists the ignored signals, and SIGCHLD, number 17, is one of them. The fifth digit from the end has the
+-- signals 17 to 20, and 17 is its lowest bit.
 abbrev pub reports_ignored : List ℕ → Bool
 reports_ignored line = nat_le 5 (length line) && starts_with nat_eq line (codes "SigIgn:") && is_odd (slice_index_or line (length line - 5) 0)
 
--- a line of the text tells so
+-- A line of the text says so.
 abbrev pub ignores_in : List ℕ → Bool
 ignores_in status = list_any reports_ignored (slice_split (λ b. b == 10) status)

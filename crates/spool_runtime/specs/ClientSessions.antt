@@ -1,4 +1,4 @@
--- What a client's bytes come to, and what is written of their answers.
+-- The effect of a client's bytes, and the part of their answers that is written.
 use Rattle.std.specs.Prelude.{◌≡◌, ◌≢◌, ℕ, Bool, true, false, List, ◌++◌, take, Result, Ok, Err}
 use Rattle.side_channel.specs.SessionPieces.{Takes}
 use Rattle.side_channel.specs.declared.devices.Device.{Device}
@@ -7,13 +7,13 @@ use Rattle.side_channel.specs.declared.endings.SideFault.TheVariants.{Write}
 use Rattle.side_channel.specs.declared.pieces.Held.{Held}
 use Rattle.side_channel.specs.declared.pieces.Held.TheVariants.{Over}
 
--- all of a piece was taken, and its answers were written behind the others
+-- The whole piece was taken, and its answers were written after the others.
 pub record AnswersAll (d : Device) (old new : Held) (piece had has : List ℕ) : Type 0 where
   pub text : List ℕ
   pub takes : Takes d old piece text new
   pub wrote : has ≡ had ++ text
 
--- the session ends in a piece, and all before its end was answered
+-- The session ends in the piece, and everything before its end was answered.
 pub record AnswersToEnd (d : Device) (old new : Held) (piece had has : List ℕ) : Type 0 where
   pub front : List ℕ
   pub rest : List ℕ
@@ -21,7 +21,7 @@ pub record AnswersToEnd (d : Device) (old new : Held) (piece had has : List ℕ)
   pub answers : AnswersAll d old new front had has
   pub over : new ≡ Over
 
--- the first bytes of a piece were taken, and a prefix of their answers was written
+-- The first bytes of the piece were taken, and a prefix of their answers was written.
 pub record AnswersPart (d : Device) (old new : Held) (piece had has : List ℕ) : Type 0 where
   pub front : List ℕ
   pub rest : List ℕ
@@ -31,7 +31,7 @@ pub record AnswersPart (d : Device) (old new : Held) (piece had has : List ℕ) 
   pub count : ℕ
   pub wrote : has ≡ had ++ take count text
 
--- what a piece comes to: `true` says that the session has ended, and `false` that it goes on
+-- The result of a piece: `true` if the session has ended, and `false` if it continues.
 abbrev pub AnswersPiece : Device → Held → Held → List ℕ → List ℕ → List ℕ → Result Bool SideFault → Type 0
 AnswersPiece d old new piece had has (Ok false) = AnswersAll d old new piece had has × (new ≢ Over)
 AnswersPiece d old new piece had has (Ok true) = AnswersToEnd d old new piece had has

@@ -1,4 +1,4 @@
--- What is told of a stage that failed.
+-- The reasons that are reported for a failed stage.
 use Rattle.std.specs.Prelude.{Bool, true, false, cond, ◌==◌, Option, None, Some}
 use Rattle.spool_types.specs.declared.effect.Effect.{Effect}
 use Rattle.spool_types.specs.declared.effect.Effect.TheVariants as effects
@@ -7,7 +7,7 @@ use Rattle.spool_types.specs.declared.effect.Exit.TheVariants as exits
 use Rattle.spool_runtime.specs.declared.reasons.Reason.{Reason}
 use Rattle.spool_runtime.specs.declared.reasons.Reason.TheVariants as reasons
 
--- an end that is no success; one that nobody saw has its own cause
+-- The reason for an end that is not a success. An end that was not observed has a cause of its own.
 abbrev pub bad_end : Exit → Option Reason
 bad_end (exits.Code code) = cond (code == 0) None (Some (reasons.Status code))
 bad_end exits.Signal = Some reasons.Signal
@@ -18,7 +18,7 @@ abbrev pub is_message : Effect → Bool
 is_message (effects.Message level text) = true
 is_message _ = false
 
--- want of something that may be there in a moment
+-- A shortage that may pass in a moment.
 abbrev pub may_pass : Reason → Bool
 may_pass (reasons.Short shortage) = true
 may_pass _ = false

@@ -1,4 +1,4 @@
--- What a launcher makes of an order, and of an end.
+-- How a launcher handles an order and the end of a child.
 use Rattle.std.specs.Prelude.{◌≡◌, ℕ, ℤ, pos, Bool, true, false, not, ◌&&◌, ◌||◌, List, length, ◌==◌, codes, Option, None, Some, IsSome}
 use Rattle.std.specs.Option.{option_map}
 use Rattle.std.specs.Process.{exit_code, exit_signal}
@@ -22,21 +22,22 @@ use Rattle.spool_runtime.specs.declared.reasons.Reason.{Reason}
 use Rattle.spool_runtime.specs.declared.reasons.Reason.TheVariants.{Refused, Short}
 use Rattle.spool_runtime.specs.declared.shortage.Shortage.{Shortage}
 
--- the program that an order names, where the list has it
+-- The program that an order names, if the list has it.
 abbrev pub program_for : Programs → Program → Option ListedProgram
 program_for list (programs.Filter name) = program_named name list.filters
 program_for list (programs.Backend scheme) = program_named scheme list.backends
 
--- the file that is standard input: the document comes by its name alone
+-- The file that is standard input. A document is passed only by its name.
 abbrev pub input_name : List ℕ → Input → List ℕ
 input_name path (inputs.Document content) = codes "/dev/null"
 input_name path (inputs.Bytes content) = path
 
--- the device of the side channel, where there is one: that of the URI among the variables
+-- The device of the side channel, if there is one: the device of the URI in the variables.
 abbrev pub device_for : Programs → Order → Option Device
 device_for list order = option_map (λ (program : ListedProgram). device_in (uri_among order.environment)) list.side
 
--- The end that a status tells: an exit with a code, or a signal. Of a process that was stopped it tells neither.
+-- The end that a status shows: an exit with a code, or a signal. The status of a process that was stopped shows
+-- neither.
 abbrev pub TellsEnd : ExitStatus → Exit → Type 0
 TellsEnd status (Code code) = exit_code status ≡ Some (pos code)
 TellsEnd status Signal = IsSome (exit_signal status)
@@ -52,8 +53,8 @@ abbrev pub is_success : Exit → Bool
 is_success (Code code) = code == 0
 is_success exit = false
 
--- A child that ended well may have written more than was kept: there is no room behind what it wrote on a stream. Of an
--- empty one nobody knows; a filter is to give something, and a backend isn't.
+-- A child that ended with status 0 may have written more than was stored, because there is no room after its bytes on a
+-- stream. For an empty stream this cannot be known. A filter must write output, a backend need not.
 abbrev pub may_be_cut : Finish → Bool → Room → Bool
 may_be_cut finish filter room =
     is_success finish.exit && ((not room.output && (filter || not (length finish.output == 0))) || (not room.errors && not (length finish.errors == 0)))

@@ -3,15 +3,15 @@ use Rattle.std.specs.Prelude.{ℕ, None}
 use Rattle.spool_disk.specs.Disk.{DiskView}
 use Rattle.spool_runtime.specs.declared.named_disk.NamedDisk.{NamedDisk}
 
--- how many bytes it had when it was taken over
+-- Its length in bytes when it was opened.
 abbrev pub named_len : {R : Type 0} → NamedDisk R → ℕ
 named_len d = d.len
 
--- how many failures it has counted
+-- The number of failures that it has counted.
 abbrev pub named_faults : {R : Type 0} → NamedDisk R → ℕ
 named_faults d = d.faults
 
--- What is seen of it: its length and its failures, and nothing of its bytes.
+-- The disk shows its length and its failures, and nothing of its bytes.
 abbrev pub seen_of_named : {R : Type 0} → DiskView (NamedDisk R)
 seen_of_named = record {
   bytes = λ d. None;

@@ -1,10 +1,11 @@
--- What the words of the command line mean, as clap reads them.
-use Rattle.std.specs.Prelude.{◌≡◌, ◌⊎◌, ◌≤◌, ℕ, ⊤, Bool as Truth, false, List, [], ◌∷◌, Option, None, Some, IfSome, codes, length}
+-- The meaning of the command-line arguments, as clap reads them.
+use Rattle.std.specs.Prelude.{◌≡◌, ◌⊎◌, ◌≤◌, ℕ, ⊤, Bool as Truth, true, false, List, [], ◌∷◌, Option, None, Some, IfSome, codes, length}
 use Rattle.std.specs.Prelude.{filter, map, option_map, unwrap_or}
 use Rattle.std.specs.Str.{bytes_eq}
 use Rattle.std.specs.Str.Parse.{digits_value, without_leading_plus}
 use Rattle.clap.specs.Words.{Accepts, App, IsUnsignedIn, Row, Rule, Text, built, fault_of, first_of, found_of, matches_of}
 use Rattle.clap.specs.Words.{kind_of, new_app, new_rule, one_of, one_text, reading_of, with_rule}
+use Rattle.clap.specs.Simple.{on_top}
 use Rattle.clap.specs.declared.builder.value_parser.ValueParser.{ValueParser}
 use Rattle.clap.specs.declared.builder.value_parser.ValueParser.TheVariants.{Bool, NonEmptyString, Unsigned}
 use Rattle.clap.specs.declared.builder.value_parser.Reading.TheVariants.{AsWritten}
@@ -16,73 +17,77 @@ use Rattle.spool_runtime.specs.declared.options.WordsFault.TheVariants.{Refused,
 
 -- ---- the command: its name and its options
 
--- a number from 4,096 to 1,073,741,824
+-- A number from 4,096 to 1,073,741,824.
 abbrev pub sizes : ValueParser
 sizes = Unsigned 4096 1073741824
 
--- an option `--NAME` with one value
+-- An option `--NAME` with one value.
 abbrev pub option_of : Text → ValueParser → Rule
 option_of name parser =
     record (new_rule name) { long = Some name; value_names = 1; parser = Some parser }
 
--- an option `--NAME` with a number from the least to the most
+-- An option `--NAME` with a number from `least` to `most`.
 abbrev pub option_in : ℕ → ℕ → Text → Rule
 option_in least most name = option_of name (Unsigned least most)
 
--- an option `--NAME` whose value is not empty
+-- An option `--NAME` whose value is not empty.
 abbrev pub text_option : Text → Rule
 text_option name = option_of name NonEmptyString
 
--- a flag `--NAME`: no value follows it
+-- A flag `--NAME` without a value.
 abbrev pub flag_of : Text → Rule
 flag_of name = record (new_rule name) { long = Some name; action = Some SetTrue; parser = Some Bool }
 
--- a program's command `NAME [--root DIR] [--types FILE] [--convs FILE] [--programs FILE] [--size BYTES]`
+-- The command `NAME [--version]`.
+abbrev pub versioned_app : Text → App
+versioned_app name = on_top (λ s. record s { has_version = true }) (new_app name)
+
+-- The command `NAME [--version] [--root DIR] [--types FILE] [--convs FILE] [--programs FILE] [--size BYTES]`.
 abbrev pub spool_app : Text → App
 spool_app name =
-    with_rule (with_rule (with_rule (with_rule (with_rule (new_app name) (text_option (codes "root"))) (text_option (codes "types")))
+    with_rule (with_rule (with_rule (with_rule (with_rule (versioned_app name) (text_option (codes "root"))) (text_option (codes "types")))
     (text_option (codes "convs"))) (text_option (codes "programs"))) (option_of (codes "size") sizes)
 
--- `spool_shell`, with these options and `[--devices]`
+-- `spool_shell`, with these options and `[--devices]`.
 abbrev pub shell_app : App
 shell_app = with_rule (spool_app (codes "spool_shell")) (flag_of (codes "devices"))
 
--- ---- what clap finds in words, of which the first is the program's name
+-- ---- what clap finds in the arguments, which begin with the program's name
 
--- DIR, where it is given
+-- DIR, if it is given.
 abbrev pub root_of : List Row → Option Text
 root_of found = first_of (codes "root") found
 
--- the FILE of types, where it is given
+-- The FILE of types, if it is given.
 abbrev pub types_of : List Row → Option Text
 types_of found = first_of (codes "types") found
 
--- the FILE of conversions, where it is given
+-- The FILE of conversions, if it is given.
 abbrev pub convs_of : List Row → Option Text
 convs_of found = first_of (codes "convs") found
 
--- the FILE of programs, where it is given
+-- The FILE of programs, if it is given.
 abbrev pub programs_of : List Row → Option Text
 programs_of found = first_of (codes "programs") found
 
--- the number that a text of digits stands for
+-- The number that a text of digits represents.
 abbrev pub number_of : Text → ℕ
 number_of text = digits_value 10 (without_leading_plus text)
 
--- the number of an option, or the usual one where it is not given
+-- The number of an option, or `usual` if it is not given.
 abbrev pub number_or : ℕ → Option Text → ℕ
 number_or usual given = unwrap_or (option_map number_of given) usual
 
--- BYTES, or 4,194,304 where they are not given
+-- BYTES, or 4,194,304 if they are not given.
 abbrev pub size_of : List Row → ℕ
 size_of found = number_or 4194304 (one_of (codes "size") found)
 
--- a flag that is there is `true`
+-- A flag that is given is `true`.
 abbrev pub is_told : Option Text → Truth
 is_told None = false
 is_told (Some text) = bytes_eq text (codes "true")
 
--- whether the flag `--devices` is there
+-- Whether the flag `--devices` is given.
 abbrev pub devices_of : List Row → Truth
 devices_of found = is_told (one_of (codes "devices") found)
 
@@ -104,48 +109,49 @@ size_in words = size_of (matches_of shell_app words)
 abbrev pub devices_in : List Text → Truth
 devices_in words = devices_of (matches_of shell_app words)
 
--- clap finds no fault in the words of a program with this command
+-- clap finds no error in the arguments of a program with this command.
 abbrev pub AreFaultlessFor : App → List Text → Type 0
 AreFaultlessFor app words = fault_of app words ≡ []
 
 abbrev pub AreFaultless : List Text → Type 0
 AreFaultless words = AreFaultlessFor shell_app words
 
--- clap finds no fault in the words, and DIR has at most 64 bytes
+-- clap finds no error in the arguments, and DIR has at most 64 bytes.
 abbrev pub AreTaken : List Text → Type 0
 AreTaken words = AreFaultless words × IfSome (root_in words) (λ dir. length dir ≤ 64)
 
--- the words are refused only where this doesn't hold; memory may run out in any case
+-- The arguments are refused only if this is false. Memory may run out in any case.
 abbrev pub RefusesOnly : Type 0 → WordsFault → Type 0
 RefusesOnly p (Refused text) = p → ⊥
 RefusesOnly p Memory = ⊤
 
--- the words are refused for a value that is wrong, so with status 2, or memory ran out
+-- The arguments are refused for an invalid value, so with status 2, or memory ran out.
 abbrev pub IsMistake : WordsFault → Type 0
 IsMistake (Refused error) = kind_of error ≡ ValueValidation
 IsMistake Memory = ⊤
 
--- ---- between the steps of reading them
+-- ---- between the steps of reading the arguments
 
--- the parsers of the arguments with this name
+-- The parsers of the arguments with this name.
 abbrev pub parsers_of : Text → List Rule → List (Option ValueParser)
 parsers_of name rules = map (λ (r : Rule). r.parser) (filter (λ (r : Rule). bytes_eq r.id name) rules)
 
--- one option has this name, and its values pass this parser; so it is in the command that clap builds of this one
+-- One option has this name, and its values pass this parser. The same is true in the command that clap builds from this
+-- one.
 abbrev pub HasOption : App → Text → ValueParser → Type 0
 HasOption app name parser =
     (parsers_of name app.top.rules ≡ Some parser ∷ []) × (parsers_of name (built app).top.rules ≡ Some parser ∷ [])
 
--- a text that was found for an option passes the option's parser, if that doesn't change it
+-- A text that was found for an option passes the option's parser, if the parser does not change it.
 abbrev pub PassParsers : App → ArgMatches → Type 0
 PassParsers app m =
     (name text : Text) (parser : ValueParser) → ¬ (name ≡ []) → reading_of parser ≡ AsWritten → HasOption app name parser
     → one_text (found_of m) name ≡ Some text → (any_case : Truth) × Accepts any_case parser text
 
--- the number of an option, where it is given, is in this range
+-- The number of an option, if it is given, is in this range.
 abbrev pub HasNumberIn : ℕ → ℕ → Text → ArgMatches → Type 0
 HasNumberIn least most name m = (text : Text) → one_text (found_of m) name ≡ Some text → IsUnsignedIn least most text
 
--- the value of a flag is one of the two that there are
+-- The value of a flag is one of the two values.
 abbrev pub HasFlag : Text → ArgMatches → Type 0
 HasFlag name m = (text : Text) → one_text (found_of m) name ≡ Some text → (text ≡ codes "true") ⊎ (text ≡ codes "false")

@@ -11,8 +11,8 @@ use Rattle.spool_runtime.specs.declared.fault.ShellFault.TheVariants.{Disk}
 use Rattle.spool_runtime.specs.declared.options.WordsFault.{WordsFault}
 use Rattle.spool_runtime.specs.declared.options.WordsFault.TheVariants.{Refused, Memory}
 
--- What a run's end is to the program, over a spool that has failed or hasn't. A run over a failed disk answers all
--- commands, and is a fault nevertheless.
+-- The result of the program for the end of a run, over a spool that has failed or has not. A run over a failed disk
+-- answers all commands, and still ends with a fault.
 abbrev pub ending_of : Result (Unit {0}) RunFault → Bool → Result (Unit {0}) ShellFault
 ending_of (Ok done) false = Ok tt
 ending_of (Ok done) true = Err (Disk Failed)
@@ -20,12 +20,12 @@ ending_of (Err fault) dead = Err (of_run fault)
 
 -- ---- statuses
 
--- the status for words that clap refuses with this kind of error: 0 where they ask for help
+-- The status for arguments that clap refuses with this kind of error: 0 if they ask for help.
 pub record IsRefusal (kind : ErrorKind) (status : ℕ) : Type 0 where
   pub shown : (kind ≡ DisplayHelp) ⊎ (kind ≡ DisplayVersion) → status ≡ 0
   pub mistake : kind ≢ DisplayHelp → kind ≢ DisplayVersion → status ≡ 2
 
--- the status for words that say nothing
+-- The status for arguments that cannot be used.
 abbrev pub IsWordsStatus : WordsFault → ℕ → Type 0
 IsWordsStatus (Refused error) status = IsRefusal (kind_of error) status
 IsWordsStatus Memory status = status ≡ 1

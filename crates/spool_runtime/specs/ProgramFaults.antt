@@ -1,4 +1,4 @@
--- What the faults below the program are to it.
+-- How the program converts the faults of the layers below.
 use Rattle.std.specs.Prelude.{◌≡◌, ◌⊎◌, ℕ, ⊤, Bool, false, List, Option, Some, Result, Ok, Err, string_bytes}
 use Rattle.spool_core.specs.declared.OpenFault.{OpenFault}
 use Rattle.spool_core.specs.declared.OpenFault.TheVariants as opening
@@ -14,20 +14,20 @@ use Rattle.spool_runtime.specs.declared.fault.DiskCause.TheVariants.{Absent, Fai
 use Rattle.spool_runtime.specs.declared.fault.ShellFault.{ShellFault}
 use Rattle.spool_runtime.specs.declared.fault.ShellFault.TheVariants.{Damaged, Disk, File, Memory, NotASpool, Read, Write}
 
--- the disk wasn't opened as a spool
+-- The disk was not opened as a spool.
 abbrev pub of_opening : OpenFault → ShellFault
 of_opening opening.NotASpool = NotASpool
 of_opening (opening.Damaged place) = Damaged place
 of_opening opening.Memory = Memory
 of_opening opening.Disk = Disk Failed
 
--- the run ended before its text did
+-- The run ended before its text.
 abbrev pub of_run : RunFault → ShellFault
 of_run run.Read = Read
 of_run run.Write = Write
 of_run run.Memory = Memory
 
--- what the kind of an error says of the folder or of its file
+-- The cause that the kind of an error shows, of the folder or of its file.
 abbrev pub cause_of : ErrorKind → DiskCause
 cause_of NotFound = Absent
 cause_of PermissionDenied = NotAllowed
@@ -39,40 +39,40 @@ cause_of IsADirectory = NoFile
 cause_of FilesystemLoop = NoFile
 cause_of _ = Failed
 
--- a call on them failed so
+-- A call on the folder or on its file failed with this kind of error.
 abbrev pub of_error : ErrorKind → ShellFault
 of_error OutOfMemory = Memory
 of_error kind = Disk (cause_of kind)
 
--- a lock of them can't be had
+-- The folder or its file cannot be locked.
 abbrev pub of_lock : TryLockError → ShellFault
 of_lock WouldBlock = Disk Owned
 of_lock (Error error) = of_error (error_kind error)
 
--- what the second lock of a locked file says: it has to be refused
+-- The result of the second lock of a locked file, which must be refused.
 abbrev pub kept_out : Result (Unit {0}) TryLockError → Result (Unit {0}) ShellFault
 kept_out (Ok got) = Err (Disk OwnerUnknown)
 kept_out (Err WouldBlock) = Ok tt
 kept_out (Err fault) = Err (of_lock fault)
 
--- the folder or its file can't be had, or there was no memory
+-- The folder or its file cannot be used, or memory ran out.
 abbrev pub IsOfFolder : ShellFault → Type 0
 IsOfFolder (Disk cause) = ⊤
 IsOfFolder Memory = ⊤
 IsOfFolder _ = ⊥
 
--- the file of this name can't be read as what it is, and this is told, or there was no memory
+-- The file of this name cannot be read, and the fault names it, or memory ran out.
 abbrev pub IsOfFile : Option (List ℕ) → ShellFault → Type 0
 IsOfFile name Memory = ⊤
 IsOfFile name (File told) = name ≡ Some (string_bytes told)
 IsOfFile name _ = ⊥
 
--- the text of the file of this name doesn't read, and this is told, or there was no memory
+-- The text of the file of this name is invalid, and the fault names the file, or memory ran out.
 abbrev pub IsOfText : List ℕ → Bool → ShellFault → Type 0
 IsOfText name read Memory = ⊤
 IsOfText name read (File told) = (string_bytes told ≡ name) × (read ≡ false)
 IsOfText name read _ = ⊥
 
--- a fault of one of three files
+-- A fault of one of three files.
 abbrev pub IsOfFiles : Option (List ℕ) → Option (List ℕ) → Option (List ℕ) → ShellFault → Type 0
 IsOfFiles types convs programs fault = IsOfFile types fault ⊎ IsOfFile convs fault ⊎ IsOfFile programs fault

@@ -19,21 +19,21 @@ use Rattle.spool_runtime.specs.ProgramEnding.{ending_of}
 use Rattle.spool_runtime.specs.ProgramFaults.{IsOfFolder, of_opening}
 use Rattle.spool_runtime.specs.declared.fault.ShellFault.{ShellFault}
 
--- the place of the children of a spool in the folder `root`
+-- The place of the children of a spool in the folder `root`.
 pub record IsPlace (root : List ℕ) (side : Bool) (place : Place) : Type 0 where
   pub folder : string_bytes place.root ≡ root
   pub locale : string_bytes place.lang ≡ codes "C"
   pub programs : string_bytes place.path ≡ codes "/usr/bin:/bin"
   pub channel : place.side ≡ side
 
--- by what documents are typed there: these rules and conversions, in the locale of the place
+-- How documents are typed there: these rules and conversions, in the locale of the place.
 abbrev pub database : TypesValue → List Conversion → Place → Mime
 database types convs place = record { types = types; convs = convs; locale = string_bytes place.lang }
 
 -- ---- opening a disk
 
--- The engine has a spool with the table of the disk's bytes after the policy, and holds no slot. It goes on with these
--- rules, and in this place with children that tell this.
+-- The engine has a spool with the table of the disk's bytes after the policy, and holds no slot. It continues with
+-- these rules and in this place, with children that have this trace.
 pub record IsOpened {D : Type 0} (device : DiskView D) (mime : Mime) (place : Place) (told : Option ChildTrace) (disk : D) (engine : Engine D) : Type 0 where
   pub spool : OpenSpool D
   pub table : (r : List ℕ) → device.bytes disk ≡ Some r → IsReopenedFrom spool.state r
@@ -42,7 +42,7 @@ pub record IsOpened {D : Type 0} (device : DiskView D) (mime : Mime) (place : Pl
   pub rules_are : engine.mime ≡ mime
   pub place_is : engine.place ≡ place
 
--- The same of a disk of which it isn't said what bytes it has.
+-- The same for a disk with unknown bytes.
 pub record IsSetUp {D : Type 0} (mime : Mime) (place : Place) (told : Option ChildTrace) (engine : Engine D) : Type 0 where
   pub spool : OpenSpool D
   pub alive : spool.dead ≡ false
@@ -50,19 +50,19 @@ pub record IsSetUp {D : Type 0} (mime : Mime) (place : Place) (told : Option Chi
   pub rules_are : engine.mime ≡ mime
   pub place_is : engine.place ≡ place
 
--- what may stand in the way: the folder, its file, or what is in it
+-- The faults that prevent the opening: of the folder, its file, or the file's contents.
 abbrev pub IsOfOpening : ShellFault → Type 0
 IsOfOpening told = IsOfFolder told ⊎ ((fault : OpenFault) × (told ≡ of_opening fault))
 
--- the disk wasn't opened, for a fault that its bytes have, if it is one of bytes
+-- The disk was not opened. If the fault is one of bytes, the disk's bytes have it.
 pub record IsUnread {D : Type 0} (device : DiskView D) (disk : D) (told : ShellFault) : Type 0 where
   pub fault : OpenFault
   pub cause : (r : List ℕ) → device.bytes disk ≡ Some r → IsFaultOf r fault
   pub tells : told ≡ of_opening fault
 
--- ---- serving it
+-- ---- serving the disk
 
--- a run over the opened disk ended so
+-- A run over the opened disk ended with this result.
 pub record HasRun {D : Type 0} (device : DiskView D) (mime : Mime) (place : Place) (told : Option ChildTrace) (disk : D) (known : Option (List ℕ)) (result : Result (Unit {0}) ShellFault) (old new : Option (List ℕ)) : Type 0 where
   pub engine : Engine D
   pub after : RunState D
@@ -73,7 +73,7 @@ pub record HasRun {D : Type 0} (device : DiskView D) (mime : Mime) (place : Plac
   pub run : IsRun (setting device mime place) known engine.run_state text turns after ran old new
   pub ends : result ≡ ending_of ran after.spool.dead
 
--- it wasn't opened, and nothing was read or written
+-- The disk was not opened, and nothing was read or written.
 pub record IsUnopened {D : Type 0} (device : DiskView D) (disk : D) (known left : Option (List ℕ)) (result : Result (Unit {0}) ShellFault) (old new : Option (List ℕ)) : Type 0 where
   pub fault : ShellFault
   pub cause : IsUnread device disk fault

@@ -1,4 +1,4 @@
--- The device that the options of a URI tell of.
+-- The device that the options of a URI describe.
 use Rattle.std.specs.Prelude.{ℕ, Bool, true, not, cond, nat_le, List, [], ◌∷◌, length, take, drop, codes, unwrap_or, Option, None, Some, Result, Ok, Err}
 use Rattle.std.specs.Str.{bytes_eq}
 use Rattle.line_words.specs.DecimalNumbers.{decimal}
@@ -15,23 +15,23 @@ abbrev pub of_parsed : Result Parts ParseError → List Pair
 of_parsed (Ok url) = options_or_none url
 of_parsed (Err e) = []
 
--- those of a text, and none where it is no URI
+-- The options in a text, or none if it is not a URI.
 abbrev pub options_in : List ℕ → List Pair
 options_in text = cond (is_uri text) (of_parsed (parse_url None text)) []
 
 -- ---- their values
 
--- `0` alone is no
+-- Only `0` is false.
 abbrev pub flag_in : Option (List ℕ) → Bool
 flag_in None = true
 flag_in (Some value) = not (bytes_eq value (codes "0"))
 
--- a number of at most 255, or 1, which is ONLINE
+-- A number of at most 255, or 1, which is ONLINE.
 abbrev pub state_in : Option (List ℕ) → ℕ
 state_in None = 1
 state_in (Some value) = unwrap_or (decimal 255 value) 1
 
--- the bytes, or none where they are too many
+-- The bytes, or none if they are too many.
 abbrev pub id_in : Option (List ℕ) → List ℕ
 id_in None = []
 id_in (Some value) = cond (nat_le (length value) 1000) value []
@@ -50,12 +50,12 @@ device_with options =
 abbrev pub device_in : List ℕ → Device
 device_in uri = device_with (options_in uri)
 
--- ---- the URI among variables
+-- ---- the URI in the variables
 
 abbrev pub uri_name : List ℕ
 uri_name = codes "DEVICE_URI="
 
--- what stands behind the name in a variable that begins with it
+-- The text after the name, if the variable begins with the name.
 abbrev pub uri_behind : List ℕ → Option (List ℕ)
 uri_behind variable = cond (bytes_eq (take 11 variable) uri_name) (Some (drop 11 variable)) None
 
@@ -63,7 +63,7 @@ abbrev pub uri_or : List ℕ → Option (List ℕ) → List ℕ
 uri_or rest None = rest
 uri_or rest (Some uri) = uri
 
--- the same of the first variable that begins with it
+-- The same for the first variable that begins with the name.
 abbrev pub uri_among : List (List ℕ) → List ℕ
 uri_among [] = []
 uri_among (v ∷ vs) = uri_or (uri_among vs) (uri_behind v)

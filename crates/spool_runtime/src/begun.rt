@@ -1,7 +1,7 @@
-//! How the program was started, as far as its children's ends depend on it.
+//! Checks that the program can learn how its children end.
 //!
-//! A program that is started with the signal SIGCHLD ignored keeps that, and its children vanish when they end: how they
-//! ended can't be known, so each job would be printed again and again.
+//! A program that is started with SIGCHLD ignored keeps ignoring it. Its children then vanish when they end, so the
+//! program cannot know how they ended, and each job would be printed again and again.
 ghost use Rattle.std.specs.Prelude.{◌≡◌, ◌⊎◌, OnOk, false, true, map, IfErr, IfOk};
 ghost use Rattle.std.specs.List.{list_any};
 ghost use Rattle.spool_runtime.specs.Begun.{ignores_in, is_odd, reports_ignored};
@@ -14,19 +14,19 @@ use std::fs;
 use std::fs::{File, Files};
 use std::io::ErrorKind;
 
-// What the system tells of this process.
+// The system's file with the status of this process.
 const STATUS: &str = "/proc/self/status";
 
-// The line of the signals that are ignored, in hexadecimal digits: the fifth from the end has SIGCHLD, number 17, as its
-// lowest bit.
+// The line with the mask of ignored signals, in hexadecimal digits. SIGCHLD, number 17, is the lowest bit of the fifth
+// digit from the end.
 const IGNORED: &[u8] = b"SigIgn:";
 
-/// Refuses a start in which the ends of children can't be known.
+/// Fails with `Ignored` if SIGCHLD is ignored, so that the ends of children cannot be known.
 pub fn check_child_ends<R: Files<File = File> + AllocGlobal>(rt: &R) -> Result<(), ShellFault> {
     match fs::read_to_string(rt, STATUS) {
         Ok(status) => check_status(rt.alloc(), status.as_bytes()),
         Err(error) if error.kind() == ErrorKind::OutOfMemory => Err(ShellFault::Memory),
-        // A system without this file: nothing is known against it.
+        // The file cannot be read, for example because this system has none: nothing shows that the signal is ignored.
         Err(_) => Ok(()),
     }
 }
@@ -55,7 +55,7 @@ fn any_ignored(lines: &[&[u8]]) -> bool
     lines.iter().any(|line| reports_ignored(line))
 }
 
-// Whether a line tells that SIGCHLD is ignored.
+// Returns whether the line says that SIGCHLD is ignored.
 fn reports_ignored(line: &[u8]) -> bool
     ensures { result ≡ reports_ignored line.now }
 {
@@ -63,7 +63,7 @@ fn reports_ignored(line: &[u8]) -> bool
     length >= 5 && line.starts_with(IGNORED) && is_odd(line[length - 5])
 }
 
-// Whether a hexadecimal digit is that of an odd number.
+// Returns whether this is the code of an odd hexadecimal digit, in lower case.
 fn is_odd(digit: u8) -> bool
     ensures { result ≡ is_odd digit }
 {

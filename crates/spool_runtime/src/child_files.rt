@@ -15,10 +15,9 @@ use std::os::unix::fs::FileExt;
 use std::path::Path;
 use std::{fs, io};
 
-// How many bytes are read at once.
+// The number of bytes read at once.
 const PIECE: usize = 65_536;
 
-/// The paths of a child's files.
 #[derive(Drop)]
 pub(crate) struct ChildPaths {
     pub input: String,
@@ -29,7 +28,7 @@ pub(crate) struct ChildPaths {
 }
 
 impl ChildPaths {
-    /// Those of an order's child.
+    /// Returns the paths of the files of the order's child.
     pub fn of(alloc: Global, place: &Place, order: &Order) -> Result<ChildPaths, AllocError>
         ensures input { IfOk result (λ paths. string_bytes paths.input ≡ file_of files.Input (string_bytes place.now.root) order.now) }
         ensures output { IfOk result (λ paths. string_bytes paths.output ≡ file_of files.Output (string_bytes place.now.root) order.now) }
@@ -44,7 +43,7 @@ impl ChildPaths {
         })
     }
 
-    /// Removes those that are there, and the socket where there may be one.
+    /// Removes the files that exist and, with `side`, the socket. Errors are ignored.
     pub fn remove<R: Files>(&self, rt: &R, side: bool) {
         for path in [&self.input, &self.output, &self.errors] {
             let _ = fs::remove_file(rt, path.as_str());
@@ -67,8 +66,8 @@ fn path_of(
     file.path(alloc, place, order.job, order.attempt.get(), stage)
 }
 
-/// Makes a file, which its owner alone may read. What a crash left under this name goes first, and so does a link, which
-/// is never followed. Mostly nothing is there, so that is tried first.
+/// Makes a file that only its owner may read. If the name is taken, it first removes the file that a crash left there,
+/// or the link: a link is never followed. Usually the name is free, so removal is not tried first.
 pub(crate) fn make_file<R: Files<File = File>>(rt: &R, path: &str) -> io::Result<File> {
     let path = Path::new(path);
     match new_file(rt, path) {
@@ -80,15 +79,15 @@ pub(crate) fn make_file<R: Files<File = File>>(rt: &R, path: &str) -> io::Result
     }
 }
 
-/// The path of a file by which the room of the folder is tried. It is named as those of a child, so that the next start removes
-/// what a crash left, and no job has the number 0.
+/// Returns the path of the file that tests whether the folder has room. It is named like the file of a child, so the
+/// next start removes it after a crash. No job has the number 0.
 pub(crate) fn probe_path(alloc: Global, place: &Place) -> Result<String, AllocError> {
     let root = place.root.as_str();
     format!(in alloc; "{root}/out-0-0-0")
 }
 
-/// A child's standard output, to be handed to it: the file that was made. It is locked as long as a process of the child has
-/// it, so that an opening sees which children go on ([`crate::leftovers`]).
+/// Opens the output file, which must exist, to pass it to the child as its standard output. The file is locked while a
+/// process of the child has it open, so that the next opening sees which children still run ([`crate::leftovers`]).
 pub(crate) fn output_to_hand<R: Files<File = File>>(rt: &R, path: &str) -> io::Result<File> {
     let output = OpenOptions::new().write(true).open(rt, path)?;
     if output.try_lock().is_err() {
@@ -97,7 +96,7 @@ pub(crate) fn output_to_hand<R: Files<File = File>>(rt: &R, path: &str) -> io::R
     Ok(output)
 }
 
-/// Makes a file of these bytes.
+/// Makes a file with these bytes.
 pub(crate) fn make_file_of<R: Files<File = File>>(
     rt: &R,
     path: &str,
@@ -106,11 +105,12 @@ pub(crate) fn make_file_of<R: Files<File = File>>(
     make_file(rt, path)?.write_all(bytes)
 }
 
-/// Whether a byte more can be written behind what a child wrote. It is written, so the file is to be removed then. Where
-/// it can't be, a write of the child before it may have been cut off here.
+/// Returns whether one more byte can be written after the child's bytes. The byte is written, so the file must be
+/// removed afterwards. If it cannot be written, an earlier write of the child may have been cut off.
 ///
-/// What is longer than a document isn't looked at, since its end isn't read. Where the spooler's own files have a limit, as
-/// those of the child do, a byte behind such a file may be above it, and the signal for that would end the spooler.
+/// A file that is longer than a document is not tested, since its end is not read. If the spooler's own files are
+/// limited as those of the child are, a byte after such a file may exceed the limit, and the signal for that would end
+/// the spooler.
 pub(crate) fn has_room(file: &File) -> bool {
     let Ok(found) = file.metadata() else {
         return true;
@@ -130,7 +130,7 @@ fn wants_room(kind: ErrorKind) -> bool
     matches!(kind, ErrorKind::StorageFull | ErrorKind::QuotaExceeded)
 }
 
-/// Reads up to so many bytes, and leaves the others unread. Where the reader fails before them this is its error.
+/// Reads at most `most` bytes, and leaves the rest unread. Returns the reader's error if it fails before that.
 pub(crate) fn read_at_most<R: Read>(
     alloc: Global,
     reader: &mut R,

@@ -1,28 +1,28 @@
-//! The folder of a spool, and the file in it that is the spool's disk.
+//! The spool's folder, and the file in it that is the spool's disk.
 //!
 //! # One owner
 //!
-//! The program owns the folder, by locks that it takes before it looks at any name in it and keeps until it ends
-//! ([`SpoolFolder`], [`crate::ownership`]). So of two programs that start together on a fresh folder, on whatever host, one makes
-//! the file, and the other one ends without a change but for the lock's file. A lock that is taken is tried for a second: a
-//! program that was killed while it started a child has its own for a moment more. The spool's file is locked too: another
-//! folder may lead to it, by a link.
+//! The program owns the folder by locks, which it takes before it examines any name in the folder and holds until it
+//! ends ([`SpoolFolder`], [`crate::ownership`]). If two programs start together on a new folder, on the same host or on
+//! different hosts, one of them makes the file. The other ends without a change, except that the lock's file exists. A
+//! lock that is taken is tried again for one second, because a program that was killed while it started a child holds
+//! its lock for a moment longer. The spool's file is locked too, because a link in another folder may refer to it.
 //!
 //! # A file is whole or absent
 //!
-//! The file is made under another name: written with zeros to its last byte, so that a full file system is found now,
-//! made a spool and synced. Only then it gets its own name. A crash leaves at most the unfinished file, which the next
-//! start removes. Where a step fails it is removed at once. It is made only where the name itself is absent: a file that
-//! can't be opened, a folder or a link that leads nowhere stays as it is.
+//! The file is made under another name. It is filled with zeros to its last byte, so that a full file system is found
+//! at once. Then it is made a spool and synced, and only then it gets its own name. A crash leaves at most the
+//! unfinished file, which the next start removes. If a step fails, the unfinished file is removed at once. The file is
+//! made only if its name is free: a file that cannot be opened, a folder, or a link to nothing stays as it is.
 //!
-//! At every start the folder is synced before the first command is read. What keeps the name while children run is
-//! [`crate::named_disk`].
+//! At every start the folder is synced before the first command is read. [`crate::named_disk`] keeps the name while
+//! children run.
 //!
-//! # Faults
+//! # Errors
 //!
-//! `memory`, or else `disk`: the folder can't be opened or locked, another program owns it or its file, the locks of its file
-//! system keep nobody out, or the file can't be looked at, opened, made or synced. What the file holds is looked at later, by
-//! `Spool::open`.
+//! `memory` if memory ran out. Otherwise `disk`: the folder cannot be opened or locked, another program owns it or its
+//! file, the locks of its file system exclude nobody, or the file cannot be examined, opened, made or synced. The
+//! contents of the file are checked later, by `Spool::open`.
 ghost use Rattle.std.specs.Prelude.{◌≡◌, ◌≢◌, IfErr, OnOk, replicate};
 ghost use Rattle.std.specs.IoError.{error_kind};
 ghost use Rattle.std.specs.Io.KnownBytes.{Appends};
@@ -41,26 +41,26 @@ use std::path::Path;
 use std::time::Clock;
 use std::{fs, io};
 
-// The file's name in its folder, and its name until it is a whole spool.
+// The name of the spool's file in its folder, and its name until it is a whole spool.
 const NAME: &str = "spool.disk";
 
 const UNFINISHED: &str = "spool.disk.new";
 
-// How many zeros are written at once.
+// The number of zeros written at once.
 const BLOCK: usize = 65_536;
 
-/// The folder of a spool. No other program has one of the same folder while this value lives.
+/// The folder of a spool, owned by this program. While this value exists, no other program owns the same folder.
 #[derive(Drop)]
 pub struct SpoolFolder<'a> {
     path: Path<'a>,
     folder: File,
-    // Locked as long as it is open.
+    // Locked while it is open.
     lock: File,
 }
 
 impl<'a> SpoolFolder<'a> {
-    /// Takes the folder, which is there. Where another program owns it, or might, this is `Disk`, and nothing has changed but that
-    /// the lock's file is there.
+    /// Takes the folder, which must exist. Fails with `Disk` if another program owns it or may own it. Nothing has
+    /// changed then, except that the lock's file exists.
     pub fn own<R: Files<File = File> + Clock + AllocGlobal>(
         rt: &R,
         dir: &'a str,
@@ -72,7 +72,7 @@ impl<'a> SpoolFolder<'a> {
         Ok(SpoolFolder { path, folder, lock })
     }
 
-    /// The spool's file. Where the name isn't there it is made, with `size` bytes; one that is there stays as it is.
+    /// Opens the spool's file. If its name is free, makes it with `size` bytes. An existing file is not changed.
     pub fn device<'r, R: Files<File = File> + Clock + AllocGlobal>(
         &self,
         rt: &'r R,
@@ -81,13 +81,13 @@ impl<'a> SpoolFolder<'a> {
         ensures { IfErr result IsOfFolder }
     {
         let file = self.file(rt, size)?;
-        // At every start: a program that was killed before this left a name that a power cut may still take away, and
-        // with it all jobs that this one acknowledges.
+        // At every start: a program that was killed before this sync left a name that a power cut may still remove, and
+        // with it all jobs that this program acknowledges.
         self.folder.sync_all()?;
         self.disk(rt, file)
     }
 
-    /// The spool's file, which is there. Nothing is made.
+    /// Opens the spool's file, which must exist.
     pub fn device_there<'r, R: Files<File = File> + Clock + AllocGlobal>(
         &self,
         rt: &'r R,
@@ -99,9 +99,10 @@ impl<'a> SpoolFolder<'a> {
         self.disk(rt, file)
     }
 
-    /// A file of `size` zeros that is to take the place of the spool's file, with its owner and its mode. Until
-    /// [`replace_device`](SpoolFolder::replace_device) it has the name of an unfinished file. What an earlier try left there
-    /// goes first. A spool's file that has another name too is no file to replace.
+    /// Makes a file of `size` zeros that will replace the spool's file, with the same owner and mode. It has the name
+    /// of an unfinished file until [`replace_device`](SpoolFolder::replace_device) renames it. An unfinished file of an
+    /// earlier attempt is removed first. Fails with `NoFile` if the spool's file is not a regular file or has another
+    /// name too.
     pub fn next_device<R: Files<File = File> + Clock + AllocGlobal>(
         &self,
         rt: &R,
@@ -123,7 +124,7 @@ impl<'a> SpoolFolder<'a> {
         made
     }
 
-    /// Gives the unfinished file, which is whole and synced, the spool's name. The old file is gone then.
+    /// Renames the unfinished file, which must be whole and synced, to the spool's file. The old file is replaced.
     pub fn replace_device<R: Files<File = File> + AllocGlobal>(
         &self,
         rt: &R,
@@ -136,7 +137,7 @@ impl<'a> SpoolFolder<'a> {
         Ok(self.folder.sync_all()?)
     }
 
-    /// Removes the unfinished file, if there is one.
+    /// Removes the unfinished file if it exists.
     pub fn remove_unfinished<R: Files + AllocGlobal>(&self, rt: &R) -> Result<(), ShellFault>
         ensures { IfErr result IsOfFolder }
     {
@@ -144,7 +145,7 @@ impl<'a> SpoolFolder<'a> {
         Ok(remove_if_there(rt, unfinished.as_path())?)
     }
 
-    // The file as the spool's disk.
+    // Returns the file as the spool's disk.
     fn disk<'r, R: Files<File = File> + AllocGlobal>(
         &self,
         rt: &'r R,
@@ -159,7 +160,7 @@ impl<'a> SpoolFolder<'a> {
         Ok(NamedDisk::new(rt, folder, lock, path, unfinished, file)?)
     }
 
-    // The file, opened or made, and locked.
+    // Opens or makes the spool's file, and locks it.
     fn file<R: Files<File = File> + Clock + AllocGlobal>(
         &self,
         rt: &R,
@@ -175,13 +176,14 @@ impl<'a> SpoolFolder<'a> {
         }
     }
 
-    // The path of this name in the folder.
+    // Returns the path of this name in the folder.
     fn named<R: AllocGlobal>(&self, rt: &R, name: &str) -> Result<String, AllocError> {
         let path = self.path.join(rt.alloc(), name)?;
         String::from_str(rt.alloc(), path.as_path().as_str())
     }
 
-    // Makes the file. What an earlier start left unfinished goes first, and what this one can't finish goes too.
+    // Makes the spool's file. Removes the unfinished file of an earlier start first, and its own unfinished file if a
+    // step fails.
     fn make_device<R: Files<File = File> + Clock + AllocGlobal>(
         &self,
         rt: &R,
@@ -200,7 +202,7 @@ impl<'a> SpoolFolder<'a> {
     }
 }
 
-// Whether nothing has this name, not even a link that leads nowhere.
+// Returns whether the name is free: not even a link to nothing has it.
 fn is_absent<R: Files>(rt: &R, path: Path<'_>) -> io::Result<bool> {
     match fs::symlink_metadata(rt, path) {
         Ok(_) => Ok(false),
@@ -209,7 +211,7 @@ fn is_absent<R: Files>(rt: &R, path: Path<'_>) -> io::Result<bool> {
     }
 }
 
-/// Removes the file, or the link, of this name. It is no fault that nothing has this name.
+/// Removes the file or the link of this name. Succeeds if the name is free.
 pub fn remove_if_there<R: Files>(rt: &R, path: Path<'_>) -> io::Result<()>
     ensures { IfErr result (λ error. error_kind error ≢ ErrorKind.NotFound) }
 {
@@ -219,7 +221,7 @@ pub fn remove_if_there<R: Files>(rt: &R, path: Path<'_>) -> io::Result<()>
     }
 }
 
-// Opens the file that is there.
+// Opens and locks the file, which must exist.
 fn open_device<R: Files<File = File> + Clock>(rt: &R, path: Path<'_>) -> Result<File, ShellFault>
     ensures { IfErr result IsOfFolder }
 {
@@ -227,7 +229,7 @@ fn open_device<R: Files<File = File> + Clock>(rt: &R, path: Path<'_>) -> Result<
     locked(rt, file)
 }
 
-// Makes a whole spool, and then gives it its name.
+// Makes a whole spool under the unfinished name, and then renames it.
 fn finish_device<R: Files<File = File> + Clock>(
     rt: &R,
     unfinished: Path<'_>,
@@ -244,7 +246,7 @@ fn finish_device<R: Files<File = File> + Clock>(
     Ok(file)
 }
 
-// Makes a file of zeros, with the owner and the mode of the one that it is to replace.
+// Makes a file of zeros, with the owner and the mode of the file that it will replace.
 fn begin_next<R: Files<File = File> + Clock>(
     rt: &R,
     unfinished: Path<'_>,
@@ -261,7 +263,6 @@ fn begin_next<R: Files<File = File> + Clock>(
     Ok(FileDisk::new(file)?)
 }
 
-// Makes a spool in this file.
 fn make_spool(file: &File) -> Result<(), ShellFault>
     ensures { IfErr result IsOfFolder }
 {
@@ -272,7 +273,7 @@ fn make_spool(file: &File) -> Result<(), ShellFault>
     }
 }
 
-// A file without bytes, which its owner alone may read.
+// Makes an empty file that only its owner may read. Fails if the name is taken.
 pub(crate) fn new_file<R: Files<File = File>>(rt: &R, path: Path<'_>) -> io::Result<File> {
     OpenOptions::new()
         .read(true)
@@ -282,7 +283,6 @@ pub(crate) fn new_file<R: Files<File = File>>(rt: &R, path: Path<'_>) -> io::Res
         .open(rt, path)
 }
 
-// Writes so many zeros.
 fn write_zeros<W: Write>(writer: &mut W, count: u64) -> io::Result<()>
     ensures { OnOk result (Appends (W.contents writer.old) (W.contents writer.new) (replicate count 0)) }
 {

@@ -1,4 +1,4 @@
-//! The lines of devices among those that a backend prints.
+//! Finds the device lines in the output of a backend.
 ghost use Rattle.std.specs.Prelude.{◌≡◌, false, map, IfErr, IfOk, IsTrue, OnOk};
 ghost use Rattle.std.specs.Io.KnownBytes.{Appends};
 ghost use Rattle.spool_runtime.specs.DeviceLines.{HasFields, IsDevice, IsOfPrinting, IsUnprinted, PrintsDevices, PrintsIfDevice, lines_of, with_feed};
@@ -9,7 +9,7 @@ use std::alloc::{AllocError, Global};
 use std::io::Write;
 use std::str;
 
-/// Prints each line that reads as a device's, as it was written, with a line feed.
+/// Prints each line that parses as a device line, unchanged and followed by a line feed.
 pub(crate) fn print_lines<W: Write>(
     alloc: Global,
     text: &[u8],
@@ -36,14 +36,14 @@ fn print_if_device<W: Write>(alloc: Global, line: &[u8], writer: &mut W) -> Resu
     }
 }
 
-/// The lines of a text, without their line feeds.
+/// Returns the lines of a text without their line feeds.
 pub(crate) fn lines_of(alloc: Global, text: &[u8]) -> Result<Vec<&[u8]>, AllocError>
     ensures { IfOk result (λ lines. map (λ line. line.now) lines.items ≡ lines_of text.now) }
 {
     text.split(|b| *b == b'\n').collect(alloc)
 }
 
-// Whether a line reads as a device's.
+// Returns whether the line parses as a device line.
 fn is_device(alloc: Global, line: &[u8]) -> Result<bool, AllocError>
     ensures yes { IfOk result (λ is. IsTrue is → IsDevice line.now) }
     ensures no { IfOk result (λ is. is ≡ false → ¬ (IsDevice line.now)) }

@@ -1,9 +1,11 @@
-//! The devices that the backends know of.
+//! Lists the devices that the backends report.
 //!
-//! A backend that is run without the words of a job prints a line for each device that it finds, or one for what it could
-//! serve (backend(7)). The lines that read so are printed as they were written. Nothing limits how long a backend takes:
-//! one that hangs is the user's to stop. What it leaves running isn't waited for. Its standard error goes nowhere, and so does
-//! what it prints behind its first 1,048,576 bytes.
+//! A backend that is run without the arguments of a job prints a line for each device that it finds, or a line for the
+//! devices that it could serve (backend(7)). The lines that parse as device lines are printed unchanged.
+//! `/usr/bin/env -i` runs the backend, so a program without `#!` runs as it does for a job.
+//!
+//! There is no time limit: the user must stop a backend that hangs. Processes that a backend leaves running are not
+//! waited for. Its standard error is discarded, and so is everything that it prints after its first 1,048,576 bytes.
 
 ghost use Rattle.std.specs.Prelude.{◌≡◌, ◌≢◌, ℕ, ◌∷◌, List, None, Option, Some, Err, IfErr, IfOk, IsOk, OnErr, OnOk, codes, true};
 ghost use Rattle.std.specs.IoError.{error_kind};
@@ -26,27 +28,28 @@ use std::process::{Child, ChildStdout, Command, OpenProcess, Processes, Stdio};
 use std::time::{Clock, Duration};
 use std::{io, thread};
 
-// What runs a backend without a variable.
+// Runs a backend without environment variables.
 const ENV: &str = "/usr/bin/env";
 
-// How many bytes of a backend's lines are read.
+// The number of bytes of a backend's output that are read.
 const MOST_LINES: usize = 1_048_576;
 
-// How long a backend that tells nothing is left alone before it is looked at, in milliseconds.
+// The time between two checks of a backend that prints nothing, in milliseconds.
 const TURN: u64 = 10;
 
-/// What asks a backend for its devices.
+/// Asks a backend for its devices.
 pub trait Discovery {
-    // What a program tells, where that is known: a text, or none where it can't be run or read.
+    // The output of a program, if it is known: a text, or none if the program cannot be run or read.
     ghost tells: { Self → ListedProgram → Option (Option (List ℕ)) } = { λ _ _. None };
 
-    /// What the program tells. Only where there was no memory this is a fault of the one who asks.
+    /// Returns the output of the program. Only an out-of-memory error ends the listing. After any other error the
+    /// program reports no devices.
     fn ask(&self, program: &ListedProgram) -> io::Result<Vec<u8>>
         ensures text { IfOk result (λ text. Knows (tells self.now program.now) (Some text.items)) }
         ensures none { IfErr result (λ error. error_kind error ≢ ErrorKind.OutOfMemory → Knows (tells self.now program.now) None) };
 }
 
-/// Prints the devices of each backend, in the file's order. A backend that can't be run, or read, tells none.
+/// Prints the devices of each backend, in the order of the file. A backend that cannot be run or read reports none.
 pub fn print_devices<D: Discovery, W: Write>(
     alloc: Global,
     discovery: &D,
@@ -63,7 +66,7 @@ pub fn print_devices<D: Discovery, W: Write>(
     Ok(())
 }
 
-// Prints the devices of what a backend told. Only where it found no memory this is a fault.
+// Prints the device lines in a backend's output. An error of the backend counts only if memory ran out.
 fn print_told<W: Write>(
     alloc: Global,
     told: io::Result<Vec<u8>>,
@@ -82,7 +85,7 @@ fn print_told<W: Write>(
     }
 }
 
-/// Runs each backend as a child process. What it tells is known by its run alone.
+/// Runs each backend as a child process. Nothing is known of its output before it runs.
 #[derive(Clone, Copy)]
 pub struct ChildDiscovery<'a, R> {
     pub rt: &'a R,
@@ -97,7 +100,7 @@ impl<'a, R: Files + Processes + Clock + AllocGlobal> Discovery for ChildDiscover
         command.stdout(Stdio::from(writer));
         command.stderr(Stdio::null());
         let child = command.spawn(self.rt)?;
-        // With it the end of the pipe that the child has is this program's no longer.
+        // This closes the program's copy of the end of the pipe that the child has.
         drop(command);
         let telling = Telling {
             rt: self.rt,
@@ -112,15 +115,15 @@ impl<'a, R: Files + Processes + Clock + AllocGlobal> Discovery for ChildDiscover
     }
 }
 
-// A pipe that is read without waiting.
+// Returns the pipe as a stream that is read without waiting.
 fn impatient(reader: PipeReader) -> io::Result<ChildStdout> {
     let stream = UnixStream::from(OwnedFd::from(reader));
     stream.set_nonblocking(true)?;
     Ok(ChildStdout::from(OwnedFd::from(stream)))
 }
 
-// What a backend tells while it runs. What it left behind may keep the pipe: once it has ended, what lies in the pipe is
-// all.
+// A running backend and its output. Processes that it left may keep the pipe open. So once the backend has ended, its
+// output is complete with the bytes in the pipe.
 #[derive(Drop)]
 struct Telling<'a, R, P: OpenProcess + Drop> {
     rt: &'a R,
@@ -130,8 +133,8 @@ struct Telling<'a, R, P: OpenProcess + Drop> {
 }
 
 impl<'a, R: Clock, P: OpenProcess + Drop> Telling<'a, R, P> {
-    // All that it tells, up to the limit, and the backend, to be waited for. One that goes on telling is ended by the closed
-    // pipe.
+    // Returns its output up to the limit, and the backend, which must be waited for. The closed pipe ends a backend
+    // that continues to print.
     fn all(self, alloc: Global) -> (io::Result<Vec<u8>>, Child<P>) {
         let mut telling = self;
         let told = read_at_most(alloc, &mut telling, MOST_LINES);
@@ -159,7 +162,7 @@ impl<'a, R: Clock, P: OpenProcess + Drop> Read for Telling<'a, R, P> {
     }
 }
 
-// How a backend is run to tell its devices.
+// Returns the command that runs a backend to list its devices.
 fn command_of(alloc: Global, program: &ListedProgram) -> Result<Command, AllocError>
     ensures program { IfOk result (λ command. command_program command ≡ codes "/usr/bin/env") }
     ensures arguments { IfOk result (λ command. command_args command ≡ codes "-i" ∷ program_words program.now) }

@@ -1,4 +1,4 @@
-//! How a program of a spool begins and ends: its words, its faults on standard error, and its status.
+//! How a program of a spool begins and ends: its arguments, its errors on standard error, and its exit status.
 ghost use Rattle.std.specs.Prelude.{◌≡◌, ◌≢◌, OnErr, OnOk};
 ghost use Rattle.std.specs.Process.{exit_status};
 ghost use Rattle.std.specs.IoError.{error_kind};
@@ -12,13 +12,14 @@ use std::process::ExitCode;
 use std::rt::Env;
 use std::{env, io};
 
-/// The words of the command line, the program's name first.
+/// Returns the command-line arguments, the program's name first.
 pub fn given_words<R: Env + AllocGlobal>(rt: &R) -> io::Result<Vec<String>> {
     let words = env::args(rt)?.collect(rt.alloc())?;
     Ok(words)
 }
 
-// Tells a fault, and the cause of one of the disk. Where that can't be written the status alone tells it.
+// Reports a fault, and the cause of a fault of the disk. If the report cannot be written, only the status shows the
+// fault.
 fn fail<R: Eprint>(rt: &R, fault: &ShellFault) -> ExitCode
     ensures { exit_status result ≡ 1 }
 {
@@ -29,7 +30,7 @@ fn fail<R: Eprint>(rt: &R, fault: &ShellFault) -> ExitCode
     ExitCode::FAILURE
 }
 
-/// Tells how a run ended, on standard error and by the status.
+/// Reports how a run ended, on standard error and by the exit status.
 pub fn report_end<R: Eprint>(rt: &R, ended: Result<(), ShellFault>) -> ExitCode
     ensures ok { OnOk ended (exit_status result ≡ 0) }
     ensures fault { OnErr ended (exit_status result ≡ 1) }
@@ -40,7 +41,7 @@ pub fn report_end<R: Eprint>(rt: &R, ended: Result<(), ShellFault>) -> ExitCode
     }
 }
 
-// Prints why words are refused, or the help that they ask for.
+// Prints why the arguments are refused, or the help that they ask for.
 fn refuse<R: Print + Eprint>(rt: &R, error: &clap::Error) -> ExitCode
     ensures { IsRefusal (kind_of error.now) (exit_status result) }
 {
@@ -48,7 +49,7 @@ fn refuse<R: Print + Eprint>(rt: &R, error: &clap::Error) -> ExitCode
     ExitCode::from(error.exit_code() as u8)
 }
 
-/// Tells why the words say nothing, or prints the help that they ask for.
+/// Prints why the arguments cannot be used, or the help that they ask for, and returns the exit status.
 pub fn report_words_fault<R: Print + Eprint>(rt: &R, fault: &WordsFault) -> ExitCode
     ensures { IsWordsStatus fault.now (exit_status result) }
 {
@@ -58,7 +59,7 @@ pub fn report_words_fault<R: Print + Eprint>(rt: &R, fault: &WordsFault) -> Exit
     }
 }
 
-/// Tells that the words couldn't be had: they are no text, or there was no memory.
+/// Reports that the arguments cannot be read: they are not UTF-8, or memory ran out.
 pub fn no_words<R: Eprint>(rt: &R, error: &io::Error) -> ExitCode
     ensures no_text { error_kind error.now ≡ ErrorKind.InvalidData → exit_status result ≡ 2 }
     ensures memory { error_kind error.now ≢ ErrorKind.InvalidData → exit_status result ≡ 1 }

@@ -1,4 +1,4 @@
-//! Why the program ends with status 1.
+//! The errors that end the program with status 1.
 ghost use Rattle.std.specs.Prelude.{◌≡◌};
 ghost use Rattle.std.specs.IoError.{error_kind};
 ghost use Rattle.spool_runtime.specs.ProgramFaults.{IsOfFolder, cause_of, of_error, of_opening, of_run};
@@ -11,45 +11,45 @@ use std::io;
 use std::io::ErrorKind;
 use thiserror::Error;
 
-/// Why the program ends with status 1. Its text is what follows `spool: ` on standard error.
+/// An error that ends the program with status 1. Its text follows `spool: ` on standard error.
 #[derive(Debug, Drop, Error)]
 pub enum ShellFault {
-    /// The file of this name can't be read, or is no text.
+    /// The file of this name cannot be read, is not UTF-8, or is a file of programs with an invalid line.
     #[error("file {0}")]
     File(String),
-    /// The disk holds no spool.
+    /// The disk contains no spool.
     #[error("not-a-spool")]
     NotASpool,
-    /// The spool is damaged at this place of the disk, in bytes.
+    /// The spool is damaged at this byte offset of the disk.
     #[error("damaged {0}")]
     Damaged(u64),
-    /// There was no memory.
+    /// Out of memory.
     #[error("memory")]
     Memory,
-    /// The disk failed, another program owns it, or its file can't be opened or made.
+    /// The disk failed, another program owns it, or its file cannot be opened or made.
     #[error("disk")]
     Disk(DiskCause),
-    /// The commands can't be read.
+    /// The commands cannot be read.
     #[error("read")]
     Read,
-    /// The replies can't be written.
+    /// The replies cannot be written.
     #[error("write")]
     Write,
-    /// The socket of clients can't be made, or waited on.
+    /// The clients' socket cannot be made or waited on.
     #[error("socket")]
     Socket,
-    /// There are programs to run, and how they end can't be known: the signal SIGCHLD is ignored.
+    /// There are programs to run, but SIGCHLD is ignored, so their ends cannot be known.
     #[error("sigchld-ignored")]
     Ignored,
 }
 
-/// Why the spool's disk, its file or its folder can't be had.
+/// Why the spool's disk, its file or its folder cannot be used.
 #[derive(Clone, Copy, Debug, Drop, Error, PartialEq, Eq)]
 pub enum DiskCause {
-    /// Another program has it.
+    /// Another program owns it.
     #[error("owned")]
     Owned,
-    /// Its lock keeps nobody out, so another program might have it.
+    /// Its lock excludes nobody, so another program may own it.
     #[error("owner unknown")]
     OwnerUnknown,
     #[error("absent")]
@@ -60,7 +60,7 @@ pub enum DiskCause {
     ReadOnly,
     #[error("no room")]
     NoRoom,
-    /// What has the name is no folder, or no file.
+    /// The name belongs to something other than a folder or a file, or the file has several names.
     #[error("no file")]
     NoFile,
     /// The device, or a call on it, failed.
@@ -76,7 +76,7 @@ impl From<AllocError> for ShellFault {
     }
 }
 
-/// A fault of the spool's folder or of its file.
+/// Converts an error of the spool's folder or of its file.
 impl From<io::Error> for ShellFault {
     ghost from_gives = { λ error fault. (fault ≡ of_error (error_kind error)) × IsOfFolder fault };
 
@@ -89,7 +89,7 @@ impl From<io::Error> for ShellFault {
     }
 }
 
-// What the kind of an error says of the folder or of its file.
+// Returns the cause that the kind of an error shows, of the folder or of its file.
 fn cause_of(kind: ErrorKind) -> DiskCause
     ensures { result ≡ cause_of kind }
 {

@@ -1,4 +1,4 @@
-//! The files of types, of conversions and of programs.
+//! Reads the files of types, conversions and programs.
 ghost use Rattle.std.specs.Prelude.{◌≡◌, IfErr, IfOk, IsOk, IsTrue, None, OnOk, [], string_bytes};
 ghost use Rattle.std.specs.Option.{option_map};
 ghost use Rattle.mime_costs.specs.ConversionFiles.{conversions_of};
@@ -18,8 +18,8 @@ use std::fs;
 use std::fs::{File, Files};
 use std::io::ErrorKind;
 
-/// Reads the files of mime.types(5), of mime.convs(5) and of programs of these names. Once all are read each line of the first two
-/// that was skipped is told as a warning, those of the types first.
+/// Reads the files of types (mime.types(5)), of conversions (mime.convs(5)) and of programs. After all are read, logs a
+/// warning for each line of the first two files that was skipped, those of the types first.
 pub fn read_rules<R: Files<File = File> + AllocGlobal + Log>(
     rt: &R,
     types: Option<&str>,
@@ -40,7 +40,7 @@ pub fn read_rules<R: Files<File = File> + AllocGlobal + Log>(
     Ok((types, convs, programs))
 }
 
-// The programs of the file, and none where no file is named.
+// Returns the programs in the file, or none if no file is named.
 fn read_programs<R: Files<File = File> + AllocGlobal>(
     rt: &R,
     file: Option<&str>,
@@ -55,7 +55,7 @@ fn read_programs<R: Files<File = File> + AllocGlobal>(
     programs_in(rt.alloc(), name, text_of(rt, file)?.as_str())
 }
 
-// The programs in the text of a file. The file is at fault where a line doesn't read.
+// Returns the programs in the text of a file. Fails with the name of the file if a line is invalid.
 fn programs_in(alloc: Global, file: &str, text: &str) -> Result<ProgramList, ShellFault>
     ensures value { IfOk result (λ programs. programs ≡ programs_in text.now) }
     ensures reads { OnOk result (IsTrue (reads text.now)) }
@@ -68,7 +68,7 @@ fn programs_in(alloc: Global, file: &str, text: &str) -> Result<ProgramList, She
     }
 }
 
-// The text of the file, and no text where none is named.
+// Returns the text of the file, or an empty text if no file is named.
 fn text_of<R: Files<File = File> + AllocGlobal>(
     rt: &R,
     file: Option<&str>,

@@ -1,11 +1,11 @@
-//! Which programs of the file can't be run as they are.
+//! Reports the listed programs that cannot be run as they are.
 
 use log::{Log, error};
 use program_fitness::obstacle_of_program;
 use program_lists::{ListedProgram, ProgramList};
 use std::fs::{File, Files};
 
-/// Tells each program of the file that can't be run as it is, a line for each.
+/// Logs a line for each program in the file of programs that cannot be run as it is.
 pub fn log_programs<L: Log, R: Files<File = File>>(log: &L, rt: &R, list: &ProgramList) {
     for filter in list.filters() {
         log_program(log, rt, "filter", filter.name.as_str(), &filter.program);

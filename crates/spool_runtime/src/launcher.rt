@@ -1,45 +1,55 @@
-//! What runs the filters and backends: each as a child process, by the shell's one script.
+//! Runs the filters and backends, each as a child process, by one fixed script of the shell.
 //!
 //! # A child
 //!
-//! It reads and writes files in the spool's folder, named by its job, attempt and stage: `in-J-A-S` is the document or
-//! what the stage before gave, `out-J-A-S` and `err-J-A-S` are its standard output and standard error. They are made
-//! before it is started, readable by their owner alone, and removed once it was finished. A crash may leave them: an opening
-//! removes them ([`crate::leftovers`]), and the next child of that name makes them anew. With a side channel there is the
-//! socket `side-J-A-S`, too: while a child is finished or looked at, those of all that run are served
-//! ([`crate::sessions`]).
+//! A child reads and writes files in the spool's folder, named by its job, attempt and stage: `in-J-A-S` is the
+//! document or the output of the previous stage, and `out-J-A-S` and `err-J-A-S` are its standard output and standard
+//! error. The launcher makes them before it starts the child, readable only by their owner, and removes them after the
+//! child is finished. A crash may leave them. An opening then removes them ([`crate::leftovers`]), and the next child
+//! of that name replaces them. With a side channel there is also the socket `side-J-A-S`. While a child is finished or
+//! polled, the side channels of all running children are served ([`crate::sessions`]).
 //!
-//! The first stage is told the document by its last word, and its standard input is empty. A later one reads what the
-//! stage before gave on standard input.
+//! The program is looked up and checked before anything is made. A file that may be executed but not read is left to
+//! the system. The program that ends side channels is checked only when the spooler starts ([`crate::fitness`]). If it
+//! fails, the script of the child ends all the same.
 //!
-//! `start` returns while the child runs, so the children of a round run at once.
+//! The first stage gets the name of the document as its last argument, and its standard input is empty. A later stage
+//! reads the output of the previous stage on standard input. The launcher reads the output and standard error of a
+//! child through the handles that it got when it made the files.
 //!
-//! `has_ended` waits for nobody. It asks the system once, and answers what has come on the side channels. Where the system
-//! can't say, the child counts as ended, and `finish` tells it.
+//! `start` returns while the child runs, so the children of a round run at the same time.
 //!
-//! # What is short
+//! `has_ended` does not wait. It asks the system once, and answers the requests that have arrived on the side channels.
+//! If the system cannot say whether the child has ended, the child counts as ended, and `finish` reports it.
 //!
-//! Where there is no room, no descriptor or no process for a moment, a start is tried again: the starts of a round wait
-//! two seconds in all ([`crate::shortage`]). A folder without room at a child's end is told. A filter that ended well is
-//! lost then where its output may be cut off, and any child where what it wrote is: no byte more can be written behind
-//! it.
+//! # Shortages
 //!
-//! `places` bounds the starts of a tick. There are as many places as there are descriptors for, four at most. There is none
-//! while the folder has no room for 64 KiB, which a file of its own tries, a hundred times a second at most. There is none
-//! after a start that failed for want of something, until two seconds have passed or a child is finished. It knows nothing of
-//! memory and of how many processes there may be, a document may want more room than was tried, and others may take some
-//! between its answer and the starts. So a tick loses four starts at most. Once nothing more is started there is no place.
-//! Behind it a start waits for nothing, as all clients of a service would. A round doesn't ask.
+//! If room, descriptors or processes are short for a moment, a start is tried again. The starts of a round wait two
+//! seconds in all ([`crate::shortage`]). If the folder has no room when a child ends, this is logged. A child that
+//! ended with status 0 is then lost if its bytes on a stream may be cut off: no further byte can be written after them.
+//! Empty output counts as cut off only if the child is a filter.
 //!
-//! # Faults
+//! `start_room` limits the starts of a tick. It returns the number of starts that the free descriptors allow, at most
+//! four. It returns none in these cases:
 //!
-//! All are [`ChildFault`]. Of `start`: the program isn't in the list, or no file that can be run lies there; a file can't
-//! be made, or filled; there is no process or no memory left. What was made is removed then. Of `finish`: the end can't
-//! be known, or what the child wrote can't be read, or may be cut off. A status is never made up. The child is waited for
-//! in any case. Once an end couldn't be known, nothing more is started.
+//! - The folder has no room for 64 KiB. A file of its own tests this, at most a hundred times a second.
+//! - A start failed for a shortage, less than two seconds have passed, and no child was finished since.
+//! - Nothing is started any more (see Errors).
 //!
-//! Each fault is told in a line on standard error, with its cause, and so is an end that failed where the child told no
-//! message ([`crate::reasons`]).
+//! It does not test memory or the number of processes. A document may need more room than was tested, and others may
+//! use up room or descriptors before the starts. So a tick loses at most four starts. After a call of `start_room` a
+//! start does not wait, since all clients of a service would wait too. A round does not call it.
+//!
+//! # Errors
+//!
+//! All errors are [`ChildFault`]. `start` fails if the program is not in the list or its path is not a file that can be
+//! run, if a file cannot be made or filled, or if there are no processes or no memory left. It removes the files that
+//! it made. `finish` fails if the end of the child cannot be known, or if the bytes that the child wrote cannot be read
+//! or may be cut off. It never makes up a status, and waits for the child in any case. After the end of a child could
+//! not be known, nothing more is started.
+//!
+//! Each error is logged in a line with its cause. So is the end of a child that failed without a message
+//! ([`crate::reasons`]).
 ghost use Rattle.std.specs.Prelude.{◌≡◌, ◌≤◌, ◌+◌, ◌-◌, ◌/◌, min, None, IfOk, IfSome, IsErr, IsOkAnd, IsSomeAnd, is_some, string_bytes};
 ghost use Rattle.std.specs.Option.{option_map};
 ghost use Rattle.spool_types.specs.Limits.{longest_document};
@@ -76,67 +86,70 @@ use std::process::{Child, ExitStatus, OpenProcess, Processes, Stdio};
 use std::time::{Clock, Duration, Instant};
 use std::{io, thread};
 
-// How many bytes of standard output are read: one more than a document may have shows that there were too many.
+// The number of bytes of standard output that are read. One more than a document may have is enough to know that the
+// output is too long.
 const MOST_OUTPUT: usize = LONGEST_DOCUMENT + 1;
 
-// How many bytes of standard error are read.
+// The number of bytes of standard error that are read.
 const MOST_ERRORS: usize = 1_048_576;
 
-// For how many milliseconds the side channels aren't looked at, at most.
+// The longest time between two polls of the side channels, in milliseconds.
 const LONGEST_PAUSE: u64 = 16;
 
-// How many milliseconds are told of the time between two looks, at most.
+// The longest time between two polls that is reported, in milliseconds.
 const LONGEST_TIME: u128 = 60_000;
 
-// How far the turn of the queues moves on. Its upper half keeps no time with any number of queues or of ticks, so that no
-// queue is always passed over.
+// How far `turn` moves at a tick. The upper half of `turn` repeats in step with no number of queues or of ticks, so no
+// queue is passed over every time.
 const STRIDE: usize = 0x9E37_79B9_7F4A_7C15;
 
 // The standard input of a first stage.
 const NOTHING: &str = "/dev/null";
 
-/// How large a file that a child writes may grow, in blocks of 512 bytes: a gibibyte, which the files of Ghostscript pass.
+/// The size limit of a file that a child writes, in blocks of 512 bytes: 1 GiB, which Ghostscript's temporary files
+/// stay within.
 pub const MOST_BLOCKS: u32 = 2_097_152;
 
-/// Runs the programs of a list, with their files in the folder of a place. What went wrong is told by the log.
+/// Runs the programs of a list, with their files in the folder of a place. Logs failures.
 #[derive(Drop)]
 pub struct Launcher<'a, L, R> {
     log: &'a L,
     rt: &'a R,
-    /// Where its children run.
+    /// The folder, locale and search path of its children.
     pub place: Place,
-    /// The programs that it can run, and the one that ends side channels.
+    /// The programs that it can run, and the program that ends side channels.
     pub list: ProgramList,
-    /// How large a file that a child writes may grow, in blocks of 512 bytes.
+    /// The size limit of a file that a child writes, in blocks of 512 bytes.
     pub most_blocks: u32,
     patience: Patience,
     room: FolderRoom,
     descriptors: Descriptors,
-    // The side channels of the children that run.
+    // The side channels of the running children.
     sides: SideLines,
-    // When they were served last.
+    // When the side channels were last served.
     served: Option<Instant>,
-    // Whether the end of a child couldn't be known.
+    // Whether the end of a child could not be known.
     blind: bool,
-    // At which queue the choice of those that start a job began last.
+    // The upper 32 bits are the queue where the last choice of queues that start a job began.
     turn: usize,
 }
 
-/// A child that is running, or has ended and wasn't finished.
+/// A child that runs, or that has ended and is not finished.
 #[derive(Drop)]
 pub struct RunningChild<P: OpenProcess + Drop> {
     run: StageRun,
     begun: BegunChild<P>,
 }
 
-/// By the number of its process. Its session has that number, or with a side channel that of the process's only child.
+/// The group is the number of the child's process. The session of the child has that number or, with a side channel,
+/// the number of the process's only child.
 impl<P: OpenProcess + Drop> Grouped for RunningChild<P> {
     fn group(&self) -> u32 {
         self.begun.child.id()
     }
 }
 
-// What a start has made.
+// A child that was started, and its files.
 #[derive(Drop)]
 struct BegunChild<P: OpenProcess + Drop> {
     child: Child<P>,
@@ -145,11 +158,11 @@ struct BegunChild<P: OpenProcess + Drop> {
     errors: File,
 }
 
-// What a start has made, and the child's side channel.
+// A child that was started, and its side channel.
 type Launched<P> = (BegunChild<P>, Option<SideLine>);
 
-/// A launcher for the children of a folder's spool, and their place. There is a side channel where the list has a program
-/// that ends it.
+/// Returns a launcher for the children of a folder's spool, and their place. There is a side channel if the list has a
+/// program that ends it.
 pub fn launcher_in<'a, L: Log, R: Files<File = File> + Net + Processes + Clock + AllocGlobal>(
     log: &'a L,
     rt: &'a R,
@@ -169,7 +182,7 @@ pub fn launcher_in<'a, L: Log, R: Files<File = File> + Net + Processes + Clock +
 }
 
 impl<'a, L: Log, R: Files<File = File> + Net + Processes + Clock + AllocGlobal> Launcher<'a, L, R> {
-    /// A launcher for the children of this place, with the usual limit of their files.
+    /// Returns a launcher for the children of this place, with the default limit of their files.
     pub fn new(log: &'a L, rt: &'a R, place: Place, list: ProgramList) -> Launcher<'a, L, R>
         ensures place { result.place ≡ place }
         ensures list { result.list ≡ list }
@@ -191,7 +204,7 @@ impl<'a, L: Log, R: Files<File = File> + Net + Processes + Clock + AllocGlobal> 
         }
     }
 
-    // The program that an order names.
+    // Returns the program that an order names, if the list has it.
     fn listed(&self, program: &Program) -> Option<&ListedProgram>
         ensures { option_map (λ listed. listed.now) result ≡ program_for self.now.list program.now }
     {
@@ -201,7 +214,7 @@ impl<'a, L: Log, R: Files<File = File> + Net + Processes + Clock + AllocGlobal> 
         }
     }
 
-    // Starts the child of an order, as soon as there is what it wants, and before this round's waits are spent.
+    // Starts the child of an order. Tries again after a shortage, while the starts of this round may wait.
     fn start_patiently(&mut self, order: &Order) -> Result<BegunChild<R::Started>, Reason> {
         if self.blind {
             return Err(Reason::Blind);
@@ -217,7 +230,7 @@ impl<'a, L: Log, R: Files<File = File> + Net + Processes + Clock + AllocGlobal> 
         Err(Reason::Refused)
     }
 
-    // Starts the child of an order, whose side channel is served from now on.
+    // Starts the child of an order, and serves its side channel from then on.
     fn launch_with_side(&mut self, order: &Order) -> Result<BegunChild<R::Started>, Reason> {
         if self.sides.reserve().is_err() {
             return Err(Reason::Refused);
@@ -229,7 +242,7 @@ impl<'a, L: Log, R: Files<File = File> + Net + Processes + Clock + AllocGlobal> 
         Ok(begun)
     }
 
-    // Starts the child of an order, if the list has its program, and it can be run.
+    // Starts the child of an order, if its program is in the list and can be run.
     fn launch(&self, order: &Order) -> Result<Launched<R::Started>, Reason>
         ensures unlisted { program_for self.now.list order.now.program ≡ None → IsErr result }
     {
@@ -247,7 +260,7 @@ impl<'a, L: Log, R: Files<File = File> + Net + Processes + Clock + AllocGlobal> 
         self.run(program, paths, order)
     }
 
-    // Makes the files of a child, and starts it.
+    // Makes the files of a child and starts it. Removes the files if that fails.
     fn run(
         &self,
         program: &ListedProgram,
@@ -299,7 +312,7 @@ impl<'a, L: Log, R: Files<File = File> + Net + Processes + Clock + AllocGlobal> 
         Ok((child, output, errors, side))
     }
 
-    // Makes the file of what a child is handed, and gives the name of its standard input.
+    // Makes the input file of a child, and returns the name of its standard input.
     fn make_input<'p>(&self, paths: &'p ChildPaths, input: &Input) -> io::Result<&'p str>
         ensures { IfOk result (λ name. name.now ≡ input_name (string_bytes paths.now.input) input.now) }
     {
@@ -316,7 +329,7 @@ impl<'a, L: Log, R: Files<File = File> + Net + Processes + Clock + AllocGlobal> 
         }
     }
 
-    // The side channel, where the list has a program that ends it.
+    // Makes the side channel, if the list has a program that ends it.
     fn bind_side(&self, paths: &ChildPaths, order: &Order) -> io::Result<Option<SideLine>>
         ensures { IfOk result (λ side. option_map (λ line. line.device) side ≡ device_for self.now.list order.now) }
     {
@@ -406,7 +419,8 @@ impl<'a, L: Log, R: Files<File = File> + Net + Processes + Clock + AllocGlobal> 
 }
 
 impl<'a, L: Log, R: Files<File = File> + Net + Processes + Clock + AllocGlobal> Launcher<'a, L, R> {
-    // Whether the folder has room for a child's files. Without memory to ask, the start finds it out.
+    // Returns whether the folder has room for a child's files. If memory for the test runs out, returns true, and the
+    // start finds out.
     fn has_folder_room(&mut self) -> bool {
         match probe_path(self.rt.alloc(), &self.place) {
             Ok(probe) => self.room.is_there(self.rt, probe.as_str()),
@@ -414,7 +428,8 @@ impl<'a, L: Log, R: Files<File = File> + Net + Processes + Clock + AllocGlobal> 
         }
     }
 
-    // Answers what has come on all side channels, unless that was done within this millisecond. Whether something had come.
+    // Answers the requests that have arrived on all side channels, unless that was done within this millisecond.
+    // Returns whether there were any.
     fn serve_sides(&mut self) -> bool {
         let alloc = self.rt.alloc();
         let Ok(now) = Instant::now(self.rt) else {
@@ -431,7 +446,7 @@ impl<'a, L: Log, R: Files<File = File> + Net + Processes + Clock + AllocGlobal> 
         self.sides.serve(alloc, since)
     }
 
-    // Serves all side channels until this child has ended, and closes its own. Where none is open there is nothing to do.
+    // Serves all side channels until this child has ended or none is open. Then closes the side channel of this child.
     fn attend(&mut self, job: JobId, child: &mut Child<R::Started>) {
         let mut pause = 0;
         for _ in 0..u64::MAX {
@@ -444,7 +459,7 @@ impl<'a, L: Log, R: Files<File = File> + Net + Processes + Clock + AllocGlobal> 
         self.sides.close(job);
     }
 
-    // Waits for a child, and takes what it wrote. Its files are removed in any case.
+    // Waits for a child, and reads its output and standard error. Removes its files in any case.
     fn end(&mut self, run: &StageRun, begun: BegunChild<R::Started>) -> Result<Finish, Reason> {
         let BegunChild {
             child,
@@ -471,7 +486,8 @@ impl<'a, L: Log, R: Files<File = File> + Net + Processes + Clock + AllocGlobal> 
         }
     }
 
-    // The finish, unless what the child wrote may be cut off. That there is no room is told in any case.
+    // Returns the finish, or an error if the child's bytes may be cut off. A folder without room is logged in either
+    // case.
     fn whole(&self, run: &StageRun, finish: Finish, room: Room) -> Result<Finish, Reason> {
         if room.output && room.errors {
             return Ok(finish);
@@ -488,7 +504,7 @@ fn is_running<P: OpenProcess + Drop>(child: &mut Child<P>) -> bool {
     matches!(child.try_wait(), Ok(None))
 }
 
-// How many whole milliseconds passed, or a minute's.
+// Returns the time between the two in whole milliseconds, at most a minute.
 fn millis_between(earlier: Instant, later: Instant) -> u64
     ensures { result ≡ min ((instant_nanos later - instant_nanos earlier) / 1_000_000) 60_000 }
 {
@@ -496,7 +512,8 @@ fn millis_between(earlier: Instant, later: Instant) -> u64
     passed.min(LONGEST_TIME) as u64
 }
 
-// For how many milliseconds the side channels aren't looked at: one after something has come, and then ever longer ones.
+// Returns for how many milliseconds the side channels are not polled: 1 after something arrived, otherwise twice the
+// last time, at most 16.
 fn next_pause(last: u64, heard: bool) -> u64 {
     if heard {
         1
@@ -505,15 +522,16 @@ fn next_pause(last: u64, heard: bool) -> u64 {
     }
 }
 
-// Whether there was room behind what a child wrote.
+// Whether there was room for one more byte after the child's bytes on each stream.
 #[derive(Clone, Copy)]
 struct Room {
     output: bool,
     errors: bool,
 }
 
-// Whether a child that ended well may have written more than was kept. Where a file has no room, its child's last bytes
-// may be missing. Of an empty one nobody knows whether there were any: a filter is to give something, a backend isn't.
+// Returns whether a child that ended with status 0 may have written more than was stored. If a file has no room, the
+// last bytes of its child may be missing. Of an empty file nobody knows whether there were any: a filter must write
+// output, a backend need not.
 fn may_be_cut(finish: &Finish, filter: bool, room: Room) -> bool
     ensures { result ≡ may_be_cut finish.now filter room }
 {
@@ -522,7 +540,7 @@ fn may_be_cut(finish: &Finish, filter: bool, room: Room) -> bool
     finish.exit == Exit::Code(0) && (!room.output && output || !room.errors && errors)
 }
 
-// Why the system refused a start.
+// Returns why the system refused a start.
 fn refusal_of(error: &io::Error) -> Reason
     ensures { result ≡ refusal_of (error_kind error.now) (raw_os_error error.now) }
 {
@@ -532,7 +550,7 @@ fn refusal_of(error: &io::Error) -> Reason
     }
 }
 
-// The variable of the queue, among those of a child.
+// The variable with the name of the queue, among those of a child.
 const QUEUE: &str = "PRINTER=";
 
 fn queue_in(environment: &[String]) -> &str {
@@ -545,7 +563,7 @@ fn queue_in(environment: &[String]) -> &str {
     }
 }
 
-// The same, owned.
+// Returns the same variable, owned.
 fn queue_variable(environment: Texts) -> Option<String> {
     environment
         .into_vec()
@@ -553,7 +571,7 @@ fn queue_variable(environment: Texts) -> Option<String> {
         .find(|variable| variable.starts_with(QUEUE))
 }
 
-// What is known of a child that ended so, and wrote these files.
+// Returns the finish of a child that ended with this status and wrote these files.
 fn finish_of<O: Read, E: Read>(
     alloc: Global,
     ended: io::Result<ExitStatus>,
@@ -576,7 +594,7 @@ fn finish_of<O: Read, E: Read>(
     })
 }
 
-// How a child ended, where its status tells an end.
+// Returns how a child ended, if its status shows an end.
 fn exit_of(status: ExitStatus) -> Option<Exit>
     ensures told { IfSome result (TellsEnd status) }
     ensures none { result ≡ None → TellsNoEnd status }

@@ -1,12 +1,12 @@
-//! What the children of an earlier program left in the spool's folder.
+//! Removes the files that the children of an earlier program left in the spool's folder.
 //!
-//! A program that is killed leaves the files of the children that ran then: `in-`, `out-`, `err-` and `side-`, each with a
-//! job, an attempt and a stage. When a spool has been opened, no attempt of its table is under way: it was ended by that
-//! opening, or before. So nobody wants these files but a child that goes on by itself. Such a one has its standard output,
-//! which is locked as long as it has ([`crate::child_files::output_to_hand`]). Its files stay, and it is told in a line. All
-//! others are removed.
+//! A program that is killed leaves the files of the children that ran then: `in-`, `out-`, `err-` and `side-`, each
+//! with a job, an attempt and a stage. After a spool is opened, no attempt in its table is in progress: the opening
+//! ended it, or it had ended before. So only a child that still runs needs these files. Such a child has its standard
+//! output open, which is locked for as long ([`crate::child_files::output_to_hand`]). Its files stay, and a line is
+//! logged. All other files of children are removed.
 //!
-//! None of it is a fault: what can't be looked at or removed stays.
+//! Nothing here is an error: a file that cannot be examined or removed stays.
 ghost use Rattle.std.specs.Prelude.{◌≡◌, ◌≢◌, MatchOption};
 ghost use Rattle.std.specs.Char.{is_ascii_digit};
 ghost use Rattle.std.specs.List.{list_all};
@@ -20,7 +20,7 @@ use std::alloc::AllocError;
 use std::fs;
 use std::fs::{File, Files, TryLockError};
 
-// The child of a file, as its name says it.
+// The child of a file, as the file's name shows it.
 #[derive(Clone, Copy)]
 struct LeftChild<'a> {
     job: &'a str,
@@ -36,8 +36,8 @@ impl LeftChild<'_> {
     }
 }
 
-/// Removes what children of an earlier program left in the folder, and tells those that still run. The spool is open, and
-/// none of its children was started.
+/// Removes the files that children of an earlier program left in the folder, and logs the children that still run. The
+/// spool must be open, and none of its children started.
 pub(crate) fn clear_leftovers<L: Log, R: Files<File = File> + Clone + Drop + AllocGlobal>(
     log: &L,
     rt: &R,
@@ -53,7 +53,7 @@ pub(crate) fn clear_leftovers<L: Log, R: Files<File = File> + Clone + Drop + All
     }
 }
 
-// Removes the file of this name, if it is one of a child that doesn't run.
+// Removes the file of this name, if it belongs to a child that does not run.
 fn clear<L: Log, R: Files<File = File> + AllocGlobal>(log: &L, rt: &R, dir: &str, name: &str) {
     let Some((file, child)) = child_of(name) else {
         return;
@@ -73,7 +73,7 @@ fn log_leftover<L: Log>(log: &L, child: LeftChild<'_>) {
         attempt,
         stage,
     } = child;
-    error!(log; "job {job} attempt {attempt} stage {stage}: a child of an earlier start still runs");
+    error!(log; "job {job} attempt {attempt} stage {stage}: a child of an earlier run is still running");
 }
 
 fn remove<R: Files + AllocGlobal>(rt: &R, dir: &str, name: &str) -> Result<(), AllocError> {
@@ -82,7 +82,7 @@ fn remove<R: Files + AllocGlobal>(rt: &R, dir: &str, name: &str) -> Result<(), A
     Ok(())
 }
 
-// Whether a process still has the standard output of this child.
+// Returns whether a process still has the standard output of this child open.
 fn runs<R: Files<File = File> + AllocGlobal>(
     rt: &R,
     dir: &str,
@@ -97,7 +97,8 @@ fn runs<R: Files<File = File> + AllocGlobal>(
     Ok(is_locked(rt, path.as_str()))
 }
 
-// Whether another process has the lock of this file. One that is no file, as a link or a pipe, isn't opened.
+// Returns whether another process holds the lock of this file. Anything but a regular file, such as a link or a pipe,
+// is not opened.
 fn is_locked<R: Files<File = File>>(rt: &R, path: &str) -> bool {
     match fs::symlink_metadata(rt, path) {
         Ok(found) if found.is_file() => {}
@@ -109,7 +110,7 @@ fn is_locked<R: Files<File = File>>(rt: &R, path: &str) -> bool {
     }
 }
 
-// The child's file that a name is of, and its child.
+// Returns the child and the kind of file that this name belongs to, if it is the name of a child's file.
 fn child_of(name: &str) -> Option<(ChildFile, LeftChild<'_>)>
     ensures { MatchOption result (IsNoName name.now)
         (λ found. IsNameOf name.now found.0 found.1.job.now found.1.attempt.now found.1.stage.now) }

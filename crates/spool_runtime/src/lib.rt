@@ -1,89 +1,119 @@
-//! What a program that serves a spool stands on: its words, its files and its folder, the children, the engine over a disk,
-//! and how it ends.
+//! The parts that the programs of a spool share: arguments, files, the folder, the children, the engine over a disk,
+//! and the exit status.
 //!
-//! `spool_shell` is the program that serves the commands on standard input, by [`run`]. Another one, as a service, takes the
-//! parts: it owns a folder ([`SpoolFolder`]), reads the files of types, conversions and programs ([`read_rules`]), makes the
-//! launcher of its children with their place ([`launcher_in`]), opens an engine with them over the folder's disk
-//! ([`open_folder_engine`]), and tells its end ([`report_end`]). What its words have in common with those here is in [`options`].
+//! `spool_shell` serves the commands on standard input, by [`run`]. Another program, such as a service, uses the parts.
+//! It owns a folder ([`SpoolFolder`]), reads the files of types, conversions and programs ([`read_rules`]), makes the
+//! launcher of its children and their place ([`launcher_in`]), opens an engine with them over the folder's disk
+//! ([`open_folder_engine`]), and reports its end ([`report_end`]). The programs share the options in [`options`].
 //!
-//! Words: `[--root DIR] [--types FILE] [--convs FILE] [--programs FILE] [--size BYTES] [--devices]` ([`read_words`]). The
-//! spool lies in the file `DIR/spool.disk` ([`device`]), or else on a disk in memory ([`memory_device`]). The files say which
-//! types of documents there are, which filters convert them and where the filters and backends lie ([`files`]). The stages of
-//! jobs are run as child processes ([`launcher`]); without a folder none can be started. With `--devices` no spool is opened:
-//! the devices that the backends know of are printed ([`devices`]).
+//! Arguments: `[--root DIR] [--types FILE] [--convs FILE] [--programs FILE] [--size BYTES] [--devices] [--version]`
+//! ([`read_words`]). With `--root` the spool is the file `DIR/spool.disk` ([`device`]), and otherwise a disk in memory
+//! ([`memory_device`]). The files specify the types of documents, the filters that convert them, and the paths of
+//! filters and backends ([`files`]). The stages of jobs run as child processes ([`launcher`]). Without a folder none
+//! can be started. With `--devices` no spool is opened, and the program prints the devices that the backends report
+//! ([`devices`]).
 //!
 //! # Promises
 //!
-//! - [`read_words`] carries what the words mean: the root, the three files, the size and the flag are what clap's
-//!   definition of a simple command finds in them or the default (`root`, `types`, `convs`, `programs`, `size`,
-//!   `devices`), each in its limits (`short_root`, `size_in_range`), and they are refused exactly where clap finds a fault
-//!   or the root is too long (`taken`).
-//! - [`parse`] gives what clap finds in the words of any simple command (`found`, `taken`), and that each value passes its
-//!   option's parser (`pass`). [`number_given`] and [`flag_given`] are what an option then has.
-//! - [`open_engine`] opens the spool of a disk: the engine has the table of the disk's bytes after the policy, holds no
-//!   slot, and goes on with the rules, the children and the place that it is given (`IsOpened`). Or else the disk doesn't
-//!   open, for this fault of its bytes (`IsUnread`).
-//! - [`open_folder_engine`] does the same over a folder's disk, which tells nothing of its bytes (`IsSetUp`). What stands in the way
-//!   is a fault of the folder, of its file or of what is in it (`IsOfOpening`).
-//! - [`serve`] opens it so and ends as the engine's run over it does (`HasRun`): Ok says that all commands were served and
-//!   that the disk hasn't failed, and a run whose disk failed ends with `disk`, although it answered all commands. Where the
-//!   disk doesn't open nothing is read or written (`IsUnopened`).
-//! - [`place_in`] is the place of the children: the folder, the locale `C`, the search path `/usr/bin:/bin`, and whether
-//!   there is a side channel (`IsPlace`), which there is with [`launcher_in`] exactly where the list has a program that ends
-//!   it (`place`).
-//! - [`script::Call::command`] is `/bin/sh` without a variable, with exactly the fixed script, the child's files, the side
-//!   channel, the variables, the program and its words, in this order (`arguments_of`). So nothing of a job is ever part
-//!   of the script's text. The files are those that the engine's words name (`file_of`).
-//! - [`Launcher`] looks up exactly the program that an order names (`program_for`), hands a document over by its name
-//!   alone (`input_name`), and tells an end exactly as the system did (`TellsEnd`), and none else. A new one has the usual
-//!   limit of what a child writes (`limit`). What it decides of a failed start, of a program's first bytes and of what may be
-//!   cut off is exactly as defined (`refusal_of`, `begins_right`, `may_be_cut`).
-//! - [`NamedDisk`] is the spool's file as a disk that tells nothing of its bytes. It meets the trait `Disk`.
-//! - [`side_device::device_of`] is exactly the device of a URI's options, with their defaults (`device_in`).
-//! - [`device_lines::print_lines`] prints exactly the lines that read as a device's (`ArePrinted`), and
-//!   [`print_devices`] those of each backend, in the order of the file (`PrintsTold`).
-//! - [`memory_device`] is a spool with an empty table, of exactly the bytes that the words say.
-//! - A file that isn't named counts as an empty one, and a fault of a file names it ([`read_rules`]). A fault of the folder
+//! - [`read_words`] returns what clap's definition of a simple command finds in the arguments, or the defaults (`root`,
+//!   `types`, `convs`, `programs`, `size`, `devices`), each within its limits (`short_root`, `size_in_range`). It
+//!   refuses the arguments exactly if clap finds an error or the root is too long (`taken`). A root that is too long is
+//!   an invalid value (`mistake`).
+//! - [`parse`] returns what clap finds in the arguments of any simple command (`found`, `taken`), and each value passes
+//!   its option's parser (`pass`). [`number_given`] and [`flag_given`] return the value of an option. The programs
+//!   share them and [`spool_command`]. [`text_option`] makes all options whose values are texts, so no such value is
+//!   empty.
+//! - A file that is not named counts as empty, and the fault of a file names it ([`read_rules`]). A fault of the folder
 //!   is `memory` or `disk` (`IsOfFolder`).
-//! - Each fault below is told as it is (`from_gives` in [`fault`]).
-//! - The status is 0 where the run ended without a fault, and 1 after one ([`report_end`]). For words that say nothing it
-//!   is 2, or 0 where they ask for help, or 1 where memory ran out ([`report_words_fault`], [`no_words`]); a root that is
-//!   too long is a mistake in the words (`mistake`).
+//! - [`open_engine`] opens the spool of a disk. The engine has the table of the disk's bytes after the policy, holds no
+//!   slot, and continues with the given rules, children and place (`IsOpened`). Otherwise the disk cannot be opened,
+//!   and its bytes have this fault if the fault is one of bytes (`IsUnread`).
+//! - [`open_folder_engine`] does the same over a folder's disk, which promises nothing about its bytes (`IsSetUp`). It
+//!   fails only for a fault of the folder, of its file, or of the file's contents (`IsOfOpening`).
+//! - [`serve`] opens the spool so, and ends as the engine's run does (`HasRun`). Ok means that all commands were served
+//!   and the disk has not failed. A run whose disk failed answers all commands and ends with `disk`. If the disk cannot
+//!   be opened, nothing is read or written (`IsUnopened`).
+//! - [`memory_device`] is a spool with an empty table, of exactly the requested number of bytes.
+//! - [`place_in`] is the place of the children: the folder, the locale `C`, the search path `/usr/bin:/bin`, and
+//!   whether there is a side channel (`IsPlace`). With [`launcher_in`] there is one exactly if the list has a program
+//!   that ends it (`place`).
+//! - [`script::Call::command`] is `/bin/sh` without environment variables, with exactly the fixed script, the child's
+//!   files, the side channel, the limit, the variables, the program and its arguments, in this order (`arguments_of`).
+//!   So nothing of a job is ever part of the script's text. The files are those of the order (`file_of`,
+//!   `ChildPaths::of`).
+//! - [`Launcher`] looks up exactly the program that an order names (`program_for`) and refuses any other order
+//!   (`unlisted`). It passes a document only by its name (`input_name`). It reports exactly the end in a child's
+//!   status, and no other (`TellsEnd`, `TellsNoEnd`). `finish_of` returns this end with the bytes that were read of the
+//!   two output files, and `read_at_most` reads the number of bytes that it may (`ReadsUpTo`). A new launcher has the
+//!   default size limit for files (`limit`).
+//! - The decisions about a failed start, a program's first bytes, output that may be cut off, and the reason of a
+//!   failure are exactly as defined (`refusal_of`, `shortage_of`, `wants_room`, `begins_right` of `program_fitness`,
+//!   `may_be_cut`, `bad_end`, `says_why`, `check_status`). `child_of` returns the child that the name of a left-over
+//!   file shows.
+//! - [`NamedDisk`] is the spool's file as a disk that promises nothing about its bytes. It meets the trait `Disk`.
+//! - [`side_device::device_of`] returns exactly the device of a URI's options, with their defaults (`device_in`,
+//!   `device_for`). `answer_all` appends the answers to a client's bytes, or a prefix of them, to the earlier ones
+//!   (`AnswersPiece`).
+//! - [`device_lines::print_lines`] prints exactly the lines that parse as device lines, in order and unchanged
+//!   (`ArePrinted`). [`print_devices`] prints those of each backend, once, in the order of the file (`PrintsTold`, for
+//!   each `Discovery` whose output is known). Its command for a backend is `/usr/bin/env -i` with fixed arguments
+//!   (`command_of`). The only errors are of writing and of memory (`IsOfPrinting`). If memory runs out for a line, the
+//!   line is not printed (`IsUnprinted`).
+//! - Each fault below is reported as it is (`from_gives` in [`fault`]).
+//! - The exit status is 0 if the run ended without a fault, and 1 after a fault ([`report_end`]). If the arguments
+//!   cannot be used, it is 2, or 0 if they ask for help, or 1 if memory ran out ([`report_words_fault`], [`no_words`]).
+//! - [`LogLines`] is enabled for exactly the levels up to its own (`enables`).
 //!
-//! That one program owns a folder, what a real file holds, and what a child, a socket and the script do, no clause can
-//! say: tests do.
+//! # Not proved
+//!
+//! - The launcher's calls of the system. A launcher that starts no child, knows no end, waits in each poll or always
+//!   reports an end, or never has room for a start meets its clauses. `tests/children.py` shows that children are
+//!   started, and that the script, the files and the sockets work.
+//! - The output of a real backend, and that an answer on a side channel reaches the client's socket.
+//! - That the launcher moves `first` on, and when it has room for fewer than four starts.
+//! - How long a poll and a start take. A poll asks the system once (`a_look_waits_for_nobody` of `program_tests`). The
+//!   starts of a round try again for two seconds in all. A start of a tick does not wait.
+//! - That [`NamedDisk`] reads and writes its bytes: a body that does nothing meets its clauses. `tests/children.py`
+//!   shows that the file keeps its name.
+//! - That no other program writes the spool's file. The program locks the folder and `spool.lock` in it before it opens
+//!   any other file, and holds both locks until it ends. `tests/first_start.py` shows this for this program, and
+//!   `tests/failover.py` over two hosts. A program that takes no lock is not excluded. Over several hosts this is as
+//!   good as the locks of the file system, and a host that is cut off must be fenced.
+//! - That `main` calls its helpers in their order.
 //!
 //! # Invariants
 //!
-//! A folder is its [`SpoolFolder`]'s until that value goes. A child that was started is finished by its ticket alone
-//! ([`RunningChild`]), which waits for it.
+//! A [`SpoolFolder`] owns its folder until the value is dropped. A child that was started is finished only by its
+//! ticket ([`RunningChild`]), which waits for it.
 //!
-//! # Warnings
+//! # Errors
 //!
-//! A line of a file that can't be read is skipped, and told on standard error as `spool: warning N KIND` ([`warnings`]):
-//! no fault, so the run goes on.
+//! The program ends with status 0 at the end of input, with 1 after a fault, which it reports on standard error as
+//! `spool: WORD` ([`fault`]), and with 2 if the arguments are refused, with clap's text. `--help` and `--version` end
+//! with 0. Faults are searched in this order: arguments, signal, file of types, file of conversions, file of programs,
+//! spool, commands.
 //!
-//! # Faults
-//!
-//! The program ends with status 0 at the end of input; with 1 after a fault, told on standard error as `spool: WORD`
-//! ([`fault`]); and with 2 where the words are refused, with clap's text. Faults are looked for in the words, then in
-//! the signal, in the file of types, in that of conversions, in that of programs, in the spool, and last in the commands.
-//! `--help` ends with 0.
-//!
-//! - `file NAME`: a file of types, conversions or programs can't be read, or isn't UTF-8, or a line of the programs
-//!   doesn't read.
-//! - `not-a-spool`, `damaged PLACE`: the spool's file, which stays as it is.
-//! - `disk`: the folder or the file can't be opened, locked, made or synced ([`device`]), another program owns one of
-//!   them, or the disk failed. Where it fails during the run this is told at the end of input. A second line tells which
-//!   of these it is ([`DiskCause`]).
-//! - `sigchld-ignored`: there is a file of programs, and how they end can't be known ([`begun`]).
-//! - `memory`: memory ran out. What was answered before it stays.
-//! - `socket`: the socket of a service can't be made, or waited on.
+//! - `file NAME`: a file of types, conversions or programs cannot be read or is not UTF-8, or a line of the programs is
+//!   invalid.
+//! - `not-a-spool`, `damaged PLACE`: a fault of the spool's file, which is not changed.
+//! - `disk`: the folder or the file cannot be opened, locked, made or synced ([`device`]), another program owns one of
+//!   them, or the disk failed. If it fails during the run, this is reported at the end of input. A second line gives
+//!   the cause ([`DiskCause`]). A device that failed while it was served has the cause `failed`.
+//! - `sigchld-ignored`: a file of programs is named, but the ends of children cannot be known ([`begun`]).
+//! - `memory`: memory ran out. Everything that was acknowledged before stays.
+//! - `socket`: the socket of a service cannot be made or waited on.
 //! - `read`, `write`: standard input or standard output failed.
 //!
-//! A child that can't be started, or whose end can't be known, is no fault of the program: its stage ends so. Why is told in
-//! a line `spool: job N ..` ([`reasons`]), and a program that can't be run as it is (`program_fitness`) in a line at the start
-//! ([`fitness`]).
+//! A line of the files of types and conversions that cannot be read is skipped, and logged on standard error as
+//! `spool: warning N KIND` ([`warnings`]). This is not a fault.
+//!
+//! A child that cannot be started, or whose end cannot be known, is not a fault of the program: its stage fails. The
+//! cause is logged in a line `spool: job N ..` ([`reasons`]). A program that cannot be run as it is (`program_fitness`)
+//! is logged in a line at the start ([`fitness`]).
+//!
+//! # Cost
+//!
+//! Reading a file of programs takes time that grows with the square of its lines.
 #![tactic(auto)]
 
 mod begun;

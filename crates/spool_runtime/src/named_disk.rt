@@ -1,13 +1,15 @@
 //! The spool's file as a disk that keeps its name.
 //!
-//! The folder for the temporary files of children is the spool's own, so a filter that removes all that it finds there
-//! removes the spool's file too. The program has it open and loses nothing while it runs, but nobody would find it later. So
-//! each sync looks whether the file still has its name, before the sync is answered and with it an event. Where it hasn't,
-//! the file is copied under another name, synced, given its name, and the copy is gone on with. Before that the lock's file gets
-//! its name again, if it has lost it too: where another program has made one by then, it has the folder. Where any of this
-//! fails, so does the sync, and the device counts as failed.
+//! The spool's folder is also the folder for the temporary files of children. A filter that removes everything there
+//! removes the spool's file too. The program has the file open and loses nothing while it runs, but nobody would find
+//! the file later.
 //!
-//! It tells nothing of its bytes, as a file of the system does.
+//! So each sync checks that the file still has its name, before the sync succeeds and an event is acknowledged. If the
+//! name is gone, the sync copies the file under another name, syncs the copy, renames it, and continues with the copy.
+//! Before that it restores the lock's file, if that has lost its name too. If another program has made a lock's file by
+//! then, that program owns the folder. If any of this fails, the sync fails, and the device counts as failed.
+//!
+//! The disk promises nothing about its bytes, like any file of the system.
 ghost use Rattle.std.specs.Prelude.{◌≡◌, ◌↔◌, ◌<◌, ◌≤◌, ◌+◌, ◌-◌, ◌^◌, length, IfOk, OnOk, IsOk, IsErr};
 ghost use Rattle.std.proofs.lemmas.Option.{none-some};
 ghost use Rattle.spool_disk.specs.Disk.{Reads, IsSynced, IsWritten, ChangesNothing, ChangesOnly, Counts, HasCause};
@@ -21,7 +23,7 @@ use std::os::unix::fs::{FileExt, MetadataExt};
 use std::path::Path;
 use std::{fs, io};
 
-// How many bytes are copied at once.
+// The number of bytes copied at once.
 const BLOCK: usize = 65_536;
 
 /// The file of a spool, in its folder. Nobody else may change its length.
@@ -29,9 +31,9 @@ const BLOCK: usize = 65_536;
 pub struct NamedDisk<'a, R> {
     rt: &'a R,
     folder: File,
-    // The lock's file, by its name.
+    // The path of the lock's file, and the file.
     lock: (String, File),
-    // Its name, and the name of a copy that isn't finished.
+    // The path of the spool's file, and the path of an unfinished copy.
     path: String,
     unfinished: String,
     file: File,
@@ -40,8 +42,8 @@ pub struct NamedDisk<'a, R> {
 }
 
 impl<'a, R: Files<File = File>> NamedDisk<'a, R> {
-    /// A file that is open for reading and writing, with the length that it has now, and that has this name in this
-    /// folder. The error is the system's, where it doesn't tell the length.
+    /// Returns the disk of a file that is open for reading and writing, has this name in this folder, and keeps its
+    /// present length. Returns the system's error if the length cannot be read.
     pub(crate) fn new(
         rt: &'a R,
         folder: File,
@@ -65,8 +67,8 @@ impl<'a, R: Files<File = File>> NamedDisk<'a, R> {
         })
     }
 
-    // Passes the system's answer on, and counts a failure. At the greatest count, where no call may fail, a failure is
-    // answered as Ok, which says nothing of a disk that tells nothing.
+    // Returns the system's answer, and counts a failure. At the greatest count no call may fail, so a failure is then
+    // returned as Ok. That claims nothing, since this disk promises nothing about its bytes.
     fn counted(&mut self, answer: io::Result<()>) -> Result<(), DeviceFault>
         ensures len { named_len self.new ≡ named_len self.old }
         ensures cause { Counts (named_faults self.old) (named_faults self.new) result }
@@ -78,7 +80,7 @@ impl<'a, R: Files<File = File>> NamedDisk<'a, R> {
         Err(DeviceFault)
     }
 
-    // Sees that the file has its name, and else goes on with a copy that has it.
+    // Checks that the file has its name, and otherwise continues with a copy that has it.
     fn keep_name(&mut self) -> io::Result<()>
         ensures len { named_len self.new ≡ named_len self.old }
         ensures faults { named_faults self.new ≡ named_faults self.old }
@@ -97,7 +99,7 @@ impl<'a, R: Files<File = File>> NamedDisk<'a, R> {
         Ok(())
     }
 
-    // A copy of the file that has its name.
+    // Returns a copy of the file that has the file's name.
     fn copy(&self) -> io::Result<File> {
         let _ = fs::remove_file(self.rt, self.unfinished.as_str());
         let copy = self.new_locked(self.unfinished.as_str())?;
@@ -108,7 +110,7 @@ impl<'a, R: Files<File = File>> NamedDisk<'a, R> {
         Ok(copy)
     }
 
-    // A new file of this name, locked. The folder is this program's, so nobody has made it, or has a lock of it.
+    // Makes and locks a file of this name. The program owns the folder, so nobody else has made or locked it.
     fn new_locked(&self, path: &str) -> io::Result<File> {
         let file = new_file(self.rt, Path::new(path))?;
         if file.try_lock().is_err() {
@@ -126,7 +128,7 @@ impl<'a, R: Files<File = File>> NamedDisk<'a, R> {
     }
 }
 
-// Whether this name leads to this file.
+// Returns whether this path refers to this file.
 fn has_name<R: Files>(rt: &R, path: &str, file: &File) -> io::Result<bool> {
     let named = match fs::metadata(rt, path) {
         Err(error) if error.kind() == ErrorKind::NotFound => return Ok(false),
@@ -136,7 +138,7 @@ fn has_name<R: Files>(rt: &R, path: &str, file: &File) -> io::Result<bool> {
     Ok(named.dev() == itself.dev() && named.ino() == itself.ino())
 }
 
-// Copies the first bytes of a file.
+// Copies the first `count` bytes of a file.
 fn copy_bytes(from: &File, to: &File, count: u64) -> io::Result<()> {
     let mut bytes = [0u8; BLOCK];
     let block = BLOCK as u64;

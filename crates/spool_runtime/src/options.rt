@@ -1,4 +1,4 @@
-//! The options that the words of several programs have, and what clap finds in words.
+//! The options that several programs share, and what clap finds in the arguments.
 ghost use Rattle.std.specs.Prelude.{◌≡◌, ℕ, ◌≤◌, IfOk, MatchResult, Some, false, map, true};
 ghost use Rattle.clap.specs.Words.{app_of, found_of, is_simple_and_free, kind_of, matches_of, one_of, rows_of, rule_of};
 ghost use Rattle.clap.specs.declared.builder.texts.Texts.TheVariants.{One};
@@ -9,30 +9,31 @@ ghost use Rattle.spool_runtime.specs.ProgramArguments.{is_told, number_or, optio
 use clap::builder::ValueParser;
 use clap::error::ErrorKind;
 use clap::{Arg, ArgAction, ArgMatches, Command, Error};
+use program_version::VERSION;
 use std::alloc::{AllocError, Global};
 use std::convert::AsStr;
 
-/// The length of a spool that is made, in bytes, where the words don't say it.
+/// The length of a new spool in bytes, unless the arguments specify it.
 pub const DEFAULT_SIZE: u64 = 4_194_304;
 
-/// The least and the greatest length, in bytes.
+/// The least and the greatest length of a spool, in bytes.
 pub const LEAST_SIZE: u64 = 4_096;
 
 pub const GREATEST_SIZE: u64 = 1_073_741_824;
 
-/// How many bytes the name of the spool's folder may have.
+/// The greatest length of the folder's name, in bytes.
 pub const LONGEST_ROOT: usize = 64;
 
-/// Why the words say nothing.
+/// Why the arguments cannot be used.
 #[derive(Drop)]
 pub enum WordsFault {
-    /// They are refused, or ask for the help. It is what there is to print.
+    /// They are refused, or ask for the help. The error contains the text to print.
     Refused(Error),
-    /// They, or the text to print, found no memory.
+    /// Memory ran out while they were read or the text was made.
     Memory,
 }
 
-/// A program's command with the options of a spool: its folder, its rules and its length.
+/// Returns the command of a program with the options of a spool: its folder, its rules and its length.
 pub fn spool_command<'a>(
     alloc: Global,
     name: &'a str,
@@ -43,35 +44,36 @@ pub fn spool_command<'a>(
 {
     Command::new(alloc, name)
         .about(about)
+        .version(VERSION)
         .arg(text_option(alloc, "root", "DIR", root_help))?
         .arg(text_option(
             alloc,
             "types",
             "FILE",
-            "Read the types of documents from this file [default: none]",
+            "Read the media types and their rules from FILE, in the format of mime.types(5) [default: none]",
         ))?
         .arg(text_option(
             alloc,
             "convs",
             "FILE",
-            "Read the filters that convert documents from this file [default: none]",
+            "Read the conversions and their filters from FILE, in the format of mime.convs(5) [default: none]",
         ))?
         .arg(text_option(
             alloc,
             "programs",
             "FILE",
-            "Read which programs filters and backends are from this file [default: none]",
+            "Read the programs of filters and backends from FILE, in the format of cegmandi_programs(5) [default: none]",
         ))?
         .arg(number_option(
             alloc,
             "size",
             "BYTES",
             (LEAST_SIZE, GREATEST_SIZE),
-            "The length of a spool that is made [default: 4194304]",
+            "Size of a new spool in bytes, from 4096 to 1073741824 [default: 4194304]",
         ))
 }
 
-/// An option with a text that isn't empty.
+/// Returns an option whose value is a text that is not empty.
 pub fn text_option<'a>(alloc: Global, name: &'a str, value: &'a str, help: &'a str) -> Arg<'a>
     ensures rule { rule_of result ≡ text_option name.entry.now }
     ensures local { result.global ≡ false }
@@ -84,7 +86,7 @@ pub fn text_option<'a>(alloc: Global, name: &'a str, value: &'a str, help: &'a s
         .help(help)
 }
 
-/// An option with a number from the first to the second one.
+/// Returns an option whose value is a number of this range, both ends included.
 pub fn number_option<'a>(
     alloc: Global,
     name: &'a str,
@@ -104,7 +106,7 @@ pub fn number_option<'a>(
         .help(help)
 }
 
-/// An option that is there or isn't.
+/// Returns an option without a value.
 pub fn flag_option<'a>(alloc: Global, name: &'a str, help: &'a str) -> Arg<'a>
     ensures rule { rule_of result ≡ flag_of name.entry.now }
     ensures local { result.global ≡ false }
@@ -117,7 +119,7 @@ pub fn flag_option<'a>(alloc: Global, name: &'a str, help: &'a str) -> Arg<'a>
         .help(help)
 }
 
-/// What clap finds in the words.
+/// Returns what clap finds in the arguments.
 pub fn parse<'a, S: AsStr>(
     command: &mut Command<'a>,
     words: &'a [S],
@@ -134,7 +136,7 @@ pub fn parse<'a, S: AsStr>(
     }
 }
 
-/// What clap's fault is to a program of a spool.
+/// Converts an error of clap.
 pub fn words_fault(error: Error) -> WordsFault
     ensures { RefusesOnly (kind_of error ≡ OutOfMemory) result }
 {
@@ -145,14 +147,14 @@ pub fn words_fault(error: Error) -> WordsFault
     }
 }
 
-/// The fault of a folder's name that is too long.
+/// Returns the error for a folder's name that is too long.
 pub fn long_root(command: &mut Command<'_>) -> WordsFault
     ensures { IsMistake result }
 {
-    mistake(command, "DIR has more than 64 bytes")
+    mistake(command, "DIR is longer than 64 bytes")
 }
 
-/// The fault of a value that is wrong, in the form of clap's own.
+/// Returns the error for an invalid value, in the form of clap's own errors.
 pub fn mistake(command: &mut Command<'_>, text: &str) -> WordsFault
     ensures { IsMistake result }
 {
@@ -162,7 +164,7 @@ pub fn mistake(command: &mut Command<'_>, text: &str) -> WordsFault
     }
 }
 
-/// The number of an option, or else the usual one.
+/// Returns the number of an option, or `usual` if the option is not given.
 pub fn number_given(matches: &ArgMatches<'_>, name: &str, usual: u64) -> u64
     requires { HasNumberIn 0 u64.MAX name.now matches.now }
     ensures number { result ≡ number_or usual (one_of name.now (rows_of (found_of matches.now))) }
@@ -172,7 +174,7 @@ pub fn number_given(matches: &ArgMatches<'_>, name: &str, usual: u64) -> u64
     matches.get_one::<u64>(name).unwrap_or(usual)
 }
 
-/// Whether an option is there.
+/// Returns whether a flag is given.
 pub fn flag_given(matches: &ArgMatches<'_>, name: &str) -> bool
     requires { HasFlag name.now matches.now }
     ensures { result ≡ is_told (one_of name.now (rows_of (found_of matches.now))) }

@@ -1,16 +1,17 @@
-//! Who owns a spool's folder: one program, on whatever host.
+//! Ensures that one program owns a spool's folder, on whatever host.
 //!
-//! Hosts that have the same replicated file system mostly don't see each other's lock of a folder. That of a file they see. So
-//! an owner has two locks: the folder's, and that of the file `spool.lock` in it, which is made before any other name there is
-//! looked at, and which no program removes. All take them in this order, so of those that start together one has both: whoever
-//! has the file's waits for no other. Where the file system has no lock of a folder the file's decides alone.
+//! Hosts that share a replicated file system usually do not see each other's lock of a folder, but they see the lock of
+//! a file. So an owner has two locks: that of the folder, and that of the file `spool.lock` in it. This file is made
+//! before any other name in the folder is examined, and no program removes it. All programs take the locks in this
+//! order. So if several start together, one of them gets both: the program that has the file's lock waits for no other.
+//! If the file system has no lock of a folder, the lock of the file decides alone.
 //!
-//! A lock that keeps nobody out is none. So the owner opens the file once more, and this second opening has to be refused the
-//! lock. Where it isn't, nobody can know who owns the folder, and it isn't served. What this doesn't find is a lock that a file
-//! system keeps among the programs of one host alone: two hosts have to try it.
+//! A lock that excludes nobody is useless. So the owner opens the file a second time, and this second opening must be
+//! refused the lock. If it gets the lock, nobody can know who owns the folder, and the program does not serve it. This
+//! does not detect a file system whose locks exclude only programs on the same host. Two hosts are needed to test that.
 //!
-//! Where a filter removes all that it finds in the folder, the lock's file loses its name with the spool's, and gets it back with
-//! it ([`crate::named_disk`]).
+//! If a filter removes everything in the folder, the lock's file loses its name along with the spool's file, and gets
+//! it back with it ([`crate::named_disk`]).
 ghost use Rattle.std.specs.Prelude.{◌≡◌, IfErr};
 ghost use Rattle.std.specs.IoError.{error_kind};
 ghost use Rattle.spool_runtime.specs.ProgramFaults.{IsOfFolder, kept_out, of_lock};
@@ -27,19 +28,21 @@ use std::{io, thread};
 /// The name of the lock's file in its folder.
 pub(crate) const LOCK: &str = "spool.lock";
 
-// How often a lock that another program has is tried again, and after how many milliseconds: a second in all.
+// How often a lock that another program has is tried again, and after how many milliseconds each time: one second in
+// all.
 const MOST_WAITS: u32 = 50;
 
 const WAIT: u64 = 20;
 
-/// Takes the folder of this path: the folder itself, and the lock's file. It is owned as long as both are open.
+/// Takes the folder of this path. Returns the folder and the lock's file, both locked. The folder is owned as long as
+/// both are open.
 pub(crate) fn take<R: Files<File = File> + Clock + AllocGlobal>(
     rt: &R,
     path: Path<'_>,
 ) -> Result<(File, File), ShellFault>
     ensures { IfErr result IsOfFolder }
 {
-    // By this name nothing but a folder opens. By its own a pipe would wait for whoever writes to it.
+    // By this name only a folder can be opened. By its own name a pipe would wait for a process that writes to it.
     let itself = path.join(rt.alloc(), ".")?;
     let folder = File::open(rt, itself.as_path())?;
     if let Err(TryLockError::WouldBlock) = wait_for_lock(rt, &folder) {
@@ -49,15 +52,15 @@ pub(crate) fn take<R: Files<File = File> + Clock + AllocGlobal>(
     let lock = locked(rt, open_lock(rt, name.as_path(), &folder)?)?;
     let again = open_there(rt, name.as_path())?;
     if !is_same(&lock, &again)? {
-        // It lost its name while this program waited for it.
+        // The file lost its name while this program waited for the lock.
         return Err(ShellFault::Disk(DiskCause::Owned));
     }
     kept_out(again.try_lock())?;
     Ok((folder, lock))
 }
 
-/// The file, which no other program gets until this one lets it go. A program that was killed while it started a child has it
-/// for some milliseconds more, until the child runs: so this waits a moment.
+/// Returns the file, locked until it is closed. A program that was killed while it started a child holds its lock for
+/// some milliseconds longer, until the child runs. So this waits for a moment.
 pub(crate) fn locked<R: Clock>(rt: &R, file: File) -> Result<File, ShellFault>
     ensures { IfErr result IsOfFolder }
 {
@@ -65,7 +68,7 @@ pub(crate) fn locked<R: Clock>(rt: &R, file: File) -> Result<File, ShellFault>
     Ok(file)
 }
 
-/// Locks the file, or the folder. Another program's lock is waited for a second.
+/// Locks the file or the folder. Waits up to one second for another program's lock.
 fn wait_for_lock<R: Clock>(rt: &R, file: &File) -> Result<(), TryLockError> {
     for _ in 0..MOST_WAITS {
         match file.try_lock() {
@@ -76,7 +79,7 @@ fn wait_for_lock<R: Clock>(rt: &R, file: &File) -> Result<(), TryLockError> {
     Err(TryLockError::WouldBlock)
 }
 
-// What the second lock of a locked file says: it has to be refused.
+// Checks the result of the second lock of a locked file, which must be refused.
 fn kept_out(second: Result<(), TryLockError>) -> Result<(), ShellFault>
     ensures { result ≡ kept_out second }
 {
@@ -87,7 +90,7 @@ fn kept_out(second: Result<(), TryLockError>) -> Result<(), ShellFault>
     }
 }
 
-/// A lock of the folder, or of its file, that can't be had.
+/// Converts the error of a lock, of the folder or of its file.
 impl From<TryLockError> for ShellFault {
     ghost from_gives = { λ fault told. (told ≡ of_lock fault) × IsOfFolder told };
 
@@ -99,7 +102,8 @@ impl From<TryLockError> for ShellFault {
     }
 }
 
-// The lock's file, which is made where it isn't there. Of two programs that make it one does, and both open it.
+// Opens the lock's file, and makes it if it does not exist. If two programs make it, one of them succeeds, and both
+// open it.
 fn open_lock<R: Files<File = File>>(rt: &R, path: Path<'_>, folder: &File) -> io::Result<File> {
     match open_there(rt, path) {
         Err(error) if error.kind() == ErrorKind::NotFound => {}
@@ -111,8 +115,8 @@ fn open_lock<R: Files<File = File>>(rt: &R, path: Path<'_>, folder: &File) -> io
     }
 }
 
-// The lock's file, made now. It is given to the folder's owner where that is allowed: who looks at a spool as another user isn't
-// to keep the owner out.
+// Makes the lock's file. Gives it to the owner of the folder if that is allowed, as it is for the superuser. Otherwise
+// a user who inspects a spool could lock out its owner.
 fn new_lock<R: Files<File = File>>(rt: &R, path: Path<'_>, folder: &File) -> io::Result<File> {
     let file = new_file(rt, path)?;
     let owner = folder.metadata()?;
@@ -120,12 +124,12 @@ fn new_lock<R: Files<File = File>>(rt: &R, path: Path<'_>, folder: &File) -> io:
     Ok(file)
 }
 
-// A file that is there. It is opened for writing too, since some file systems lock no other.
+// Opens an existing file, for writing too, since some file systems lock no other files.
 fn open_there<R: Files<File = File>>(rt: &R, path: Path<'_>) -> io::Result<File> {
     OpenOptions::new().read(true).write(true).open(rt, path)
 }
 
-// Whether two open files are one.
+// Returns whether two open files are the same file.
 fn is_same(one: &File, other: &File) -> io::Result<bool> {
     let (one, other) = (one.metadata()?, other.metadata()?);
     Ok(one.dev() == other.dev() && one.ino() == other.ino())

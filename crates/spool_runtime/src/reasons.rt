@@ -1,4 +1,5 @@
-//! Why a stage failed, as far as the launcher knows: a line on standard error for each that no text of the child's tells.
+//! Logs why a stage failed, as far as the launcher knows: a line for each failure that the child did not explain
+//! itself.
 ghost use Rattle.std.specs.Prelude.{◌≡◌, IfOk};
 ghost use Rattle.std.specs.List.{list_any};
 ghost use Rattle.stderr_lines.specs.Reports.{report_of};
@@ -13,37 +14,37 @@ use std::alloc::{AllocError, Global};
 use stderr_lines::Lines;
 use thiserror::Error;
 
-/// Why a stage failed. Its text is the end of the line that tells it.
+/// Why a stage failed. Its text is the end of the line that is logged.
 #[derive(Clone, Copy, Debug, Drop, Error, PartialEq, Eq)]
 pub(crate) enum Reason {
-    #[error("not in the file of programs")]
+    #[error("not listed in the programs file")]
     Unlisted,
     #[error("{0}")]
     Unfit(Obstacle),
-    #[error("not started, for want of {0}")]
+    #[error("not started: out of {0}")]
     Short(Shortage),
-    #[error("not started, since the system refuses it")]
+    #[error("not started: refused by the system")]
     Refused,
-    #[error("not started, since the end of a child before it isn't known")]
+    #[error("not started: the outcome of an earlier child is unknown")]
     Blind,
-    #[error("how it ended isn't known")]
+    #[error("outcome unknown")]
     NoEnd,
-    #[error("what it wrote can't be read")]
+    #[error("output cannot be read")]
     Unread,
-    #[error("the folder has no room, so what it wrote may be cut off")]
+    #[error("no space left in the folder, output may be truncated")]
     Cut,
-    #[error("the folder has no room left at its end")]
+    #[error("no space left in the folder when it ended")]
     NoRoom,
-    #[error("output above {0} bytes")]
+    #[error("output exceeds {0} bytes")]
     LongOutput(usize),
-    #[error("ended with status {0}, and told no cause")]
+    #[error("ended with status {0}, no error message")]
     Status(u8),
-    #[error("ended by a signal, and told no cause")]
+    #[error("killed by a signal, no error message")]
     Signal,
 }
 
 impl Reason {
-    /// Whether it may be gone in a moment.
+    /// Returns whether the reason may pass in a moment.
     pub fn may_pass(self) -> bool
         ensures { result ≡ may_pass self }
     {
@@ -51,7 +52,7 @@ impl Reason {
     }
 }
 
-/// A stage that is run, as a line tells it.
+/// A stage that is run, as the log names it.
 #[derive(Drop)]
 pub(crate) struct StageRun {
     pub job: JobId,
@@ -61,7 +62,7 @@ pub(crate) struct StageRun {
 }
 
 impl StageRun {
-    /// Tells why it failed, in a line.
+    /// Logs why the stage failed.
     pub fn log_reason<L: Log>(&self, log: &L, reason: Reason) {
         let job = self.job.get();
         let attempt = self.attempt.get();
@@ -70,12 +71,11 @@ impl StageRun {
         error!(log; "job {job} attempt {attempt} stage {stage} {name}: {reason}");
     }
 
-    /// Whether its program is a filter.
     pub fn is_filter(&self) -> bool {
         matches!(self.program, Program::Filter(_))
     }
 
-    // The name of its program in the file.
+    // Returns the name of its program in the file of programs.
     fn name(&self) -> &str {
         match &self.program {
             Program::Filter(name) => name.as_str(),
@@ -84,7 +84,7 @@ impl StageRun {
     }
 }
 
-/// Why the stage with this finish failed, where the launcher alone can tell it.
+/// Returns why the stage with this finish failed, if only the launcher can report it.
 pub(crate) fn reason_of(alloc: Global, finish: &Finish) -> Option<Reason> {
     if LONGEST_DOCUMENT < finish.output.as_slice().len() {
         return Some(Reason::LongOutput(LONGEST_DOCUMENT));
@@ -96,7 +96,7 @@ pub(crate) fn reason_of(alloc: Global, finish: &Finish) -> Option<Reason> {
     }
 }
 
-// What is told of an end that is no success.
+// Returns the reason to report for an exit that is not a success.
 fn bad_end(exit: Exit) -> Option<Reason>
     ensures { result ≡ bad_end exit }
 {
@@ -108,7 +108,7 @@ fn bad_end(exit: Exit) -> Option<Reason>
     }
 }
 
-// Whether standard error has a message for the queue.
+// Returns whether standard error has a message for the queue.
 fn says_why(alloc: Global, errors: &[u8]) -> Result<bool, AllocError>
     ensures { IfOk result (λ says. says ≡ list_any is_message (report_of errors.now).effects) }
 {

@@ -1,4 +1,4 @@
-//! What the words ask for is done.
+//! Runs `spool_shell`, after its arguments are read.
 ghost use Rattle.std.specs.Prelude.{◌≡◌, IfErr, IfOk, true};
 ghost use Rattle.spool_runtime.specs.Serving.{IsOfOpening, IsSetUp, database};
 
@@ -27,7 +27,7 @@ use std::net::Net;
 use std::process::Processes;
 use std::time::Clock;
 
-/// Does what the words ask for: it prints the devices, or serves the commands over a spool.
+/// Prints the devices, or serves the commands over a spool, as the arguments ask.
 pub fn run<L, H, R: Read, W: Write>(
     logged: &L,
     rt: &H,
@@ -38,7 +38,7 @@ pub fn run<L, H, R: Read, W: Write>(
 where
     L: Files<File = File> + AllocGlobal + Log,
     H: Files<File = File> + Net + Processes + Clock + Clone + Drop + AllocGlobal,
-    // Where devices are asked for no command is read.
+    // If devices are asked for, no command is read.
     ensures devices { words.entry.devices ≡ true → R.remaining reader.new ≡ R.remaining reader.old }
 {
     if words.programs.is_some() && !words.devices {
@@ -88,7 +88,7 @@ where
     serve_children(log, rt, dir, size, children, rules, reader, writer)
 }
 
-// Serves them with these children.
+// Serves the commands with these children.
 fn serve_children<L, H, C, R: Read, W: Write>(
     log: &L,
     rt: &H,
@@ -107,13 +107,14 @@ where
     let (folder, mut engine) = open_folder_engine(log, rt, dir, size, children, rules)?;
     let ran = engine.run(reader, writer);
     let served = ending(ran, engine.met_fault());
-    // The folder is this program's until all commands have been served.
+    // The program owns the folder until all commands are served.
     drop(folder);
     served
 }
 
-/// A folder, which is this program's as long as it isn't dropped, and an engine over the spool in it. A spool that isn't there is
-/// made, of so many bytes. What children of an earlier program left is removed once the spool is open.
+/// Returns a folder, which the program owns until the value is dropped, and an engine over the spool in it. If the
+/// spool does not exist, makes one of `size` bytes. After the spool is open, removes the files that children of an
+/// earlier program left.
 pub fn open_folder_engine<'a, L, H, C>(
     log: &L,
     rt: &'a H,

@@ -1,4 +1,4 @@
-//! How a spool is opened and served.
+//! Opens and serves a spool.
 ghost use Rattle.std.specs.Prelude.{◌≡◌, ◌⊎◌, ◌≤◌, IfErr, IfOk, IsOkUnless, length};
 ghost use Rattle.spool_disk.specs.MemoryDisks.{mem_bytes};
 ghost use Rattle.spool_types.specs.State.{nothing};
@@ -17,14 +17,14 @@ use spool_engine::{Engine, RunFault};
 use std::alloc::{AllocError, Global};
 use std::io::{Read, Write};
 
-// The locale of the children and of the types of documents.
+// The locale of the children and of type detection.
 const LANG: &str = "C";
 
-// Where the children look for programs.
+// The search path of the children.
 const PATH: &str = "/usr/bin:/bin";
 
-/// The place of the children of a folder's spool. Where programs are looked for and the locale are the same everywhere,
-/// so that a child doesn't depend on who started the spooler.
+/// Returns the place of the children of a folder's spool. The search path and the locale are the same everywhere, so
+/// that a child does not depend on the user who started the spooler.
 pub fn place_in(alloc: Global, root: &str, side: bool) -> Result<Place, AllocError>
     ensures { IfOk result (IsPlace root.entry.now side) }
 {
@@ -36,7 +36,7 @@ pub fn place_in(alloc: Global, root: &str, side: bool) -> Result<Place, AllocErr
     })
 }
 
-/// A new spool in memory, of so many bytes.
+/// Makes a new spool of `size` bytes in memory.
 pub fn memory_device(alloc: Global, size: u64) -> Result<MemDisk, ShellFault>
     ensures size { IfOk result (λ disk. length (mem_bytes disk) ≡ size) }
     ensures empty { IfOk result (λ disk. HasTable nothing (mem_bytes disk)) }
@@ -49,7 +49,7 @@ pub fn memory_device(alloc: Global, size: u64) -> Result<MemDisk, ShellFault>
     }
 }
 
-/// An engine over the spool on this disk, with these children in this place. It holds no slot.
+/// Returns an engine over the spool on this disk, with these children in this place. It holds no slot.
 pub fn open_engine<D: Disk + Drop, C: Children + Drop>(
     alloc: Global,
     disk: D,
@@ -89,7 +89,7 @@ pub fn serve<D: Disk + Drop, C: Children + Drop, R: Read, W: Write>(
     ending(ran, engine.met_fault())
 }
 
-/// What a run's end is to the program. A run over a disk that failed answers all commands, and is a fault nevertheless.
+/// Converts the end of a run. A run over a disk that failed answers all commands, and still ends with a fault.
 pub(crate) fn ending(ran: Result<(), RunFault>, failed: bool) -> Result<(), ShellFault>
     ensures { result ≡ ending_of ran failed }
 {

@@ -1,21 +1,28 @@
-//! The side channels of the children that run: of each a socket, whose clients are answered as their bytes come.
+//! Serves the side channels of the running children: a socket for each, whose clients are answered as their bytes
+//! arrive.
 //!
 //! # How they are served
 //!
-//! Nothing here waits. A look takes the clients that have come and the bytes that have come of each, and answers them.
-//! While a child is finished the launcher looks again and again, at the channels of all children that run. So a child has
-//! its answers whatever others do, and one that keeps a silent connection has those of its other ones. However the bytes of
-//! a client are cut, what is written for them are the answers of its session (`AnswersPiece`).
+//! Nothing here waits. A poll accepts the clients that have connected, and answers the bytes that have arrived from
+//! each. While a child is finished, the launcher polls the channels of all running children again and again. So a child
+//! gets its answers whatever other children do, and a child that keeps a silent connection gets those of its other
+//! connections. However the bytes of a client are split, the bytes written for them are the answers of its session
+//! (`AnswersPiece`).
+//!
+//! The standard library has no call that waits for several descriptors. So the channels are polled 1 ms after something
+//! arrived, and otherwise at growing intervals of at most 16 ms. A check whether a child has ended polls them too, at
+//! most once a millisecond. The clock measures how long a client has left its answers.
 //!
 //! # How they end
 //!
-//! A channel is closed when its child has ended, whoever goes on asking. Before that a session ends it by its last packet,
-//! as the program of the file's `side` line does at the end of the child's script, which ends that program where it hangs.
-//! So what a client does, or leaves undone, keeps nothing waiting but itself and its child.
+//! A channel is closed when its child has ended, even if a client still sends requests. Before that, a session ends the
+//! channel by its last packet. The program in the `side` line of the file of programs does so at the end of the child's
+//! script, and the script ends that program if it hangs. So a client that does something, or fails to do it, delays
+//! only itself and its child.
 //!
-//! A client that hangs up, cuts a packet or leaves its answers for two seconds loses its session, and no more. A child has
-//! eight clients at once: others wait until one of these has gone. After 256 the socket is closed, so that further ones are
-//! refused.
+//! A client that disconnects, even within a packet, or that leaves its answers unread for two seconds loses its
+//! session, and nothing else. A child has at most eight clients at once. Others wait until one of these has
+//! disconnected. After 256 clients the socket is closed, so further clients are refused.
 ghost use Rattle.std.specs.Prelude.{◌≡◌, ◌<◌, IfOk, OnOk, drop};
 ghost use Rattle.std.specs.Vec.{vec_capacity, vec_len};
 ghost use Rattle.spool_runtime.specs.ClientSessions.{AnswersPiece};
@@ -37,49 +44,50 @@ const MOST_CLIENTS: u32 = 256;
 
 const MOST_AT_ONCE: usize = 8;
 
-// How many bytes of a client are read at once.
+// The number of bytes read from a client at once.
 const PIECE: usize = 512;
 
-// How long a client may leave its answers, in milliseconds. The system holds more than a hundred of them for it.
+// How long a client may leave its answers unread, in milliseconds. The system stores more than a hundred answers for
+// it.
 const PATIENCE: u64 = 2_000;
 
-/// The side channels of the children that run.
+/// The side channels of the running children.
 #[derive(Drop)]
 pub(crate) struct SideLines {
     lines: Vec<SideLine>,
 }
 
-/// The socket of a child, and the device that it tells of.
+/// The socket of a child, and the device that it describes.
 #[derive(Drop)]
 pub(crate) struct SideLine {
     job: JobId,
     device: Device,
-    // None once no further client is taken.
+    // None once no further client is accepted.
     listener: Option<UnixListener>,
     clients: Vec<SideClient>,
-    // How many clients may still come.
+    // The number of clients that may still connect.
     left: u32,
 }
 
-// A client, and what it hasn't taken of its answers.
+// A client, and the answers that it has not taken yet.
 #[derive(Drop)]
 struct SideClient {
     stream: UnixStream,
     session: Session,
     unsent: Vec<u8>,
-    // How many of these bytes were taken.
+    // The number of these bytes that were taken.
     sent: usize,
-    // For how long it has taken none, in milliseconds.
+    // For how many milliseconds none was taken.
     waited: u64,
     gone: bool,
 }
 
-// What a look at a client came to.
+// The result of polling a client.
 #[derive(Clone, Copy, PartialEq, Eq)]
 enum Heard {
     Nothing,
     Something,
-    // Its session is over, by the last packet.
+    // The last packet ended its session.
     Last,
 }
 
@@ -90,31 +98,31 @@ impl SideLines {
         }
     }
 
-    /// Room for one more.
+    /// Reserves memory for one more channel.
     pub fn reserve(&mut self) -> Result<(), AllocError>
         ensures { OnOk result (vec_len self.new.lines < vec_capacity self.new.lines) }
     {
         self.lines.reserve(1)
     }
 
-    /// The channel of a child that has started.
+    /// Adds the channel of a child that has started.
     pub fn add(&mut self, line: SideLine)
         requires { vec_len self.old.lines < vec_capacity self.old.lines }
     {
         self.lines.push_reserved(line);
     }
 
-    /// Whether nobody can ask anything.
+    /// Returns whether no channel has a client or accepts one.
     pub fn are_closed(&self) -> bool {
         self.lines.iter().all(|line| line.is_closed())
     }
 
-    /// The child of this job has ended: nobody is answered any more.
+    /// Closes the channel of this job's child, which has ended.
     pub fn close(&mut self, job: JobId) {
         self.lines.retain(|line| line.job != job);
     }
 
-    /// Looks at each channel, so many milliseconds after the last look. Whether something has come.
+    /// Polls each channel, `since` milliseconds after the last poll. Returns whether something has arrived.
     pub fn serve(&mut self, alloc: Global, since: u64) -> bool {
         let mut heard = false;
         for line in &mut self.lines {
@@ -127,7 +135,8 @@ impl SideLines {
 }
 
 impl SideLine {
-    /// Makes the socket of this job's child, which its owner alone may use. What a crash left under this name goes first.
+    /// Makes the socket of this job's child, which only its owner may use. A file that a crash left under this name is
+    /// removed first.
     pub fn bind<R: Files + Net + AllocGlobal>(
         rt: &R,
         path: &str,
@@ -153,7 +162,7 @@ impl SideLine {
         self.listener.is_none() && self.clients.is_empty()
     }
 
-    // Takes who has come, and answers what has come. Whether something has.
+    // Accepts the clients that have connected, and answers their requests. Returns whether something has arrived.
     fn serve(&mut self, alloc: Global, since: u64) -> bool {
         let came = self.take_clients(alloc);
         let heard = self.hear(since);
@@ -172,7 +181,7 @@ impl SideLine {
         came
     }
 
-    // Takes a client. An error says that there is none, or that it was lost.
+    // Accepts a client. An error means that there is none, or that it was lost.
     fn take_client(&mut self, alloc: Global) -> io::Result<()> {
         let stream = match &self.listener {
             Some(listener) => accepted(listener)?,
@@ -186,7 +195,8 @@ impl SideLine {
         Ok(())
     }
 
-    // Answers what the clients say. Where one ends its session by the last packet, the channel is closed.
+    // Answers the clients' requests, and closes the channel if a client sent the last packet. Returns whether something
+    // has arrived.
     fn hear(&mut self, since: u64) -> bool {
         let mut heard = Heard::Nothing;
         for client in &mut self.clients {
@@ -204,7 +214,7 @@ impl SideLine {
     }
 }
 
-// A client that has come.
+// Returns a client that has connected.
 fn accepted(listener: &UnixListener) -> io::Result<UnixStream> {
     let (stream, _) = listener.accept()?;
     stream.set_nonblocking(true)?;
@@ -223,7 +233,7 @@ impl SideClient {
         }
     }
 
-    // Sends what it hasn't taken, or else reads what it says, and answers it.
+    // Sends the answers that the client has not taken. If there are none, reads its requests and answers them.
     fn look(&mut self, device: &Device, since: u64) -> Heard {
         if !self.unsent.is_empty() {
             return self.send(since);
@@ -255,7 +265,7 @@ impl SideClient {
         }
     }
 
-    // So many bytes were taken.
+    // Notes that the client took `count` bytes.
     fn pass(&mut self, count: usize) -> Heard {
         self.waited = 0;
         self.sent = self.sent.saturating_add(count);
@@ -274,14 +284,14 @@ impl SideClient {
         Heard::Nothing
     }
 
-    // It is lost, or has gone.
+    // Notes that the client is lost or has disconnected.
     fn leave(&mut self) -> Heard {
         self.gone = true;
         Heard::Something
     }
 }
 
-// The bytes behind the first ones.
+// Returns the bytes after the first `sent`.
 fn left_of(bytes: &[u8], sent: usize) -> &[u8]
     ensures { result.now ≡ drop sent bytes.now }
 {
@@ -292,12 +302,12 @@ fn left_of(bytes: &[u8], sent: usize) -> &[u8]
     }
 }
 
-// Whether a call on a socket would wait, or was interrupted.
+// Returns whether a call on a socket would wait, or was interrupted.
 fn may_pass(error: &io::Error) -> bool {
     matches!(error.kind(), ErrorKind::WouldBlock | ErrorKind::Interrupted)
 }
 
-// Writes the answers to the requests that end in a piece. Whether the session has ended.
+// Writes the answers to the requests that end in a piece. Returns whether the session has ended.
 fn answer_all(
     session: &mut Session,
     piece: &[u8],

@@ -1,4 +1,4 @@
-//! The shell by which a fixed script is run.
+//! The shell that runs a fixed script.
 ghost use Rattle.std.specs.Prelude.{◌≡◌, ℕ, ◌++◌, ◌∷◌, List, [], None, true, codes, IfOk, OnOk, string_bytes};
 ghost use Rattle.std.specs.Process.{SameEnv, clears_env, command_args, command_program, command_var};
 ghost use Rattle.std.specs.Fmt.{decimal};
@@ -7,11 +7,10 @@ ghost use Rattle.spool_runtime.specs.ChildScript.{script_words};
 use std::alloc::{AllocError, Global};
 use std::process::Command;
 
-// What runs the script.
 const SHELL: &str = "/bin/sh";
 
-/// The shell that runs a script, without a variable. What is pushed from then on is a parameter of the script, which the shell
-/// takes as it is.
+/// Returns the shell that runs a script, without environment variables. Each argument that is added later is a
+/// parameter of the script, which the shell does not interpret.
 pub fn script_shell(alloc: Global, script: &str) -> Result<Command, AllocError>
     ensures program { IfOk result (λ command. command_program command ≡ codes "/bin/sh") }
     ensures arguments { IfOk result (λ command. command_args command ≡ script_words script.now) }
@@ -23,7 +22,7 @@ pub fn script_shell(alloc: Global, script: &str) -> Result<Command, AllocError>
     Ok(command)
 }
 
-// The shell without a word, and without variables.
+// Returns the shell without arguments and without environment variables.
 fn bare_shell(alloc: Global) -> Result<Command, AllocError>
     ensures program { IfOk result (λ command. command_program command ≡ codes "/bin/sh") }
     ensures arguments { IfOk result (λ command. command_args command ≡ []) }
@@ -35,7 +34,7 @@ fn bare_shell(alloc: Global) -> Result<Command, AllocError>
     Ok(command)
 }
 
-// The script, and the name that it goes by.
+// Adds the script, and its name.
 fn push_script(command: &mut Command, script: &str) -> Result<(), AllocError>
     ensures args { OnOk result (command_args command.new ≡ command_args command.old ++ script_words script.now) }
     ensures program { OnOk result (command_program command.new ≡ command_program command.old) }
@@ -47,7 +46,7 @@ fn push_script(command: &mut Command, script: &str) -> Result<(), AllocError>
     Ok(())
 }
 
-/// A parameter that is a number, in decimal digits.
+/// Adds a parameter that is a number, in decimal digits.
 pub fn push_number(alloc: Global, command: &mut Command, number: u32) -> Result<(), AllocError>
     ensures args { OnOk result (command_args command.new ≡ command_args command.old ++ decimal number ∷ []) }
     ensures program { OnOk result (command_program command.new ≡ command_program command.old) }

@@ -1,4 +1,8 @@
-//! What the system is short of for a moment, and how long a start waits for it.
+//! Short-term shortages of the system, and how long a start waits for them to pass.
+//!
+//! The starts of a round wait two seconds in all. A finish begins another round, and so does a start for a queue that
+//! does not follow the last one in order. So two successive rounds without a start may count as one. Descriptors are
+//! tested by opening those that four starts need, and room by a file of 64 KiB. Memory and processes are not tested.
 ghost use Rattle.std.specs.Prelude.{◌≡◌, ◌≤◌};
 ghost use Rattle.std.specs.IoError.{error_kind, raw_os_error};
 ghost use Rattle.spool_runtime.specs.Shortage.{begins_round, short_number, shortage_of};
@@ -10,50 +14,51 @@ use std::time::{Clock, Duration, Instant};
 use std::{io, thread};
 use thiserror::Error;
 
-// The numbers of the system for too many files of a process, and of all.
+// The system's numbers of the errors for too many open files, of the process and of the system.
 const EMFILE: i32 = 24;
 
 const ENFILE: i32 = 23;
 
-// How often all starts of a round wait, and for how many milliseconds: two seconds in all.
+// How often the starts of a round wait in all, and for how many milliseconds each time: two seconds in all.
 pub(crate) const MOST_WAITS: u32 = 40;
 
 const WAIT: u64 = 50;
 
-// For how many seconds nothing is started behind a start that failed for want of something.
+// For how many seconds nothing is started after a start that failed for a shortage.
 const WANT: u64 = 2;
 
-// How many descriptors a start takes: what the child writes (two), its standard output once more, the side channel, the empty
-// device twice, and four that the child's script opens, which the system has to have too.
+// How many descriptors a start uses: two for the files that the child writes, one more for its standard output, one for
+// the side channel, two for the empty device, and four that the child's script opens. The system must have the last
+// four too.
 const DESCRIPTORS: usize = 10;
 
-// For how many starts descriptors are opened.
+// Descriptors are tested for at most this number of starts.
 const MOST_PLACES: usize = 4;
 
-// How many are opened beside them, as the service's clients may take some before the next start.
+// How many descriptors are tested in addition, since the service's clients may take some before the next start.
 const SPARE: usize = 16;
 
-// How much room the folder has to have before a start, in bytes.
+// The room that the folder must have before a start, in bytes.
 const ROOM: usize = 65_536;
 
-// For how many milliseconds what was seen counts as being so still.
+// For how many milliseconds the result of a test stays valid.
 const SEEN: u64 = 10;
 
-// What can be opened everywhere, and takes nothing but a descriptor.
+// A file that can be opened everywhere, and that uses only a descriptor.
 const NOTHING: &str = "/dev/null";
 
-/// What a start wants, and may have in a moment.
+/// Something that a start lacks, and that may be free in a moment.
 #[derive(Clone, Copy, Debug, Drop, Error, PartialEq, Eq)]
 pub(crate) enum Shortage {
-    #[error("room")]
+    #[error("disk space")]
     Room,
-    #[error("descriptors")]
+    #[error("file descriptors")]
     Descriptors,
     #[error("processes")]
     Processes,
 }
 
-/// What a start that failed so was short of, if it was.
+/// Returns the shortage that the error of a start shows, if any.
 pub(crate) fn shortage_of(error: &io::Error) -> Option<Shortage>
     ensures { result ≡ shortage_of (error_kind error.now) (raw_os_error error.now) }
 {
@@ -64,7 +69,7 @@ pub(crate) fn shortage_of(error: &io::Error) -> Option<Shortage>
     }
 }
 
-// What the number of an error says of files.
+// Returns the shortage of files that the number of an error shows.
 fn short_number(number: Option<i32>) -> Option<Shortage>
     ensures { result ≡ short_number number }
 {
@@ -74,14 +79,14 @@ fn short_number(number: Option<i32>) -> Option<Shortage>
     }
 }
 
-// When something was seen to be there last.
+// When a test last succeeded.
 #[derive(Drop)]
 struct Sight {
     at: Option<Instant>,
 }
 
 impl Sight {
-    // What was seen now, if it is there.
+    // Returns the result of a test that was made now.
     fn new<R: Clock>(rt: &R, is_there: bool) -> Sight {
         let at = if is_there {
             Instant::now(rt).ok()
@@ -91,7 +96,7 @@ impl Sight {
         Sight { at }
     }
 
-    // Whether it was a moment ago.
+    // Returns whether the test succeeded a moment ago.
     fn is_fresh<R: Clock>(&self, rt: &R) -> bool {
         let Some(at) = self.at else {
             return false;
@@ -107,7 +112,7 @@ impl Sight {
 #[derive(Drop)]
 pub(crate) struct Descriptors {
     sight: Sight,
-    // For how many starts they were seen, less those that have begun since.
+    // For how many starts there were descriptors, minus the starts since then.
     left: usize,
 }
 
@@ -119,7 +124,8 @@ impl Descriptors {
         }
     }
 
-    /// For how many starts they can be had, up to four. What was seen a moment ago, and isn't used up, isn't looked at again.
+    /// Returns the number of starts that the free descriptors allow, at most four. A result of a moment ago is not
+    /// tested again unless it is used up.
     pub fn count_starts<R: Files<File = File> + Clock>(&mut self, rt: &R) -> usize
         ensures { result ≤ 4 }
     {
@@ -130,19 +136,19 @@ impl Descriptors {
         self.left.min(MOST_PLACES)
     }
 
-    /// A start takes its own.
+    /// Counts the descriptors of one start as used.
     pub fn take(&mut self) {
         self.left = self.left.saturating_sub(1);
     }
 }
 
-// For how many starts descriptors can be opened at once, beside the spare ones. They are closed again.
+// Returns for how many starts descriptors can be opened at once, in addition to the spare ones. They are closed again.
 fn count_openable<R: Files<File = File>>(rt: &R) -> usize {
     open_others(rt, SPARE + MOST_PLACES * DESCRIPTORS).saturating_sub(SPARE) / DESCRIPTORS
 }
 
-// How many descriptors can be opened at once, up to so many. Each stays open while the others are opened, and no list of them is
-// kept: a look that wanted memory would find no place where there are descriptors.
+// Returns how many descriptors can be opened at once, at most `most`. Each stays open while the others are opened. They
+// are not put into a list: a test that ran out of memory would report no descriptors although there are some.
 fn open_others<R: Files<File = File>>(rt: &R, most: usize) -> usize
     ensures { result ≤ most }
 {
@@ -173,7 +179,7 @@ impl FolderRoom {
         }
     }
 
-    /// Whether there is room. What was seen a moment ago isn't looked at again.
+    /// Returns whether there is room. A success of a moment ago is not tested again.
     pub fn is_there<R: Files<File = File> + Clock>(&mut self, rt: &R, probe: &str) -> bool {
         if self.sight.is_fresh(rt) {
             return true;
@@ -184,7 +190,7 @@ impl FolderRoom {
     }
 }
 
-// Whether a file of some bytes finds room: it is made, and removed.
+// Returns whether there is room for a file of 64 KiB, which is made and removed.
 fn has_room_for<R: Files<File = File>>(rt: &R, probe: &str) -> bool {
     let made = make_file_of(rt, probe, &[0u8; ROOM]);
     let _ = fs::remove_file(rt, probe);
@@ -194,15 +200,15 @@ fn has_room_for<R: Files<File = File>>(rt: &R, probe: &str) -> bool {
     }
 }
 
-/// How often the starts of a round may still wait, and whether one of them found too little.
+/// How often the starts of a round may still wait, and whether one of them failed for a shortage.
 #[derive(Drop)]
 pub(crate) struct Patience {
     left: u32,
-    // When a start failed for want of something, since the last child was finished.
+    // When a start failed for a shortage, if no child was finished since.
     failed: Option<Instant>,
-    // The queue of the last start of this round, as a variable.
+    // The variable with the queue of the last start of this round.
     last: Option<String>,
-    // Whether a start is to wait for nothing, since the places were asked for.
+    // Whether starts do not wait, since the starts are those of a tick.
     hurried: bool,
 }
 
@@ -216,12 +222,12 @@ impl Patience {
         }
     }
 
-    /// The starts that follow are those of a tick, which waits for nothing.
+    /// Begins the starts of a tick, which do not wait.
     pub fn hurry(&mut self) {
         self.hurried = true;
     }
 
-    /// A child is finished, and a round is over: the next start is one of another round, and may find what it wants.
+    /// A child is finished, and a round is over. The next start belongs to another round, and may succeed.
     pub fn renew(&mut self) {
         self.left = MOST_WAITS;
         self.failed = None;
@@ -229,12 +235,12 @@ impl Patience {
         self.hurried = false;
     }
 
-    /// A start failed for want of something.
+    /// Notes that a start failed for a shortage.
     pub fn fail<R: Clock>(&mut self, rt: &R) {
         self.failed = Instant::now(rt).ok();
     }
 
-    /// Whether a start failed so a moment ago, and no child was finished since.
+    /// Returns whether a start failed for a shortage less than two seconds ago, and no child was finished since.
     pub fn is_short<R: Clock>(&self, rt: &R) -> bool {
         let Some(failed) = self.failed else {
             return false;
@@ -245,7 +251,7 @@ impl Patience {
         }
     }
 
-    /// A start for this queue begins. The queues of a round come in ascending order.
+    /// Begins a start for this queue. The queues of a round are in ascending order.
     pub fn begin(&mut self, queue: &str) {
         if let Some(last) = &self.last {
             if begins_round(last.as_str(), queue) {
@@ -254,12 +260,12 @@ impl Patience {
         }
     }
 
-    /// The start for this queue is over.
+    /// Ends the start for this queue.
     pub fn pass(&mut self, queue: Option<String>) {
         self.last = queue;
     }
 
-    /// Waits once, unless this round's starts have waited enough. Tells whether it did.
+    /// Waits once, unless this round's starts have waited enough. Returns whether it waited.
     pub fn wait<R: Clock>(&mut self, rt: &R) -> bool {
         if self.hurried || self.left == 0 {
             return false;
@@ -270,7 +276,7 @@ impl Patience {
     }
 }
 
-// Whether a start for this queue, after one for the last, is one of another round.
+// Returns whether a start for this queue belongs to another round than the last start.
 fn begins_round(last: &str, queue: &str) -> bool
     ensures { result ≡ begins_round last.now queue.now }
 {

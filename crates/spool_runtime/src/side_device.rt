@@ -1,4 +1,4 @@
-//! The device that the side channel tells of, from the options of its URI.
+//! The device that the side channel describes, from the options of its URI.
 //!
 //! | Option | Value | Default |
 //! |---|---|---|
@@ -6,8 +6,8 @@
 //! | `state` | a decimal number up to 255 | `1`, which is ONLINE |
 //! | `id` | up to 1,000 bytes | empty |
 //!
-//! Of two options with one name the last counts. One that isn't a value takes its default, and all do where the URI or
-//! its options can't be read.
+//! If two options have the same name, the last one counts. An option with an invalid value has its default. All have
+//! their defaults if the URI or its options cannot be parsed.
 ghost use Rattle.std.specs.Prelude.{◌≡◌, IfOk, map, string_bytes};
 ghost use Rattle.std.specs.Option.{option_map};
 ghost use Rattle.line_words.specs.DecimalNumbers.{decimal};
@@ -19,13 +19,13 @@ use line_words::decimal;
 use side_channel::{Device, DeviceId};
 use std::alloc::{AllocError, Global};
 
-// The variable that has the URI.
+// The variable with the URI.
 const URI: &str = "DEVICE_URI=";
 
-// The state of a device that tells none: it is ready.
+// The state of a device that specifies none: it is ready.
 const ONLINE: u8 = 1;
 
-/// The URI among the variables of a child. There is one in each child's.
+/// Returns the URI among the variables of a child. Each child has one.
 pub(crate) fn uri_in(environment: &[String]) -> &str
     ensures { result.now ≡ uri_among (map string_bytes environment.now) }
 {
@@ -37,14 +37,14 @@ pub(crate) fn uri_in(environment: &[String]) -> &str
     ""
 }
 
-// The URI that a variable has, if it is that of the URI.
+// Returns the value of a variable, if it is the variable with the URI.
 fn uri_of(variable: &str) -> Option<&str>
     ensures { option_map (λ uri. uri.now) result ≡ uri_behind variable.now }
 {
     variable.strip_prefix(URI)
 }
 
-/// The device of a URI.
+/// Returns the device of a URI.
 pub(crate) fn device_of(alloc: Global, uri: &str) -> Result<Device, AllocError>
     ensures { IfOk result (λ device. device ≡ device_in uri.now) }
 {
@@ -58,7 +58,7 @@ pub(crate) fn device_of(alloc: Global, uri: &str) -> Result<Device, AllocError>
     })
 }
 
-// The options of a URI, and none where it is no URI or they can't be read.
+// Returns the options of a URI, or none if it is not a URI or they cannot be parsed.
 fn options_of(alloc: Global, uri: &str) -> Result<Vec<DeviceOption>, AllocError>
     ensures { IfOk result (λ options. options.items ≡ options_in uri.now) }
 {
@@ -87,7 +87,7 @@ fn state_of(value: Option<&str>) -> u8
     }
 }
 
-// The number that digits are, of any count, where it fits.
+// Returns the number that the digits represent, of any count, if it is at most 255.
 fn state_number(digits: &[u8]) -> Option<u8>
     ensures { result ≡ decimal 255 digits.now }
 {

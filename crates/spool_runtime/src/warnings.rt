@@ -1,4 +1,4 @@
-//! The program's log: the warnings, what went wrong, and what happens, each a line on standard error.
+//! The program's log: warnings, errors and events, each as a line on standard error.
 ghost use Rattle.std.specs.Prelude.{nat_le, Some, []};
 ghost use Rattle.log.specs.Level.{level_rank};
 
@@ -8,8 +8,8 @@ use log::{Level, Log, Metadata, Record, warn};
 use spool_types::Warning;
 use std::fmt::Display;
 
-/// Writes each line up to a level to the standard error of `R`, a warning as `spool: warning MESSAGE`, and another line as
-/// `spool: MESSAGE`. A line that can't be written is dropped.
+/// Writes each record up to a level to the standard error of `R` in one write: a warning as `spool: warning MESSAGE`,
+/// any other record as `spool: MESSAGE`. A record that cannot be written is lost and changes no status.
 #[derive(Clone, Copy, Drop)]
 pub struct LogLines<R> {
     pub rt: R,
@@ -43,7 +43,7 @@ impl<R: Eprint> Log for LogLines<R> {
     }
 }
 
-/// Tells the line and the kind of each warning.
+/// Logs the line number and the kind of each warning.
 pub(crate) fn warn_each<L: Log>(log: &L, warnings: &[Warning]) {
     for warning in warnings {
         warn!(log; "{} {}", warning.line, warning.kind.name());

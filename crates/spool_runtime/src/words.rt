@@ -1,4 +1,4 @@
-//! The words of the command line.
+//! The command-line arguments of `spool_shell`.
 ghost use Rattle.std.specs.Prelude.{◌≡◌, ◌<◌, ◌≤◌, ◌↔◌, IfErr, IfOk, IfSome, IsSomeAnd, IsTrue, MatchResult, length, map};
 ghost use Rattle.std.specs.Option.{option_map};
 ghost use Rattle.clap.specs.Words.{app_of};
@@ -13,24 +13,24 @@ use clap::Command;
 use std::alloc::{AllocError, Global};
 use std::convert::AsStr;
 
-/// What the words ask for.
+/// The values of the arguments.
 #[derive(Clone, Copy)]
 pub struct ShellWords<'a> {
-    /// The folder of the spool's file. Without one the spool is a disk in memory.
+    /// The folder of the spool's file. Without one, the spool is a disk in memory.
     pub root: Option<&'a str>,
-    /// The file of mime.types(5). Without one it counts as empty.
+    /// The file of types (mime.types(5)). Without one, it counts as empty.
     pub types: Option<&'a str>,
-    /// The file of mime.convs(5). Without one it counts as empty.
+    /// The file of conversions (mime.convs(5)). Without one, it counts as empty.
     pub convs: Option<&'a str>,
-    /// The file that says which programs filters and backends are. Without one it counts as empty.
+    /// The file that lists the programs of filters and backends. Without one, it counts as empty.
     pub programs: Option<&'a str>,
-    /// The length in bytes of a spool that is made.
+    /// The length of a new spool, in bytes.
     pub size: u64,
-    /// Whether the devices of the backends are to be listed, and no commands served.
+    /// Whether to list the devices of the backends instead of serving commands.
     pub devices: bool,
 }
 
-/// Reads the words of the command line, of which the first is the program's name.
+/// Reads the command-line arguments, which begin with the program's name.
 pub fn read_words<'a, S: AsStr>(alloc: Global, words: &'a [S]) -> Result<ShellWords<'a>, WordsFault>
     ensures root { IfOk result (λ found.
         option_map (λ dir. dir.now) found.root ≡ root_in (map S.text words.entry.now)) }
@@ -72,24 +72,24 @@ pub fn read_words<'a, S: AsStr>(alloc: Global, words: &'a [S]) -> Result<ShellWo
     })
 }
 
-// The program's command, as clap knows it.
+// Returns the definition of the program's command for clap.
 fn shell_command<'a>(alloc: Global) -> Result<Command<'a>, AllocError>
     ensures { IfOk result (λ command. app_of command ≡ shell_app) }
 {
     let command = spool_command(
         alloc,
         "spool_shell",
-        "Serves a print spool: reads commands on standard input, and writes replies on standard output",
-        "Keep the spool in the file spool.disk of this folder [default: in memory]",
+        "Reads print spooler commands from standard input and writes the replies to standard output",
+        "Keep the spool in the file DIR/spool.disk [default: in memory]",
     )?;
     command.arg(flag_option(
         alloc,
         "devices",
-        "List the devices that the backends know, and serve no commands",
+        "List the devices that the backends find, and exit",
     ))
 }
 
-// Whether the folder's name has too many bytes.
+// Returns whether the folder's name is too long.
 fn is_long(root: Option<&str>) -> bool
     ensures { IsTrue result ↔ IsSomeAnd root.entry (λ dir. 64 < length dir.now) }
 {

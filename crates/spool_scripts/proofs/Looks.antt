@@ -1,8 +1,8 @@
--- The words of looks.
+-- The words for the answers of polls.
 use Rattle.std.proofs.Common.{◌≡◌, ℕ, Bool, List, [], ◌∷◌, ◌++◌, sym, ap, ◌∙◌, append_assoc, append-nil}
 use Rattle.spool_scripts.specs.Outcomes.{look_word, look_words}
 
--- one look more
+-- One more poll.
 pub words_more : (looks : List Bool) (ended : Bool) (words rest behind : List ℕ) → words ≡ look_words looks ++ rest → rest ≡ look_word ended ++ behind → words ≡ look_words (looks ++ ended ∷ []) ++ behind
 words_more looks ended words rest behind is next =
     is ∙ ap (λ xs. look_words looks ++ xs) next

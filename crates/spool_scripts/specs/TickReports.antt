@@ -1,4 +1,4 @@
--- What is told of a tick.
+-- The line of the account for a tick.
 use Rattle.std.specs.Prelude.{ℕ, List, ◌++◌, codes, Result, Ok, Err}
 use Rattle.std.specs.Fmt.{decimal}
 use Rattle.print_rounds.specs.declared.outcome.Round.{Round}

@@ -1,4 +1,4 @@
-//! The files of a case.
+//! Reads the files of a case.
 
 use crate::fault::CaseFault;
 use crate::fuse::{Fuse, read_fuse};
@@ -8,39 +8,39 @@ use std::fs::{File, Files};
 use std::io::ErrorKind;
 use std::{fs, io};
 
-// How long a disk is, in bytes, where a case doesn't say.
+// The length of a disk in bytes, unless the case specifies it.
 const USUAL_SIZE: usize = 4_194_304;
 
-// The locale, where a case doesn't say.
+// The locale, unless the case specifies it.
 const USUAL_LANG: &str = "C";
 
-/// A script, the replies that are wanted, and what it is served on.
+/// A script, the expected replies, and the conditions under which it is served.
 #[derive(Drop)]
 pub struct Case {
     pub script: Vec<u8>,
     pub replies: Vec<u8>,
-    /// What is told beside the replies.
+    /// The expected account, in addition to the replies.
     pub account: Vec<u8>,
     /// Rules of types, as in mime.types(5).
     pub types: String,
     /// Conversions, as in mime.convs(5).
     pub convs: String,
-    /// The locale in which documents are typed.
+    /// The locale of type detection.
     pub lang: String,
     /// The length of the disk in bytes.
     pub size: usize,
-    /// The version of the new spool's first area, if it isn't left as it is made.
+    /// The version written into the new spool's first area, if any.
     pub version: Option<u8>,
-    /// How the children go.
+    /// How the children behave.
     pub children: String,
-    /// After how many calls the disk fails.
+    /// When the disk fails.
     pub fuse: Fuse,
-    /// How far the reader and the writer go.
+    /// The limits of the reader and the writer.
     pub limits: Limits,
 }
 
-/// The names of the cases in a folder, each once, in ascending order: what is left of each
-/// file's name without its ending.
+/// Returns the names of the cases in a folder, each once, in ascending order. A file's case is its name without the
+/// extension.
 pub fn case_names<R: Files<File = File> + AllocGlobal + Clone + Drop>(
     rt: &R,
     folder: &str,
@@ -55,7 +55,7 @@ pub fn case_names<R: Files<File = File> + AllocGlobal + Clone + Drop>(
     Ok(names)
 }
 
-// A file's name without its ending.
+// Returns a file's name without its extension.
 fn stem(name: &str) -> &str {
     match name.rsplit_once('.') {
         Some((stem, _)) => stem,
@@ -96,7 +96,7 @@ pub fn read_case<R: Files<File = File> + AllocGlobal>(
     })
 }
 
-// The locale that a file of a case says.
+// Returns the locale that a file of a case specifies.
 fn lang_of(alloc: Global, text: &str) -> Result<String, CaseFault> {
     let lang = if text.is_empty() {
         USUAL_LANG
@@ -106,7 +106,7 @@ fn lang_of(alloc: Global, text: &str) -> Result<String, CaseFault> {
     Ok(String::from_str(alloc, lang)?)
 }
 
-// The length of the disk that a file of a case says.
+// Returns the length of the disk that a file of a case specifies.
 fn size_of(text: &str) -> Result<usize, CaseFault> {
     if text.is_empty() {
         return Ok(USUAL_SIZE);
@@ -117,7 +117,7 @@ fn size_of(text: &str) -> Result<usize, CaseFault> {
     }
 }
 
-// The version that a file of a case says.
+// Returns the version that a file of a case specifies.
 fn version_of(text: &str) -> Result<Option<u8>, CaseFault> {
     if text.is_empty() {
         return Ok(None);
@@ -128,7 +128,7 @@ fn version_of(text: &str) -> Result<Option<u8>, CaseFault> {
     }
 }
 
-// The text of a file of a case, and no text where there is none.
+// Returns the text of a file of a case, or an empty text if the file does not exist.
 fn text_of<R: Files<File = File> + AllocGlobal>(
     rt: &R,
     path: &str,
@@ -140,7 +140,7 @@ fn text_of<R: Files<File = File> + AllocGlobal>(
     }
 }
 
-// The text that these bytes are.
+// Returns these bytes as text. Fails if they are not UTF-8.
 fn text_from(alloc: Global, bytes: &[u8]) -> Result<String, CaseFault> {
     match str::from_utf8(bytes) {
         Ok(text) => Ok(String::from_str(alloc, text)?),
@@ -148,7 +148,7 @@ fn text_from(alloc: Global, bytes: &[u8]) -> Result<String, CaseFault> {
     }
 }
 
-// The bytes of a file of a case, if there is one.
+// Returns the bytes of a file of a case, if it exists.
 fn file_of<R: Files<File = File> + AllocGlobal>(
     rt: &R,
     path: &str,

@@ -1,16 +1,16 @@
-//! Replies beside those that are wanted.
+//! Compares replies with the expected replies.
 ghost use Rattle.std.specs.Prelude.{◌≡◌, ◌≢◌, ◌↔◌, ◌<◌, ◌≤◌, ℕ, IsNone, length, slice_index};
 
-/// The first line in which two texts differ, and what stands there in each.
+/// The first line that differs between two texts, with its text in each.
 #[derive(Clone, Copy)]
 pub struct Difference<'a> {
-    /// The number of the line, from 1 on.
+    /// The number of the line, from 1.
     pub line: usize,
     pub wanted: &'a [u8],
     pub got: &'a [u8],
 }
 
-/// How the replies differ from those that are wanted, if they do.
+/// Returns how the replies differ from the expected replies, if they do.
 pub fn find_difference<'a>(wanted: &'a [u8], got: &'a [u8]) -> Option<Difference<'a>>
     ensures { IsNone result ↔ (wanted.now ≡ got.now) }
 {
@@ -25,7 +25,7 @@ pub fn find_difference<'a>(wanted: &'a [u8], got: &'a [u8]) -> Option<Difference
     })
 }
 
-// How many bytes are the same at the start of both.
+// Returns the number of equal bytes at the start of both.
 fn same_bytes(wanted: &[u8], got: &[u8]) -> usize
     ensures within_wanted { result ≤ length wanted.now }
     ensures within_got { result ≤ length got.now }
@@ -41,13 +41,13 @@ fn same_bytes(wanted: &[u8], got: &[u8]) -> usize
     most
 }
 
-// The number of the line in which a text ends.
+// Returns the number of a text's last line.
 fn line_number(text: &[u8]) -> usize {
     let ended = text.iter().filter(|b| **b == b'\n').count();
     ended.saturating_add(1)
 }
 
-// The line of a text that has this place in it, without its line feed.
+// Returns the line that contains this byte offset, without its line feed.
 fn line_at(text: &[u8], at: usize) -> &[u8]
     requires { at ≤ length text.now }
 {
@@ -58,7 +58,7 @@ fn line_at(text: &[u8], at: usize) -> &[u8]
     }
 }
 
-// Where the line of this place begins.
+// Returns the byte offset where the line of this offset begins.
 fn line_start(text: &[u8], at: usize) -> usize
     requires { at ≤ length text.now }
     ensures { result ≤ at }

@@ -1,20 +1,20 @@
-//! Where a script is cut.
+//! Cuts a script at lines.
 ghost use Rattle.std.specs.Prelude.{◌≡◌, ◌+◌, ◌<◌, ◌≤◌, ◌↔◌, ◌++◌, ℕ, IfNone, IfSome, IsTrue, length};
 ghost use Rattle.spool_scripts.specs.Cut.{begins_line, IsCut};
 
-/// The line behind which the spool is opened again.
+/// After this line the spool is opened again.
 pub const OPENING: &[u8] = b"# reopen\n";
 
-/// The line behind which the engine runs again.
+/// After this line the engine runs again.
 pub const RUN: &[u8] = b"# run\n";
 
-/// The line behind which the engine makes a tick, and then runs again.
+/// After this line the engine makes a tick, and then runs again.
 pub const TICK: &[u8] = b"# tick\n";
 
-/// The line behind which a client is served one command at a time.
+/// After this line a client is served one command at a time.
 pub const CLIENT: &[u8] = b"# client\n";
 
-/// The part of a script up to the first line that is this one, and what follows that line, if there is one.
+/// Returns the part of a script before the first such line, and the script after the line, if there is one.
 pub fn next_part<'a>(script: &'a [u8], line: &[u8]) -> (&'a [u8], Option<&'a [u8]>)
     ensures whole { IfNone result.1 (result.0.now ≡ script.now) }
     ensures joined { IfSome result.1 (λ after. script.now ≡ result.0.now ++ line.now ++ after.now) }
@@ -27,7 +27,7 @@ pub fn next_part<'a>(script: &'a [u8], line: &[u8]) -> (&'a [u8], Option<&'a [u8
     }
 }
 
-// Where the first line that is this one begins, if there is one.
+// Returns the offset of the first such line, if there is one.
 fn next_cut(script: &[u8], line: &[u8]) -> Option<usize>
     ensures found { IfSome result (IsCut script.now line.now) }
     ensures inside { IfSome result (λ at. at + length line.now ≤ length script.now) }
@@ -42,7 +42,7 @@ fn next_cut(script: &[u8], line: &[u8]) -> Option<usize>
     None
 }
 
-// Whether this line begins at this place.
+// Returns whether this line begins at this offset.
 fn is_cut(script: &[u8], line: &[u8], at: usize) -> bool
     requires { at ≤ length script.now }
     ensures cut { IsTrue result ↔ IsCut script.now line.now at }
@@ -51,7 +51,7 @@ fn is_cut(script: &[u8], line: &[u8], at: usize) -> bool
     begins_line(script, at) && script[at..].starts_with(line)
 }
 
-// Whether a line begins at this place.
+// Returns whether a line begins at this offset.
 fn begins_line(script: &[u8], at: usize) -> bool
     requires { at ≤ length script.now }
     ensures { result ≡ begins_line script.now at }

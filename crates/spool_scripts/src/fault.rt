@@ -1,4 +1,4 @@
-//! Why a case can't be served.
+//! Why a case cannot be served.
 
 use spool_core::{MakeFault, OpenFault};
 use spool_disk::DeviceFault;
@@ -6,33 +6,33 @@ use std::alloc::AllocError;
 use std::{fmt, io};
 use thiserror::Error;
 
-/// Why a case can't be served. Its text follows the name of the case.
+/// Why a case cannot be served. Its text follows the name of the case.
 #[derive(Debug, Drop, Error)]
 pub enum CaseFault {
     #[error("has no script")]
     NoScript,
     #[error("has no replies")]
     NoReplies,
-    /// The file of rules or of conversions holds bytes that aren't UTF-8.
-    #[error("has a file that is no text")]
+    /// A file of the case is not UTF-8.
+    #[error("has a file that is not valid UTF-8")]
     NoText,
-    /// The file of the disk's length holds no number.
-    #[error("has a size that is no number")]
+    /// The file of the disk's length does not contain a number.
+    #[error("has an invalid size")]
     NoSize,
-    /// The file of the version holds no number of a byte.
-    #[error("has a version that is no number")]
+    /// The file of the version does not contain a number from 0 to 255.
+    #[error("has an invalid version")]
     NoVersion,
-    /// The file of the disk's calls doesn't hold two numbers, the first no greater than the last.
-    #[error("has a fuse that is no two rising numbers")]
+    /// The file of the disk's calls does not contain two numbers, the first not greater than the last.
+    #[error("has an invalid fuse")]
     NoFuse,
-    /// The file of limits says none.
-    #[error("has limits that are none")]
+    /// The file of limits is invalid.
+    #[error("has invalid limits")]
     NoLimits,
-    /// The file of children tells none.
-    #[error("has children that can't be read")]
+    /// The file of children is invalid.
+    #[error("has an invalid list of children")]
     NoChildren,
-    /// A file is there and can't be read.
-    #[error("can't be read: {0}")]
+    /// A file exists but cannot be read.
+    #[error("cannot be read: {0}")]
     Unread(io::Error),
     /// The disk is too short for a spool.
     #[error("is on a disk that is too short")]
@@ -40,10 +40,10 @@ pub enum CaseFault {
     /// The disk failed while the spool was made.
     #[error("is on a disk that fails")]
     FailedDisk,
-    /// What was written is no spool.
-    #[error("can't be opened: {0:?}")]
+    /// The disk does not contain a valid spool.
+    #[error("cannot be opened: {0:?}")]
     Unopened(OpenFault),
-    #[error("finds no memory")]
+    #[error("runs out of memory")]
     Memory,
 }
 

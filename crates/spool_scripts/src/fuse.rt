@@ -1,10 +1,10 @@
-//! After how many calls a disk fails.
+//! When a disk fails: after a number of calls.
 ghost use Rattle.std.specs.Prelude.{◌≡◌, ◌^◌, ◌-◌, ◌≤◌, false, [], IfOk};
 
 use crate::fault::CaseFault;
 
-/// After how many calls the disk of a case fails: after each number from the first to the last. It fails from then on, or
-/// at one call alone.
+/// When the disk of a case fails: after each number of calls from the first to the last, in turn. The disk fails from
+/// then on, or with `once` at one call only.
 #[derive(Clone, Copy)]
 pub struct Fuse {
     pub first: u64,
@@ -13,7 +13,7 @@ pub struct Fuse {
 }
 
 impl Fuse {
-    /// A disk that doesn't fail.
+    /// A disk that does not fail.
     pub const NEVER: Fuse = Fuse {
         first: u64::MAX,
         last: u64::MAX,
@@ -21,8 +21,8 @@ impl Fuse {
     };
 }
 
-/// The two numbers of a text, of which the first is no greater than the last: so a case is served at least once. The word `once`
-/// may come before them. Where there is no text the disk doesn't fail.
+/// Reads two numbers from a text. The first must not be greater than the last, so a case is served at least once. The
+/// word `once` may precede them. If the text is empty, the disk does not fail.
 pub fn read_fuse(text: &str) -> Result<Fuse, CaseFault>
     ensures never { text.now ≡ [] → IfOk result (λ f. f ≡ record { first = 2 ^ 64 - 1; last = 2 ^ 64 - 1; once = false }) }
     ensures served { IfOk result (λ f. f.first ≤ f.last) }
@@ -37,7 +37,7 @@ pub fn read_fuse(text: &str) -> Result<Fuse, CaseFault>
     }
 }
 
-// The fuse between two numbers of calls.
+// Returns the fuse between two numbers of calls.
 fn fuse_between(numbers: &str, once: bool) -> Result<Fuse, CaseFault>
     ensures { IfOk result (λ f. f.first ≤ f.last) }
 {
@@ -52,7 +52,7 @@ fn fuse_between(numbers: &str, once: bool) -> Result<Fuse, CaseFault>
     Ok(Fuse { first, last, once })
 }
 
-// A number of calls.
+// Returns a number of calls.
 fn calls_of(text: &str) -> Result<u64, CaseFault> {
     match text.parse::<u64>() {
         Ok(calls) => Ok(calls),

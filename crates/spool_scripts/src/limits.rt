@@ -1,21 +1,21 @@
-//! What a reader gives and a writer takes before it fails.
+//! The bytes that a reader yields and a writer takes before they fail.
 ghost use Rattle.std.specs.Prelude.{◌≡◌, ◌^◌, ◌-◌, [], false, IfOk};
 
 use crate::fault::CaseFault;
 
-/// How far the first part of a script is read, and how many bytes of its replies are taken.
+/// How much of the first part of a script is read, and how many bytes of its replies are taken.
 #[derive(Clone, Copy)]
 pub struct Limits {
-    /// Whether the reader fails behind the last byte.
+    /// Whether the reader fails after the last byte.
     pub reader_fails: bool,
-    /// How many bytes the writer takes.
+    /// The number of bytes that the writer takes.
     pub room: usize,
-    /// Whether it fails then. Else it takes none.
+    /// Whether the writer fails after them. Otherwise it takes no more bytes.
     pub writer_fails: bool,
 }
 
 impl Limits {
-    /// A reader that ends and a writer that takes all.
+    /// A reader that ends, and a writer that takes all bytes.
     pub const NONE: Limits = Limits {
         reader_fails: false,
         room: usize::MAX,
@@ -23,7 +23,7 @@ impl Limits {
     };
 }
 
-/// The limits that a text says: `reader fails`, `writer fails ROOM` or `writer takes ROOM`. Where there is no text there
+/// Reads limits from a text: `reader fails`, `writer fails ROOM` or `writer takes ROOM`. If the text is empty, there
 /// are none.
 pub fn read_limits(text: &str) -> Result<Limits, CaseFault>
     ensures none { text.now ≡ [] → IfOk result (λ l. l ≡ record { reader_fails = false; room = 2 ^ 64 - 1; writer_fails = false }) }
@@ -59,7 +59,7 @@ fn writer_limits(text: &str) -> Result<Limits, CaseFault> {
     }
 }
 
-// A number of bytes.
+// Returns a number of bytes.
 fn room_of(text: &str) -> Result<usize, CaseFault> {
     match text.parse::<usize>() {
         Ok(room) => Ok(room),

@@ -1,49 +1,61 @@
-//! The stored scripts: each is served by an engine over a disk in memory, and its replies are compared with those that
-//! are wanted.
+//! Runs the stored scripts: an engine over a disk in memory serves each script, and its replies are compared with the
+//! expected replies.
 //!
 //! # Cases
 //!
-//! A case lies in the folder that the first word names, or in that in which the program runs: `NAME.script` has the
-//! commands and `NAME.replies` the replies that are wanted. A line `# reopen` cuts a script: what follows it is served by
-//! a new engine, over the spool that is opened again on the same disk. Behind a line `# run` the same engine runs again,
-//! and behind a line `# tick` it makes one tick and then runs again. Behind a line `# client` a client sends what follows and is
-//! served one command at a time, as long as a whole one is held. Further files are there where there is need:
+//! A case is in the folder that the first argument names, or in the current folder. `NAME.script` contains the commands
+//! and `NAME.replies` the expected replies. Four kinds of lines cut a script:
 //!
-//! - `NAME.types` has rules of types, and `NAME.convs` conversions.
-//! - `NAME.lang` has the locale of the types, which is else `C`.
-//! - `NAME.size` has the length of the disk in bytes, which is else 4,194,304.
-//! - `NAME.version` has the version of the new spool's first area, which is else the newest: that byte alone is written, once
-//!   the spool is made.
-//! - `NAME.children` tells how the children of rounds go ([`outcomes`]). Without it none can be started.
-//! - `NAME.fuse` has two numbers ([`fuse`]): the case is served with a disk that fails after the first number of calls, and
-//!   so on up to the last. With the word `once` before them that disk fails at one call alone. Without the file it doesn't
-//!   fail.
-//! - `NAME.limits` says that the reader fails, or how many bytes the writer takes ([`limits`]).
-//! - `NAME.account` has what is wanted beside the replies ([`served::Served`]), and is empty where it is absent: which run met
-//!   a fault of the reader or of the writer or found no memory, what each tick answered ([`ticks`]), which part met a fault of
-//!   the disk, and then the orders of the children ([`orders`]).
+//! - After a line `# reopen` a new engine serves the rest, over the spool opened again on the same disk.
+//! - After a line `# run` the same engine runs again.
+//! - After a line `# tick` it makes one tick and then runs again.
+//! - After a line `# client` a client sends the text that follows. It is served one command at a time, as long as a
+//!   complete command is buffered.
 //!
-//! The fuse holds up to the first opening, and the limits up to the first cut. What follows goes without them, and the
-//! children go on from where they are.
+//! These files are optional:
 //!
-//! Each case is served several times ([`ways::ways`]): the script read whole, byte by byte and in pieces, the replies
-//! written whole and few bytes at a time, with reads and writes that are interrupted. The replies and the account have to
-//! be the same each time. The children begin anew each time.
+//! - `NAME.types` contains rules of types, and `NAME.convs` conversions.
+//! - `NAME.lang` contains the locale of type detection. The default is `C`.
+//! - `NAME.size` contains the length of the disk in bytes. The default is 4,194,304.
+//! - `NAME.version` contains the version of the new spool's first area. Only that byte is written, after the spool is
+//!   made. The default is the newest version.
+//! - `NAME.children` specifies how the children of rounds behave ([`outcomes`]). Without it no child can be started.
+//! - `NAME.fuse` contains two numbers ([`fuse`]). The case is served with a disk that fails after the first number of
+//!   calls, then after each further number up to the last. If the word `once` precedes them, the disk fails at one call
+//!   only. Without the file it does not fail.
+//! - `NAME.limits` specifies that the reader fails, or how many bytes the writer takes ([`limits`]).
+//! - `NAME.account` contains the expected account, in addition to the replies ([`served::Served`]): the runs whose
+//!   reader or writer failed or that ran out of memory, the result of each tick ([`ticks`]), the parts whose disk
+//!   failed, and then the orders of the children ([`orders`]). Without the file the account must be empty.
+//!
+//! The fuse applies up to the first opening, and the limits up to the first cut. The rest of the script is served
+//! without them, and the children continue from their present state.
+//!
+//! Each case is served several times ([`ways::ways`]). The script is read whole, byte by byte and in pieces. The
+//! replies are written whole and a few bytes at a time. Reads and writes are interrupted. The replies and the account
+//! must be the same each time. The children start from scratch each time.
 //!
 //! # Output
 //!
-//! A line for each case in the order of the names, `NAME ok`, `NAME differs at line N: wanted .., got ..` (or `at line N of
-//! its account`) or `NAME` and why it can't be served; then `N scripts, M differ`. The status is 1 where one differs. Each
-//! file in the folder belongs to a case, and a case without a script or without replies counts as one that differs: so none
-//! is passed over.
+//! The program prints a line for each case, in the order of the names: `NAME ok`,
+//! `NAME differs at line N: wanted .., got ..` (or `at line N of its account`), or `NAME` and why the case cannot be
+//! served. The last line is `N scripts, M differ`. The status is 1 if a case differs. Each file in the folder belongs
+//! to a case, and a case without a script or without replies counts as different, so none is skipped.
 //!
 //! # Promises
 //!
-//! - [`compare::find_difference`]: replies, and an account, pass exactly where they are the bytes that are wanted.
-//! - [`cut::next_part`]: a part, the line that cuts and what follows it are the script, and that line doesn't come before.
-//! - [`paced`]: a reader gives the bytes of the script and a writer keeps what it takes, whatever their pace and limits.
+//! - [`compare::find_difference`]: no difference is reported exactly if the replies, and the account, are the expected
+//!   bytes.
+//! - [`cut::next_part`]: the script is a part, the line that cuts, and the rest after it. No such line begins before.
+//! - [`paced`]: a reader yields the bytes of the script, and a writer stores the bytes that it takes, at any pace and
+//!   with any limits.
 //! - [`outcomes::read_children`]: no child was started before the script is served.
-//! - [`ticks::push_tick`]: a tick is told by its counts, or by its fault.
+//! - [`ticks::push_tick`]: a tick is reported by its counts, or by its fault.
+//!
+//! # Not proved
+//!
+//! That the replies to a script are the expected ones is a test, also with children in memory, and with disks, readers
+//! and writers that fail.
 #![tactic(auto)]
 
 mod case;
@@ -70,8 +82,8 @@ use std::rt::Env;
 use std::{env, io};
 use ways::{Way, ways};
 
-// How what comes of a case differs from what is wanted, if it does: by the first way, and the least number of calls after
-// which the disk fails, in which it does.
+// Returns how the result of a case differs from the expected result, if it does: in the first such way, with the least
+// such number of calls.
 fn first_difference(alloc: Global, case: &Case) -> Result<Option<String>, CaseFault> {
     for way in ways() {
         for calls in case.fuse.first..=case.fuse.last {
@@ -84,7 +96,7 @@ fn first_difference(alloc: Global, case: &Case) -> Result<Option<String>, CaseFa
     Ok(None)
 }
 
-// How what comes of a case differs from what is wanted, if it does: in its replies first.
+// Returns how the result of a case differs from the expected result, if it does. The replies are compared first.
 fn difference(
     alloc: Global,
     case: &Case,
@@ -101,7 +113,7 @@ fn difference(
     }
 }
 
-// What is told of a difference.
+// Returns the text that reports a difference.
 fn told(alloc: Global, place: &str, found: &Difference<'_>, way: Way) -> Result<String, CaseFault> {
     let Difference { line, wanted, got } = found;
     let wanted = wanted.escape_ascii();
@@ -110,7 +122,7 @@ fn told(alloc: Global, place: &str, found: &Difference<'_>, way: Way) -> Result<
     Ok(format!(in alloc; "differs at line {line}{place}: wanted {wanted}, got {got}, {name}")?)
 }
 
-// Serves a case and prints how it went. Whether the replies were those that are wanted.
+// Serves a case and prints the result. Returns whether the case passed.
 fn passes<R: Files<File = File> + AllocGlobal + Print>(
     rt: &R,
     folder: &str,
@@ -131,7 +143,7 @@ fn passes<R: Files<File = File> + AllocGlobal + Print>(
     Ok(false)
 }
 
-// The folder of the cases: the first word, or the folder in which the program runs.
+// Returns the folder of the cases: the first argument, or the current folder.
 fn given_folder<R: Env + AllocGlobal>(rt: &R) -> io::Result<String> {
     match env::args(rt)?.nth(1) {
         Some(folder) => Ok(folder),

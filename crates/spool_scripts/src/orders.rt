@@ -1,9 +1,9 @@
-//! The orders that children were started by, told in lines.
+//! Writes the orders of the children as lines.
 
 use crate::fault::CaseFault;
 use child_pipeline::{Content, Input, MemChildren, Placed, Program, Texts};
 
-/// Adds the orders in turn, and how many children were finished, if one was.
+/// Adds the orders in order of their starts, and the number of children that were finished, unless it is 0.
 pub fn push_orders(text: &mut String, children: &MemChildren) -> Result<(), CaseFault> {
     for placed in children.orders() {
         push_order(text, placed)?;
@@ -15,8 +15,8 @@ pub fn push_orders(text: &mut String, children: &MemChildren) -> Result<(), Case
     Ok(())
 }
 
-// The job, the attempt and the stage, and how many children were finished before; the program and its words; the
-// variables; and what the child reads.
+// Adds the job, the attempt, the stage and the number of children that were finished before, then the program and its
+// arguments, then the variables, and then the child's input.
 fn push_order(text: &mut String, placed: &Placed) -> Result<(), CaseFault> {
     let Placed { order, before } = placed;
     let job = order.job.get();

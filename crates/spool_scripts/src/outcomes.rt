@@ -1,17 +1,17 @@
-//! How the children of a case go.
+//! How the children of a case behave.
 //!
-//! A text tells one child after another, in the order in which they are started, with an empty line between two. Its first
-//! line is how the child ends: `exit STATUS`, `signal` or `lost`; `unknown`, where nothing is known of its end; or
-//! `no start`, where it can't be started. Behind it stands what it writes, a line for each piece: `output COUNT TEXT` is the
-//! text on standard output so many times, `errors COUNT TEXT` the text on standard error, and `line COUNT TEXT` the text
-//! and a line feed there. Children behind the last can't be started, and give no order to the account.
+//! A text describes the children in the order of their starts, with an empty line between two. The first line of a
+//! child is its end: `exit STATUS`, `signal` or `lost`, `unknown` if its end is not known, or `no start` if it cannot
+//! be started. The next lines are its output, one line for each piece: `output COUNT TEXT` is the text on standard
+//! output, repeated COUNT times, `errors COUNT TEXT` is the same on standard error, and `line COUNT TEXT` is the text
+//! and a line feed on standard error. Children after the last one cannot be started, and add no order to the account.
 //!
-//! Over ticks children may end in another order than that of their starts. How they end, and what they write, is then told in
-//! the order in which they are finished.
+//! With ticks, children may end in another order than that of their starts. Their ends and output are then listed in
+//! the order of their finishes.
 //!
-//! Before the first child a line may tell the answers of looks at children, in the order in which they are asked: `looks`
-//! with a word of each, `yes` where the child has ended, or `no`. An empty line follows it. Each look behind the last says
-//! that its child has ended.
+//! Before the first child, a line may list the answers of polls of children, in the order of the polls: `looks`,
+//! followed by a word for each, `yes` if the child has ended, or `no`. An empty line follows it. After these answers
+//! each poll reports that its child has ended.
 ghost use Rattle.std.specs.Prelude.{◌≡◌, ◌≢◌, ◌<◌, ◌∷◌, ◌++◌, ℕ, List, [], codes, length, map, is_ok, IfOk, IfSome, OnOk};
 ghost use Rattle.child_pipeline.specs.ChildTraces.{finish_in};
 ghost use Rattle.spool_scripts.specs.Outcomes.{is_started, ends_of, first_line, look_word, look_words, TellsLooks};
@@ -21,10 +21,10 @@ use child_pipeline::{ChildFault, Content, Finish, MemChildren};
 use spool_types::Exit;
 use std::alloc::{AllocError, Global};
 
-// The word of the line that tells looks.
+// The word that begins the line of polls.
 const LOOKS: &str = "looks";
 
-// How a child goes.
+// How a child behaves.
 #[derive(Drop)]
 enum Outcome {
     NoStart,
@@ -32,7 +32,7 @@ enum Outcome {
     Ended(Finish),
 }
 
-/// The children that a text tells. None of them was started, and where there is no text none can be.
+/// Returns the children that a text describes. None of them has been started. If the text is empty, none can be.
 pub fn read_children(alloc: Global, text: &str) -> Result<MemChildren, CaseFault>
     ensures unstarted { IfOk result (λ c. c.orders ≡ []) }
     ensures unfinished { IfOk result (λ c. c.finished ≡ 0) }
@@ -62,7 +62,7 @@ fn first_line(text: &str) -> &[u8]
     }
 }
 
-// The children of a text, behind the line of looks where there is one.
+// Returns the text after the line of polls, or the whole text if it has no such line.
 fn behind_looks(text: &str) -> &str
     ensures none { text.now ≡ [] → result.now ≡ [] }
     ensures all { ((rest : List ℕ) → text.now ≢ codes "looks" ++ rest) → result.now ≡ text.now }
@@ -76,7 +76,7 @@ fn behind_looks(text: &str) -> &str
     }
 }
 
-// The looks that a first line tells.
+// Returns the answers of polls in the first line.
 fn read_looks(alloc: Global, line: &[u8]) -> Result<Vec<bool>, CaseFault>
     ensures { IfOk result (λ looks. TellsLooks line.now looks.items) }
 {
@@ -86,7 +86,7 @@ fn read_looks(alloc: Global, line: &[u8]) -> Result<Vec<bool>, CaseFault>
     }
 }
 
-// The looks that these words say.
+// Returns the answers of polls that these words list.
 fn read_look_words(alloc: Global, words: &[u8]) -> Result<Vec<bool>, CaseFault>
     ensures { IfOk result (λ looks. look_words looks.items ≡ words.now) }
 {
@@ -105,7 +105,7 @@ fn read_look_words(alloc: Global, words: &[u8]) -> Result<Vec<bool>, CaseFault>
     }
 }
 
-// The look that the first word says, and the other words.
+// Returns the answer that the first word represents, and the other words.
 fn next_look(words: &[u8]) -> Option<(bool, &[u8])>
     ensures word { IfSome result (λ found. words.now ≡ look_word found.0 ++ found.1.now) }
     ensures fewer { IfSome result (λ found. length found.1.now < length words.now) }
@@ -119,7 +119,7 @@ fn next_look(words: &[u8]) -> Option<(bool, &[u8])>
     }
 }
 
-// Adds how a child starts, and how it ends if it does.
+// Adds the answer to a child's start and, if it was started, to the wait for its end.
 fn push_outcome(
     starts: &mut Vec<Result<(), ChildFault>>,
     finishes: &mut Vec<Result<Finish, ChildFault>>,
@@ -142,7 +142,7 @@ fn push_outcome(
     Ok(())
 }
 
-// How a child goes by its lines.
+// Returns how a child behaves, from its lines.
 fn read_outcome(alloc: Global, child: &str) -> Result<Outcome, CaseFault> {
     let (ending, pieces) = match child.split_once('\n') {
         Some(halves) => halves,
@@ -176,7 +176,7 @@ fn status_of(text: &str) -> Result<Exit, CaseFault> {
     }
 }
 
-// The end of a child that writes these pieces.
+// Returns the finish of a child that writes these pieces.
 fn read_finish(alloc: Global, exit: Exit, pieces: &str) -> Result<Finish, CaseFault> {
     let mut output = Vec::new(alloc);
     let mut errors = Vec::new(alloc);
@@ -198,7 +198,7 @@ fn read_finish(alloc: Global, exit: Exit, pieces: &str) -> Result<Finish, CaseFa
     })
 }
 
-// Adds a text and its end so many times as the piece says.
+// Adds a text and its end the number of times that the piece specifies.
 fn push_piece(alloc: Global, bytes: &mut Vec<u8>, piece: &str, end: &str) -> Result<(), CaseFault> {
     let (count, text) = match piece.split_once(' ') {
         Some(halves) => halves,

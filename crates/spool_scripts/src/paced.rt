@@ -1,4 +1,4 @@
-//! Readers and writers over memory that keep a pace.
+//! Readers and writers over memory, with a pace.
 ghost use Rattle.std.specs.Prelude.{◌≡◌, ◌<◌, [], Some};
 
 use crate::limits::Limits;
@@ -6,10 +6,10 @@ use std::alloc::Global;
 use std::io;
 use std::io::{ErrorKind, Read, Write};
 
-/// How much a reader gives and a writer takes.
+/// How much a reader yields and a writer takes at once.
 #[derive(Clone, Copy)]
 pub struct Pace {
-    /// At most so many bytes at once.
+    /// The greatest number of bytes at once.
     piece: usize,
     /// Whether every other call is interrupted.
     interrupted: bool,
@@ -17,13 +17,13 @@ pub struct Pace {
 }
 
 impl Pace {
-    /// All that there is at once.
+    /// All bytes at once.
     pub const WHOLE: Pace = Pace {
         piece: usize::MAX,
         interrupted: false,
     };
 
-    /// At most so many bytes at once.
+    /// At most `piece` bytes at once.
     pub fn pieces(piece: usize) -> Pace
         requires { 0 < piece }
         ensures piece { result.piece ≡ piece }
@@ -34,7 +34,7 @@ impl Pace {
         }
     }
 
-    /// At most so many bytes at once, and every other call is interrupted.
+    /// At most `piece` bytes at once, and every other call is interrupted.
     pub fn interrupted(piece: usize) -> Pace
         requires { 0 < piece }
     {
@@ -45,7 +45,7 @@ impl Pace {
     }
 }
 
-/// A reader of bytes at a pace, which may fail behind them.
+/// A reader of bytes with a pace, which may fail after them.
 #[derive(Drop)]
 pub struct PacedReader<'a> {
     rest: &'a [u8],
@@ -83,7 +83,8 @@ impl Read for PacedReader<'_> {
     }
 }
 
-/// A writer that keeps what it takes, at a pace. Where its room is spent it fails or takes none.
+/// A writer with a pace, which stores the bytes that it takes. When its room is used up, it fails or takes no more
+/// bytes.
 #[derive(Drop)]
 pub struct PacedWriter {
     bytes: Vec<u8>,
@@ -106,14 +107,14 @@ impl PacedWriter {
         }
     }
 
-    /// Takes all from now on.
+    /// Removes the limit of the room.
     pub fn lift(&mut self)
         ensures { self.new.bytes ≡ self.old.bytes }
     {
         self.room = usize::MAX;
     }
 
-    /// What was written.
+    /// Returns the bytes that were written.
     pub fn into_bytes(self) -> Vec<u8>
         ensures { result ≡ self.bytes }
     {

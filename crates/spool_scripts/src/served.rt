@@ -1,4 +1,4 @@
-//! What an engine does with a script.
+//! Serves a script with an engine.
 
 use crate::case::Case;
 use crate::cut::{CLIENT, OPENING, RUN, TICK, next_part};
@@ -18,19 +18,19 @@ use spool_disk::{Disk, FuseDisk, MemDisk, OnceDisk};
 use spool_engine::{Engine, RunFault};
 use std::alloc::Global;
 
-// Where the version of the first area lies.
+// The byte offset of the version of the first area.
 const VERSION_PLACE: u64 = 1;
 
-/// What came of a script.
+/// The result of a script.
 #[derive(Drop)]
 pub struct Served {
     pub replies: Vec<u8>,
-    /// What is told beside the replies: of each run that its reader or its writer failed or that it found no memory, of each
-    /// tick what it answered, of each part that its disk failed, and then the orders of the children.
+    /// The report in addition to the replies: the runs whose reader or writer failed or that ran out of memory, the
+    /// result of each tick, the parts whose disk failed, and then the orders of the children.
     pub account: Vec<u8>,
 }
 
-// What goes on from one part of a script to the next.
+// The state that one part of a script passes to the next.
 #[derive(Drop)]
 struct Bench {
     disk: MemDisk,
@@ -38,7 +38,7 @@ struct Bench {
     account: String,
 }
 
-// A part of a script: what is given between two openings. The disk fails after so many calls.
+// A part of a script: the text between two openings. The disk fails after `calls` calls.
 #[derive(Clone, Copy)]
 struct Part<'a> {
     script: &'a [u8],
@@ -48,8 +48,8 @@ struct Part<'a> {
 
 type Printer = Engine<OnceDisk<FuseDisk<MemDisk>>, MemChildren>;
 
-/// What comes of the script of a case, on a new spool. While its first part is served, the disk fails after so many calls,
-/// and in the first run of that part the limits of the case hold.
+/// Serves the script of a case on a new spool. During its first part the disk fails after `calls` calls, and during the
+/// first run of that part the limits of the case apply.
 pub fn serve(alloc: Global, case: &Case, way: Way, calls: u64) -> Result<Served, CaseFault> {
     let mut bench = new_bench(alloc, case)?;
     let mut writer = PacedWriter::new(alloc, way.writing, case.limits);
@@ -92,7 +92,7 @@ fn new_bench(alloc: Global, case: &Case) -> Result<Bench, CaseFault> {
     })
 }
 
-// A new spool, in the version that the case says.
+// Makes a new spool, with the version that the case specifies.
 fn new_disk(alloc: Global, case: &Case) -> Result<MemDisk, CaseFault> {
     let mut disk = MemDisk::new(alloc, case.size)?;
     make(&mut disk)?;
@@ -103,7 +103,7 @@ fn new_disk(alloc: Global, case: &Case) -> Result<MemDisk, CaseFault> {
     Ok(disk)
 }
 
-// An engine on the spool of a disk.
+// Returns an engine over the spool of a disk.
 fn printer_on(
     alloc: Global,
     case: &Case,
@@ -147,7 +147,7 @@ fn serve_part(
     })
 }
 
-// Serves a part of a script in one run after another.
+// Serves the runs of a part in order.
 fn serve_runs(
     alloc: Global,
     printer: &mut Printer,
@@ -176,8 +176,8 @@ fn serve_runs(
     Ok(())
 }
 
-// Serves what stands between two lines that let the engine run again, with a tick at each line that asks for one. What
-// each tick answered is told in the account.
+// Serves the text between two lines that make the engine run again, with a tick at each line that asks for one. Adds
+// the result of each tick to the account.
 fn serve_ticks(
     alloc: Global,
     printer: &mut Printer,
@@ -207,7 +207,7 @@ fn serve_ticks(
     Ok(())
 }
 
-// Serves what stands between two ticks in one run, and behind it the client of each line that says that one comes.
+// Serves the text between two ticks in one run, and then the client of each line `# client`.
 fn serve_clients(
     alloc: Global,
     printer: &mut Printer,
@@ -233,7 +233,7 @@ fn serve_clients(
     Ok(())
 }
 
-// Serves a client that sends this text, one command at a time, as long as a whole one is held.
+// Serves a client that sends this text, one command at a time, as long as a complete command is buffered.
 fn serve_client(
     alloc: Global,
     printer: &mut Printer,
@@ -253,18 +253,18 @@ fn serve_client(
     Ok(())
 }
 
-// Tells in the account how a run failed.
+// Adds the failure of a run to the account.
 fn push_fault(account: &mut String, fault: RunFault) -> Result<(), CaseFault> {
     let line = match fault {
         RunFault::Read => "the reader failed\n",
         RunFault::Write => "the writer failed\n",
-        RunFault::Memory => "a run found no memory\n",
+        RunFault::Memory => "a run ran out of memory\n",
     };
     account.push_str(line)?;
     Ok(())
 }
 
-// A disk that fails after so many calls: once, or from then on.
+// Returns a disk that fails after `calls` calls: once, or from then on.
 fn failing(disk: MemDisk, calls: u64, once: bool) -> OnceDisk<FuseDisk<MemDisk>> {
     if once {
         OnceDisk::new(FuseDisk::new(disk, u64::MAX), calls)
@@ -273,7 +273,7 @@ fn failing(disk: MemDisk, calls: u64, once: bool) -> OnceDisk<FuseDisk<MemDisk>>
     }
 }
 
-// Where the children run.
+// Returns the place of the children.
 fn place(alloc: Global, lang: &str) -> Result<Place, CaseFault> {
     Ok(Place {
         root: String::from_str(alloc, "/r")?,

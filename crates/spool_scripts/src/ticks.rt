@@ -1,4 +1,4 @@
-//! What ticks answered, told in lines.
+//! Writes the results of ticks as lines.
 ghost use Rattle.std.specs.Prelude.{◌≡◌, ◌++◌, OnOk};
 ghost use Rattle.std.specs.String.{string_bytes};
 ghost use Rattle.spool_scripts.specs.TickReports.{counts_line, fault_line, tick_line};
@@ -6,7 +6,8 @@ ghost use Rattle.spool_scripts.specs.TickReports.{counts_line, fault_line, tick_
 use print_rounds::{Round, RoundFault};
 use std::alloc::AllocError;
 
-/// Adds what a tick answered: how many children it started and how many ends of stages were acknowledged, or its fault.
+/// Adds the result of a tick: the number of children that it started and of ends of stages that were acknowledged, or
+/// its fault.
 pub fn push_tick(text: &mut String, answer: Result<Round, RoundFault>) -> Result<(), AllocError>
     ensures line { OnOk result (string_bytes text.new ≡ string_bytes text.old ++ tick_line answer) }
 {

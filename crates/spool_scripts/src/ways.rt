@@ -1,11 +1,11 @@
-//! The ways in which each script is served.
+//! The ways to serve a script.
 
 use crate::paced::Pace;
 
 /// How a script is read and its replies are written.
 #[derive(Clone, Copy)]
 pub struct Way {
-    /// What is told of a difference that is found this way.
+    /// The text that names this way in the report of a difference.
     pub name: &'static str,
     pub reading: Pace,
     pub writing: Pace,
@@ -21,7 +21,7 @@ impl Way {
     }
 }
 
-/// The ways in which each script is served. The pieces of 4,099 bytes are longer than the longest line.
+/// Returns the ways to serve a script. The pieces of 4,099 bytes are longer than the longest line.
 pub fn ways() -> [Way; 7] {
     [
         Way::new("at once", Pace::WHOLE, Pace::WHOLE),

@@ -1,4 +1,4 @@
--- What the words of the command line mean, as clap reads them.
+-- The meaning of the arguments, as clap reads them.
 use Rattle.std.specs.Prelude.{◌≡◌, ◌≤◌, ℕ, List, Option, None, Some, IfSome, IsSomeAnd, codes, if◌then◌else◌, length}
 use Rattle.std.specs.Option.{SomeIff, option_map}
 use Rattle.std.specs.Str.Parse.{IsNumeral, digits_value, without_leading_plus}
@@ -20,30 +20,30 @@ abbrev pub with_bounds : App → App
 with_bounds app =
     with_rule (with_rule (with_rule app (option_in 0 1000000 (codes "keep"))) (option_in 1 90 (codes "room"))) (option_in 1 1000 (codes "children"))
 
--- the options of a spool, these, and `[--quiet] [--verbose]`
+-- The options of a spool, these, and `[--quiet] [--verbose]`.
 abbrev pub service_app : App
 service_app = with_rule (with_rule (with_bounds (with_socket (spool_app (codes "spool_service")))) (flag_of (codes "quiet"))) (flag_of (codes "verbose"))
 
--- ---- what the values that were found mean
+-- ---- the meaning of the values
 
--- the number of octal digits
+-- The number that the octal digits represent.
 abbrev pub octal_of : Text → ℕ
 octal_of text = digits_value 8 (without_leading_plus text)
 
--- octal digits of a number up to 777
+-- The text is an octal number up to 777.
 abbrev pub IsMode : Text → Type 0
 IsMode text = IsNumeral 8 (without_leading_plus text) × (octal_of text ≤ 511)
 
--- the mode of MODE, where that is one, and 660 without it
+-- The mode that MODE specifies, if it is valid, or 0660 without MODE.
 abbrev pub SaysMode : Option Text → Option ℕ → Type 0
 SaysMode None mode = mode ≡ Some 432
 SaysMode (Some text) mode = SomeIff mode (IsMode text) (octal_of text)
 
--- all lines with `--verbose`, errors alone with `--quiet`, and otherwise those that tell what happens, too
+-- All lines with `--verbose`, only errors with `--quiet`, and otherwise all but debug lines.
 abbrev pub level_of : List Row → Level
 level_of found = if is_told (one_of (codes "verbose") found) then Debug else (if is_told (one_of (codes "quiet") found) then Error else Info)
 
--- The words ask for what was found, or for the usual where it wasn't: 500 ended jobs, a quarter of the room, 32 children.
+-- The values are those found, or the defaults: 500 ended jobs, 25 percent of the room, 32 children.
 pub record IsAsked (found : List Row) (words : ServiceWords) : Type 0 where
   pub root : first_of (codes "root") found ≡ Some words.root.now
   pub listen : option_map (λ socket. socket.now) words.listen ≡ first_of (codes "listen") found
@@ -57,7 +57,7 @@ pub record IsAsked (found : List Row) (words : ServiceWords) : Type 0 where
   pub children : words.children ≡ number_or 32 (one_of (codes "children") found)
   pub level : words.level ≡ level_of found
 
--- what the words ask for is in its limits
+-- The values are within their limits.
 pub record AreInRange (words : ServiceWords) : Type 0 where
   pub root : length words.root.now ≤ 64
   pub mode : words.mode ≤ 511
@@ -66,28 +66,28 @@ pub record AreInRange (words : ServiceWords) : Type 0 where
   pub room : (1 ≤ words.room) × (words.room ≤ 90)
   pub children : (1 ≤ words.children) × (words.children ≤ 1000)
 
--- DIR is there and has at most 64 bytes, and MODE is one, if it is there
+-- DIR is given and has at most 64 bytes, and MODE is valid, if it is given.
 abbrev pub Fit : List Row → Type 0
 Fit found = IsSomeAnd (first_of (codes "root") found) (λ dir. length dir ≤ 64) × IfSome (first_of (codes "mode") found) IsMode
 
--- clap finds no fault in the words
+-- Clap finds no error in the arguments.
 abbrev pub AreFaultless : List Text → Type 0
 AreFaultless words = AreFaultlessFor service_app words
 
--- clap finds no fault in the words, and what they say fits
+-- Clap finds no error in the arguments, and their values fit.
 abbrev pub AreTaken : List Text → Type 0
 AreTaken words = AreFaultless words × Fit (matches_of service_app words)
 
--- ---- between the steps of reading them
+-- ---- intermediate steps of reading
 
--- the numbers that were found are in their ranges
+-- The numbers found are in their ranges.
 pub record HasNumbers (m : ArgMatches) : Type 0 where
   pub size : HasNumberIn 4096 1073741824 (codes "size") m
   pub keep : HasNumberIn 0 1000000 (codes "keep") m
   pub room : HasNumberIn 1 90 (codes "room") m
   pub children : HasNumberIn 1 1000 (codes "children") m
 
--- the flags that were found are flags
+-- The flags found are flags.
 pub record HasFlags (m : ArgMatches) : Type 0 where
   pub quiet : HasFlag (codes "quiet") m
   pub verbose : HasFlag (codes "verbose") m

@@ -1,4 +1,4 @@
--- What a wait has found, and who comes in.
+-- The results of a wait and of an accept.
 use Rattle.std.specs.Prelude.{◌==◌, ◌-◌, if◌then◌else◌, Result, Ok, Err}
 use Rattle.std.specs.IoError.{error_kind}
 use Rattle.std.specs.declared.io.Error.{Error}
@@ -11,13 +11,13 @@ use Rattle.service_loop.specs.declared.listener.AcceptOutcome.TheVariants as com
 use Rattle.service_loop.specs.declared.listener.Readiness.{Readiness}
 use Rattle.service_loop.specs.declared.listener.Readiness.TheVariants.{Client, NewClient}
 
--- Token 0 is the listener's, and a client's is its key and one.
+-- The listener has token 0, and a client its key plus one.
 abbrev pub readiness_of : Event → Readiness
 readiness_of event =
     let token = (event_token event).0 in
     if token == 0 then NewClient else Client (token - 1) (is_writable event) (is_write_closed event)
 
--- nobody comes in: nobody is there, or who is there can't be let in
+-- No client was accepted: none is waiting, or the waiting one cannot be accepted.
 abbrev pub without_client : {L : Type 0} → ErrorKind → AcceptOutcome L
 without_client WouldBlock = coming.Nobody
 without_client _ = coming.Failed

@@ -1,4 +1,4 @@
--- How the service is opened, and how its end is told.
+-- The start of the service, and its end.
 use Rattle.std.specs.Prelude.{ℕ, ◌++◌, List, Option, None, Some, Result, Ok, Err, codes}
 use Rattle.std.specs.Borrow.{Bor}
 use Rattle.std.specs.declared.io.ErrorKind.{ErrorKind}
@@ -11,27 +11,27 @@ use Rattle.spool_runtime.specs.declared.fault.DiskCause.TheVariants.{Failed}
 use Rattle.spool_runtime.specs.declared.fault.ShellFault.{ShellFault}
 use Rattle.spool_runtime.specs.declared.fault.ShellFault.TheVariants.{Disk, Memory, Socket}
 
--- the file of DIR that is the spool's disk
+-- The file of the spool's disk in DIR.
 abbrev pub disk_of : List ℕ → List ℕ
 disk_of root = root ++ codes "/spool.disk"
 
--- how the house is kept over a disk of so many bytes: of its areas each has the half of them
+-- The settings of maintenance over a disk of `size` bytes. Each area has half of them.
 abbrev pub keeping_of : ℕ → ℕ → ℕ → Keeping
 keeping_of keep room size = record { jobs = keep; room = room; area = half size }
 
--- SOCKET, or that of DIR
+-- SOCKET, or the socket in DIR.
 abbrev pub socket_of : List ℕ → Option (Bor (List ℕ)) → List ℕ
 socket_of root None = root ++ codes "/spool.sock"
 socket_of root (Some socket) = socket.now
 
--- the end of the service, as it is told
+-- The end of the program for each end of the loop.
 abbrev pub told_of : Result (Unit {0}) ServiceFault → Result (Unit {0}) ShellFault
 told_of (Ok ended) = Ok ended
 told_of (Err service.Memory) = Err Memory
 told_of (Err service.Disk) = Err (Disk Failed)
 told_of (Err service.Socket) = Err Socket
 
--- what failed where the socket can't be made
+-- The fault if the socket cannot be created.
 abbrev pub at_socket : ErrorKind → ShellFault
 at_socket OutOfMemory = Memory
 at_socket _ = Socket

@@ -5,10 +5,10 @@ use service_loop::Times;
 use std::thread;
 use std::time::{Clock, Duration, Instant, SystemTime};
 
-// The greatest number of milliseconds or microseconds that is told.
+// The greatest number of milliseconds or microseconds that is reported.
 const MOST: u128 = 1 << 60;
 
-/// The system's clocks. Where the steady one can't be read, it stands.
+/// The system's clocks. If the steady clock cannot be read, it keeps its last value.
 #[derive(Drop)]
 pub struct SystemTimes<'a, R> {
     rt: &'a R,

@@ -1,4 +1,4 @@
-//! Sends signals to children, by the shell: `std` sends none.
+//! Sends signals to children by a shell, because `std` sends none.
 ghost use Rattle.std.specs.Prelude.{◌≡◌, ℕ, ◌++◌, ◌∷◌, List, [], None, true, codes, IfOk, OnOk};
 ghost use Rattle.std.specs.Process.{SameEnv, clears_env, command_args, command_program, command_var};
 ghost use Rattle.spool_service.specs.Kills.{arguments_of, name_of, script};
@@ -8,8 +8,8 @@ use spool_runtime::{push_number, script_shell};
 use std::alloc::{AllocError, Global};
 use std::process::{Command, Processes, Stdio};
 
-// A child's session is its own, or with a side channel that of the shell's first child. The parameters are the signal and the
-// child's number. What can't be sent is passed over: the child may have ended.
+// Signals the group of a process and the groups of its children: with a side channel the process is a shell, and the program its first
+// child. The parameters are the signal and the process. A signal that cannot be sent is ignored, because the child may have ended.
 const SCRIPT: &str = concat!(
     "for group in \"$2\" $(/usr/bin/cat \"/proc/$2/task/$2/children\"); do\n",
     "    kill -s \"$1\" -- \"-$group\"\n",
@@ -49,7 +49,7 @@ impl<'a, R: Processes + AllocGlobal> Signals for Kills<'a, R> {
     }
 }
 
-// The shell that sends a signal. It has no variables of this program's.
+// Returns the command of the shell that sends a signal. It gets no variable of this program.
 fn command_of(alloc: Global, group: u32, signal: Signal) -> Result<Command, AllocError>
     ensures program { IfOk result (λ command. command_program command ≡ codes "/bin/sh") }
     ensures arguments { IfOk result (λ command. command_args command ≡ arguments_of group signal) }
@@ -62,7 +62,7 @@ fn command_of(alloc: Global, group: u32, signal: Signal) -> Result<Command, Allo
     Ok(command)
 }
 
-// The signal, as a parameter.
+// Adds the signal to the parameters.
 fn push_name(command: &mut Command, signal: Signal) -> Result<(), AllocError>
     ensures args { OnOk result (command_args command.new ≡ command_args command.old ++ name_of signal ∷ []) }
     ensures program { OnOk result (command_program command.new ≡ command_program command.old) }
@@ -78,7 +78,7 @@ fn script() -> &'static str
     SCRIPT
 }
 
-// The signal, as `kill` takes its name.
+// Returns the name of the signal for `kill`.
 fn name_of(signal: Signal) -> &'static str
     ensures { result.now ≡ name_of signal }
 {

@@ -1,4 +1,4 @@
-//! Where clients come in, and what wakes the service: a socket in the file system, over `mio`.
+//! The listening socket, the clients' connections, and the wait for both, over `mio`.
 ghost use Rattle.std.specs.Prelude.{◌≡◌, ◌++◌, [], IfOk, OnOk, map};
 ghost use Rattle.mio.specs.Events.{items};
 ghost use Rattle.spool_service.specs.Socket.{accept_outcome_of, readiness_of, without_client};
@@ -18,10 +18,10 @@ use std::path::Path;
 use std::time::Duration;
 use std::{fs, io};
 
-// The token of the listener. A client's is its key and one.
+// The token of the listener. A client has its key plus one.
 const LISTENER: usize = 0;
 
-/// A client's line at the socket. What comes and goes by it no clause knows, so it tells nothing.
+/// A client's connection. No clause knows its bytes, so it reports nothing.
 #[derive(Drop)]
 pub struct SocketConnection(UnixStream);
 
@@ -39,7 +39,7 @@ impl Connection for SocketConnection {
     }
 }
 
-/// A socket in the file system.
+/// A listening socket in the file system.
 #[derive(Drop)]
 pub struct SocketListener {
     listener: UnixListener,
@@ -49,8 +49,8 @@ pub struct SocketListener {
 }
 
 impl SocketListener {
-    /// Makes the socket, which users may open by this mode. One that an earlier service left goes first: the folder is this
-    /// program's.
+    /// Creates the socket with these permissions. First removes a file of its name, such as the socket of a killed service. In its own
+    /// folder no other service has a socket, because this program owns the folder.
     pub fn open<R: Files<File = File> + Net + AllocGlobal>(
         rt: &R,
         path: &str,
@@ -117,7 +117,7 @@ impl Listener for SocketListener {
     }
 }
 
-// Adds the signs of the events, in their order.
+// Adds the readiness of each event, in order.
 fn push_readiness(events: &Events<Global>, ready: &mut Vec<Readiness>) -> Result<(), AllocError>
     ensures { OnOk result (ready.new.items ≡ ready.old.items ++ map readiness_of (items events.now)) }
 {
@@ -127,7 +127,7 @@ fn push_readiness(events: &Events<Global>, ready: &mut Vec<Readiness>) -> Result
     Ok(())
 }
 
-// What an event is a sign of.
+// Returns the readiness that an event reports.
 fn readiness_of(event: &Event) -> Readiness
     ensures { result ≡ readiness_of event.now }
 {
@@ -142,7 +142,7 @@ fn readiness_of(event: &Event) -> Readiness
     }
 }
 
-// Who comes in.
+// Returns the outcome of an accept.
 fn accept_outcome_of<L: Drop>(accepted: io::Result<L>) -> AcceptOutcome<L>
     ensures { result ≡ accept_outcome_of accepted }
 {
@@ -152,7 +152,7 @@ fn accept_outcome_of<L: Drop>(accepted: io::Result<L>) -> AcceptOutcome<L>
     }
 }
 
-// Who comes in where nobody is let in, by the kind of the system's error.
+// Returns the outcome of an accept that failed with this kind of error.
 fn without_client<L>(kind: ErrorKind) -> AcceptOutcome<L>
     ensures { result ≡ without_client kind }
 {

@@ -1,4 +1,4 @@
-//! How the service is opened: the folder's lock first, then the spool, and the socket last.
+//! Starts the service: takes the folder's locks, opens the spool, and then creates the socket.
 ghost use Rattle.std.specs.Prelude.{◌≡◌, IfOk, string_bytes};
 ghost use Rattle.spool_service.specs.Start.{at_socket, disk_of, keeping_of, socket_of, told_of};
 
@@ -27,7 +27,7 @@ use std::path::Path;
 use std::process::Processes;
 use std::time::Clock;
 
-/// Opens the spool, and serves the clients of the socket until somebody ends it.
+/// Opens the spool, and serves the clients of the socket until a client ends the service.
 pub fn run<L, H>(logged: &L, rt: &H, words: ServiceWords<'_>) -> Result<(), ShellFault>
 where
     L: Files<File = File> + AllocGlobal + Log,
@@ -62,7 +62,7 @@ where
 {
     let (folder, engine) = open_folder_engine(logged, rt, words.root, words.size, children, rules)?;
     let served = serve_engine(logged, rt, words, watch, engine);
-    // The folder is this program's until the service has ended.
+    // The program owns the folder until the service has ended.
     drop(folder);
     served
 }
@@ -86,7 +86,7 @@ where
     serve_at_socket(logged, rt, words, &mut service)
 }
 
-// Serves the clients of the socket, which goes when the service has ended.
+// Creates the socket, serves its clients, and removes it when the service has ended.
 fn serve_at_socket<L, H, D, C>(
     logged: &L,
     rt: &H,
@@ -101,7 +101,7 @@ where
 {
     let socket = socket_name(rt, words)?;
     let mut listener = open_listener(rt, socket.as_str(), words.mode)?;
-    info!(logged; "serves {}", socket.as_str());
+    info!(logged; "listening on {}", socket.as_str());
     let served = service.serve(
         &mut listener,
         &mut SystemTimes::new(rt),
@@ -111,7 +111,7 @@ where
     told_as(served)
 }
 
-// How many bytes the disk of a folder has.
+// Returns the size of the folder's disk in bytes.
 fn disk_size<H: Files<File = File> + AllocGlobal>(rt: &H, root: &str) -> Result<u64, ShellFault> {
     let name = disk_name(rt.alloc(), root)?;
     match fs::metadata(rt, name.as_str()) {
@@ -127,7 +127,7 @@ fn disk_name(alloc: Global, root: &str) -> Result<String, AllocError>
     format!(in alloc; "{root}/spool.disk")
 }
 
-// How the house is kept, over a disk of so many bytes.
+// Returns the settings of maintenance over a disk of `size` bytes.
 fn keeping_of(words: &ServiceWords<'_>, size: u64) -> Keeping
     ensures { result ≡ keeping_of words.now.keep words.now.room size }
 {
@@ -138,7 +138,7 @@ fn keeping_of(words: &ServiceWords<'_>, size: u64) -> Keeping
     }
 }
 
-// The end of the service, as it is told.
+// Converts the end of the service.
 fn told_as(served: Result<(), ServiceFault>) -> Result<(), ShellFault>
     ensures { result ≡ told_of served }
 {
@@ -161,7 +161,7 @@ fn open_listener<H: Files<File = File> + Net + AllocGlobal>(
     }
 }
 
-// What failed where the socket can't be made, by the kind of the system's error.
+// Returns the fault if the socket cannot be created, by the kind of the system's error.
 fn at_socket(kind: ErrorKind) -> ShellFault
     ensures { result ≡ at_socket kind }
 {
@@ -171,7 +171,7 @@ fn at_socket(kind: ErrorKind) -> ShellFault
     }
 }
 
-// The socket of the words, or that of the folder.
+// Returns the socket of the arguments, or that of the folder.
 fn socket_name<H: AllocGlobal>(rt: &H, words: &ServiceWords<'_>) -> Result<String, AllocError>
     ensures { IfOk result (λ name. string_bytes name ≡ socket_of words.now.root.now words.now.listen) }
 {

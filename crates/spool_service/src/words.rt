@@ -1,4 +1,4 @@
-//! The words of the command line.
+//! The arguments of the command line.
 ghost use Rattle.std.specs.Prelude.{◌≡◌, IfErr, IfOk, MatchResult, map};
 ghost use Rattle.std.specs.Option.{SomeIff, option_map};
 ghost use Rattle.clap.specs.Words.{app_of, found_of, matches_of, rows_of};
@@ -16,39 +16,39 @@ use spool_runtime::{
 use std::alloc::{AllocError, Global};
 use std::convert::AsStr;
 
-// The mode of the socket, where the words don't say it, and the greatest one.
+// The default mode of the socket, and the greatest one.
 const USUAL_MODE: u32 = 0o660;
 
 const GREATEST_MODE: u32 = 0o777;
 
-/// What the words ask for.
+/// The values of the arguments.
 #[derive(Clone, Copy)]
 pub struct ServiceWords<'a> {
     /// The folder of the spool's file.
     pub root: &'a str,
-    /// The socket. Without one it is that of the folder.
+    /// The socket, by default that of the folder.
     pub listen: Option<&'a str>,
-    /// Who may open the socket.
+    /// The permissions of the socket.
     pub mode: u32,
-    /// The file of mime.types(5). Without one it counts as empty.
+    /// The file in the format of mime.types(5). None counts as empty.
     pub types: Option<&'a str>,
-    /// The file of mime.convs(5). Without one it counts as empty.
+    /// The file in the format of mime.convs(5). None counts as empty.
     pub convs: Option<&'a str>,
-    /// The file that says which programs filters and backends are. Without one it counts as empty.
+    /// The programs file. None counts as empty.
     pub programs: Option<&'a str>,
-    /// The length in bytes of a spool that is made.
+    /// The size in bytes of a new spool.
     pub size: u64,
-    /// How many ended jobs are kept.
+    /// The number of ended jobs to keep.
     pub keep: usize,
-    /// A checkpoint is made where less than so many hundredths are left of the room behind the last one.
+    /// A checkpoint is made when less than this percentage is free of the room that the last one left.
     pub room: u8,
-    /// How many children run at once.
+    /// The most children at once.
     pub children: usize,
-    /// Up to which level lines are told.
+    /// The highest level of the lines to log.
     pub level: Level,
 }
 
-/// Reads the words of the command line, of which the first is the program's name.
+/// Reads the arguments, starting with the program's name.
 pub fn read_words<'a, S: AsStr>(
     alloc: Global,
     words: &'a [S],
@@ -68,7 +68,7 @@ pub fn read_words<'a, S: AsStr>(
     }
 }
 
-// What the values that were found ask for.
+// Returns the values of the options that clap found, with defaults for the others.
 fn words_in<'a>(
     command: &mut Command<'_>,
     matches: &ArgMatches<'a>,
@@ -82,13 +82,13 @@ fn words_in<'a>(
     ensures mistake { IfErr result IsMistake }
 {
     let Some(root) = matches.get_str("root") else {
-        return Err(mistake(command, "DIR is missing"));
+        return Err(mistake(command, "--root DIR is required"));
     };
     if root.len() > LONGEST_ROOT {
         return Err(long_root(command));
     }
     let Some(mode) = mode_of(matches.get_str("mode")) else {
-        return Err(mistake(command, "MODE is no number of octal digits up to 777"));
+        return Err(mistake(command, "MODE is not an octal number up to 777"));
     };
     Ok(ServiceWords {
         root,
@@ -105,7 +105,7 @@ fn words_in<'a>(
     })
 }
 
-// The mode that is given, or else the usual one.
+// Returns the given mode, or the default.
 fn mode_of(given: Option<&str>) -> Option<u32>
     ensures { SaysMode (option_map (λ text. text.now) given.entry) result }
 {
@@ -115,7 +115,7 @@ fn mode_of(given: Option<&str>) -> Option<u32>
     }
 }
 
-// The mode that octal digits say.
+// Reads a mode in octal digits.
 fn octal_mode(text: &str) -> Option<u32>
     ensures { SomeIff result (IsMode text.now) (octal_of text.now) }
 {
@@ -125,7 +125,7 @@ fn octal_mode(text: &str) -> Option<u32>
     }
 }
 
-// Up to which level lines are told.
+// Returns the highest level of the lines to log.
 fn level_given(matches: &ArgMatches<'_>) -> Level
     requires { HasFlags matches.now }
     ensures { result ≡ level_of (rows_of (found_of matches.now)) }
@@ -139,24 +139,28 @@ fn level_given(matches: &ArgMatches<'_>) -> Level
     }
 }
 
-// The program's command, as clap knows it.
+// Returns the program's command for clap.
 fn service_command<'a>(alloc: Global) -> Result<Command<'a>, AllocError>
     ensures { IfOk result (λ command. app_of command ≡ service_app) }
 {
     let command = spool_command(
         alloc,
         "spool_service",
-        "Serves a print spool to the clients of a socket",
-        "Keep the spool in the file spool.disk of this folder",
+        "Serves a print spool to the clients of a Unix socket",
+        "Keep the spool in the file DIR/spool.disk",
     )?;
     let command = socket_options(alloc, command)?;
     let command = bound_options(alloc, command)?;
     command
-        .arg(flag_option(alloc, "quiet", "Tell what failed alone"))?
-        .arg(flag_option(alloc, "verbose", "Tell each start of a child too"))
+        .arg(flag_option(alloc, "quiet", "Log errors only"))?
+        .arg(flag_option(
+            alloc,
+            "verbose",
+            "Also log each start of a filter or backend",
+        ))
 }
 
-// The command with the options of the socket, too.
+// Adds the options of the socket.
 fn socket_options<'a>(alloc: Global, command: Command<'a>) -> Result<Command<'a>, AllocError>
     ensures { IfOk result (λ more. app_of more ≡ with_socket (app_of command.entry)) }
 {
@@ -165,17 +169,17 @@ fn socket_options<'a>(alloc: Global, command: Command<'a>) -> Result<Command<'a>
             alloc,
             "listen",
             "SOCKET",
-            "Serve clients on this socket [default: DIR/spool.sock]",
+            "Listen on this Unix socket [default: DIR/spool.sock]",
         ))?
         .arg(text_option(
             alloc,
             "mode",
             "MODE",
-            "Who may open the socket [default: 0660]",
+            "Permissions of the socket, in octal [default: 0660]",
         ))
 }
 
-// The command with the options that bound what is kept and run, too.
+// Adds the options that limit jobs, the journal and children.
 fn bound_options<'a>(alloc: Global, command: Command<'a>) -> Result<Command<'a>, AllocError>
     ensures { IfOk result (λ more. app_of more ≡ with_bounds (app_of command.entry)) }
 {
@@ -185,20 +189,20 @@ fn bound_options<'a>(alloc: Global, command: Command<'a>) -> Result<Command<'a>,
             "keep",
             "N",
             (0, 1_000_000),
-            "How many ended jobs are kept [default: 500]",
+            "Keep at most N ended jobs, up to 1000000 [default: 500]",
         ))?
         .arg(number_option(
             alloc,
             "room",
             "PERCENT",
             (1, 90),
-            "Make a checkpoint where less of the journal is left [default: 25]",
+            "Make a checkpoint when less than PERCENT of the journal is free, 1 to 90 [default: 25]",
         ))?
         .arg(number_option(
             alloc,
             "children",
             "N",
             (1, 1_000),
-            "How many children run at once [default: 32]",
+            "Run at most N filters and backends at once, 1 to 1000 [default: 32]",
         ))
 }

@@ -1,7 +1,11 @@
-//! The program: it serves the commands on standard input, and writes the replies on standard output.
+//! `spool_shell`: serves the commands on standard input, and writes the replies on standard output.
 //!
-//! Words: `[--root DIR] [--types FILE] [--convs FILE] [--programs FILE] [--size BYTES] [--devices]`. All that they ask for is
-//! `spool_runtime`'s: what they mean, what is done then, what the faults are, and how each is told.
+//! Arguments: `[--root DIR] [--types FILE] [--convs FILE] [--programs FILE] [--size BYTES] [--devices]`, or `--help` or `--version`.
+//!
+//! # Promises
+//!
+//! Those of `spool_runtime`, which reads the arguments, runs the program and reports its errors. That `main` calls its functions in order
+//! is not proved.
 #![tactic(auto)]
 
 use log::{Level, Logged};

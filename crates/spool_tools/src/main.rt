@@ -1,7 +1,11 @@
-//! The program: small filters and backends to try a spool with, and the end of a side-channel session.
+//! `spool_tools`: small filters and backends, and the end of a side-channel session.
 //!
-//! Words: `TOOL ..`, the first word naming the tool. All that they ask for is `builtin_stages`': what they mean, what each tool
-//! does, and how it ends.
+//! Arguments: the name of a tool and its own arguments, or `--version`.
+//!
+//! # Promises
+//!
+//! Those of `builtin_stages`, which reads the arguments, runs the tool and reports its errors. That `main` calls its functions in order
+//! is not proved.
 #![tactic(auto)]
 
 use builtin_stages::{given_words, run_words};

@@ -1,4 +1,4 @@
--- A text whose capitals are folded has its slash in the same place.
+-- Converting the capitals of a text to lower case does not move its slash.
 use Rattle.std.proofs.Common.{◌≡◌, ◌&&◌, ◌||◌, ◌+◌, ◌==◌, ℕ, Bool, true, false, not, cond, List, [], ◌∷◌, length, map, take, drop, nat_lt, nat_le, refl, ap, sym, ◌∙◌, arith, suc, zero}
 use Rattle.std.proofs.lemmas.Bool.{ne_eqb, lt-ltb, le-ltb, ltb-true, ltb-false}
 use Rattle.std.proofs.lemmas.List.{take-map, drop-map, length-map}

@@ -1,4 +1,4 @@
--- A test of what a list's elements stand for.
+-- Testing the images of a list's elements is testing the elements with the composed test.
 use Rattle.std.proofs.Common.{◌≡◌, Bool, ◌||◌, List, [], ◌∷◌, map, refl, ap}
 use Rattle.std.specs.List.{list_any}
 

@@ -1,4 +1,4 @@
--- Which effects may be those of one stage.
+-- Effects and the bytes of their codes.
 use Rattle.std.proofs.Common.{◌≡◌, ℕ, ◌+◌, ◌≤◌, Bool, true, false, List, [], ◌∷◌, length, leb, refl, ap, sym, ◌∙◌, arith}
 use Rattle.std.proofs.lemmas.Bool.{leb-true, leb-false, le-leb}
 use Rattle.std.specs.List.{list_all}
@@ -15,7 +15,7 @@ one_byte (DropReasons words) = let n = list_size words in omega arith
 one_byte (Attribute a) = let n = text_size a.name in let m = text_size a.value in omega arith
 one_byte (Message level text) = let n = text_size text in omega arith
 
--- there aren't more effects than bytes
+-- There are at most as many effects as bytes.
 pub few : (es : List Effect) → length es ≤ effects_size es
 few [] = omega arith
 few (e ∷ es) = let one = one_byte e in let others = few es in omega arith

@@ -1,4 +1,4 @@
--- What a word is, where it is UTF-8 or not.
+-- The value of a word, which may be UTF-8 or not.
 use Rattle.std.proofs.Common.{◌≡◌, ◌&&◌, ℕ, Bool, true, false, cond, List, ap, sym, refl, ◌∙◌, None, Some}
 use Rattle.std.proofs.lemmas.Str.{IsUtf8-from_is_utf8, is_utf8-from_IsUtf8}
 use Rattle.std.specs.Str.{IsUtf8, is_utf8, str_to_ascii_lowercase}

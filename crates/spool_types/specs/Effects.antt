@@ -1,4 +1,4 @@
--- The effects of one stage: which there may be, and how many bytes their codes have in the journal.
+-- The effects that one stage may have, and the number of bytes of their codes in the journal.
 use Rattle.std.specs.Prelude.{◌≡◌, ℕ, ◌+◌, ◌-◌, ◌≤◌, Bool, true, false, cond, nat_le, List, [], ◌∷◌, length, Option, None, Some}
 use Rattle.std.specs.List.{list_all}
 use Rattle.spool_types.specs.declared.effect.Effect.{Effect}
@@ -8,15 +8,15 @@ abbrev pub is_some_word : List (List ℕ) → Bool
 is_some_word [] = false
 is_some_word (word ∷ words) = true
 
--- an effect that adds reasons, or drops some, names one at least
+-- An effect that adds or drops reasons names at least one.
 abbrev pub names_enough : Effect → Bool
 names_enough (AddReasons words) = is_some_word words
 names_enough (DropReasons words) = is_some_word words
 names_enough effect = true
 
--- ## How many bytes a code has: the kind of the effect in one byte, and its fields
+-- ## The number of bytes of a code: one byte for the kind of the effect, and its fields
 
--- a length in two bytes, and as many bytes
+-- A length in two bytes, followed by the text.
 abbrev pub text_size : List ℕ → ℕ
 text_size text = 2 + length text
 
@@ -24,11 +24,11 @@ abbrev pub texts_size : List (List ℕ) → ℕ
 texts_size [] = 0
 texts_size (text ∷ texts) = text_size text + texts_size texts
 
--- a count in two bytes, and as many texts
+-- A count in two bytes, followed by the texts.
 abbrev pub list_size : List (List ℕ) → ℕ
 list_size texts = 2 + texts_size texts
 
--- a number has four bytes, a level one
+-- A number has four bytes, a level one byte.
 abbrev pub effect_size : Effect → ℕ
 effect_size (Pages page copies) = 9
 effect_size (TotalPages pages) = 5
@@ -38,22 +38,22 @@ effect_size (DropReasons words) = 1 + list_size words
 effect_size (Attribute a) = 1 + text_size a.name + text_size a.value
 effect_size (Message level text) = 2 + text_size text
 
--- effects in turn
+-- The sum of the effects' sizes.
 abbrev pub effects_size : List Effect → ℕ
 effects_size [] = 0
 effects_size (e ∷ es) = effect_size e + effects_size es
 
 -- ## The effects of one stage
 
--- how many bytes of code they may have
+-- The maximum number of bytes of their codes.
 abbrev pub most_effect_bytes : ℕ
 most_effect_bytes = 16384
 
--- the room that is left once so many bytes have their place, if they have one
+-- The room that is left after `size` bytes, or `None` if they do not fit.
 abbrev pub room_left : ℕ → ℕ → Option ℕ
 room_left size room = cond (nat_le size room) (Some (room - size)) None
 
--- these may be the effects of one stage
+-- These may be the effects of one stage.
 pub record AreEffects (es : List Effect) : Type 0 where
   pub enough : list_all names_enough es ≡ true
   pub short : effects_size es ≤ most_effect_bytes

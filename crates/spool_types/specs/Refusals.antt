@@ -1,4 +1,4 @@
--- How a refusal is told: its number and its name.
+-- The numbers and names of refusals.
 use Rattle.std.specs.Prelude.{ℕ, List, codes}
 use Rattle.spool_types.specs.declared.refusal.Refusal.{Refusal}
 use Rattle.spool_types.specs.declared.refusal.Refusal.TheVariants.{NoQueue, QueueExists, TooManyQueues, NotAccepting, NoJob, NotIncoming, TooLong, OldNumber, NoNumberLeft, JobEnded, NotWaiting, NotNext, NotProcessing, WrongStage, NotHeld, NotEnded, NeedsCheckpoint}

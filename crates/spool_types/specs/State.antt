@@ -1,5 +1,5 @@
--- What the spooler knows: its queues, its jobs, the highest number given, and the moment now. The documents of jobs are
--- no part of it: no event is accepted, refused or answered by their bytes.
+-- The state of the spooler: its queues, its jobs, the highest job number that was assigned, and the current moment. The
+-- bytes of documents are not part of it, since no event is accepted, refused or answered depending on them.
 use Rattle.std.specs.Prelude.{ℕ, List, Option}
 use Rattle.std.specs.Ordering.{nat_cmp}
 use Rattle.std.specs.Cmp.Lexicographic.{slice_cmp}
@@ -10,7 +10,7 @@ use Rattle.spool_types.specs.declared.rows.Job.{Job as JobRecord}
 use Rattle.spool_types.specs.declared.version.Version.{Version}
 use Rattle.spool_types.specs.declared.version.Version.TheVariants.{Two}
 
--- a job, without where its document lies
+-- A job without the extents of its document.
 abbrev pub Job : Type 0
 Job = JobRecord
 
@@ -23,7 +23,7 @@ Queues = map.FinMap (slice_cmp nat_cmp) QueueRow
 abbrev pub Jobs : Type 0
 Jobs = map.FinMap nat_cmp Job
 
--- a table: queues by their names and jobs by their numbers, and the version of the area that it is written in
+-- A table: queues by name and jobs by number, and the version of the area that contains it.
 pub record State : Type 0 where
   pub queues : Queues
   pub jobs : Jobs
@@ -31,7 +31,7 @@ pub record State : Type 0 where
   pub moment : ℕ
   pub version : Version
 
--- the empty table, as an area of this version begins
+-- The empty table with which an area of this version begins.
 abbrev pub nothing_in : Version → State
 nothing_in version = record { queues = map.empty; jobs = map.empty; highest = 0; moment = 0; version = version }
 

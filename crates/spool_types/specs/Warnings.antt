@@ -1,4 +1,4 @@
--- How the kind of a warning is told.
+-- The names of the kinds of warnings.
 use Rattle.std.specs.Prelude.{ℕ, List, codes}
 use Rattle.spool_types.specs.declared.warning.WarningKind.{WarningKind}
 use Rattle.spool_types.specs.declared.warning.WarningKind.TheVariants.{BadType, BadRule, UnknownRule, BadNumber, BadText, BadLine}

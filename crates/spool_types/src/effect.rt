@@ -1,21 +1,21 @@
-//! How a child ended, and what it said on standard error.
+//! How a child ended, and the effects of its standard error.
 use crate::items::Words;
 use crate::kinds::{AttributeName, Message};
 
 /// How a child ended.
 #[derive(Clone, Copy, Debug, PartialEq, Eq)]
 pub enum Exit {
-    /// By itself, with this status (backend(7) names 0 to 7).
+    /// With this exit status (backend(7) names 0 to 7).
     Code(u8),
     /// By a signal.
     Signal,
     /// It was never started.
     NoStart,
-    /// Its end or its output is not known.
+    /// Its end or its output is unknown.
     Lost,
 }
 
-/// How urgent a message is (filter(7)).
+/// The severity of a message (filter(7)).
 #[derive(Clone, Copy, Debug, PartialEq, Eq)]
 pub enum Level {
     Emergency,
@@ -34,21 +34,21 @@ pub struct Attribute {
     pub value: Message,
 }
 
-/// What a line of a child's standard error does (filter(7)).
+/// The effect of a line of a child's standard error (filter(7)).
 #[derive(Debug, Drop)]
 pub enum Effect {
     /// `PAGE: page copies` adds the copies to the job's pages.
     Pages { page: u32, copies: u32 },
-    /// `PAGE: total pages` sets them.
+    /// `PAGE: total pages` sets the job's pages.
     TotalPages(u32),
     /// `STATE: word,..` sets the queue's reasons.
     SetReasons(Words),
-    /// `STATE: +word,..` adds to them.
+    /// `STATE: +word,..` adds reasons.
     AddReasons(Words),
-    /// `STATE: -word,..` takes from them.
+    /// `STATE: -word,..` removes reasons.
     DropReasons(Words),
     /// `ATTR: name=value` sets an attribute of the queue.
     Attribute(Attribute),
-    /// `ERROR: text` and the like set the queue's message.
+    /// `ERROR: text` and similar lines set the queue's message.
     Message { level: Level, text: Message },
 }

@@ -10,7 +10,7 @@ use std::alloc::Global;
 use std::marker::Model;
 
 impl Effect {
-    /// How many bytes of the room are left once the effect's code has its place, if it has one.
+    /// Returns the number of bytes of `room` that are left after the effect's code, or `None` if the code does not fit.
     pub fn room_after(&self, room: usize) -> Option<usize>
         ensures { result ≡ room_left (effect_size self.now) room }
     {
@@ -28,7 +28,7 @@ impl Effect {
         }
     }
 
-    // Whether it names a reason, where it adds reasons or drops some.
+    // Returns whether the effect names a reason, or neither adds nor drops reasons.
     fn names_enough(&self) -> bool
         ensures { result ≡ names_enough self.now }
     {
@@ -39,7 +39,7 @@ impl Effect {
     }
 }
 
-// How many bytes of the room are left behind the codes of reasons.
+// Returns the number of bytes of `room` that are left after the codes of the reasons, or `None` if they do not fit.
 fn room_after_words(room: usize, words: &[Reason]) -> Option<usize>
     ensures { result ≡ room_left (texts_size words.now) room }
 {
@@ -56,7 +56,7 @@ fn room_after_text(room: usize, text: &str) -> Option<usize>
     room.checked_sub(2)?.checked_sub(text.len())
 }
 
-// How many bytes of the room are left behind the codes of effects.
+// Returns the number of bytes of `room` that are left after the codes of the effects, or `None` if they do not fit.
 fn room_after_all(room: usize, effects: &[Effect]) -> Option<usize>
     ensures { result ≡ room_left (effects_size effects.now) room }
 {
@@ -67,7 +67,7 @@ fn room_after_all(room: usize, effects: &[Effect]) -> Option<usize>
     Some(left)
 }
 
-// Whether they may be the effects of one stage.
+// Returns whether these may be the effects of one stage.
 fn are_effects(effects: &[Effect]) -> bool
     ensures yes { IsTrue result → AreEffects effects.now }
     ensures no { result ≡ false → ¬ AreEffects effects.now }
@@ -87,8 +87,8 @@ fn have_room(effects: &[Effect]) -> bool
     room_after_all(Effects::MOST_BYTES, effects).is_some()
 }
 
-/// The effects of one stage in the order of their lines, seen as a list: those that add reasons or drop some name one at
-/// least, and their codes have at most 16,384 bytes.
+/// The effects of one stage, in the order of their lines. Its value in contracts is a list. Each effect that adds or
+/// drops reasons names at least one reason, and the codes have at most 16,384 bytes in total.
 #[derive(Drop)]
 pub struct Effects {
     effects: Items<Effect, 16_384>,
@@ -109,10 +109,10 @@ impl Model for Effects {
 }
 
 impl Effects {
-    /// How many bytes of code the effects of one stage may have.
+    /// The maximum number of code bytes of the effects of one stage.
     pub const MOST_BYTES: usize = 16_384;
 
-    /// The effects, or the `Vec` again where they can't be those of one stage. It takes no memory.
+    /// Returns the effects, or the `Vec` as an error if they cannot be those of one stage. It allocates nothing.
     pub fn new(effects: Vec<Effect>) -> Result<Effects, Vec<Effect>>
         ensures sound { IsOk result ↔ AreEffects effects.items }
         ensures value { IfOk result (λ list. list ≡ effects.items) }
@@ -121,12 +121,12 @@ impl Effects {
         if !are_effects(&effects) {
             return Err(effects);
         }
-        // Each code has a byte at least, so there aren't more effects than bytes.
+        // Each code has at least one byte, so the number of effects is at most the number of bytes.
         let effects = Items::new(effects)?;
         Ok(Effects { effects })
     }
 
-    /// No effects, which takes no memory.
+    /// Returns no effects. It allocates nothing.
     pub fn empty(alloc: Global) -> Effects
         ensures { result ≡ [] }
     {
@@ -135,7 +135,7 @@ impl Effects {
         }
     }
 
-    /// The effects in order.
+    /// Returns the effects in order.
     pub fn as_slice(&self) -> &[Effect]
         ensures value { result.now ≡ self.now }
         ensures sound { AreEffects self.now }
@@ -143,7 +143,7 @@ impl Effects {
         self.effects.as_slice()
     }
 
-    /// The effects as they were given.
+    /// Returns the effects as they were passed to `new`.
     pub fn into_vec(self) -> Vec<Effect>
         ensures value { result.items ≡ self }
         ensures sound { AreEffects result.items }
@@ -151,7 +151,7 @@ impl Effects {
         self.effects.into_vec()
     }
 
-    /// How many bytes of code they have.
+    /// Returns the number of bytes of their codes.
     pub fn code_len(&self) -> usize
         ensures value { result ≡ effects_size self.now }
         ensures short { result ≤ most_effect_bytes }

@@ -1,4 +1,4 @@
-//! Events, and what they are answered.
+//! Events, and the replies to them.
 use crate::effect::Exit;
 use crate::effects::Effects;
 use crate::items::{Filters, Piece};
@@ -8,7 +8,7 @@ use crate::numbers::{JobId, Moment};
 use crate::phase::{Phase, Policy};
 use crate::ranged::{AttemptNumber, Copies, Interval, Priority, StageNumber};
 
-/// A queue to be made.
+/// A queue to be added.
 #[derive(Drop)]
 pub struct NewQueue {
     pub name: QueueName,
@@ -19,7 +19,7 @@ pub struct NewQueue {
     pub limit: u16,
 }
 
-/// What is told of a queue (printer-info and printer-location, RFC 8011).
+/// Descriptions of a queue (printer-info and printer-location, RFC 8011).
 #[derive(Drop)]
 pub struct QueueNotes {
     pub queue: QueueName,
@@ -27,7 +27,7 @@ pub struct QueueNotes {
     pub location: Note,
 }
 
-/// A job to be made.
+/// A job to be created.
 #[derive(Drop)]
 pub struct NewJob {
     pub queue: QueueName,
@@ -39,7 +39,8 @@ pub struct NewJob {
     pub options: OptionText,
 }
 
-/// The end of a document: its media type, and the filters to the queue's target, if any lead there.
+/// The end of a document: its media type, and the filters that convert it to the queue's target, or `None` if no
+/// filters do.
 #[derive(Drop)]
 pub struct Closing {
     pub job: JobId,
@@ -54,10 +55,10 @@ pub struct StageEnd {
     pub attempt: AttemptNumber,
     pub stage: StageNumber,
     pub exit: Exit,
-    /// How many effects of standard error were left out, since those before them had as many bytes of code as one stage
-    /// may have.
+    /// The number of effects of standard error that were dropped because the codes of one stage's effects have a
+    /// maximum size (`Effects::MOST_BYTES`).
     pub dropped: u32,
-    /// What its child's standard error does to the job and its queue.
+    /// The effects of the child's standard error on the job and its queue.
     pub effects: Effects,
 }
 
@@ -65,42 +66,43 @@ pub struct StageEnd {
 #[derive(Drop)]
 pub enum Event {
     AddQueue(NewQueue),
-    /// Sets what is told of a queue.
+    /// Sets the descriptions of a queue.
     Info(QueueNotes),
-    /// Opens a queue to new jobs, or closes it (cupsaccept(8)).
+    /// Makes a queue accept or reject new jobs (cupsaccept(8)).
     SetAccept { queue: QueueName, accepting: bool },
-    /// Stops a queue, or lets it go on (cupsenable(8)).
+    /// Stops a queue, or starts it again (cupsenable(8)).
     SetStop { queue: QueueName, stopped: bool },
     Create(NewJob),
-    /// Makes a job that is to start by a moment: a clock behind it cancels the job where it still waits then.
+    /// Creates a job that must start by a moment. A `Clock` event after that moment cancels the job if it is still
+    /// waiting.
     CreateBy { job: NewJob, by: Moment },
     Send { job: JobId, bytes: Piece },
     Close(Closing),
-    /// Holds a job until a moment has come, or with none until it is released.
+    /// Holds a job until a moment, or with `None` until it is released.
     Hold { job: JobId, until: Option<Moment> },
     Release(JobId),
     Cancel(JobId),
     Clock(Moment),
     /// Begins a job's next attempt.
     Start(JobId),
-    /// Tells the end of a stage.
+    /// Reports the end of a stage.
     Stage(StageEnd),
-    /// Gives up an attempt: its queue's error policy decides (ErrorPolicy, cupsd.conf(5)).
+    /// Abandons an attempt. The queue's error policy decides what happens to the job (ErrorPolicy, cupsd.conf(5)).
     Abandon(JobId),
-    /// Gives up every attempt, as the spooler was started anew.
+    /// Abandons every attempt, because the spooler was restarted.
     Reopen,
-    /// Takes the row of an ended job away. Its number isn't given again.
+    /// Removes the row of an ended job. Its number is not assigned again.
     Purge(JobId),
 }
 
-/// What an accepted event is answered.
+/// The reply to an accepted event.
 #[derive(Clone, Copy, Debug, PartialEq, Eq)]
 pub enum Reply {
     Done,
     /// The number of a new job.
     Number(JobId),
-    /// The size of a document, in bytes.
+    /// The size of a document in bytes.
     Size(u32),
-    /// The phase that a job is in now.
+    /// The job's phase after the event.
     Phase(Phase),
 }

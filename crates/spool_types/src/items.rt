@@ -1,4 +1,4 @@
-//! Lists of at most so many items.
+//! Lists with a maximum length.
 ghost use Rattle.std.specs.Prelude.{◌≡◌, ◌≤◌, ◌↔◌, [], length, IfOk, IfErr, IsOk};
 
 use crate::effect::Attribute;
@@ -7,7 +7,7 @@ use crate::limits::{LONGEST_SEND, MOST_KEPT};
 use std::alloc::{AllocError, Global};
 use std::marker::Model;
 
-/// At most `MOST` items in order, seen as a list.
+/// At most `MOST` items in order. Its value in contracts is a list.
 #[derive(Clone, Debug, Drop)]
 pub struct Items<T, const MOST: usize> {
     items: Vec<T>,
@@ -24,7 +24,7 @@ impl<T, const MOST: usize> Model for Items<T, MOST> {
 }
 
 impl<T, const MOST: usize> Items<T, MOST> {
-    /// The items, or the `Vec` again where it has more than `MOST`. It takes no memory.
+    /// Returns the items, or the `Vec` as an error if it has more than `MOST` items. It allocates nothing.
     pub fn new(items: Vec<T>) -> Result<Items<T, MOST>, Vec<T>>
         ensures short { IsOk result ↔ (length items.items ≤ MOST) }
         ensures value { IfOk result (λ list. list ≡ items.items) }
@@ -37,7 +37,7 @@ impl<T, const MOST: usize> Items<T, MOST> {
         }
     }
 
-    /// No items, which takes no memory.
+    /// Returns no items. It allocates nothing.
     pub fn empty(alloc: Global) -> Items<T, MOST>
         ensures { result ≡ [] }
     {
@@ -46,7 +46,7 @@ impl<T, const MOST: usize> Items<T, MOST> {
         }
     }
 
-    /// The items in order.
+    /// Returns the items in order.
     pub fn as_slice(&self) -> &[T]
         ensures value { result.now ≡ self.now }
         ensures short { length self.now ≤ MOST }
@@ -54,7 +54,7 @@ impl<T, const MOST: usize> Items<T, MOST> {
         &self.items
     }
 
-    /// The items as they were given.
+    /// Returns the items as they were passed to `new`.
     pub fn into_vec(self) -> Vec<T>
         ensures value { result.items ≡ self }
         ensures short { length result.items ≤ MOST }

@@ -1,4 +1,4 @@
-//! The kinds of texts: what each may hold. Lengths are in bytes of UTF-8.
+//! The kinds of texts, with the bytes that each may contain. Lengths are in bytes of UTF-8.
 ghost use Rattle.std.specs.Prelude.{◌≡◌};
 ghost use Rattle.std.specs.List.{list_all};
 ghost use Rattle.std.specs.Str.{str_to_ascii_lowercase};
@@ -6,10 +6,10 @@ ghost use Rattle.spool_types.specs.Values.{is_plain, is_printable, is_graphic, i
 
 use crate::text::{Text, TextKind};
 
-/// The kind of a user's name: 1 to 255 bytes, no control character.
+/// The kind of a user's name: 1 to 255 bytes, no control characters.
 pub struct UserNameKind;
 
-/// Who a job is for.
+/// The user who printed a job.
 pub type UserName = Text<UserNameKind>;
 
 impl TextKind for UserNameKind {
@@ -20,10 +20,10 @@ impl TextKind for UserNameKind {
     }
 }
 
-/// The kind of a title: up to 255 bytes, no control character.
+/// The kind of a title: up to 255 bytes, no control characters.
 pub struct TitleKind;
 
-/// What a job is called.
+/// The title of a job.
 pub type Title = Text<TitleKind>;
 
 impl TextKind for TitleKind {
@@ -34,7 +34,7 @@ impl TextKind for TitleKind {
     }
 }
 
-/// The kind of a job's options: up to 2,048 bytes, no control character.
+/// The kind of a job's options: up to 2,048 bytes, no control characters.
 pub struct OptionTextKind;
 
 /// A job's options as one text, the fifth argument of a filter (filter(7)).
@@ -48,10 +48,10 @@ impl TextKind for OptionTextKind {
     }
 }
 
-/// The kind of a note: up to 127 bytes, no control character.
+/// The kind of a note: up to 127 bytes, no control characters.
 pub struct NoteKind;
 
-/// What is told of a queue: its printer-info or its printer-location.
+/// A description of a queue: its printer-info or its printer-location.
 pub type Note = Text<NoteKind>;
 
 impl TextKind for NoteKind {
@@ -76,10 +76,10 @@ impl TextKind for MessageKind {
     }
 }
 
-/// The kind of a document's name: up to 4,096 bytes, no control character.
+/// The kind of a document's name: up to 4,096 bytes, no control characters.
 pub struct FileNameKind;
 
-/// The name of a document, by which it is typed.
+/// The name of a document, from which its media type is detected.
 pub type FileName = Text<FileNameKind>;
 
 impl TextKind for FileNameKind {
@@ -90,10 +90,10 @@ impl TextKind for FileNameKind {
     }
 }
 
-/// The kind of a device's URI: 1 to 1,023 bytes of ASCII without blanks.
+/// The kind of a device's URI: 1 to 1,023 bytes of printable ASCII without spaces.
 pub struct UriKind;
 
-/// A device's URI as it was given.
+/// A device's URI, unchanged.
 pub type Uri = Text<UriKind>;
 
 impl TextKind for UriKind {
@@ -132,7 +132,7 @@ impl TextKind for FilterNameKind {
     }
 }
 
-/// The kind of a reason: 1 to 127 letters, digits, `-`, `_` and `.`, and not `none`.
+/// The kind of a reason: 1 to 127 letters, digits, `-`, `_` and `.`, except `none`.
 pub struct ReasonKind;
 
 /// A word of a queue's printer-state-reasons.
@@ -265,14 +265,14 @@ fn has_only_word_bytes(text: &str) -> bool
     text.as_bytes().iter().all(|b| is_word_byte(*b))
 }
 
-/// Whether a text is of lower-case letters, digits and `!#$&^_.+-`.
+/// Returns whether a text consists of lower-case letters, digits and `!#$&^_.+-`.
 pub fn has_only_media_bytes(text: &str) -> bool
     ensures { result ≡ list_all is_media_byte text.now }
 {
     text.as_bytes().iter().all(|b| is_media_byte(*b))
 }
 
-/// Whether a text is so once its capitals are folded.
+/// Returns whether a text consists of these bytes after its capitals are converted to lower case.
 pub fn folds_to_media_bytes(text: &str) -> bool
     ensures { result ≡ list_all is_media_byte (str_to_ascii_lowercase text.now) }
 {

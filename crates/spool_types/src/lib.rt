@@ -1,28 +1,44 @@
-//! The words of the spooler: texts, numbers, rows, phases, effects, events, replies, refusals, warnings and versions.
+//! The data types of the spooler: texts, numbers, rows, phases, effects, events, replies, refusals, warnings and versions.
 //!
-//! Every other crate speaks in these types, so what a value may be is said here once, by its type. A text of a kind
-//! ([`Text`]) passes its kind's test, a number ([`Ranged`], [`JobId`], [`Moment`]) lies in its range, and a list
-//! ([`Items`]) has no more items than its type says. A clause sees a text as the list of its bytes, a number as a number, and a
-//! list as a list, so a row or an event is in a clause the record that it is in the code.
+//! All other crates use these types. A type states the limits of a single value; `IsLegal` of `job_table` states all other
+//! conditions of a legal table. A text ([`Text`]) passes the test of its kind, a number ([`Ranged`], [`JobId`], [`Moment`]) is in
+//! its range, and a list ([`Items`]) has at most the number of items that its type states. Each kind of text, for example a queue
+//! name, a user name, a title or a URI, is a `Text<K>`. A further kind needs a type with one function and one definition.
 //!
-//! Beside the types, `specs/` has the definitions that the crates above share:
+//! In a contract a text is the list of its bytes, a number is a number, and a list is a list. So a row or an event in a contract
+//! is the same record as in the code.
 //!
-//! - `Values`, `Limits`: what texts may hold, and how much of each thing there may be.
-//! - `Effects`: which effects one stage may have, and how long their codes are.
+//! `specs/` has the definitions that the other crates share:
+//!
+//! - `Values`, `Limits`: the bytes that texts may contain, and the maximum of each number and count.
+//! - `Effects`: the effects that one stage may have, and the size of their codes.
 //! - `Phases`: which phases have ended, which hold is in force, and how a job is shown.
-//! - `State`: a table of queues and jobs, and the version of the area that it is written in. `Busy`: whether a job of a queue
-//!   is processing.
-//! - `Sent`: the bytes of documents, which are no part of a table: they are what events sent, and what rows have as pieces.
-//! - `Refusals`, `Warnings`: how a refusal and the kind of a warning are told.
+//! - `State`: a table of queues and jobs, and the version of the area that contains it. `Busy`: whether a job of a queue is
+//!   processing.
+//! - `Sent`: the bytes of documents. They are not part of a table: events send them, and rows have them as pieces.
+//! - `Refusals`, `Warnings`: the numbers and names of refusals, and the names of the kinds of warnings.
 //!
-//! What an event does to a table is said in `job_table`, what becomes of a job whose child ended in `backend_codes`, and
-//! which job is next in `queue_sched`.
+//! `job_table` defines how an event changes a table, `backend_codes` what happens to a job after its child ends, and
+//! `queue_sched` which job is next.
+//!
+//! # Types
+//!
+//! - A [`Job`] has the fields of a job. A [`JobRow`] of the table is a `Job` and the extents of its document; a row of a listing
+//!   is the `Job` alone.
+//! - `JobRow::document` is a `Vec<Extent>`, not `Items`, because a contract must see its capacity: `commit` of `job_table`
+//!   allocates nothing.
+//! - The attempt and the stage of a `Stage` event have types of their own ([`AttemptNumber`], [`StageNumber`]), so every event
+//!   has a spelling (`event_codec`).
 //!
 //! # Promises
 //!
-//! - *ExactValues*: [`JobId::new`], [`Moment::new`], [`Moment::plus`], [`Ranged::new`], [`Items::new`], [`Text::read`] and
-//!   [`MediaType::read`] take exactly the values that their clauses name.
-//! - Out of memory comes only where a text is copied, and then nothing has changed.
+//! - [`JobId::new`], [`Moment::new`], [`Moment::plus`], [`Ranged::new`], [`Items::new`], [`Text::read`] and [`MediaType::read`]
+//!   accept exactly the values that their clauses name.
+//! - [`MediaType::read`] converts capitals to lower case (`value`). `MediaName::read` accepts lower case only.
+//!
+//! # Errors
+//!
+//! Memory can run out only while a value is copied. Then nothing has changed.
 #![tactic(auto)]
 
 mod effect;

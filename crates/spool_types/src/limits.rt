@@ -1,13 +1,13 @@
-//! How much of each thing there may be.
+//! Maximum numbers of queues, bytes, reasons and attributes.
 
-/// How many queues a table has.
+/// The maximum number of queues in a table.
 pub const MOST_QUEUES: usize = 64;
 
-/// How many bytes a job's document has.
+/// The maximum number of bytes of a job's document.
 pub const LONGEST_DOCUMENT: usize = 16_777_216;
 
-/// How many bytes one send takes.
+/// The maximum number of bytes of one send.
 pub const LONGEST_SEND: usize = 65_536;
 
-/// How many reasons, and how many attributes, a queue keeps.
+/// The maximum number of reasons, and of attributes, of a queue.
 pub const MOST_KEPT: usize = 64;

@@ -1,14 +1,14 @@
-//! The rows that a checkpoint lists.
+//! The rows of a checkpoint's listing.
 use crate::items::Piece;
 use crate::numbers::{JobId, Moment};
 use crate::rows::{Job, QueueRow};
 
-/// What a listing begins with.
+/// The first row of a listing.
 #[derive(Clone, Copy, Debug, PartialEq, Eq)]
 pub struct Head {
-    /// The highest number that a job was given, or 0.
+    /// The highest job number that was assigned, or 0.
     pub highest: u32,
-    /// The moment now.
+    /// The current moment.
     pub moment: Moment,
 }
 
@@ -17,8 +17,8 @@ pub struct Head {
 pub enum Row {
     Head(Head),
     Queue(QueueRow),
-    /// A job, whose document's pieces follow it.
+    /// A job. The pieces of its document follow it.
     Job(Job),
-    /// A part of the document of the job before it. All but a document's last part have 65,536 bytes.
+    /// A part of the document of the preceding job. All parts of a document except the last have 65,536 bytes.
     Piece { job: JobId, bytes: Piece },
 }

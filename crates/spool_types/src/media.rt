@@ -9,8 +9,8 @@ use crate::text::{Text, TextFault, TextKind};
 use std::alloc::{AllocError, Global};
 use std::marker::Model;
 
-/// The kind of a media type in lower case: a type, a slash and a subtype, at most 255 bytes. Each part is of lower-case
-/// letters, digits and `!#$&^_.+-` (RFC 6838).
+/// The kind of a media type in lower case: a type, a slash and a subtype, at most 255 bytes. Each part consists of
+/// lower-case letters, digits and `!#$&^_.+-` (RFC 6838).
 pub struct MediaTypeKind;
 
 /// The text of a media type.
@@ -36,14 +36,14 @@ fn is_part(text: &str) -> bool
     1 <= text.len() && text.len() <= 255 && has_only_media_bytes(text)
 }
 
-// Whether a text is a media type once its capitals are folded.
+// Returns whether a text is a media type after its capitals are converted to lower case.
 fn folds_to_media_type(text: &str) -> bool
     ensures { result ≡ is_media_type (str_to_ascii_lowercase text.now) }
 {
     folds_to_two_parts(text)
 }
 
-// Its slash is in the same place then.
+// The conversion does not move the slash.
 fn folds_to_two_parts(text: &str) -> bool
     ensures { result ≡ (nat_le (length text.now) 255
         && list_any is_slash text.now
@@ -82,7 +82,7 @@ impl Model for MediaType {
 }
 
 impl MediaType {
-    /// Reads a media type. Capitals stand for their small letters, and no memory is taken where it is none.
+    /// Reads a media type, and converts capitals to lower case. It allocates nothing if the text is not a media type.
     pub fn read(alloc: Global, text: &str) -> Result<MediaType, TextFault>
         ensures value { IfOk result (λ media. media ≡ str_to_ascii_lowercase text.now) }
         ensures allowed { OnOk result (IsTrue (is_media_type (str_to_ascii_lowercase text.now))) }
@@ -96,7 +96,8 @@ impl MediaType {
         })
     }
 
-    /// The media type that a word is, if it is one.
+    /// Returns the media type that the word is, or `None` if it is not a media type. Capitals are converted to lower
+    /// case.
     pub fn from_word(alloc: Global, word: &[u8]) -> Result<Option<MediaType>, AllocError>
         ensures { IfOk result (λ media. media ≡ media_in word.now) }
     {
@@ -110,14 +111,14 @@ impl MediaType {
         }
     }
 
-    /// Takes a text that is in lower case already.
+    /// Converts a text that is already in lower case.
     pub fn from_name(name: MediaName) -> MediaType
         ensures { result ≡ name }
     {
         MediaType { name }
     }
 
-    /// The media type in lower case.
+    /// Returns the media type in lower case.
     pub fn as_str(&self) -> &str
         ensures value { result.now ≡ self.now }
         ensures allowed { IsTrue (is_media_type self.now) }

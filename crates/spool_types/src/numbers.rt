@@ -1,4 +1,4 @@
-//! Numbers of jobs, and moments.
+//! Job numbers and moments.
 ghost use Rattle.std.specs.Prelude.{◌≡◌, ◌+◌, ◌≤◌, ◌↔◌, min, IsSome, IfSome};
 ghost use Rattle.spool_types.specs.Limits.{greatest_number, greatest_moment};
 
@@ -24,10 +24,10 @@ impl Model for JobId {
 }
 
 impl JobId {
-    /// The greatest number of a job.
+    /// The greatest job number.
     pub const GREATEST: u32 = 2_147_483_647;
 
-    /// The number, from 1 to 2,147,483,647.
+    /// Returns the number if it is from 1 to 2,147,483,647.
     pub fn new(number: u32) -> Option<JobId>
         ensures in_range { IsSome result ↔ ((1 ≤ number) × (number ≤ greatest_number)) }
         ensures value { IfSome result (λ id. id ≡ number) }
@@ -39,7 +39,7 @@ impl JobId {
         }
     }
 
-    /// The number itself.
+    /// Returns the number.
     pub fn get(self) -> u32
         ensures value { result ≡ self }
         ensures at_least { 1 ≤ result }
@@ -49,7 +49,7 @@ impl JobId {
     }
 }
 
-/// A moment: seconds from a beginning that the clock of the script sets.
+/// A point in time: seconds since an origin that the clock of the script defines.
 #[derive(Clone, Copy, Debug, PartialEq, Eq, PartialOrd, Ord)]
 pub struct Moment {
     seconds: u64,
@@ -69,13 +69,13 @@ impl Model for Moment {
 }
 
 impl Moment {
-    /// The beginning.
+    /// The origin.
     pub const ZERO: Moment = Moment { seconds: 0 };
 
     /// The greatest moment, in seconds.
     pub const GREATEST: u64 = 4_000_000_000_000;
 
-    /// The moment of so many seconds, at most 4,000,000,000,000.
+    /// Returns the moment after this number of seconds, if it is at most 4,000,000,000,000.
     pub fn new(seconds: u64) -> Option<Moment>
         ensures in_range { IsSome result ↔ (seconds ≤ greatest_moment) }
         ensures value { IfSome result (λ moment. moment ≡ seconds) }
@@ -87,7 +87,7 @@ impl Moment {
         }
     }
 
-    /// The moment so many seconds later, or the greatest.
+    /// Returns the moment that is this number of seconds later, or the greatest moment if that is earlier.
     pub fn plus(self, seconds: u64) -> Moment
         ensures { result ≡ min (self + seconds) greatest_moment }
     {
@@ -96,7 +96,7 @@ impl Moment {
         }
     }
 
-    /// The seconds themselves.
+    /// Returns the number of seconds.
     pub fn get(self) -> u64
         ensures value { result ≡ self }
         ensures at_most { result ≤ greatest_moment }

@@ -1,10 +1,10 @@
-//! Phases of a job, what holds it, and what a queue does with a job that fails.
+//! Phases and holds of a job, and the error policies of a queue.
 ghost use Rattle.std.specs.Prelude.{◌≡◌};
 ghost use Rattle.spool_types.specs.Phases.{has_ended, is_incoming, is_waiting, is_processing, hold_of, is_in_force, with_hold, hold_until, job_state, job_reason, policy_word, hold_reason_word, hold_word, abort_reason_word, waiting_word};
 
 use crate::numbers::Moment;
 
-/// What a queue does with a job whose backend failed (ErrorPolicy, cupsd.conf(5)).
+/// What a queue does with a job after its backend failed (ErrorPolicy, cupsd.conf(5)).
 #[derive(Clone, Copy, Debug, PartialEq, Eq)]
 pub enum Policy {
     AbortJob,
@@ -14,7 +14,7 @@ pub enum Policy {
 }
 
 impl Policy {
-    /// The word that stands for the policy.
+    /// Returns the name of the policy.
     pub fn word(self) -> &'static str
         ensures { result.now ≡ policy_word self }
     {
@@ -32,14 +32,14 @@ impl Policy {
 pub enum HoldReason {
     /// A command held it.
     Unspecified,
-    /// Its backend wants credentials.
+    /// Its backend requires credentials.
     Authentication,
-    /// Its backend asked to hold it.
+    /// Its backend requested the hold.
     Backend,
 }
 
 impl HoldReason {
-    /// The word that is shown for the reason.
+    /// Returns the word that is shown for the reason.
     pub fn word(self) -> &'static str
         ensures { result.now ≡ hold_reason_word self }
     {
@@ -56,16 +56,16 @@ impl HoldReason {
 pub enum AbortReason {
     FilterFailed,
     BackendFailed,
-    /// It was started as often as its queue allows.
+    /// It was started as many times as its queue allows.
     RetryLimit,
-    /// Nobody saw the attempt end: the spooler ended while the job was processing, or the job was abandoned.
+    /// The end of the attempt was not seen: the spooler ended while the job was processing, or the job was abandoned.
     AttemptLost,
-    /// No filters lead from its media type to the queue's.
+    /// No filters convert its media type to the queue's.
     NoFilter,
 }
 
 impl AbortReason {
-    /// The word that is shown for the reason.
+    /// Returns the word that is shown for the reason.
     pub fn word(self) -> &'static str
         ensures { result.now ≡ abort_reason_word self }
     {
@@ -79,18 +79,18 @@ impl AbortReason {
     }
 }
 
-/// What holds a job back.
+/// Whether and until when a job is held.
 #[derive(Clone, Copy, Debug, PartialEq, Eq)]
 pub enum Hold {
     Free,
     /// Until it is released.
     Indefinite(HoldReason),
-    /// Until a moment has come.
+    /// Until a moment.
     Until(Moment),
 }
 
 impl Hold {
-    /// The hold by a command: until a moment, or with none until the job is released.
+    /// Returns the hold that a command sets: until a moment, or with `None` until the job is released.
     pub fn until(moment: Option<Moment>) -> Hold
         ensures { result ≡ hold_until moment }
     {
@@ -100,7 +100,7 @@ impl Hold {
         }
     }
 
-    /// Whether the hold is in force at the moment now.
+    /// Returns whether the hold is in force at the moment `now`.
     pub fn is_in_force(self, now: Moment) -> bool
         ensures { result ≡ is_in_force now self }
     {
@@ -111,7 +111,7 @@ impl Hold {
         }
     }
 
-    /// The word that is shown while the hold is in force.
+    /// Returns the word that is shown while the hold is in force.
     pub fn word(&self) -> &'static str
         ensures { result.now ≡ hold_word self.now }
     {
@@ -123,18 +123,19 @@ impl Hold {
     }
 }
 
-/// Where a job is on its way.
+/// The phase of a job.
 #[derive(Clone, Copy, Debug, PartialEq, Eq)]
 pub enum Phase {
-    /// Its document is coming.
+    /// Its document is being sent.
     Incoming(Hold),
-    /// It is closed, and not tried before a moment. One that is marked first goes before all others.
+    /// The job is closed, and is not started before the moment `not_before`. A job with `first` set precedes all
+    /// others.
     Waiting {
         hold: Hold,
         not_before: Moment,
         first: bool,
     },
-    /// Stage `stage` of `stages` of an attempt runs; attempts and stages count from 1.
+    /// Stage `stage` of `stages` of an attempt is running. Attempts and stages count from 1.
     Processing {
         attempt: u32,
         stage: u8,
@@ -146,35 +147,35 @@ pub enum Phase {
 }
 
 impl Phase {
-    /// Whether the job was completed, canceled or aborted.
+    /// Returns whether the job was completed, canceled or aborted.
     pub fn has_ended(self) -> bool
         ensures { result ≡ has_ended self }
     {
         matches!(self, Phase::Completed | Phase::Canceled | Phase::Aborted(_))
     }
 
-    /// Whether the job's document is coming.
+    /// Returns whether the job's document is being sent.
     pub fn is_incoming(self) -> bool
         ensures { result ≡ is_incoming self }
     {
         matches!(self, Phase::Incoming(_))
     }
 
-    /// Whether the job is closed and isn't processing.
+    /// Returns whether the job is closed, has not ended and is not processing.
     pub fn is_waiting(self) -> bool
         ensures { result ≡ is_waiting self }
     {
         matches!(self, Phase::Waiting { .. })
     }
 
-    /// Whether a stage of the job runs.
+    /// Returns whether a stage of the job is running.
     pub fn is_processing(self) -> bool
         ensures { result ≡ is_processing self }
     {
         matches!(self, Phase::Processing { .. })
     }
 
-    /// The hold of an incoming or waiting job; no other has one.
+    /// Returns the hold of an incoming or waiting job, otherwise `Free`.
     pub fn hold(self) -> Hold
         ensures { result ≡ hold_of self }
     {
@@ -184,7 +185,7 @@ impl Phase {
         }
     }
 
-    /// The phase with this hold, if it is one that has a hold.
+    /// Returns an incoming or waiting phase with this hold, and any other phase unchanged.
     pub fn with_hold(self, hold: Hold) -> Phase
         ensures { result ≡ with_hold hold self }
     {
@@ -203,7 +204,7 @@ impl Phase {
         }
     }
 
-    /// The number that is shown for the phase at the moment now (job-state, RFC 8011).
+    /// Returns the number that is shown for the phase at the moment `now` (job-state, RFC 8011).
     pub fn job_state(self, now: Moment) -> u8
         ensures { result ≡ job_state now self }
     {
@@ -217,7 +218,7 @@ impl Phase {
         }
     }
 
-    /// The word that is shown beside that number (job-state-reasons, RFC 8011).
+    /// Returns the word that is shown with that number (job-state-reasons, RFC 8011).
     pub fn job_reason(&self, now: &Moment) -> &'static str
         ensures { result.now ≡ job_reason now.now self.now }
     {
@@ -236,7 +237,7 @@ impl Phase {
     }
 }
 
-// The word of a waiting job.
+// Returns the word for a waiting job.
 fn waiting_reason(now: &Moment, hold: &Hold, not_before: &Moment) -> &'static str
     ensures { result.now ≡ waiting_word now.now hold.now not_before.now }
 {

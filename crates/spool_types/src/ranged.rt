@@ -22,7 +22,7 @@ impl<const LEAST: u32, const MOST: u32> Model for Ranged<LEAST, MOST> {
 }
 
 impl<const LEAST: u32, const MOST: u32> Ranged<LEAST, MOST> {
-    /// The number, if it is in the range.
+    /// Returns the number if it is in the range.
     pub fn new(number: u32) -> Option<Ranged<LEAST, MOST>>
         ensures in_range { IsSome result ↔ ((LEAST ≤ number) × (number ≤ MOST)) }
         ensures value { IfSome result (λ ranged. ranged ≡ number) }
@@ -34,7 +34,7 @@ impl<const LEAST: u32, const MOST: u32> Ranged<LEAST, MOST> {
         }
     }
 
-    /// The number itself.
+    /// Returns the number.
     pub fn get(self) -> u32
         ensures value { result ≡ self.entry }
         ensures at_least { LEAST ≤ result }
@@ -44,17 +44,17 @@ impl<const LEAST: u32, const MOST: u32> Ranged<LEAST, MOST> {
     }
 }
 
-/// How many copies of a job are wanted, the fourth argument of a filter (filter(7)).
+/// The number of copies of a job, the fourth argument of a filter (filter(7)).
 pub type Copies = Ranged<1, 9999>;
 
-/// How urgent a job is: 100 the most (job-priority, RFC 8011).
+/// The priority of a job; 100 is the highest (job-priority, RFC 8011).
 pub type Priority = Ranged<1, 100>;
 
-/// How long a queue waits before it tries a job again, in seconds (JobRetryInterval, cupsd.conf(5)).
+/// The number of seconds that a queue waits before it tries a job again (JobRetryInterval, cupsd.conf(5)).
 pub type Interval = Ranged<0, 86400>;
 
-/// The number of an attempt at a job.
+/// The number of an attempt of a job, from 1.
 pub type AttemptNumber = Ranged<1, 4294967295>;
 
-/// The number of a stage of an attempt: at most 15 filters, and then the backend.
+/// The number of a stage of an attempt, from 1: at most 15 filters, followed by the backend.
 pub type StageNumber = Ranged<1, 16>;

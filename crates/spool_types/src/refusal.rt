@@ -11,27 +11,27 @@ pub enum Refusal {
     NotAccepting,
     NoJob,
     NotIncoming,
-    /// A document would pass its greatest length, or a send its own.
+    /// A document would exceed its maximum length, or a send would.
     TooLong,
-    /// The number isn't above the highest given.
+    /// The number is not above the highest number that was assigned.
     OldNumber,
-    /// The highest number was given.
+    /// The highest possible number was assigned.
     NoNumberLeft,
     JobEnded,
     NotWaiting,
-    /// Another job of the queue goes first, or the queue can't start one.
+    /// Another job of the queue is next, or the queue cannot start one.
     NotNext,
     NotProcessing,
-    /// The attempt or the stage isn't the one that runs.
+    /// The attempt or the stage is not the one that is running.
     WrongStage,
     NotHeld,
     NotEnded,
-    /// The journal's area is of an older version.
+    /// The journal's area has an older version.
     NeedsCheckpoint,
 }
 
 impl Refusal {
-    /// The number of the refusal in replies.
+    /// Returns the refusal's number in replies.
     pub fn number(self) -> u8
         ensures { result ≡ refusal_number self }
     {
@@ -56,7 +56,7 @@ impl Refusal {
         }
     }
 
-    /// The name of the refusal in replies.
+    /// Returns the refusal's name in replies.
     pub fn name(self) -> &'static str
         ensures { result.now ≡ refusal_name self }
     {

@@ -1,4 +1,4 @@
-//! Texts of a kind: a text that passes its kind's test.
+//! Texts of a kind. A text passes the test of its kind.
 ghost use Rattle.std.specs.Prelude.{◌≡◌, ◌↔◌, IfOk, OnOk, IsTrue, IsErrOf, false, []};
 ghost use Rattle.std.specs.String.{string_bytes};
 ghost use Rattle.spool_types.specs.Values.{text_in, folded_in};
@@ -8,13 +8,13 @@ use std::cmp::Ordering;
 use std::fmt;
 use std::marker::{Model, PhantomData};
 
-/// What a kind of text may hold.
+/// A kind of text, which determines the bytes that the text may contain.
 pub trait TextKind {
     ghost use Rattle.std.specs.Prelude.{List, ℕ, Bool, ◌≡◌};
 
     ghost allowed: { List ℕ → Bool };
 
-    /// Whether a text is of this kind.
+    /// Returns whether a text is of this kind.
     fn allows(text: &str) -> bool
         ensures { result ≡ allowed text.now };
 }
@@ -22,9 +22,9 @@ pub trait TextKind {
 /// Why a text was not read.
 #[derive(Clone, Copy, Debug, PartialEq, Eq)]
 pub enum TextFault {
-    /// The text isn't of the kind.
+    /// The text is not of this kind.
     Bad,
-    /// No memory was found for the copy.
+    /// Memory ran out.
     Memory,
 }
 
@@ -38,7 +38,7 @@ impl From<AllocError> for TextFault {
     }
 }
 
-/// A text of the kind `K`, seen as the list of its bytes.
+/// A text of the kind `K`. Its value in contracts is the list of its bytes.
 #[derive(Drop)]
 pub struct Text<K: TextKind> {
     text: String,
@@ -72,7 +72,7 @@ impl<K: TextKind> Text<K> {
         })
     }
 
-    /// The text that a word is, if it is one of this kind: bytes of UTF-8 that the kind allows.
+    /// Returns the word as a text if it is valid UTF-8 and of this kind, otherwise `None`.
     pub fn from_word(alloc: Global, word: &[u8]) -> Result<Option<Text<K>>, AllocError>
         ensures { IfOk result (λ text. text ≡ text_in K.allowed word.now) }
     {
@@ -86,7 +86,8 @@ impl<K: TextKind> Text<K> {
         }
     }
 
-    /// The text that a word is once its capitals stand for their small letters, if it is one of this kind then.
+    /// Returns the word with its capitals converted to lower case if that is valid UTF-8 and of this kind, otherwise
+    /// `None`.
     pub fn from_folded_word(alloc: Global, word: &[u8]) -> Result<Option<Text<K>>, AllocError>
         ensures { IfOk result (λ text. text ≡ folded_in K.allowed word.now) }
     {
@@ -101,7 +102,7 @@ impl<K: TextKind> Text<K> {
         }
     }
 
-    /// Takes a text of this kind as it is. It takes no memory.
+    /// Converts a string of this kind. It allocates nothing.
     pub fn from_string(text: String) -> Text<K>
         requires { IsTrue (K.allowed (string_bytes text)) }
         ensures { result ≡ string_bytes text }
@@ -112,7 +113,7 @@ impl<K: TextKind> Text<K> {
         }
     }
 
-    /// The empty text, where its kind allows it. It takes no memory.
+    /// Returns the empty text, for a kind that allows it. It allocates nothing.
     pub fn empty(alloc: Global) -> Text<K>
         requires { IsTrue (K.allowed []) }
         ensures { result ≡ [] }
@@ -123,7 +124,7 @@ impl<K: TextKind> Text<K> {
         }
     }
 
-    /// The text as it is kept.
+    /// Returns the text.
     pub fn as_str(&self) -> &str
         ensures value { result.now ≡ self.now }
         ensures allowed { IsTrue (K.allowed self.now) }

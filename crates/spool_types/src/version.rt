@@ -1,9 +1,9 @@
 //! Versions of the format.
 
-/// The version of an area, which says what its rows and events may tell.
+/// The version of an area, which determines what its rows and events may contain.
 #[derive(Clone, Copy, PartialEq, Eq)]
 pub enum Version {
     One,
-    /// Jobs may have a moment by which they are to start.
+    /// Jobs may have a moment by which they must start.
     Two,
 }

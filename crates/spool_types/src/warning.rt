@@ -2,33 +2,33 @@
 ghost use Rattle.std.specs.Prelude.{◌≡◌};
 ghost use Rattle.spool_types.specs.Warnings.{warning_name};
 
-/// A line that was skipped, and why.
+/// A skipped line, and the reason.
 #[derive(Clone, Copy, Debug, PartialEq, Eq)]
 pub struct Warning {
-    /// The number of the line, from 1. A joined line has the number of its first.
+    /// The number of the line, from 1. A joined line has the number of its first line.
     pub line: usize,
     pub kind: WarningKind,
 }
 
-/// Why a line was skipped: its first fault from left to right.
+/// Why a line was skipped: its first error from left to right.
 #[derive(Clone, Copy, Debug, PartialEq, Eq)]
 pub enum WarningKind {
-    /// A media type was wanted.
+    /// A media type was expected.
     BadType,
-    /// The list of rules isn't of the grammar.
+    /// The list of rules does not follow the grammar.
     BadRule,
     /// No rule has this name.
     UnknownRule,
-    /// A number doesn't read, or is out of its range.
+    /// A number is invalid or out of range.
     BadNumber,
-    /// A quote is left open, hexadecimal digits don't pair, or a value has another width.
+    /// A quote is not closed, hexadecimal digits are not in pairs, or a value has a different width.
     BadText,
-    /// The line hasn't the words that it should have.
+    /// The line does not have the expected words.
     BadLine,
 }
 
 impl WarningKind {
-    /// The name of the kind, as a warning shows it.
+    /// Returns the name of the kind, as warnings show it.
     pub fn name(self) -> &'static str
         ensures { result.now ≡ warning_name self }
     {

@@ -1,4 +1,4 @@
--- Lines of a text that comes in parts.
+-- Lines of a text that arrives in parts.
 use Rattle.std.proofs.Common.{◌≡◌, ◌||◌, ◌&&◌, ℕ, suc, zero, ◌+◌, ◌-◌, ◌<◌, ◌≤◌, Bool, true, false, cond, min, List, [], ◌∷◌, ◌++◌, length, map, take, drop, eqb, refl, ap, sym, ◌∙◌, arith, subst, Option, None, Some, length-append, length-take}
 use Rattle.std.proofs.lemmas.Bool.{or_parts, or_from, ne_eqb, eqb-true, and_parts}
 use Rattle.std.proofs.lemmas.List.{append_assoc, append-nil, take_all, take-append-le, length-take-le}
@@ -36,17 +36,17 @@ cr_front [] = refl
 cr_front (b ∷ []) = elim (eqb b 13) as (λ v. take (length (cond v [] (b ∷ []))) (b ∷ []) ≡ cond v [] (b ∷ [])) [ true ↦ refl | false ↦ refl ]
 cr_front (b ∷ c ∷ bs) = ap (λ l. b ∷ l) (cr_front (c ∷ bs))
 
--- a line in hand is kept as it is
+-- The current line is stored as it is.
 pub kept_held : (line : List ℕ) → length line ≤ 1023 → kept_line line ≡ without_cr line
 kept_held line short = ap without_cr (take_all 1023 line short)
 
--- ## The line in hand
+-- ## The current line
 
 onto_front-cons : (b : ℕ) (front : List ℕ) (pieces : List (List ℕ)) → onto_first b (onto_front front pieces) ≡ onto_front (b ∷ front) pieces
 onto_front-cons b front [] = refl
 onto_front-cons b front (piece ∷ pieces) = refl
 
--- bytes without a line feed stand in front of the first line
+-- Bytes without a line feed precede the first line.
 lines_front : (front text : List ℕ) → list_any is_lf front ≡ false → slice_split is_lf (front ++ text) ≡ onto_front front (slice_split is_lf text)
 lines_front [] text h = first text
   where
@@ -67,7 +67,7 @@ lines_front (b ∷ bs) text h =
 abbrev kept_effects : List ℕ → List Effect
 kept_effects line = line_effects (kept_line line)
 
--- two fronts of a line of which the same is kept
+-- Two fronts of a line that yield the same stored bytes.
 module _ (f g : List ℕ) (same : (text : List ℕ) → take 1023 (f ++ text) ≡ take 1023 (g ++ text)) where
   same_lines : (lines : List (List ℕ)) → flat_map kept_effects (onto_front f lines) ≡ flat_map kept_effects (onto_front g lines)
   same_lines [] =
@@ -79,11 +79,11 @@ module _ (f g : List ℕ) (same : (text : List ℕ) → take 1023 (f ++ text) �
   same_effects h k more =
       ap (flat_map kept_effects) (lines_front f more h) ∙ same_lines (slice_split is_lf more) ∙ ap (flat_map kept_effects) (sym (lines_front g more k))
 
--- a line feed ends the line in hand
+-- A line feed ends the current line.
 line_end : (line more : List ℕ) → list_any is_lf line ≡ false → effects_of (line ++ 10 ∷ more) ≡ line_effects (kept_line line) ++ effects_of more
 line_end line more h = ap (flat_map kept_effects) (lines_front line (10 ∷ more) h ∙ onto_front-end line (slice_split is_lf more))
 
--- so does the end of the text
+-- The end of the text does too.
 last_line : (line : List ℕ) → list_any is_lf line ≡ false → effects_of (line ++ []) ≡ line_effects (kept_line line)
 last_line line h = ap (flat_map kept_effects) (lines_front line [] h ∙ onto_front-end line []) ∙ append-nil (line_effects (kept_line line))
 
@@ -98,7 +98,7 @@ takes_none p more = refl
 pub takes_more : (p q r : Pending) (xs ys : List ℕ) → Takes p xs q → Takes q ys r → Takes p (xs ++ ys) r
 takes_more p q r xs ys first second more = ap (to_come p) (append_assoc xs ys more) ∙ first (ys ++ more) ∙ second more
 
--- a line feed
+-- A line feed.
 pub takes_lf : (line : List ℕ) (t u : Tally) (new : List ℕ) (b : ℕ) → b ≡ 10 → list_any is_lf line ≡ false → new ≡ [] → u ≡ keep_all t (line_effects (kept_line line)) → Takes (is line t) (b ∷ []) (is new u)
 takes_lf line t u new b lf h e f more =
     ap (λ x. told_after t (effects_of (line ++ x ∷ more))) lf
@@ -107,7 +107,7 @@ takes_lf line t u new b lf h e f more =
     ∙ ap (λ v. told_after v (effects_of more)) (sym f)
     ∙ ap (λ l. told_after u (effects_of (l ++ more))) (sym e)
 
--- bytes of the line in hand, of which the first are held
+-- Bytes of the current line. The first of them are stored.
 module _ (line piece : List ℕ) (held : IsHeld line) (none : list_any is_lf piece ≡ false) where
   same_take : (room : ℕ) (xs text : List ℕ) → take room (xs ++ text) ≡ take room (take room xs ++ text)
   same_take zero xs text = refl
@@ -155,15 +155,15 @@ module _ (line piece : List ℕ) (held : IsHeld line) (none : list_any is_lf pie
     whole = ap (list_any is_lf) e ∙ any_append line (take (1023 - length line) piece) held.whole (any_take (1023 - length line) piece none);
   }
 
--- no byte of a line
+-- No byte of a line.
 pub held_none : (line : List ℕ) → line ≡ [] → IsHeld line
 held_none line e = record { short = let f : length line ≡ 0 = ap length e in omega arith; whole = ap (list_any is_lf) e }
 
--- one byte that is no line feed
+-- A byte that is no line feed.
 pub one_none : (b : ℕ) → (b ≡ 10 → ⊥) → list_any is_lf (b ∷ []) ≡ false
 one_none b not = or_from (is_lf b) false (ne_eqb b 10 not) refl
 
--- a piece is taken by a tally of its own
+-- A piece is taken by a tally of its own.
 pub takes_joined : (line new : List ℕ) (t u : Tally) (piece : List ℕ) → Takes (is line (begun t)) piece (is new u) → Takes (is line t) piece (is new (joined t u))
 takes_joined line new t u piece h more = ap (told_behind t.effects) (h more) ∙ sym (told_joined t u (effects_of (new ++ more)))
 
@@ -180,7 +180,7 @@ told_finish line t u h e le =
     ∙ ap (told_behind t.effects) (sym (told_keep_all (begun t) es []) ∙ ap (told_after (begun t)) (append-nil es))
     ∙ ap (told_after t) (sym (last_line line h))
 
--- ## Where the text of a line begins
+-- ## The beginning of a line's text
 
 abbrev pub IsCut : ℕ → Option (List ℕ × List ℕ) → List ℕ → Type 0
 IsCut c None line = Unit {0}
@@ -212,7 +212,7 @@ drop_front front text = at front (length (front ++ text) - length text) (let l =
     at [] n e = ap (λ m. drop m text) e
     at (x ∷ xs) n e = ap (λ m. drop m (x ∷ (xs ++ text))) e ∙ at xs (length xs) refl
 
--- what follows a colon and blanks is the end of the line
+-- The bytes after a colon and blanks are the end of the line.
 pub text_place : (line name rest : List ℕ) → cut_at 58 line ≡ Some (name, rest) → drop (length line - length (after_blanks rest)) line ≡ after_blanks rest
 text_place line name rest e =
     let cut : line ≡ name ++ 58 ∷ rest = subst (λ f. IsCut 58 f line) e (cut_parts 58 line) in

@@ -1,9 +1,9 @@
--- Pieces of bytes, of which the first is read byte by byte.
+-- Pieces of bytes. The first piece is read byte by byte.
 use Rattle.std.proofs.Common.{◌≡◌, ℕ, ◌+◌, ◌<◌, ◌≤◌, Bool, true, false, cond, List, [], ◌∷◌, ◌++◌, length, get_or, take, drop, refl, ap, sym, ◌∙◌}
 use Rattle.std.proofs.lemmas.List.{append_assoc, append-nil, take_all, take_more, drop_more, drop_all}
 use Rattle.std.specs.List.{slice_split, onto_first}
 
--- bytes in front of the first piece
+-- Bytes in front of the first piece.
 abbrev pub onto_front : List ℕ → List (List ℕ) → List (List ℕ)
 onto_front front [] = front ∷ []
 onto_front front (piece ∷ pieces) = (front ++ piece) ∷ pieces
@@ -15,7 +15,7 @@ onto_front-push front b (piece ∷ pieces) = ap (λ l. l ∷ pieces) (append_ass
 pub onto_front-end : (front : List ℕ) (pieces : List (List ℕ)) → onto_front front ([] ∷ pieces) ≡ front ∷ pieces
 onto_front-end front pieces = ap (λ l. l ∷ pieces) (append-nil front)
 
--- a byte more goes onto some first piece
+-- Another byte is added to a first piece.
 onto_front_first : (b : ℕ) (pieces : List (List ℕ)) → onto_front [] (onto_first b pieces) ≡ onto_first b pieces
 onto_front_first b [] = refl
 onto_front_first b (piece ∷ pieces) = refl
@@ -28,7 +28,7 @@ pub split_begin : (p : ℕ → Bool) (xs : List ℕ) → onto_front [] (slice_sp
 split_begin p [] = refl
 split_begin p (x ∷ xs) = onto_front_none (p x) x (slice_split p xs) (slice_split p xs)
 
--- ## The first piece of a list that is cut where a test passes
+-- ## The first piece of a list that is split at a test
 
 module _ (p : ℕ → Bool) (xs : List ℕ) (i : ℕ) (less : i < length xs) (whole : List (List ℕ)) (same : onto_front (take i xs) (slice_split p (drop i xs)) ≡ whole) where
   here : onto_front (take i xs) (cond (p (get_or xs i 0)) ([] ∷ slice_split p (drop (i + 1) xs)) (onto_first (get_or xs i 0) (slice_split p (drop (i + 1) xs)))) ≡ whole

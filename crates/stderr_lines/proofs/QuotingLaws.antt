@@ -43,7 +43,7 @@ words_end p xs i whole le same =
 
 -- ## A text without its quotes
 
--- one byte more
+-- One more byte.
 module _ (p : Quoting) (xs : List ℕ) (i : ℕ) (less : i < length xs) (q : Quoting) (e : q ≡ next p (get_or xs i 0)) where
   step : said p (drop i xs) ≡ cond (keeps p (get_or xs i 0)) (get_or xs i 0 ∷ said q (drop (i + 1) xs)) (said q (drop (i + 1) xs))
   step =
@@ -56,7 +56,7 @@ module _ (p : Quoting) (xs : List ℕ) (i : ℕ) (less : i < length xs) (q : Quo
   pub mark_step : keeps p (get_or xs i 0) ≡ false → said p (drop i xs) ≡ said q (drop (i + 1) xs)
   mark_step not = step ∙ ap (λ v. cond v (get_or xs i 0 ∷ said q (drop (i + 1) xs)) (said q (drop (i + 1) xs))) not
 
--- it is a text as well
+-- The result is a text of a line too.
 unquoted_short : (p : Quoting) (xs : List ℕ) → length (said p xs) ≤ length xs
 unquoted_short p [] = omega arith
 unquoted_short p (x ∷ xs) =

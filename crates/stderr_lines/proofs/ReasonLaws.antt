@@ -1,4 +1,4 @@
--- Reasons that are read one by one.
+-- Reasons, read one at a time.
 use Rattle.std.proofs.Common.{◌≡◌, ◌&&◌, ℕ, suc, ◌+◌, ◌*◌, ◌<◌, ◌≤◌, Bool, true, false, cond, List, [], ◌∷◌, ◌++◌, length, filter, refl, ap, sym, ◌∙◌, arith, Option, None, Some}
 use Rattle.std.specs.List.{slice_split, onto_first}
 use Rattle.std.specs.Option.{option_to_list}
@@ -9,7 +9,7 @@ use Rattle.stderr_lines.specs.ReasonLines.{is_separator, reasons_of}
 use Rattle.stderr_lines.specs.Rests.{pieces_behind, reasons_from}
 use Rattle.stderr_lines.proofs.TextLaws.{reason_test}
 
--- the first piece is a reason or isn't
+-- The first piece is a reason or is not.
 pub first_reason : (text word : List ℕ) (behind : Option (List ℕ)) → slice_split is_separator text ≡ word ∷ pieces_behind behind
     → reasons_of text ≡ option_to_list (cond (is_utf8 word && is_reason word) (Some word) None) ++ reasons_from behind
 first_reason text word behind e =
@@ -62,7 +62,7 @@ count_bound (x ∷ xs) = let h = count_bound xs in omega arith
 pub reasons_count_bound : (text : List ℕ) → length (reasons_of text) ≤ 3 * length text + 2
 reasons_count_bound text = let h = reasons_size_bound text in let k = count_bound (reasons_of text) in omega arith
 
--- a reason more of a text has room in its size
+-- One more reason of a text fits in its size.
 pub reason_fits : (text here reason : List ℕ) (size : ℕ) (rest found behind : Option (List ℕ)) → length text ≤ 1023 → size + texts_size (reasons_from rest) ≡ texts_size (reasons_of text)
     → rest ≡ Some here → reasons_of here ≡ option_to_list found ++ reasons_from behind → found ≡ Some reason → size + (2 + length reason) ≤ 4096
 reason_fits text here reason size rest found behind short same is_rest is_here is_found =

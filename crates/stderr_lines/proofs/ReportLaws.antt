@@ -1,4 +1,4 @@
--- What holds of each report.
+-- Laws of every report.
 use Rattle.std.proofs.Common.{◌≡◌, ℕ, ◌+◌, ◌-◌, ◌≤◌, ◌&&◌, ◌==◌, Bool, true, false, cond, Option, None, Some, List, [], ◌∷◌, ◌++◌, leb, refl, ap, sym, ◌∙◌, arith}
 use Rattle.std.proofs.lemmas.Bool.{leb-true, and_parts, and_from}
 use Rattle.std.proofs.lemmas.List.{append_assoc, append-nil}
@@ -38,7 +38,7 @@ fitting_size room (e ∷ es) =
       | false ↦ λ h. omega arith
     ]) refl
 
--- ## Each effect names enough
+-- ## Each effect names at least one reason
 
 abbrev Enough : List Effect → Type 0
 Enough es = list_all names_enough es ≡ true
@@ -116,7 +116,7 @@ enough_lines : (lines : List (List ℕ)) → Enough (flat_map (λ line. line_eff
 enough_lines [] = refl
 enough_lines (line ∷ lines) = enough_both (line_effects (kept_line line)) (flat_map (λ line. line_effects (kept_line line)) lines) (enough_behind (cut_at 58 (kept_line line))) (enough_lines lines)
 
--- the effects that fit are the first ones
+-- The effects that fit are the first ones.
 enough_fitting : (room : ℕ) (es : List Effect) → Enough es → Enough (fitting room es)
 enough_fitting room [] h = refl
 enough_fitting room (e ∷ es) h =

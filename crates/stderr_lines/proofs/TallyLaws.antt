@@ -1,4 +1,4 @@
--- Effects that are tallied one by one.
+-- Effects that are tallied one at a time.
 use Rattle.std.proofs.Common.{◌≡◌, ℕ, suc, ◌+◌, ◌-◌, ◌≤◌, Bool, true, false, cond, min, List, [], ◌∷◌, ◌++◌, length, leb, refl, ap, sym, ◌∙◌, arith, Option, None, Some}
 use Rattle.std.proofs.lemmas.Bool.{lt-leb}
 use Rattle.std.proofs.lemmas.List.{append_assoc, append-nil}
@@ -11,7 +11,7 @@ use Rattle.stderr_lines.specs.Reports.{Reported, fitting, left_out, counted}
 use Rattle.stderr_lines.specs.PendingEffects.{Tally, told_after}
 use Rattle.stderr_lines.specs.Tallies.{keep, keep_all, begun, joined}
 
--- without room no effect fits
+-- Without room no effect fits.
 no_room : (e : Effect) → leb (effect_size e) 0 ≡ false
 no_room (Pages page copies) = refl
 no_room (TotalPages pages) = refl
@@ -31,7 +31,7 @@ told es n = record { effects = es; dropped = n }
 same_told : (es fs : List Effect) (m n : ℕ) → es ≡ fs → m ≡ n → told es m ≡ told fs n
 same_told es fs m n e f = ap (λ l. told l m) e ∙ ap (told fs) f
 
--- an effect that is kept or counted, and then the others
+-- An effect that is retained or counted, and then the others.
 pub told_keep : (t : Tally) (e : Effect) (es : List Effect) → told_after t (e ∷ es) ≡ told_after (keep t e) es
 told_keep t e es = by_test (leb (effect_size e) t.room)
   where
@@ -50,23 +50,23 @@ told_keep t e es = by_test (leb (effect_size e) t.room)
         let g : counted (t.dropped + (suc (length es) - 0)) ≡ counted (counted (t.dropped + 1) + length es) = omega arith in
         g ∙ ap (λ k. counted (counted (t.dropped + 1) + k)) (sym f))
 
--- effects that are tallied, and then the others
+-- Effects that are tallied, and then the others.
 pub told_keep_all : (t : Tally) (es fs : List Effect) → told_after t (es ++ fs) ≡ told_after (keep_all t es) fs
 told_keep_all t [] fs = refl
 told_keep_all t (e ∷ es) fs = told_keep t e (es ++ fs) ∙ told_keep_all (keep t e) es fs
 
--- effects in front of what is told
+-- Effects in front of a report.
 abbrev pub told_behind : List Effect → Reported → Reported
 told_behind es r = record r { effects = es ++ r.effects }
 
 pub told_joined : (t u : Tally) (es : List Effect) → told_after (joined t u) es ≡ told_behind t.effects (told_after u es)
 told_joined t u es = ap (λ l. told l (counted (u.dropped + left_out u.room es))) (append_assoc t.effects u.effects (fitting u.room es))
 
--- where no effect follows
+-- No effect follows.
 pub told_end : (t : Tally) → t.dropped ≤ 4294967295 → told_after t [] ≡ record { effects = t.effects; dropped = t.dropped }
 told_end t le = same_told (t.effects ++ []) t.effects (counted (t.dropped + 0)) t.dropped (append-nil t.effects) (omega arith)
 
--- an effect if there is one, and then the others
+-- An effect, if any, and then the others.
 pub keep_option : (t : Tally) (o : Option Effect) (es : List Effect) → keep_all t (cons_option o es) ≡ keep_all (keep_all t (option_to_list o)) es
 keep_option t None es = refl
 keep_option t (Some e) es = refl

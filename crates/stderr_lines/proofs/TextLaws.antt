@@ -15,7 +15,7 @@ use Rattle.stderr_lines.specs.EffectDrafts.{IsLineText}
 
 -- ## Texts of ASCII are UTF-8
 
--- of a text that passes a test byte by byte
+-- A text that passes a test byte by byte.
 text_parts : (p : ℕ → Bool) (least most : ℕ) (text : List ℕ) → is_text_of p least most text ≡ true → list_all p text ≡ true
 text_parts p least most text h = (and_parts (leb least (length text) && leb (length text) most) (list_all p text) h).1
 
@@ -43,7 +43,7 @@ reason_utf8 text h =
 attribute_utf8 : (text : List ℕ) → is_attribute_name text ≡ true → IsUtf8 text
 attribute_utf8 text h = IsUtf8-from_ascii text (ascii is_attribute_byte attribute_below text (text_parts is_attribute_byte 1 127 text h))
 
--- where a kind of text is ASCII, the test for UTF-8 adds nothing
+-- If every text of a kind is ASCII, the test for UTF-8 adds nothing.
 same_test : (allowed : List ℕ → Bool) → ((xs : List ℕ) → allowed xs ≡ true → IsUtf8 xs) → (xs : List ℕ) → (is_utf8 xs && allowed xs) ≡ allowed xs
 same_test allowed utf8 xs =
     (elim (allowed xs) as (λ v. allowed xs ≡ v → (is_utf8 xs && v) ≡ v) [
@@ -66,14 +66,14 @@ shown_printable (b ∷ bs) = and_from (is_printable (shown_byte b)) (list_all is
     one : (b : ℕ) → is_printable (shown_byte b) ≡ true
     one b = (elim (is_printable b) as (λ v. is_printable b ≡ v → is_printable (cond v b 63) ≡ true) [ true ↦ λ h. h | false ↦ λ h. refl ]) refl
 
--- it is a message
+-- It is a message.
 pub message_text : (text : List ℕ) → IsLineText text → is_message text ≡ true
 message_text text h =
     and_from (leb 0 (length text) && leb (length text) 1023) (list_all is_printable text)
     (and_from (leb 0 (length text)) (leb (length text) 1023) (le-leb 0 (length text) (omega arith)) (le-leb (length text) 1023 h.short))
     h.printable
 
--- so is each part of it
+-- Each part of it is printable too.
 both : (i : ℕ) (text : List ℕ) → IsLineText text → (list_all is_printable (take i text) ≡ true) × (list_all is_printable (drop i text) ≡ true)
 both i text h =
     and_parts (list_all is_printable (take i text)) (list_all is_printable (drop i text))
@@ -97,7 +97,7 @@ some_text allowed xs text (read, utf8) is =
 pub other_text : (allowed : List ℕ → Bool) (xs text : List ℕ) → (text ≡ xs) × IsUtf8 xs → allowed text ≡ false → None ≡ cond (is_utf8 xs && allowed xs) (Some xs) None
 other_text allowed xs text (read, utf8) is = sym (ap (λ v. cond v (Some xs) None) (and_right (is_utf8 xs) (allowed xs) (ap allowed (sym read) ∙ is)))
 
--- what a text of a kind was read of
+-- The bytes that a text of a kind was read from.
 some_test : (t : Bool) (xs text : List ℕ) → Some text ≡ cond t (Some xs) None → (t ≡ true) × (text ≡ xs)
 some_test true xs text h = (refl, cc)
 some_test false xs text h = cc
@@ -120,7 +120,7 @@ attribute_name xs text h =
 pub no_attribute_name : (xs : List ℕ) → None ≡ cond (is_utf8 xs && is_attribute_name xs) (Some xs) None → is_attribute_name xs ≡ false
 no_attribute_name xs h = sym (attribute_test xs) ∙ none_test (is_utf8 xs && is_attribute_name xs) xs h
 
--- a line whose bytes are shown, from some place on
+-- A line whose bytes are shown, from some position on.
 pub shown_rest : (line bytes : List ℕ) (start : ℕ) → bytes ≡ map shown_byte line → take (length bytes - start) (drop start bytes) ≡ map shown_byte (drop start line)
 shown_rest line bytes start e = take_rest bytes start ∙ ap (drop start) e ∙ drop-map shown_byte start line
 

@@ -15,10 +15,10 @@ abbrev pub cut_pair : Option (List ℕ × List ℕ) → Option Effect
 cut_pair None = None
 cut_pair (Some (name, value)) = pair_of name value
 
--- a word is a pair where a name stands before its first `=`
+-- A word is a pair if a name precedes its first `=`.
 abbrev pub attribute_of : List ℕ → Option Effect
 attribute_of word = cut_pair (cut_at 61 word)
 
--- the pairs in order; other words are skipped
+-- The pairs in order. Other words are skipped.
 abbrev pub attribute_effects : List ℕ → List Effect
 attribute_effects text = filter_map attribute_of (pieces Bare text)

@@ -1,4 +1,4 @@
--- Effects whose texts still lie in the line. No caller needs this.
+-- Effects whose texts are borrowed from the line. Internal: no caller needs this.
 use Rattle.std.specs.Prelude.{◌≡◌, ℕ, ◌≤◌, true, List, length}
 use Rattle.std.specs.List.{list_all}
 use Rattle.spool_types.specs.Values.{is_printable, is_attribute_name}
@@ -12,7 +12,7 @@ use Rattle.stderr_lines.specs.ReasonLines.{reasons_of}
 use Rattle.line_words.specs.Quoting.{said}
 use Rattle.line_words.specs.declared.quoting.Quoting.TheVariants.{Bare}
 
--- bytes of the text of a line
+-- Bytes of the text of a line.
 pub record IsLineText (text : List ℕ) : Type 0 where
   pub short : length text ≤ 1023
   pub printable : list_all is_printable text ≡ true
@@ -29,7 +29,7 @@ effect_of (Reasons change words) = changed change (reasons_of words.now)
 effect_of (Attribute name value) = effects.Attribute (record { name = name.now; value = said Bare value.now })
 effect_of (Message level text) = effects.Message level text.now
 
--- what a draft may hold
+-- The draft's texts are texts of a line, and the name of an attribute is valid.
 abbrev pub IsSound : Draft → Type 0
 IsSound (Pages page copies) = Unit {0}
 IsSound (TotalPages pages) = Unit {0}

@@ -18,25 +18,24 @@ use Rattle.stderr_lines.specs.AttributeLines.{attribute_effects}
 abbrev pub is_lf : ℕ → Bool
 is_lf b = b == 10
 
--- a line goes up to its line feed, and a last line needs none; behind a last line feed stands an empty line, which says
--- nothing
+-- A line ends with its line feed, and the last line needs none. After a last line feed comes an empty line, which has no effect.
 abbrev pub lines_of : List ℕ → List (List ℕ)
 lines_of text = slice_split is_lf text
 
--- without a carriage return at the end
+-- The line without a carriage return at its end.
 abbrev pub without_cr : List ℕ → List ℕ
 without_cr [] = []
 without_cr (b ∷ []) = cond (b == 13) [] (b ∷ [])
 without_cr (b ∷ c ∷ bs) = b ∷ without_cr (c ∷ bs)
 
--- how much of a line is read
+-- The part of a line that is read.
 abbrev pub kept_line : List ℕ → List ℕ
 kept_line line = without_cr (take 1023 line)
 
 abbrev pub is_name : List ℕ → List ℕ → Bool
 is_name word name = pointwise nat_eq word name
 
--- the prefix whose name stands before the first colon; DEBUG, DEBUG2 and PPD say nothing, nor does any other word
+-- The prefix whose name precedes the first colon. DEBUG, DEBUG2, PPD and any other word have no effect.
 abbrev pub prefix_of : List ℕ → Prefix
 prefix_of name =
     cond (is_name name (codes "PAGE")) Page
@@ -51,15 +50,15 @@ prefix_of name =
     (cond (is_name name (codes "INFO")) (Level Info)
     Silent)))))))))
 
--- a question mark in the place of each byte that is not printable ASCII, a tab too
+-- A question mark instead of each byte that is not printable ASCII, such as a tab.
 abbrev pub shown_byte : ℕ → ℕ
 shown_byte b = cond (is_printable b) b 63
 
--- the text of a line: what follows the prefix and its blanks
+-- The text of a line: the bytes after the prefix and its blanks.
 abbrev pub shown_text : List ℕ → List ℕ
 shown_text rest = map shown_byte (after_blanks rest)
 
--- what a text says behind a prefix
+-- The effects of a text after a prefix.
 abbrev pub effects_by : Prefix → List ℕ → List Effect
 effects_by Silent text = []
 effects_by Page text = option_to_list (page_effect text)
@@ -71,10 +70,10 @@ abbrev pub effects_behind : Option (List ℕ × List ℕ) → List Effect
 effects_behind None = []
 effects_behind (Some (name, rest)) = effects_by (prefix_of name) (shown_text rest)
 
--- what a line says, of which nothing is cut any more
+-- The effects of a line that has been cut to its length.
 abbrev pub line_effects : List ℕ → List Effect
 line_effects line = effects_behind (cut_at 58 line)
 
--- what the lines of a text say, in their order
+-- The effects of the lines of a text, in order.
 abbrev pub effects_of : List ℕ → List Effect
 effects_of text = flat_map (λ line. line_effects (kept_line line)) (lines_of text)

@@ -1,4 +1,4 @@
--- The pages that a line tells: `PAGE: page copies`, or `PAGE: total pages`.
+-- The pages that a line reports: `PAGE: page copies`, or `PAGE: total pages`.
 use Rattle.std.specs.Prelude.{ℕ, Bool, cond, nat_eq, List, codes, Option, None, Some}
 use Rattle.std.specs.Cmp.Lexicographic.{pointwise}
 use Rattle.line_words.specs.Blanks.{first_word, after_word, is_nothing}
@@ -6,7 +6,7 @@ use Rattle.line_words.specs.DecimalNumbers.{decimal}
 use Rattle.spool_types.specs.declared.effect.Effect.{Effect}
 use Rattle.spool_types.specs.declared.effect.Effect.TheVariants.{Pages, TotalPages}
 
--- of any number of digits, and at most 4,294,967,295
+-- A number of any number of digits, at most 4,294,967,295.
 abbrev pub number_of : List ℕ → Option ℕ
 number_of word = decimal 4294967295 word
 
@@ -21,7 +21,7 @@ abbrev pub total_of : Option ℕ → Option Effect
 total_of (Some pages) = Some (TotalPages pages)
 total_of None = None
 
--- two words, and no third
+-- Two words, and no third.
 abbrev pub two_words : List ℕ → List ℕ → Option Effect
 two_words first second = cond (is_total first) (total_of (number_of second)) (pages_of (number_of first) (number_of second))
 

@@ -1,4 +1,4 @@
--- How effects are tallied one by one. No caller needs this.
+-- How effects are tallied, effect by effect. Internal: no caller needs this.
 use Rattle.std.specs.Prelude.{◌+◌, ◌-◌, cond, nat_le, List, [], ◌∷◌, ◌++◌}
 use Rattle.spool_types.specs.declared.effect.Effect.{Effect}
 use Rattle.spool_types.specs.Effects.{effect_size}
@@ -15,10 +15,10 @@ abbrev pub keep_all : Tally → List Effect → Tally
 keep_all t [] = t
 keep_all t (e ∷ es) = keep_all (keep t e) es
 
--- the same room, and no effects yet
+-- The same room, and no effects yet.
 abbrev pub begun : Tally → Tally
 begun t = record t { effects = [] }
 
--- effects that were tallied since
+-- The effects tallied since are appended.
 abbrev pub joined : Tally → Tally → Tally
 joined t u = record u { effects = t.effects ++ u.effects }

@@ -27,7 +27,7 @@ pub fn add_attributes(tally: &mut Tally, text: &[u8]) -> Result<(), AllocError>
     Ok(())
 }
 
-// The pair that a word is.
+// Returns the pair in a word.
 fn attribute_draft(word: &[u8]) -> Option<Draft<'_>>
     requires { IsLineText word.now }
     ensures effect { option_map effect_of result ≡ attribute_of word.now }

@@ -1,4 +1,4 @@
-//! Effects whose texts still lie in the line.
+//! Effects whose texts are borrowed from the line.
 ghost use Rattle.std.specs.Prelude.{◌≡◌, ◌+◌, IfOk};
 ghost use Rattle.spool_types.specs.Effects.{text_size, effect_size};
 ghost use Rattle.stderr_lines.specs.EffectDrafts.{effect_of, changed, IsSound, IsLineText};
@@ -11,7 +11,7 @@ use crate::texts::{copy_of, printable_text};
 use spool_types::{Attribute, Effect, Level, Message, Words};
 use std::alloc::{AllocError, Global};
 
-/// What becomes of a queue's reasons.
+/// How the queue's reasons change.
 #[derive(Clone, Copy)]
 pub enum Change {
     Set,
@@ -19,7 +19,7 @@ pub enum Change {
     Remove,
 }
 
-/// An effect of a line, before it takes any memory.
+/// An effect of a line, before it allocates.
 #[derive(Clone, Copy)]
 pub enum Draft<'a> {
     Pages { page: u32, copies: u32 },
@@ -30,7 +30,7 @@ pub enum Draft<'a> {
 }
 
 impl<'a> Draft<'a> {
-    /// How many bytes of code the effect has.
+    /// Returns the number of bytes of the effect's code.
     pub fn size(&self) -> usize
         requires { IsSound self.now }
         ensures { result ≡ effect_size (effect_of self.now) }
@@ -44,7 +44,7 @@ impl<'a> Draft<'a> {
         }
     }
 
-    /// The effect in memory of its own.
+    /// Returns the effect in memory of its own.
     pub fn read(&self, alloc: Global) -> Result<Effect, AllocError>
         requires { IsSound self.now }
         ensures { IfOk result (λ effect. effect ≡ effect_of self.now) }
@@ -68,7 +68,7 @@ impl<'a> Draft<'a> {
     }
 }
 
-// How many bytes of code an attribute has.
+// Returns the number of bytes of an attribute's code.
 fn attribute_size(name: &str, value: &[u8]) -> usize
     requires { IsLineText value.now }
     ensures { result ≡ 1 + text_size name.now + text_size (said Bare value.now) }
@@ -86,7 +86,7 @@ fn changed(change: Change, words: Words) -> Effect
     }
 }
 
-// The value of an attribute, without its quotes.
+// Returns the value of an attribute, without its quotes.
 fn read_value(alloc: Global, value: &[u8]) -> Result<Message, AllocError>
     requires { IsLineText value.now }
     ensures { IfOk result (λ text. text ≡ said Bare value.now) }

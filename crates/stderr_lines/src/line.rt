@@ -1,4 +1,4 @@
-//! What a line says.
+//! The effects of a line.
 ghost use Rattle.std.specs.Prelude.{◌≡◌, ◌≤◌, length, map, OnOk};
 ghost use Rattle.stderr_lines.specs.LineEffects.{shown_byte, effects_by, line_effects};
 ghost use Rattle.stderr_lines.specs.Tallies.{keep_all};
@@ -14,7 +14,7 @@ use std::alloc::AllocError;
 
 const QUESTION_MARK: u8 = b'?';
 
-/// Adds the effects of a line, whose bytes are used up.
+/// Adds the effects of a line. Overwrites the line's bytes.
 pub fn add_line(tally: &mut Tally, line: &mut [u8]) -> Result<(), AllocError>
     requires { length line.old ≤ 1023 }
     ensures { OnOk result (tally.new ≡ keep_all tally.old (line_effects line.old)) }
@@ -26,7 +26,7 @@ pub fn add_line(tally: &mut Tally, line: &mut [u8]) -> Result<(), AllocError>
     add_text(tally, prefix, &line[start..])
 }
 
-// Puts a question mark in the place of each byte that isn't printable.
+// Replaces each byte that is not printable with a question mark.
 fn show(bytes: &mut [u8])
     ensures { bytes.new ≡ map shown_byte bytes.old }
 {
@@ -41,7 +41,7 @@ fn shown_byte(b: u8) -> u8
     if b < 32 || 126 < b { QUESTION_MARK } else { b }
 }
 
-// Adds what a text says behind its prefix.
+// Adds the effects of a text after its prefix.
 fn add_text(tally: &mut Tally, prefix: Prefix, text: &[u8]) -> Result<(), AllocError>
     requires { IsLineText text.now }
     ensures { OnOk result (tally.new ≡ keep_all tally.old (effects_by prefix text.now)) }

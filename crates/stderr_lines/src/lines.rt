@@ -19,19 +19,19 @@ const LINE_FEED: u8 = b'\n';
 
 const CARRIAGE_RETURN: u8 = b'\r';
 
-/// What a child said on standard error.
+/// The report of a child's standard error.
 #[derive(Drop)]
 pub struct Report {
-    /// The effects in the order of their lines, whose codes have at most 16,384 bytes.
+    /// The effects in the order of their lines. Their codes have at most 16,384 bytes.
     pub effects: Vec<Effect>,
-    /// How many effects were left out after them, up to 4,294,967,295.
+    /// The number of later effects, which were dropped, up to 4,294,967,295.
     pub dropped: u32,
 }
 
-/// A reader of a child's standard error, which comes in pieces.
+/// A reader of a child's standard error, which arrives in pieces.
 #[derive(Drop)]
 pub struct Lines {
-    // The line in hand, as far as it is read.
+    // The current line as far as it was read, at most 1,023 bytes.
     line: Vec<u8>,
     // The effects of the lines before it.
     tally: Tally,
@@ -49,7 +49,7 @@ impl Model for Lines {
 }
 
 impl Lines {
-    /// A reader before any text. It takes no memory yet.
+    /// Returns a reader before any text. Allocates nothing.
     pub fn new(alloc: Global) -> Lines
         ensures whole { (text : List ℕ) → to_come result text ≡ report_of text }
     {
@@ -75,7 +75,7 @@ impl Lines {
         Ok(())
     }
 
-    // Takes a piece of the line in hand.
+    // Takes a piece of the current line.
     fn hold(&mut self, piece: &[u8]) -> Result<(), AllocError>
         requires { list_any is_lf piece.now ≡ false }
         ensures ok { OnOk result (Takes self.old piece.now self.new) }
@@ -85,8 +85,8 @@ impl Lines {
         Ok(())
     }
 
-    /// What is reported where the text ends here: a last line without a line feed counts. An `Err` has the reader as it
-    /// was, and the call may be made again.
+    /// Returns the report if the text ends here. The last line counts even without a line feed. An `Err` returns the unchanged reader,
+    /// and the call may be repeated.
     pub fn finish(mut self) -> Result<Report, AllocFailed<Lines>>
         ensures ok { IfOk result (λ report. told_by report ≡ to_come self []) }
         ensures err { IfErr result (λ failed. failed.value ≡ self) }
@@ -115,7 +115,7 @@ impl Lines {
     }
 }
 
-// Adds the bytes of a piece, as far as a line is read.
+// Appends the bytes of a piece, up to the maximum length of a line.
 fn hold_piece(line: &mut Vec<u8>, piece: &[u8]) -> Result<(), AllocError>
     requires { length line.old.items ≤ 1023 }
     ensures ok { OnOk result (line.new.items ≡ line.old.items ++ take (1023 - length line.old.items) piece.now) }
@@ -150,7 +150,7 @@ fn take_byte(tally: &mut Tally, line: &mut Vec<u8>, b: u8) -> Result<(), AllocEr
     }
 }
 
-// Takes the line in hand as a whole one.
+// Ends the current line.
 fn end_line(tally: &mut Tally, line: &mut Vec<u8>) -> Result<(), AllocError>
     requires { IsHeld line.old.items }
     ensures { OnOk result ((line.new.items ≡ []) × (tally.new ≡ keep_all tally.old (line_effects (kept_line line.old.items)))) }
@@ -161,7 +161,7 @@ fn end_line(tally: &mut Tally, line: &mut Vec<u8>) -> Result<(), AllocError>
     Ok(())
 }
 
-// A line without a carriage return at its end.
+// Returns a line without a carriage return at its end.
 fn without_cr(line: &[u8]) -> &[u8]
     ensures { result.now ≡ without_cr line.now }
 {

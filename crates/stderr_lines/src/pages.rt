@@ -1,4 +1,4 @@
-//! The pages that a line tells.
+//! The pages that a line reports.
 ghost use Rattle.std.specs.Prelude.{◌≡◌, IfSome};
 ghost use Rattle.std.specs.Option.{option_map};
 ghost use Rattle.stderr_lines.specs.PageLines.{number_of, page_effect, two_words};
@@ -7,7 +7,7 @@ ghost use Rattle.stderr_lines.specs.EffectDrafts.{effect_of, IsSound};
 use crate::draft::Draft;
 use line_words::{after_blanks, decimal, first_word};
 
-/// `PAGE: page copies` or `PAGE: total pages`, where the text is one.
+/// Returns the effect of `PAGE: page copies` or `PAGE: total pages`, if the text is one of them.
 pub fn page_draft(text: &[u8]) -> Option<Draft<'_>>
     ensures effect { option_map effect_of result ≡ page_effect text.now }
     ensures sound { IfSome result (λ draft. IsSound draft) }
@@ -33,7 +33,7 @@ fn two_words<'a>(first: &[u8], second: &[u8]) -> Option<Draft<'a>>
     })
 }
 
-// The number that a word is, of any number of digits, where it has at most 32 bits.
+// Returns the number in a word of any number of digits, if it has at most 32 bits.
 fn number_of(word: &[u8]) -> Option<u32>
     ensures { result ≡ number_of word.now }
 {

@@ -6,10 +6,10 @@ use crate::cuts::cut_at;
 use line_words::after_blanks;
 use spool_types::Level;
 
-/// What a line may begin with.
+/// The prefixes.
 #[derive(Clone, Copy)]
 pub enum Prefix {
-    /// `DEBUG:`, `DEBUG2:`, `PPD:` or any other word: the line says nothing.
+    /// `DEBUG:`, `DEBUG2:`, `PPD:` or any other word: the line has no effect.
     Silent,
     /// `PAGE:`
     Page,
@@ -21,7 +21,7 @@ pub enum Prefix {
     Level(Level),
 }
 
-/// The prefix of a line that says something, and where its text begins.
+/// Returns the prefix of a line that may have an effect, and the position of its text.
 pub fn prefix_at(line: &[u8]) -> Option<(Prefix, usize)>
     ensures { MatchOption result (line_effects line.now ≡ []) (λ p. (p.1 ≤ length line.now) × (line_effects line.now ≡ effects_by p.0 (map shown_byte (drop p.1 line.now)))) }
 {

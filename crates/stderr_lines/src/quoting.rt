@@ -8,7 +8,7 @@ ghost use Rattle.stderr_lines.specs.EffectDrafts.{IsLineText};
 use line_words::Quoting;
 use std::alloc::{AllocError, Global};
 
-/// What stands before the first blank that ends a word, and what follows that blank, if there is one.
+/// Splits at the first blank that ends a word. The second part, without that blank, is `None` if no blank does.
 pub fn split_word(text: &[u8]) -> (&[u8], Option<&[u8]>)
     requires { IsLineText text.now }
     ensures words { pieces Quoting.Bare text.now ≡ result.0.now ∷ words_behind (option_copied result.1) }
@@ -26,7 +26,7 @@ pub fn split_word(text: &[u8]) -> (&[u8], Option<&[u8]>)
     (text, None)
 }
 
-/// How many bytes a text has without its quotes.
+/// Returns the number of bytes of a text without its quotes.
 pub fn unquoted_len(text: &[u8]) -> usize
     requires { IsLineText text.now }
     ensures value { result ≡ length (said Quoting.Bare text.now) }
@@ -43,7 +43,7 @@ pub fn unquoted_len(text: &[u8]) -> usize
     count
 }
 
-/// A text without its quotes.
+/// Returns a text without its quotes.
 pub fn unquoted(alloc: Global, text: &[u8]) -> Result<Vec<u8>, AllocError>
     ensures { IfOk result (λ bytes. bytes.items ≡ said Quoting.Bare text.now) }
 {

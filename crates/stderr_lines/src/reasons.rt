@@ -14,7 +14,7 @@ use line_words::is_blank;
 use spool_types::{Reason, ReasonKind, Words};
 use std::alloc::{AllocError, Global};
 
-/// `STATE: word,..`, where the text has an effect.
+/// Returns the effect of `STATE: word,..`, if the text has one.
 pub fn state_draft(text: &[u8]) -> Option<Draft<'_>>
     requires { IsLineText text.now }
     ensures effect { option_map effect_of result ≡ state_effect text.now }
@@ -36,7 +36,7 @@ pub fn state_draft(text: &[u8]) -> Option<Draft<'_>>
     Some(set)
 }
 
-// A change by at least one reason.
+// Returns a change of at least one reason.
 fn changed(change: Change, words: &[u8]) -> Option<Draft<'_>>
     requires { IsLineText words.now }
     ensures effect { option_map effect_of result ≡ unless_none (changed change) (reasons_of words.now) }
@@ -48,7 +48,7 @@ fn changed(change: Change, words: &[u8]) -> Option<Draft<'_>>
     Some(Draft::Reasons { change, words })
 }
 
-/// How many bytes of code the reasons of a text have.
+/// Returns the number of bytes of the code of a text's reasons.
 pub fn reasons_size(text: &[u8]) -> usize
     requires { length text.now ≤ 1023 }
     ensures value { result ≡ texts_size (reasons_of text.now) }
@@ -66,7 +66,7 @@ pub fn reasons_size(text: &[u8]) -> usize
     size
 }
 
-/// The reasons of a text.
+/// Returns the reasons of a text.
 pub fn read_reasons(alloc: Global, text: &[u8]) -> Result<Words, AllocError>
     requires { length text.now ≤ 1023 }
     ensures { IfOk result (λ words. words ≡ reasons_of text.now) }
@@ -86,7 +86,7 @@ pub fn read_reasons(alloc: Global, text: &[u8]) -> Result<Words, AllocError>
     }
 }
 
-// What stands before the first separator, where it is a reason, and what follows that separator, if there is one.
+// Splits at the first separator. The first part is returned if it is a reason. The second part is `None` if there is no separator.
 fn next_reason(text: &[u8]) -> (Option<&str>, Option<&[u8]>)
     ensures reasons { reasons_of text.now ≡ option_to_list (option_copied result.0) ++ reasons_from (option_copied result.1) }
     ensures allowed { IfSome (option_copied result.0) (λ reason. is_reason reason ≡ true) }
@@ -96,7 +96,7 @@ fn next_reason(text: &[u8]) -> (Option<&str>, Option<&[u8]>)
     (text_in::<ReasonKind>(word), behind)
 }
 
-// What stands before the first separator, and what follows it, if there is one.
+// Splits at the first separator. The second part is `None` if there is no separator.
 fn split_word(text: &[u8]) -> (&[u8], Option<&[u8]>)
     ensures words { slice_split is_separator text.now ≡ result.0.now ∷ pieces_behind (option_copied result.1) }
     ensures shorter { rest_weight (option_copied result.1) < length text.now + 1 }

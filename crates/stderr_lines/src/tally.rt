@@ -1,4 +1,4 @@
-//! The effects that are kept.
+//! The effects that are retained.
 ghost use Rattle.std.specs.Prelude.{◌≡◌, ◌≤◌, OnOk, OnErr};
 ghost use Rattle.std.specs.Option.{ForSome, option_map, option_to_list};
 ghost use Rattle.stderr_lines.specs.Reports.{told_by};
@@ -12,11 +12,11 @@ use spool_types::{Effect, Effects};
 use std::alloc::{AllocError, Global};
 use std::marker::Model;
 
-/// The effects of the lines so far, as far as they are kept.
+/// The effects of the lines so far that are retained.
 #[derive(Drop)]
 pub struct Tally {
     effects: Vec<Effect>,
-    // How many bytes of code have still room. Once an effect was left out, there is none.
+    // The number of bytes left for codes. 0 once an effect was dropped.
     room: usize,
     dropped: u32,
 }
@@ -30,7 +30,7 @@ impl Model for Tally {
 }
 
 impl Tally {
-    /// No effects yet. It takes no memory.
+    /// Returns a tally without effects. Allocates nothing.
     pub fn new(alloc: Global) -> Tally
         ensures { result ≡ nothing_kept }
     {
@@ -41,7 +41,7 @@ impl Tally {
         }
     }
 
-    /// A tally that goes on where this one is, with no effects yet. It takes no memory.
+    /// Returns a tally without effects that continues this one. Allocates nothing.
     pub fn begun(&self) -> Tally
         ensures { result ≡ begun self.now }
     {
@@ -56,7 +56,7 @@ impl Tally {
         *self.effects.allocator()
     }
 
-    /// Keeps an effect, or counts it where it has no room. After an `Err` it is neither.
+    /// Retains an effect, or counts it if it does not fit. After an `Err` it has done neither.
     pub fn add(&mut self, draft: &Draft<'_>) -> Result<(), AllocError>
         requires { IsSound draft.now }
         ensures { OnOk result (self.new ≡ keep self.old (effect_of draft.now)) }
@@ -73,7 +73,7 @@ impl Tally {
         Ok(())
     }
 
-    /// Does the same with a draft, if there is one.
+    /// Does the same with a draft, if any.
     pub fn add_any(&mut self, draft: Option<Draft<'_>>) -> Result<(), AllocError>
         requires { ForSome draft (λ d. IsSound d) }
         ensures { OnOk result (self.new ≡ keep_all self.old (option_to_list (option_map effect_of draft.entry))) }
@@ -84,7 +84,7 @@ impl Tally {
         }
     }
 
-    /// Adds a tally that was begun on this one. An `Err` has added nothing.
+    /// Appends a tally that was begun from this one. An `Err` has added nothing.
     pub fn join(&mut self, later: Tally) -> Result<(), AllocError>
         ensures ok { OnOk result (self.new ≡ joined self.old later) }
         ensures err { OnErr result (self.new ≡ self.old) }
@@ -100,7 +100,7 @@ impl Tally {
         Ok(())
     }
 
-    /// What is reported, where no more text comes.
+    /// Returns the report, if no more text comes.
     pub fn into_report(self) -> Report
         ensures told { told_by result ≡ record { effects = self.effects; dropped = self.dropped } }
         ensures counted { result.dropped ≤ 4294967295 }

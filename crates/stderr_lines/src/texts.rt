@@ -8,7 +8,7 @@ ghost use Rattle.spool_types.specs.Values.{is_printable};
 use spool_types::{Text, TextFault, TextKind};
 use std::alloc::{AllocError, Global};
 
-/// The bytes as a text, where they are one of this kind.
+/// Returns the bytes as a text, if they are a text of this kind.
 pub fn text_in<K: TextKind>(bytes: &[u8]) -> Option<&str>
     ensures { option_copied result ≡ (if is_utf8 bytes.now && K.allowed bytes.now then Some bytes.now else None) }
 {
@@ -18,7 +18,7 @@ pub fn text_in<K: TextKind>(bytes: &[u8]) -> Option<&str>
     if K::allows(text) { Some(text) } else { None }
 }
 
-/// Printable bytes as a text.
+/// Returns printable bytes as a text.
 pub fn printable_text(bytes: &[u8]) -> &str
     requires { list_all is_printable bytes.now ≡ true }
     ensures { result.now ≡ bytes.now }
@@ -29,7 +29,7 @@ pub fn printable_text(bytes: &[u8]) -> &str
     }
 }
 
-/// A copy of a text of this kind.
+/// Returns a copy of a text of this kind.
 pub fn copy_of<K: TextKind>(alloc: Global, text: &str) -> Result<Text<K>, AllocError>
     requires { K.allowed text.now ≡ true }
     ensures { IfOk result (λ copy. copy ≡ text.now) }

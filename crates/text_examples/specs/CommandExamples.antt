@@ -14,7 +14,7 @@ abbrev pub new_queue : String → String → String → Policy → ℕ → ℕ �
 new_queue name uri target policy interval limit =
     Queue (record { name = text name; uri = text uri; target = text target; policy = policy; interval = interval; limit = limit })
 
--- a job, and the moment by which it is to start, if there is one
+-- A job, and its latest start, if any.
 abbrev pub creation : String → String → String → ℕ → ℕ → String → Option ℕ → Command
 creation queue user title copies priority options by =
     Create (record { queue = text queue; user = text user; title = text title; copies = copies; priority = priority; options = text options; by = by })
@@ -22,7 +22,7 @@ creation queue user title copies priority options by =
 abbrev pub info : String → String → String → Event
 info queue told place = Info (record { queue = text queue; info = text told; location = text place })
 
--- each command once
+-- Each command once.
 abbrev pub ScriptRows : Type 0
 ScriptRows = commands_of (text "queue lab spoolfile:/out Text/PLAIN abort-job|info lab \"Front desk\" \"Room 4\"|reject lab|disable lab|accept lab|enable lab|create lab ann \"First page\" 1 50 \"\"|createby lab ann \"x\" 1 50 \"\" 2000|send 1 3|a|b|# a remark||close 1 page.txt|hold 1 100|release 1|abandon 1|cancel 1|purge 1|clock 7|round|drain 5|checkpoint|queues|jobs")
     ≡ new_queue "lab" "spoolfile:/out" "text/plain" AbortJob 30 5 ∷ Apply (info "lab" "Front desk" "Room 4")
@@ -32,126 +32,126 @@ ScriptRows = commands_of (text "queue lab spoolfile:/out Text/PLAIN abort-job|in
     ∷ Apply (Hold 1 (Some 100)) ∷ Apply (Release 1) ∷ Apply (Abandon 1) ∷ Apply (Cancel 1)
     ∷ Apply (Purge 1) ∷ Apply (Clock 7) ∷ Round ∷ Drain 5 ∷ Checkpoint ∷ Queues ∷ Jobs ∷ []
 
--- queues with interval and limit
+-- Queues with interval and limit.
 abbrev pub QueueRows : Type 0
 QueueRows = commands_of (text "queue q s:/ a/b stop-printer 86400 65535|queue q s:/ a/b retry-job 86401|queue q s:/ a/b retry-job 0 65536|queue q s:/ a/b Retry-job|queue q s:/ a/b/c retry-job|queue q! s:/ a/b retry-job|")
     ≡ new_queue "q" "s:/" "a/b" StopPrinter 86400 65535 ∷ Malformed ∷ Malformed ∷ Malformed ∷ Malformed ∷ Malformed ∷ []
 
--- quoted words
+-- Quoted words.
 abbrev pub QuotedRows : Type 0
 QuotedRows = commands_of (text "close 1 \"\"|close 1 \"a\"\"b\"|close 1 \"a\\\"b\\\\c\\d\"|close 1 \"a|close 1 a\"b|close 1 a\\b|\"jobs\"|\"cancel\" \"1\"|")
     ≡ Close 1 [] ∷ Malformed ∷ Close 1 (codes "a\"b\\c\\d") ∷ Malformed ∷ Malformed ∷ Close 1 (codes "a\\b") ∷ Jobs
     ∷ Apply (Cancel 1) ∷ []
 
--- blanks and remarks
+-- Blanks and remarks.
 abbrev pub BlankRows : Type 0
 BlankRows = commands_of (text " ~ jobs~ |  | # no remark|#" ++ (255 ∷ 0 ∷ []) ++ text "||jobs$|jobs x|Jobs|")
     ≡ Jobs ∷ Malformed ∷ Malformed ∷ Malformed ∷ Malformed ∷ Malformed ∷ []
 
--- bytes that are no text
+-- Bytes that are no text.
 abbrev pub ByteRows : Type 0
 ByteRows = commands_of (text "close 1 a" ++ (0 ∷ []) ++ text "b|close 1 " ++ (255 ∷ []) ++ text "|close 1 " ++ (195 ∷ 169 ∷ []) ++ text "|close 1 \"a~b\"|send 1 2|" ++ (255 ∷ 0 ∷ []) ++ text "|")
     ≡ Malformed ∷ Malformed ∷ Close 1 (195 ∷ 169 ∷ []) ∷ Malformed ∷ Apply (Send 1 (255 ∷ 0 ∷ [])) ∷ []
 
--- numbers
+-- Numbers.
 abbrev pub NumberRows : Type 0
 NumberRows = commands_of (text "cancel 0000000000001|cancel 00000000000001|cancel +1|cancel 0|cancel 2147483647|cancel 2147483648|cancel \"\"|")
     ≡ Apply (Cancel 1) ∷ Malformed ∷ Malformed ∷ Malformed ∷ Apply (Cancel 2147483647) ∷ Malformed ∷ Malformed ∷ []
 
--- moments
+-- Moments.
 abbrev pub MomentRows : Type 0
 MomentRows = commands_of (text "clock 0|clock 4000000000000|clock 4000000000001|clock|clock 1 2|clock -1|")
     ≡ Apply (Clock 0) ∷ Apply (Clock 4000000000000) ∷ Malformed ∷ Malformed ∷ Malformed ∷ Malformed ∷ []
 
--- notes of a queue
+-- Notes of a queue.
 abbrev pub NoteRows : Type 0
 NoteRows = commands_of (text "info lab \"Front desk\" \"\"|info lab \"\" \"Room 4\"|info lab a|")
     ≡ Apply (info "lab" "Front desk" "") ∷ Apply (info "lab" "" "Room 4") ∷ Malformed ∷ []
 
--- queues that accept or reject
+-- Queues that accept or reject.
 abbrev pub AcceptRows : Type 0
 AcceptRows = commands_of (text "accept lab|reject lab|accept|accept lab lab|")
     ≡ Apply (SetAccept (codes "lab") true) ∷ Apply (SetAccept (codes "lab") false) ∷ Malformed ∷ Malformed ∷ []
 
--- queues that stop or go on
+-- Queues that are stopped or resumed.
 abbrev pub StopRows : Type 0
 StopRows = commands_of (text "enable lab|disable lab|")
     ≡ Apply (SetStop (codes "lab") false) ∷ Apply (SetStop (codes "lab") true) ∷ []
 
--- holds
+-- Holds.
 abbrev pub HoldRows : Type 0
 HoldRows = commands_of (text "hold 1 100|hold 1 indefinite|hold 1 \"indefinite\"|hold 1|hold 1 Indefinite|hold 1 4000000000001|hold 0 indefinite|")
     ≡ Apply (Hold 1 (Some 100)) ∷ Apply (Hold 1 None) ∷ Apply (Hold 1 None) ∷ Malformed ∷ Malformed ∷ Malformed ∷ Malformed
     ∷ []
 
--- releases
+-- Releases.
 abbrev pub ReleaseRows : Type 0
 ReleaseRows = commands_of (text "release 1|release x|")
     ≡ Apply (Release 1) ∷ Malformed ∷ []
 
--- purges
+-- Purges.
 abbrev pub PurgeRows : Type 0
 PurgeRows = commands_of (text "purge 1|purge 2147483647|purge 2147483648|purge 0|purge|purge 1 2|purge x|Purge 1|purges 1|")
     ≡ Apply (Purge 1) ∷ Apply (Purge 2147483647) ∷ Malformed ∷ Malformed ∷ Malformed ∷ Malformed ∷ Malformed ∷ Malformed
     ∷ Malformed ∷ []
 
--- listings take no words
+-- Listings take no words.
 abbrev pub ListingRows : Type 0
 ListingRows = commands_of (text "queues|queues 1|")
     ≡ Queues ∷ Malformed ∷ []
 
--- drains have 1 to 1000 rounds
+-- Drains have 1 to 1000 rounds.
 abbrev pub DrainRows : Type 0
 DrainRows = commands_of (text "round|round 1|drain|drain 0|drain 1|drain 1000|drain 1001|drain 1 1|")
     ≡ Round ∷ Malformed ∷ Malformed ∷ Malformed ∷ Drain 1 ∷ Drain 1000 ∷ Malformed ∷ Malformed ∷ []
 
--- a checkpoint takes no words
+-- A checkpoint takes no words.
 abbrev pub CheckpointRows : Type 0
 CheckpointRows = commands_of (text "checkpoint|checkpoint 1|\"checkpoint\"|checkpoints|")
     ≡ Checkpoint ∷ Malformed ∷ Checkpoint ∷ Malformed ∷ []
 
--- limits of a creation
+-- Limits of a Create.
 abbrev pub CreationRows : Type 0
 CreationRows = commands_of (text "create q u t 9999 100 o|create q u t 10000 1 o|create q u t 1 101 o|create q u t 0 1 o|create q \"\" t 1 1 o|")
     ≡ creation "q" "u" "t" 9999 100 "o" None ∷ Malformed ∷ Malformed ∷ Malformed ∷ Malformed ∷ []
 
--- moments by which a job is to start
+-- Latest starts of jobs.
 abbrev pub CreationByRows : Type 0
 CreationByRows = commands_of (text "createby q u t 9999 100 o 0|createby q u t 1 1 o 4000000000000|createby q u t 1 1 o 4000000000001|createby q u t 1 1 o|createby q u t 1 1 o 1 2|createby q u t 1 1 o indefinite|createby q u t 1 1 o \"\"|createby q u t 10000 1 o 1|createby q u t 1 1 1|create q u t 1 1 o 1|createby|")
     ≡ creation "q" "u" "t" 9999 100 "o" (Some 0) ∷ creation "q" "u" "t" 1 1 "o" (Some 4000000000000)
     ∷ Malformed ∷ Malformed ∷ Malformed ∷ Malformed ∷ Malformed ∷ Malformed ∷ Malformed ∷ Malformed ∷ Malformed ∷ []
 
--- sends without their end
+-- Sends without their end.
 abbrev pub CutSendRows : Type 0
 CutSendRows = commands_of (text "send 1 2|abc|jobs|send 1|send 1 5|ab")
     ≡ Malformed ∷ Jobs ∷ Malformed ∷ Malformed ∷ []
 
--- sends of nothing
+-- Empty sends.
 abbrev pub EmptySendRows : Type 0
 EmptySendRows = commands_of (text "send 1 0||send 1 0")
     ≡ Apply (Send 1 []) ∷ Malformed ∷ []
 
 -- ## Long texts
 
--- a front, so many bytes, and an end
+-- A front, this number of bytes, and an end.
 abbrev pub padded : String → ℕ → ℕ → String → List ℕ
 padded front byte count end = text front ++ replicate count byte ++ text end
 
--- a location of 127 bytes, the most
+-- A location of 127 bytes, the most.
 abbrev pub LongestNoteRows : Type 0
 LongestNoteRows = commands_of (padded "info lab \"\" " 120 127 "|")
     ≡ Apply (Info (record { queue = codes "lab"; info = []; location = replicate 127 120 })) ∷ []
 
--- a location and an info that are too long
+-- A location and an info that are too long.
 abbrev pub LongNoteRows : Type 0
 LongNoteRows = commands_of (padded "info lab \"\" " 120 128 "|" ++ padded "info lab " 120 128 " \"\"|") ≡ Malformed ∷ Malformed ∷ []
 
--- a line of 4,096 bytes, one of 4,097, and a long remark
+-- A line of 4,096 bytes, one of 4,097, and a long remark.
 abbrev pub LongLineRows : Type 0
 LongLineRows = commands_of (padded "jobs" 32 4092 "|jobs|" ++ padded "jobs" 32 4093 "|jobs|" ++ padded "#" 120 9000 "|jobs|")
     ≡ Jobs ∷ Jobs ∷ Malformed ∷ Jobs ∷ Jobs ∷ []
 
--- too many bytes of a send, and another byte behind them
+-- Too many bytes of a send, and another byte after them.
 abbrev pub OversizedRows : Type 0
 OversizedRows = commands_of (padded "send 1 70000|" 10 70000 "|jobs|") ≡ OversizedSend ∷ Jobs ∷ []
 

@@ -7,7 +7,7 @@ use Rattle.program_lists.specs.declared.line.ListedProgram.{ListedProgram}
 use Rattle.program_lists.specs.Programs.{Programs, programs_in, reads, program_named, no_programs}
 use Rattle.text_examples.specs.Written.{text}
 
--- a program with a first word or without one, and the same under a name
+-- A program with or without a first word, and the same under a name.
 abbrev pub bare : String → ListedProgram
 bare path = record { path = text path; word = None }
 
@@ -17,14 +17,14 @@ worded path word = record { path = text path; word = Some (text word) }
 abbrev pub named : {K : Type 0} → String → ListedProgram → Listed K
 named name program = record { name = text name; program = program }
 
--- a list of these filters alone, and one of these backends alone
+-- A list with only these filters, and one with only these backends.
 abbrev pub filters : List (String × ListedProgram) → Programs
 filters list = record no_programs { filters = map (λ (p : String × ListedProgram). named p.0 p.1) list }
 
 abbrev pub backends : List (String × ListedProgram) → Programs
 backends list = record no_programs { backends = map (λ (p : String × ListedProgram). named p.0 p.1) list }
 
--- a text that is read, and what it names
+-- A text that is read, and the programs in it.
 abbrev pub found : String × Programs → Bool × Programs
 found row = (reads (text row.0), programs_in (text row.0))
 
@@ -37,7 +37,7 @@ AreRead rows = map found rows ≡ map wanted rows
 abbrev pub AreRefused : List String → Type 0
 AreRefused rows = map (λ (written : String). reads (text written)) rows ≡ map (λ (written : String). false) rows
 
--- blanks, empty lines and remarks
+-- Blanks, empty lines and remarks.
 abbrev pub SilentRows : Type 0
 SilentRows = AreRead (("", no_programs) ∷ (" ~||# filter|~# x y|#", no_programs) ∷ [])
 
@@ -56,14 +56,14 @@ BackendRows = AreRead (
     ∷ ("backend ipp+usb.1-x /b", backends (("ipp+usb.1-x", bare "/b") ∷ []))
     ∷ [])
 
--- a name may stand in each kind
+-- A name may occur in each kind.
 abbrev pub SideRows : Type 0
 SideRows = AreRead (
     ("filter a /b|backend a /b|side /b|", record { filters = named "a" (bare "/b") ∷ []; backends = named "a" (bare "/b") ∷ []; side = Some (bare "/b") })
     ∷ ("side /s w", record no_programs { side = Some (worded "/s" "w") })
     ∷ [])
 
--- a line that doesn't read
+-- Invalid lines.
 abbrev pub UnreadRows : Type 0
 UnreadRows = AreRefused (
     "$|" ∷ "filter f /f$|filter f$ /g"
@@ -73,18 +73,18 @@ UnreadRows = AreRefused (
     ∷ "filter f /f|frobnicate" ∷ "fil#ter f /f"
     ∷ [])
 
--- a line too many
+-- A second line for the same name, or a second `side` line.
 abbrev pub TwiceRows : Type 0
 TwiceRows = AreRefused ("side /s|side /s" ∷ "filter f /f|filter f /f" ∷ "backend b /f||backend b /g w" ∷ [])
 
--- where the program of this name lies
+-- The path of the program with this name.
 abbrev pub path_named : {K : Type 0} → List (Listed K) → String → Option (List ℕ)
 path_named list name = option_map (λ (p : ListedProgram). p.path) (program_named (text name) list)
 
 abbrev pub list : Programs
 list = programs_in (text "filter a /1|filter b /2|backend b /3|")
 
--- a name finds its own program
+-- A name finds its own program.
 abbrev pub NamedRows : Type 0
 NamedRows = map (path_named list.filters) ("a" ∷ "b" ∷ "c" ∷ "" ∷ []) ≡ Some (text "/1") ∷ Some (text "/2") ∷ None ∷ None ∷ []
 

@@ -18,11 +18,11 @@ ErrorRows = map answer_text (Refused NoNumberLeft ∷ Refused NeedsCheckpoint �
     ≡ text "error 9 NoNumberLeft|" ∷ text "error 17 NeedsCheckpoint|" ∷ text "error syntax|" ∷ text "error memory|" ∷ text "error dead|"
     ∷ text "error full|" ∷ text "error disk|" ∷ text "error epoch|" ∷ []
 
--- a closed job is told by its type and its stages
+-- The reply to a closed job has its type and its stages.
 abbrev pub ClosedRows : Type 0
 ClosedRows = answer_text (Closed (codes "text/plain") (Some 3)) ≡ text "ok type text/plain stages 3|"
 
--- the queue `lab`, and a job of it that is processing
+-- The queue `lab`, and its processing job.
 abbrev pub lab : QueueRow
 lab = record {
   name = codes "lab";
@@ -58,13 +58,13 @@ busy = record {
   by = None;
 }
 
--- no queue, one that is idle, and one that is processing
+-- No queue, an idle one, and one that is processing.
 abbrev pub QueueRows : Type 0
 QueueRows = queues_text (busy ∷ []) [] ∷ queues_text [] (lab ∷ []) ∷ queues_text (busy ∷ []) (lab ∷ []) ∷ []
     ≡ text "ok 0|" ∷ text "queue lab 3 accepting application/x-prn abort-job 30 5 none \"\"|ok 1|"
     ∷ text "queue lab 4 accepting application/x-prn abort-job 30 5 none \"\"|ok 1|" ∷ []
 
--- a stopped queue is listed with its reasons and its message
+-- A stopped queue is listed with its reasons and its message.
 abbrev pub StoppedRows : Type 0
 StoppedRows = queues_text [] (record lab { accepting = false; stopped = true; message = codes "a \"b\""; reasons = codes "media-empty" ∷ codes "toner-low" ∷ [] } ∷ [])
     ≡ text "queue lab 5 rejecting application/x-prn abort-job 30 5 media-empty,toner-low \"a \\\"b\\\"\"|ok 1|"

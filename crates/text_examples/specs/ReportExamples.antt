@@ -1,4 +1,4 @@
--- Examples of what a child says on standard error, and of its effects.
+-- Examples of a child's standard error, and of its effects.
 use Prim.Native.String.{String}
 use Rattle.std.specs.Prelude.{◌≡◌, ℕ, List, [], ◌∷◌, ◌++◌, length, map, codes, replicate}
 use Rattle.std.specs.List.{repeat}
@@ -8,7 +8,7 @@ use Rattle.spool_types.specs.declared.effect.Level.TheVariants.{Emergency, Alert
 use Rattle.stderr_lines.specs.Reports.{Reported, report_of}
 use Rattle.text_examples.specs.Written.{text}
 
--- a text, and the effects that are reported of it, of which none is left out
+-- A text, and the effects that are reported of it, all of them.
 pub record Line : Type 0 where
   pub said : List ℕ
   pub effects : List Effect
@@ -22,13 +22,13 @@ AreReported rows = map (λ (l : Line). report_of l.said) rows ≡ map (λ (l : L
 abbrev pub AreSilent : List String → Type 0
 AreSilent rows = AreReported (map (λ (said : String). line said []) rows)
 
--- the lines of a text in their order
+-- The lines of a text in their order.
 abbrev pub TextRows : Type 0
 TextRows = AreReported (
     line "STATE: +media-empty,toner-low|PAGE: 1 2|PAGE: total 9|hello" (AddReasons (codes "media-empty" ∷ codes "toner-low" ∷ []) ∷ Pages 1 2 ∷ TotalPages 9 ∷ [])
     ∷ [])
 
--- each level, with the text behind its blanks
+-- Each level, with the text after its blanks.
 abbrev pub LevelRows : Type 0
 LevelRows = AreReported (
     line "ALERT: a" (Message Alert (codes "a") ∷ [])
@@ -40,11 +40,11 @@ LevelRows = AreReported (
     ∷ line "WARNING: a:b" (Message Warning (codes "a:b") ∷ [])
     ∷ [])
 
--- lines that say nothing
+-- Lines without effect.
 abbrev pub SilentRows : Type 0
 SilentRows = AreSilent ("DEBUG: a" ∷ "DEBUG2: a" ∷ "PPD: a=b" ∷ "Info: a" ∷ " INFO: a" ∷ "a INFO: b" ∷ "INFO a" ∷ "||" ∷ "" ∷ [])
 
--- pages are two numbers or a total
+-- Pages are two numbers or a total.
 abbrev pub PageRows : Type 0
 PageRows = AreReported (
     line "PAGE: 4294967295 0" (Pages 4294967295 0 ∷ [])
@@ -56,7 +56,7 @@ abbrev pub NoPageRows : Type 0
 NoPageRows = AreSilent ("PAGE: 4294967296 0" ∷ "PAGE: 1 42949672950" ∷ "PAGE: total" ∷ "PAGE: 1" ∷ "PAGE: 1 2 3" ∷ "PAGE: 1~2" ∷ "PAGE: +1 2"
     ∷ "PAGE: Total 9" ∷ "PAGE:" ∷ [])
 
--- states name reasons
+-- States name reasons.
 abbrev pub StateRows : Type 0
 StateRows = AreReported (
     line "STATE: none" (SetReasons [] ∷ [])
@@ -72,7 +72,7 @@ NoStateRows = AreSilent ("STATE: +none" ∷ "STATE: -" ∷ [])
 abbrev pub attribute : String → String → Effect
 attribute name value = Attribute (record { name = codes name; value = codes value })
 
--- attributes are pairs, whose values may be quoted
+-- Attributes are pairs. Their values may be quoted.
 abbrev pub AttributeRows : Type 0
 AttributeRows = AreReported (
     line "ATTR: a=1 b-2='x \"y' c=\"d e\"f" (attribute "a" "1" ∷ attribute "b-2" "x \"y" ∷ attribute "c" "d ef" ∷ [])
@@ -83,11 +83,11 @@ AttributeRows = AreReported (
 
 -- ## Long texts
 
--- so many bytes `x`
+-- This number of bytes `x`.
 abbrev pub xs : ℕ → List ℕ
 xs count = replicate count 120
 
--- of a line 1,023 bytes are read, and a carriage return at their end is dropped
+-- 1,023 bytes of a line are read, and a carriage return at their end is dropped.
 abbrev pub LongLineRows : Type 0
 LongLineRows = AreReported (
     record { said = text "INFO: " ++ xs 1016 ++ text "$|"; effects = Message Info (xs 1016) ∷ [] }
@@ -97,7 +97,7 @@ LongLineRows = AreReported (
     ∷ record { said = text "INFO: " ++ xs 1015 ++ text "$$|"; effects = Message Info (xs 1015 ++ text "?") ∷ [] }
     ∷ [])
 
--- a reason and the name of an attribute have at most 127 bytes
+-- A reason and the name of an attribute have at most 127 bytes.
 abbrev pub LongWordRows : Type 0
 LongWordRows = AreReported (
     record { said = text "STATE: +" ++ xs 127; effects = AddReasons (xs 127 ∷ []) ∷ [] }
@@ -106,11 +106,11 @@ LongWordRows = AreReported (
     ∷ record { said = text "ATTR: " ++ xs 128 ++ text "=1"; effects = [] }
     ∷ [])
 
--- so many messages of 1,000 bytes, each of 1,004 bytes of code, and then a text
+-- This number of messages of 1,000 bytes, each 1,004 bytes encoded, and then a text.
 abbrev pub full : ℕ → List ℕ → List ℕ
 full count end = repeat count (text "INFO: " ++ xs 1000 ++ text "|") ++ end
 
--- how many effects are kept and left out of 16,384 bytes: after sixteen of 1,004 bytes there is room for 320
+-- How many effects of 16,384 bytes are kept and dropped: after sixteen of 1,004 bytes 320 bytes are left.
 abbrev pub counts : Reported → ℕ × ℕ
 counts told = (length told.effects, told.dropped)
 

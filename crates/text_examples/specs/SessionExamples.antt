@@ -10,11 +10,11 @@ use Rattle.side_channel.specs.declared.endings.Ending.TheVariants.{End, Stopped}
 use Rattle.side_channel.specs.declared.endings.SideFault.{SideFault}
 use Rattle.side_channel.specs.declared.endings.SideFault.TheVariants.{Cut}
 
--- a device that is read from, isn't connected, and is online with an empty tray
+-- A device that can be read, is not connected, and is online with an empty tray.
 abbrev pub printer : Device
 printer = record { bidi = true; connected = false; state = 33; id = codes "MFG:X;" }
 
--- a request, how many bytes 255 follow it, what is answered, and how the session ends
+-- A request, the number of bytes 255 that follow it, the answer, and how the session ends.
 pub record Asked : Type 0 where
   pub request : List ℕ
   pub count : ℕ
@@ -24,7 +24,7 @@ pub record Asked : Type 0 where
 abbrev pub asked : List ℕ → ℕ → List ℕ → Result Ending SideFault → Asked
 asked request count answer ending = record { request = request; count = count; answer = answer; ending = ending }
 
--- a session of a request without such bytes, which the end of the input stops
+-- A session with a request and no such bytes, which ends with its input.
 abbrev pub stopped : List ℕ → List ℕ → Asked
 stopped request answer = asked request 0 answer (Ok Stopped)
 
@@ -34,7 +34,7 @@ told a = let s = session printer (a.request ++ replicate a.count 255) in (s.text
 abbrev pub AreTold : List Asked → Type 0
 AreTold rows = map told rows ≡ map (λ (a : Asked). (a.answer, a.ending)) rows
 
--- each command, a number that is none, data and a status that count for nothing, and nothing at all
+-- Each command, a number that is no command, data and a status that have no effect, and no request at all.
 abbrev pub CommandRows : Type 0
 CommandRows = AreTold (
     stopped (3 ∷ 0 ∷ 0 ∷ 0 ∷ []) (3 ∷ 1 ∷ 0 ∷ 1 ∷ 1 ∷ [])
@@ -51,7 +51,7 @@ CommandRows = AreTold (
     ∷ stopped [] []
     ∷ [])
 
--- only 255, 0, 0, 0 ends a session
+-- Only 255, 0, 0, 0 ends a session.
 abbrev pub EndRows : Type 0
 EndRows = AreTold (
     asked (255 ∷ 0 ∷ 0 ∷ 0 ∷ []) 0 [] (Ok End)
@@ -61,7 +61,7 @@ EndRows = AreTold (
     ∷ stopped (255 ∷ 0 ∷ 0 ∷ 1 ∷ 65 ∷ []) (255 ∷ 5 ∷ 0 ∷ 0 ∷ [])
     ∷ [])
 
--- packets that are cut, and data of 2,048 bytes and of 2,049
+-- Packets that are cut, and data of 2,048 and of 2,049 bytes.
 abbrev pub SizeRows : Type 0
 SizeRows = AreTold (
     asked (3 ∷ 0 ∷ 0 ∷ []) 0 [] (Err Cut)
@@ -72,20 +72,20 @@ SizeRows = AreTold (
     ∷ asked (255 ∷ 0 ∷ 8 ∷ 1 ∷ []) 2049 (255 ∷ 6 ∷ 0 ∷ 0 ∷ []) (Ok Stopped)
     ∷ [])
 
--- the most data that a packet tells of
+-- The greatest length of data in a packet.
 abbrev pub MostRows : Type 0
 MostRows = AreTold (
     asked (9 ∷ 0 ∷ 255 ∷ 255 ∷ []) 65534 [] (Err Cut)
     ∷ asked (9 ∷ 0 ∷ 255 ∷ 255 ∷ []) 65535 (9 ∷ 6 ∷ 0 ∷ 0 ∷ []) (Ok Stopped)
     ∷ [])
 
--- the commands 0 to 8, and no further number
+-- The commands 0 to 8, and no further number.
 abbrev pub CommandNumberRows : Type 0
 CommandNumberRows = map command_of (0 ∷ 1 ∷ 2 ∷ 3 ∷ 4 ∷ 5 ∷ 6 ∷ 7 ∷ 8 ∷ [])
     ≡ Some commands.None ∷ Some commands.SoftReset ∷ Some commands.DrainOutput ∷ Some commands.GetBidi ∷ Some commands.GetDeviceId
     ∷ Some commands.GetState ∷ Some commands.SnmpGet ∷ Some commands.SnmpGetNext ∷ Some commands.GetConnected ∷ []
 
--- so many numbers from n on
+-- Consecutive numbers from n on.
 abbrev pub numbers : ℕ → ℕ → List ℕ
 numbers n zero = []
 numbers n (suc count) = n ∷ numbers (n + 1) count

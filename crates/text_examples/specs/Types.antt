@@ -1,4 +1,4 @@
--- Examples of mime.types(5): which type a document has, and which fault a line.
+-- Examples of mime.types(5): the types of documents, and the errors in lines.
 use Prim.Native.String.{String}
 use Rattle.std.specs.Prelude.{◌≡◌, ℕ, List, [], ◌∷◌, map, codes, unwrap_or}
 use Rattle.spool_types.specs.declared.warning.Warning.{Warning}
@@ -8,7 +8,7 @@ use Rattle.mime_rules.specs.RuleLines.{alternatives_of, warnings_of}
 use Rattle.mime_rules.specs.BestType.{type_of}
 use Rattle.text_examples.specs.Written.{text}
 
--- a file without a fault, the name and the bytes of a document, and its type, or nothing where it has none
+-- A valid file, the name and the bytes of a document, and its type, or nothing if it has none.
 pub record Typing : Type 0 where
   pub file : List ℕ
   pub name : List ℕ
@@ -18,7 +18,7 @@ pub record Typing : Type 0 where
 abbrev pub typing : String → String → List ℕ → String → Typing
 typing file name bytes media = record { file = text file; name = text name; bytes = bytes; media = text media }
 
--- its type where the locale is `de`, and the warnings of its file
+-- Its type in the locale `de`, and the warnings of its file.
 abbrev pub found : Typing → List ℕ × List Warning
 found t = (unwrap_or (type_of (record { name = t.name; bytes = t.bytes; locale = codes "de" }) (alternatives_of t.file)) [], warnings_of t.file)
 
@@ -28,7 +28,7 @@ wanted t = (t.media, [])
 abbrev pub AreTyped : List Typing → Type 0
 AreTyped rows = map found rows ≡ map wanted rows
 
--- a file of one line, and its first fault
+-- A file of one line, and its first error.
 pub record Fault : Type 0 where
   pub file : List ℕ
   pub kind : WarningKind
@@ -45,7 +45,7 @@ AreFaulty rows = map (λ (f : Fault). warnings_of f.file) rows ≡ map (λ (f : 
 abbrev pub jpeg : String
 jpeg = "image/jpeg jpeg jpg string(0,<FFD8FF>) && (char(3,0xe0) char(3,0xe1))"
 
--- a type has several rules
+-- A type has several rules.
 abbrev pub JpegRows : Type 0
 JpegRows = AreTyped (
     typing jpeg "x" (255 ∷ 216 ∷ 255 ∷ []) ""
@@ -58,14 +58,14 @@ JpegRows = AreTyped (
 abbrev pub postscript : String
 postscript = "text/plain printable(0,1024)|application/postscript priority(150) string(0,%!)|"
 
--- the higher priority counts
+-- The higher priority wins.
 abbrev pub PriorityRows : Type 0
 PriorityRows = AreTyped (
     typing postscript "x" (codes "%!PS") "application/postscript"
     ∷ typing postscript "x" (codes "PS") "text/plain"
     ∷ [])
 
--- of equal priorities the type that is alphabetically first
+-- Of equal priorities the type that is alphabetically first wins.
 abbrev pub NameRows : Type 0
 NameRows = AreTyped (
     typing "b/b string(0,x)|a/z string(0,x)|a/y string(0,y)|" "x" (codes "x") "a/z"
@@ -75,7 +75,7 @@ NameRows = AreTyped (
 abbrev pub joined : String
 joined = "application/pdf pdf string(0,%PDF)|text/html html htm printable(0,1024) + \\|(string(0,\"<HTML>\") string(0,\"<!DOCTYPE\"))|"
 
--- lines that a backslash joins are one
+-- Lines joined by a backslash are one line.
 abbrev pub JoinedRows : Type 0
 JoinedRows = AreTyped (
     typing joined "x" (codes "%PDF-1") "application/pdf"
@@ -83,7 +83,7 @@ JoinedRows = AreTyped (
     ∷ typing joined "x" (codes "<html>") ""
     ∷ [])
 
--- items are alternatives, and factors hold together
+-- Items are alternatives, and all factors of an item must match.
 abbrev pub ItemRows : Type 0
 ItemRows = AreTyped (
     typing "a/b gif,,jpg , png" "x.png" [] "a/b"
@@ -95,7 +95,7 @@ ItemRows = AreTyped (
     ∷ typing "a/b string (0,x)" "a.0" [] "a/b"
     ∷ [])
 
--- an exclamation mark negates
+-- An exclamation mark negates.
 abbrev pub NegationRows : Type 0
 NegationRows = AreTyped (
     typing "a/b !x" "y" [] "a/b"
@@ -107,7 +107,7 @@ NegationRows = AreTyped (
     ∷ typing "a/b priority(5)" "y.x" [] ""
     ∷ [])
 
--- groups are nested sixteen deep
+-- Groups are nested sixteen deep.
 abbrev pub GroupRows : Type 0
 GroupRows = AreTyped (
     typing "a/b ((((((((((((((((x))))))))))))))))" "y.x" [] "a/b"
@@ -118,7 +118,7 @@ BadGroupRows = AreFaulty (
     fault "a/b (((((((((((((((((x)))))))))))))))))" BadRule
     ∷ [])
 
--- the last priority of a line counts
+-- The last priority of a line counts.
 abbrev pub LastPriorityRows : Type 0
 LastPriorityRows = AreTyped (
     typing "a/a x priority(50) priority(120)|a/c x priority(110)|" "n.x" [] "a/a"
@@ -132,13 +132,13 @@ BadLastPriorityRows = AreFaulty (
     ∷ fault "a/b priority()" BadNumber
     ∷ [])
 
--- capitals of types fold
+-- Capitals of types are folded.
 abbrev pub CapitalRows : Type 0
 CapitalRows = AreTyped (
     typing "~Image/GIF gif" "x.gif" [] "image/gif"
     ∷ [])
 
--- patterns of names
+-- Patterns of names.
 abbrev pub PatternRows : Type 0
 PatternRows = AreTyped (
     typing "a/b match(*.tar.?z)" "a.tar.tar.gz" [] "a/b"
@@ -150,7 +150,7 @@ PatternRows = AreTyped (
     ∷ typing "a/b match(\"*\")" "any" [] "a/b"
     ∷ [])
 
--- sets in patterns
+-- Sets in patterns.
 abbrev pub SetRows : Type 0
 SetRows = AreTyped (
     typing "a/b match([a-c]x)" "bx" [] "a/b"
@@ -166,7 +166,7 @@ BadSetRows = AreFaulty (
     fault "a/b match([a)" BadRule
     ∷ [])
 
--- what is special in a pattern, and what is not in a set
+-- Special characters in a pattern, which are not special in a set.
 abbrev pub SpecialByteRows : Type 0
 SpecialByteRows = AreTyped (
     typing "a/b match(<2A>)" "any" [] "a/b"
@@ -178,7 +178,7 @@ SpecialByteRows = AreTyped (
     ∷ typing "a/b match([]a])" "a" [] ""
     ∷ [])
 
--- bytes of a text
+-- Bytes of a text.
 abbrev pub TextByteRows : Type 0
 TextByteRows = AreTyped (
     typing "a/b ascii(1,2)" "x" (0 ∷ 8 ∷ 126 ∷ 127 ∷ []) "a/b"
@@ -189,7 +189,7 @@ TextByteRows = AreTyped (
     ∷ typing "a/b printable(0,3)" "x" (127 ∷ []) ""
     ∷ [])
 
--- texts at offsets
+-- Texts at offsets.
 abbrev pub TextRows : Type 0
 TextRows = AreTyped (
     typing "a/b string(0x2, \"b c\" d )" "x" (codes "aab c d") "a/b"
@@ -200,7 +200,7 @@ TextRows = AreTyped (
     ∷ typing "a/b string(0,<>a,b(c)" "x" (codes "a,b(c") "a/b"
     ∷ [])
 
--- values of one, two and four bytes
+-- Values of one, two and four bytes.
 abbrev pub ValueRows : Type 0
 ValueRows = AreTyped (
     typing "a/b short(0,12)" "x" (0 ∷ 12 ∷ []) "a/b"
@@ -217,7 +217,7 @@ BadValueRows = AreFaulty (
     ∷ fault "a/b char(0,12" BadRule
     ∷ [])
 
--- texts that are contained
+-- Contained texts.
 abbrev pub ContainedRows : Type 0
 ContainedRows = AreTyped (
     typing "a/b contains(1,4,bcd)" "x" (codes "aabcd") "a/b"
@@ -226,19 +226,19 @@ ContainedRows = AreTyped (
     ∷ typing "a/b contains(9,9,)" "x" [] "a/b"
     ∷ [])
 
--- the locale
+-- The locale.
 abbrev pub LocaleRows : Type 0
 LocaleRows = AreTyped (
     typing "a/b locale(de)" "x" [] "a/b"
     ∷ typing "a/b locale(d)" "x" [] ""
     ∷ [])
 
--- each kind of fault, by its line
+-- Each kind of error, by its line.
 abbrev pub KindRows : Type 0
 KindRows = warnings_of (text "a/a regex(0,\"x\")|image gif|a/b \\|priority(201)|a/c string(0,<F>)|a/d (x")
     ≡ warning 1 UnknownRule ∷ warning 2 BadType ∷ warning 3 BadNumber ∷ warning 5 BadText ∷ warning 6 BadRule ∷ []
 
--- the first fault of a line counts
+-- The first error of a line counts.
 abbrev pub FirstFaultRows : Type 0
 FirstFaultRows = AreFaulty (
     fault "a/b a + , ascii(x,1)" BadRule
@@ -247,7 +247,7 @@ FirstFaultRows = AreFaulty (
     ∷ fault "a/b regex(" UnknownRule
     ∷ [])
 
--- an operator wants a factor
+-- An operator needs a factor.
 abbrev pub OperatorRows : Type 0
 OperatorRows = AreFaulty (
     fault "a/b a +" BadRule
@@ -259,7 +259,7 @@ OperatorRows = AreFaulty (
     ∷ fault "a/b (!)" BadRule
     ∷ [])
 
--- a factor wants a separator behind it
+-- A factor needs a separator after it.
 abbrev pub SeparatorRows : Type 0
 SeparatorRows = AreFaulty (
     fault "a/b a!b" BadRule
@@ -270,7 +270,7 @@ SeparatorRows = AreFaulty (
     ∷ fault "a/b (a" BadRule
     ∷ [])
 
--- arguments of rules
+-- Arguments of rules.
 abbrev pub ArgumentRows : Type 0
 ArgumentRows = AreFaulty (
     fault "a/b ascii(" BadNumber
@@ -282,7 +282,7 @@ ArgumentRows = AreFaulty (
     ∷ fault "a/b string(0,a" BadRule
     ∷ [])
 
--- a fault where a separator is wanted
+-- An error where a separator is required.
 abbrev pub WantedSeparatorRows : Type 0
 WantedSeparatorRows = AreFaulty (
     fault "a/b match(x)regex(0,y)" UnknownRule

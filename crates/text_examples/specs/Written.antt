@@ -1,4 +1,4 @@
--- Texts of examples as they are written: `|` stands for a line feed, `~` for a tab and `$` for a carriage return.
+-- The notation of texts in examples: `|` means a line feed, `~` a tab and `$` a carriage return.
 use Prim.Native.String.{String}
 use Rattle.std.specs.Prelude.{ℕ, cond, ◌==◌, List, map, codes}
 

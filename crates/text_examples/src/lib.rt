@@ -1,18 +1,18 @@
-//! Examples of the crates that read texts, as facts: words, files of rules, of conversions and of programs, commands,
-//! standard error, the side channel.
+//! Examples of the crates that read texts, stated as facts: words, files of rules, of conversions and of programs, commands, standard
+//! error, the side channel.
 //!
-//! Each function does nothing. Each of its clauses is a table of examples in `specs/`, and the check computes the definitions on
-//! each row: a false one is refused by the name of its clause. The texts are written with stand-ins for a line feed, a tab
-//! and a carriage return (`specs/Written`).
+//! Each function does nothing. Each of its clauses is a table of examples in `specs/`, and the check computes the definitions on each row.
+//! It refuses a false one by the name of its clause. The texts are written with substitutes for a line feed, a tab and a carriage return
+//! (`specs/Written`).
 //!
-//! # What they say
+//! # Promises
 //!
-//! A fact is about a definition. That the code does the same is promised by the function whose clause names the definition with
-//! its whole value, such as `value` of `joined_lines`. So a row here says as much as a test of that function that runs, and
-//! costs the check a hundredth of it. What a clause can't say is run in `text_tests`: that memory suffices, that readers and
-//! writers may be slow or fail, and what is printed. URIs and device lines are run there too.
+//! A fact is about a definition. That the code does the same is promised by the function whose clause names the definition with its whole
+//! value, such as `value` of `joined_lines`. So a row here states as much as a test of that function, and costs the check a hundredth of
+//! it. `text_tests` runs the rest: that memory suffices, that readers and writers may be slow or fail, and the printed output. It also runs
+//! URIs and device lines.
 //!
-//! # Faults
+//! # Errors
 //!
 //! None: nothing here is ever called.
 #![tactic(auto)]
@@ -48,7 +48,7 @@ pub fn line_examples()
     ensures no_number { lines.NoNumberRows }
 {}
 
-/// Types of documents, by the rule that wins.
+/// Types of documents: which rule wins.
 pub fn type_examples()
     ensures jpeg { types.JpegRows }
     ensures priority { types.PriorityRows }
@@ -73,7 +73,7 @@ pub fn rule_examples()
     ensures locale { types.LocaleRows }
 {}
 
-/// Faults of lines of rules.
+/// Errors in lines of rules.
 pub fn fault_examples()
     ensures kind { types.KindRows }
     ensures first_fault { types.FirstFaultRows }
@@ -100,7 +100,7 @@ pub fn chain_examples()
     ensures order { chains.OrderRows }
 {}
 
-/// Programs that a file names.
+/// The programs named in a file.
 pub fn program_examples()
     ensures silent { programs.SilentRows }
     ensures filter { programs.FilterRows }
@@ -151,7 +151,7 @@ pub fn reply_examples()
     ensures stopped { replies.StoppedRows }
 {}
 
-/// What is reported of a child's standard error.
+/// The report in a child's standard error.
 pub fn report_examples()
     ensures text { reports.TextRows }
     ensures level { reports.LevelRows }

@@ -1,11 +1,11 @@
-//! Texts of commands that come in pieces, and replies.
+//! Tests of commands that arrive in pieces, and of replies.
 ghost use Rattle.std.specs.Prelude.{◌<◌};
 
 use command_lines::{Answer, Command, Commands, print_reply};
 use std::alloc::{AllocError, Global};
 use std::test::Fail;
 
-// A letter for each kind of command.
+// Returns a letter for each kind of command.
 fn letter(command: &Command) -> char {
     match command {
         Command::Apply(_) => 'e',
@@ -22,15 +22,15 @@ fn letter(command: &Command) -> char {
     }
 }
 
-// The letter of a command, or nothing where there is none.
+// Returns the letter of the command, if there is one.
 fn letter_of(command: Option<Command>) -> Option<char> {
     let letter = command.as_ref().map(|command| letter(command));
-    // By name: let go at the end of its scope, it would split the proof into a case for each kind of event.
+    // Dropped by name. At the end of its scope the drop would split the proof into a case for each kind of event.
     drop(command);
     letter
 }
 
-// Adds a letter for each command that is whole.
+// Adds a letter for each command that is complete.
 fn push_whole(letters: &mut String, reader: &mut Commands) -> Result<(), AllocError> {
     for _ in 0..u32::MAX {
         match letter_of(reader.next()?) {
@@ -41,7 +41,7 @@ fn push_whole(letters: &mut String, reader: &mut Commands) -> Result<(), AllocEr
     Ok(())
 }
 
-// Adds a letter for each command that is left where the text ends.
+// Adds a letter for each command that remains when the text ends.
 fn push_last(letters: &mut String, reader: &mut Commands) -> Result<(), AllocError> {
     for _ in 0..u32::MAX {
         match letter_of(reader.finish()?) {
@@ -52,7 +52,7 @@ fn push_last(letters: &mut String, reader: &mut Commands) -> Result<(), AllocErr
     Ok(())
 }
 
-// Adds the letters of a text that is fed in pieces of so many bytes.
+// Adds the letters of a text that is fed in pieces of `size` bytes.
 fn push_all(
     letters: &mut String,
     reader: &mut Commands,
@@ -68,7 +68,7 @@ fn push_all(
     push_last(letters, reader)
 }
 
-// The commands of the script, a letter for each.
+// Returns a letter for each command of the script.
 fn letters(alloc: Global, size: usize) -> Result<String, AllocError>
     requires { 0 < size }
 {
@@ -119,13 +119,13 @@ fn every_command_is_read_however_it_is_cut(rt: HostRuntime) -> Result<(), Fail> 
     Ok(())
 }
 
-// Whether an answer is printed so.
+// Returns whether an answer is printed as these bytes.
 fn is_printed(alloc: Global, answer: &Answer<'_>, want: &[u8]) -> Result<bool, AllocError> {
     let text = print_reply(alloc, answer)?;
     Ok(text.as_slice() == want)
 }
 
-// What each answer is in words is told by facts. The listings of queues that are there are run by the stored scripts.
+// `text_examples` proves the texts of the answers. The stored scripts test listings of existing queues.
 #[test]
 fn an_answer_is_printed(rt: HostRuntime) -> Result<(), Fail> {
     assert!(rt; is_printed(rt.alloc(), &Answer::Queues(&[]), b"ok 0\n")?);

@@ -1,4 +1,5 @@
-//! Files of programs, of rules and of conversions. What they mean is told by facts: here each call that takes memory runs once.
+//! Tests of files of programs, of rules and of conversions. `text_examples` proves their meaning. Here each call that
+//! allocates memory runs once.
 use mime_costs::Convs;
 use mime_rules::Types;
 use program_lists::{ListFault, ListedProgram, ProgramList};
@@ -8,7 +9,7 @@ use std::test::Fail;
 
 const PROGRAMS: &str = "filter a /1\nfilter b /2 w # b\n\nbackend b /3\nside /4\n";
 
-// Whether a program is there, has this path, and has this word or none.
+// Returns whether the program exists, and has this path and this argument or none.
 fn is_program(found: Option<&ListedProgram>, path: &str, word: Option<&str>) -> bool {
     match found {
         Some(program) => {
@@ -40,7 +41,7 @@ fn a_name_finds_its_own_program(rt: HostRuntime) -> Result<(), Fail> {
     Ok(())
 }
 
-// Whether a file isn't read.
+// Returns whether the file is invalid.
 fn is_unread(alloc: Global, file: &str) -> Result<bool, AllocError> {
     match ProgramList::read(alloc, file) {
         Ok(_) => Ok(false),
@@ -56,7 +57,7 @@ fn a_line_twice_is_not_read(rt: HostRuntime) -> Result<(), Fail> {
     Ok(())
 }
 
-// A file without a fault, a document's name and bytes, and its type.
+// A valid file, a document's name and bytes, and its type.
 const DOCUMENTS: [(&str, &str, &[u8], Option<&str>); 8] = [
     (
         "image/jpeg jpeg jpg string(0,<FFD8FF>) && (char(3,0xe0) char(3,0xe1))",
@@ -83,7 +84,7 @@ const DOCUMENTS: [(&str, &str, &[u8], Option<&str>); 8] = [
     ("b/b x\na/b \\\nx", "n.x", b"", Some("a/b")),
 ];
 
-// A file of lines of which none can be read, and why.
+// A file of invalid lines only. `KINDS` has the reasons.
 const FAULTS: &str =
     "a/a regex(0,\"x\")\nimage gif\na/b \\\npriority(201)\na/c string(0,<F>)\na/d (x";
 
@@ -110,7 +111,7 @@ const KINDS: [Warning; 5] = [
     },
 ];
 
-// The rules of a file without a fault.
+// Returns the rules of a valid file.
 fn rules(alloc: Global, file: &str) -> Result<Types, Fail> {
     let (types, warnings) = Types::read(alloc, file)?;
     if warnings.is_empty() {
@@ -120,7 +121,7 @@ fn rules(alloc: Global, file: &str) -> Result<Types, Fail> {
     }
 }
 
-// Whether a document is of this type, or of none.
+// Returns whether a document has this type, or none.
 fn is_typed(
     alloc: Global,
     file: &str,
@@ -148,7 +149,7 @@ fn each_fault_of_a_rule_is_told(rt: HostRuntime) -> Result<(), Fail> {
     Ok(())
 }
 
-// The filters of the lines of the best chain, one after another.
+// Returns the filters of the lines of the best chain, in order.
 fn named(
     alloc: Global,
     convs: &Convs,
@@ -168,7 +169,7 @@ fn are_two(filters: &[FilterName], first: &str, second: &str) -> bool {
     filters.len() == 2 && filters[0].as_str() == first && filters[1].as_str() == second
 }
 
-// Whether `first` and `last` run.
+// Returns whether `first` and `last` run.
 fn two_run(convs: &Convs, from: &MediaType, to: &MediaType) -> Result<bool, AllocError> {
     match convs.filters(from, to)? {
         Some(filters) => Ok(are_two(filters.as_slice(), "first", "last")),
@@ -183,7 +184,7 @@ fn are_apart(convs: &Convs, from: &MediaType, to: &MediaType) -> Result<bool, Al
 
 const CONVERSIONS: &str = "c/c d/d 1 last\nb/b c/c 1\nb/b c/c 1 -\n*/* b/b 1 first\n";
 
-// Their conversions; the second line can't be read.
+// Returns conversions with these filters. The second line is invalid.
 fn conversions(alloc: Global) -> Result<Convs, Fail> {
     let (convs, warnings) = Convs::read(alloc, CONVERSIONS)?;
     if warnings.as_slice() == [SECOND_LINE].as_slice() {
@@ -198,7 +199,7 @@ const SECOND_LINE: Warning = Warning {
     kind: WarningKind::BadLine,
 };
 
-// Whether the two filters of the chain stand in its order, and nothing leads back.
+// Returns whether the two filters of the chain are in its order, and no chain leads back.
 fn run_in_order(convs: &Convs, from: &MediaType, to: &MediaType) -> Result<bool, AllocError> {
     let there = two_run(convs, from, to)?;
     let apart = are_apart(convs, to, from)?;
@@ -215,7 +216,7 @@ fn are_those_of_the_chain(
     Ok(names.as_slice() == b"first-last".as_slice())
 }
 
-// The same of the chain between these types.
+// The same for the chain between these types.
 fn lead(alloc: Global, convs: &Convs) -> Result<bool, Fail> {
     let from = MediaType::read(alloc, "a/a")?;
     let to = MediaType::read(alloc, "d/d")?;

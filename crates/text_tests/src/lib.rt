@@ -1,6 +1,8 @@
-//! The tests of the crates that read texts and streams: words, lines, files of rules, URIs, options, programs, commands,
-//! packets. Each public function that takes memory is called with ample memory, and readers and writers are slow, fail and are
-//! cut anywhere. What a text means is told by the examples of `text_examples`.
+//! Tests of the crates that read texts and streams: words, lines, files of rules, URIs, options, programs, commands and
+//! packets.
+//!
+//! Each public function that allocates memory is called with enough memory. Readers and writers are slow, fail, and
+//! stop at any byte. The meaning of the texts is shown by the examples of `text_examples`.
 #![tactic(auto)]
 
 #[cfg(test)]

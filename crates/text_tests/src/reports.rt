@@ -1,4 +1,4 @@
-//! Standard error that comes in pieces.
+//! Tests of standard error that arrives in pieces.
 ghost use Rattle.std.specs.Prelude.{◌<◌};
 
 use std::alloc::{AllocError, Global};
@@ -7,7 +7,7 @@ use stderr_lines::Lines;
 
 const PRINTED: &[u8] = b"STATE: +media-empty,toner-low\nPAGE: 1 2\nPAGE: total 9\nhello";
 
-// Whether three effects are reported, and none is left out.
+// Returns whether three effects are reported, and none is missing.
 fn has_three(reader: Lines) -> Result<bool, AllocError> {
     match reader.finish() {
         Ok(report) => Ok(report.effects.len() == 3 && report.dropped == 0),
@@ -31,7 +31,7 @@ fn feed_in_sizes(reader: &mut Lines, size: usize) -> Result<(), AllocError>
     Ok(())
 }
 
-// Whether they are reported of the text in these pieces.
+// Returns whether the text in these pieces reports them.
 fn reports(alloc: Global, pieces: &[&[u8]]) -> Result<bool, AllocError> {
     let mut reader = Lines::new(alloc);
     match feed_all(&mut reader, pieces) {
@@ -40,7 +40,7 @@ fn reports(alloc: Global, pieces: &[&[u8]]) -> Result<bool, AllocError> {
     }
 }
 
-// The same of pieces of this size.
+// The same for pieces of this size.
 fn reports_in_sizes(alloc: Global, size: usize) -> Result<bool, AllocError>
     requires { 0 < size }
 {
@@ -51,7 +51,7 @@ fn reports_in_sizes(alloc: Global, size: usize) -> Result<bool, AllocError>
     }
 }
 
-// Whether they are reported of the text that is cut at this place, and at each place from there on.
+// Returns whether the text reports them if it is split at this byte offset, and at each one after it.
 fn reports_from(alloc: Global, first: usize) -> Result<bool, AllocError> {
     for second in first..PRINTED.len() {
         let pieces = [

@@ -1,4 +1,4 @@
-//! Sessions on the side channel.
+//! Tests of sessions on the side channel.
 use crate::slow::{Pace, SlowReader, case, writer};
 use side_channel::{
     Command, Device, DeviceId, Ending, Packet, SideFault, Status, serve, state_bits,
@@ -7,7 +7,7 @@ use std::alloc::{AllocError, Global};
 use std::io;
 use std::test::Fail;
 
-// A device that is read from, isn't connected, and is online with an empty tray.
+// Returns a device that can be read from, is not connected, and is online with an empty tray.
 fn printer(alloc: Global) -> Device {
     Device {
         bidi: true,
@@ -17,12 +17,12 @@ fn printer(alloc: Global) -> Device {
     }
 }
 
-// Four packets: three requests, of which one has data, and the end.
+// Four packets: three requests, one of them with data, and the end.
 const ASKED: &[u8] = b"\x03\0\0\0\x01\0\0\x02AB\x05\0\0\0\xFF\0\0\0";
 
 const TOLD: &[u8] = b"\x03\x01\0\x01\x01\x01\x01\0\0\x05\x01\0\x01\x21";
 
-// How many bytes of the answers there are, once so many bytes of the requests are read.
+// Returns the number of bytes of the answers after this number of bytes of the requests was read.
 fn told_after(asked: usize) -> usize {
     match asked {
         0..=3 => 0,
@@ -32,7 +32,7 @@ fn told_after(asked: usize) -> usize {
     }
 }
 
-// How a session of a reader at this pace ends.
+// Returns how a session over a reader of this pace ends.
 fn ending(pace: Pace) -> Result<Ending, SideFault> {
     match pace.most {
         18 => Ok(Ending::End),
@@ -42,7 +42,7 @@ fn ending(pace: Pace) -> Result<Ending, SideFault> {
     }
 }
 
-// Whether the requests are answered as far as they are read at this pace.
+// Returns whether exactly the requests that are read at this pace are answered.
 fn is_read(alloc: Global, device: &Device, pace: Pace) -> Result<bool, SideFault> {
     let mut reader = SlowReader { rest: ASKED, pace };
     let mut written = Vec::new(alloc);
@@ -67,7 +67,7 @@ fn requests_are_cut_anywhere(rt: HostRuntime) -> Result<(), Fail> {
     Ok(())
 }
 
-// Whether the answers are written as far as they are taken at this pace.
+// Returns whether exactly the bytes of the answers that the writer takes at this pace are written.
 fn is_told(alloc: Global, device: &Device, pace: Pace) -> Result<bool, SideFault> {
     let mut writer = writer(alloc, pace, TOLD.len())?;
     let ended = serve(alloc, &mut &ASKED[..], &mut writer, device);
@@ -95,7 +95,7 @@ fn answers_are_cut_anywhere(rt: HostRuntime) -> Result<(), Fail> {
     Ok(())
 }
 
-// How a session without end ends, and how many bytes it is answered.
+// Returns whether an endless session ends with `Read`, and the number of bytes of its answers.
 fn flooded(alloc: Global) -> Result<(bool, usize), SideFault> {
     let device = printer(alloc);
     let mut written = Vec::new(alloc);
@@ -110,7 +110,7 @@ fn a_flood_ends_as_a_fault_of_the_reader(rt: HostRuntime) -> Result<(), Fail> {
     Ok(())
 }
 
-// The bytes of a request for the id.
+// Returns the bytes of a request for the id.
 fn request(alloc: Global) -> Result<Vec<u8>, AllocError> {
     let mut bytes = Vec::new(alloc);
     bytes.reserve(4)?;
@@ -126,7 +126,7 @@ fn request(alloc: Global) -> Result<Vec<u8>, AllocError> {
     }
 }
 
-// The data of the next packet, if there is one.
+// Returns the data of the next packet, if there is one.
 fn data(alloc: Global, reader: &mut &[u8]) -> Result<Option<Vec<u8>>, SideFault> {
     match Packet::read(alloc, reader)? {
         Some(packet) => Ok(Some(packet.body)),

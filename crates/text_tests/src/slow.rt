@@ -1,4 +1,4 @@
-//! A reader and a writer that are slow or fail, and the writing of whole texts.
+//! A reader and a writer that are slow or fail, and tests of writing whole texts.
 ghost use Rattle.std.specs.Prelude.{◌≤◌, IfOk};
 
 use std::alloc::{AllocError, Global};
@@ -7,8 +7,8 @@ use std::io::{ErrorKind, Read, Write};
 use std::test::Fail;
 use whole_writes::write_whole;
 
-/// How bytes are moved: at most `piece` at once, with an interruption before each. Once `most` are moved, the next call fails, or
-/// moves none.
+/// How bytes are moved: at most `piece` at once, with an interruption before each call. After `most` bytes the next
+/// call fails or moves none.
 #[derive(Clone, Copy)]
 pub struct Pace {
     piece: usize,
@@ -18,7 +18,7 @@ pub struct Pace {
 }
 
 impl Pace {
-    // How many of so many bytes the next call moves.
+    // Returns how many of `len` bytes the next call moves.
     fn next(&mut self, len: usize) -> io::Result<usize>
         ensures { IfOk result (λ n. n ≤ len) }
     {
@@ -35,7 +35,7 @@ impl Pace {
     }
 }
 
-/// The pace of one of some cases: of each most there are six.
+/// Returns the pace of a numbered case. For each value of `most` there are six cases.
 pub fn case(number: usize) -> Pace {
     let piece = match number % 3 {
         0 => 1,
@@ -64,7 +64,7 @@ impl Read for SlowReader<'_> {
     }
 }
 
-/// A writer, and what it has taken.
+/// A writer, and the bytes that it has taken.
 #[derive(Drop)]
 pub struct SlowWriter {
     pub written: Vec<u8>,
@@ -83,7 +83,7 @@ impl Write for SlowWriter {
     }
 }
 
-/// A writer at this pace, with room for so many bytes.
+/// Returns a writer of this pace, with memory for `room` bytes.
 pub fn writer(alloc: Global, pace: Pace, room: usize) -> Result<SlowWriter, AllocError> {
     let mut written = Vec::new(alloc);
     written.reserve(room)?;
@@ -92,7 +92,7 @@ pub fn writer(alloc: Global, pace: Pace, room: usize) -> Result<SlowWriter, Allo
 
 const TEXT: &[u8] = b"ok bytes 5\n";
 
-// Whether the text is written at this pace, or as much of it as may be.
+// Returns whether at this pace the text is written, or the part of it that the pace allows.
 fn is_written(alloc: Global, pace: Pace) -> Result<bool, AllocError> {
     let mut writer = writer(alloc, pace, TEXT.len())?;
     let ended = write_whole(&mut writer, TEXT);
@@ -100,7 +100,7 @@ fn is_written(alloc: Global, pace: Pace) -> Result<bool, AllocError> {
     Ok(ended.is_ok() == (TEXT.len() <= pace.most) && writer.written.as_slice() == &TEXT[..count])
 }
 
-// Whether no bytes are written where none may be.
+// Returns whether writing no bytes succeeds at a pace that allows none.
 fn nothing_is_written(alloc: Global) -> bool {
     let mut nowhere = SlowWriter {
         written: Vec::new(alloc),

@@ -1,4 +1,4 @@
-//! URIs of devices, their options, and the lines by which backends report devices.
+//! Tests of device URIs, their options, and the lines that backends print for devices.
 use device_options::{last_value, options_or_none};
 use device_uri::{
     DeviceLine, DeviceOption, DeviceUri, Field, LineFault, OptionsFault, UriFault, read_device_line,
@@ -6,7 +6,7 @@ use device_uri::{
 use std::alloc::{AllocError, Global};
 use std::test::Fail;
 
-// A piece so many times.
+// Adds a piece `count` times.
 fn push_times(text: &mut String, piece: &str, count: usize) -> Result<(), AllocError> {
     for _ in 0..count {
         text.push_str(piece)?;
@@ -26,7 +26,7 @@ fn push_padded(
     text.push_str(end)
 }
 
-// A front, a piece so many times, and an end.
+// Returns a front, a piece `count` times, and an end.
 fn padded(
     alloc: Global,
     front: &str,
@@ -39,7 +39,7 @@ fn padded(
     Ok(text)
 }
 
-// Adds an option behind a stroke.
+// Adds an option after a vertical bar.
 fn push_option(text: &mut String, option: &DeviceOption) -> Result<(), AllocError> {
     text.push('|')?;
     text.push_str(option.name())?;
@@ -54,7 +54,7 @@ fn push_options(text: &mut String, options: &[DeviceOption]) -> Result<(), Alloc
     Ok(())
 }
 
-// Adds a URI's options, or their fault.
+// Adds a URI's options, or the error of reading them.
 fn push_options_of(text: &mut String, uri: &DeviceUri) -> Result<(), AllocError> {
     match uri.options() {
         Ok(options) => push_options(text, &options),
@@ -63,7 +63,7 @@ fn push_options_of(text: &mut String, uri: &DeviceUri) -> Result<(), AllocError>
     }
 }
 
-// Adds its scheme and its path too.
+// Adds its scheme, path and options.
 fn push_uri(text: &mut String, uri: &DeviceUri) -> Result<(), AllocError> {
     text.push_str(uri.scheme())?;
     text.push(' ')?;
@@ -71,7 +71,7 @@ fn push_uri(text: &mut String, uri: &DeviceUri) -> Result<(), AllocError> {
     push_options_of(text, uri)
 }
 
-// Adds what a URI has, or that it is none.
+// Adds the parts of a URI, or that the text is not a URI.
 fn push_shown(shown: &mut String, alloc: Global, text: &str) -> Result<(), AllocError> {
     match DeviceUri::parse(alloc, text) {
         Ok(uri) => push_uri(shown, &uri),
@@ -90,7 +90,7 @@ fn is_shown(alloc: Global, text: &str, want: &str) -> Result<bool, AllocError> {
     Ok(shown(alloc, text)?.as_str() == want)
 }
 
-// A URI, and what it has.
+// A URI, and its parts.
 const URIS: [(&str, &str); 12] = [
     (
         "spoolfile:/tmp/out?exit=6&id=A%20B",
@@ -124,7 +124,7 @@ fn a_uri_keeps_its_text(rt: HostRuntime) -> Result<(), Fail> {
     Ok(())
 }
 
-// How long is what is shown of a URI with a piece so many times: `bad uri`, or a path and options.
+// Returns the length of the text that is shown for a URI with a piece `count` times: `bad uri`, or a path and options.
 fn shown_len(alloc: Global, front: &str, piece: &str, count: usize) -> Result<usize, AllocError> {
     let uri = padded(alloc, front, piece, count, "")?;
     Ok(shown(alloc, uri.as_str())?.len())
@@ -139,19 +139,20 @@ fn a_uri_has_at_most_1023_bytes_and_64_options(rt: HostRuntime) -> Result<(), Fa
     Ok(())
 }
 
-// How many options a backend takes of a URI.
+// Returns the options that a backend takes from a URI.
 fn options_of(alloc: Global, text: &str) -> Result<Vec<DeviceOption>, Fail> {
     let uri = DeviceUri::parse(alloc, text)?;
     Ok(options_or_none(alloc, &uri)?)
 }
 
-// Whether there are so many, and the last one of this name has this value, or a hyphen stands for none.
+// Returns whether there are `count` options, and the last one of this name has this value. A hyphen represents no
+// value.
 fn has_last(alloc: Global, uri: &str, name: &str, count: usize, want: &str) -> Result<bool, Fail> {
     let options = options_of(alloc, uri)?;
     Ok(options.len() == count && last_value(&options, name).unwrap_or("-") == want)
 }
 
-// A URI, how many options it has, and the last value of `exit`.
+// A URI, the number of its options, and the last value of `exit`.
 const LAST: [(&str, usize, &str); 6] = [
     ("spoolfile:/out?exit=6", 1, "6"),
     ("spoolfile:/out?exit=6&turns=2&exit=7", 3, "7"),
@@ -161,7 +162,7 @@ const LAST: [(&str, usize, &str); 6] = [
     ("spoolfile:/out?exit=6&=7", 0, "-"),
 ];
 
-// The same of a URI with so many options.
+// The same for a URI with this number of options.
 fn has_last_of(alloc: Global, pieces: usize, count: usize, want: &str) -> Result<bool, Fail> {
     let uri = padded(alloc, "usb:/x?", "&a=1", pieces, "")?;
     has_last(alloc, uri.as_str(), "a", count, want)
@@ -186,7 +187,7 @@ fn the_last_value_counts(rt: HostRuntime) -> Result<(), Fail> {
     Ok(())
 }
 
-// Adds a field behind a stroke, or a hyphen where there is none.
+// Adds a field after a vertical bar, or a hyphen if it is missing.
 fn push_field(text: &mut Vec<u8>, field: Option<&Field>) -> Result<(), AllocError> {
     text.push(b'|')?;
     match field {
@@ -205,7 +206,7 @@ fn push_fields(text: &mut Vec<u8>, line: &DeviceLine) -> Result<(), AllocError> 
     push_field(text, line.location.as_ref())
 }
 
-// Adds the fields of a line, or that it is none.
+// Adds the fields of a line, or that it is not a device line.
 fn push_line(text: &mut Vec<u8>, alloc: Global, line: &str) -> Result<(), AllocError> {
     match read_device_line(alloc, line) {
         Ok(fields) => {
@@ -265,7 +266,7 @@ const LINES: [(&str, &str); 21] = [
     ("direct usb:/x \"A\" \"B\" \"C\" \"D\" \"E\"", "bad"),
 ];
 
-// Whether a line with a field of so many bytes is one.
+// Returns whether a line with a field of this number of bytes is a device line.
 fn is_line_of(alloc: Global, count: usize) -> Result<bool, AllocError> {
     let line = padded(alloc, "direct usb:/x \"A\" \"", "\\\"", count, "\"")?;
     Ok(fields_shown(alloc, line.as_str())?.as_slice() != b"bad".as_slice())

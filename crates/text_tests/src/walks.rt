@@ -1,12 +1,12 @@
-//! The chains of small files, beside the best of all their walks.
+//! Tests of the best chains of small files against an exhaustive search.
 use mime_costs::{Chain, Convs};
 use spool_types::MediaType;
 use std::alloc::{AllocError, Global};
 use std::test::Fail;
 
-// Six conversions among four types, and behind `=` the best walk between each two of them: its cost and its lines, or a
-// hyphen where there is none. They were found by a search through all walks of at most four lines, as many as meet no type
-// twice and one more.
+// Six conversions among four types and, after `=`, the best walk between each two types: its cost and its lines, or a
+// hyphen if there is none. A search through all walks of at most four lines found them. A walk that meets no type twice
+// has at most three lines.
 const FILES: &str = "\
 a/* b/0 1 f\n\
 b/1 b/0 0 f\n\
@@ -139,7 +139,7 @@ fn push_chain_to(
     Ok(push_chain(shown, convs, from, &to)?)
 }
 
-// Adds the chains from a type to each.
+// Adds the chains from a type to each type.
 fn push_chains(shown: &mut Vec<u8>, alloc: Global, convs: &Convs, from: &str) -> Result<(), Fail> {
     let from = MediaType::read(alloc, from)?;
     for to in TYPES {
@@ -155,7 +155,7 @@ fn push_all(shown: &mut Vec<u8>, alloc: Global, convs: &Convs) -> Result<(), Fai
     Ok(())
 }
 
-// The chains of a file between each two types.
+// Returns the chains of a file between each two types.
 fn chains(alloc: Global, convs: &Convs) -> Result<Vec<u8>, Fail> {
     let mut shown = Vec::new(alloc);
     push_all(&mut shown, alloc, convs)?;
@@ -168,7 +168,7 @@ fn read_convs(alloc: Global, file: &str) -> Result<Convs, AllocError> {
     Ok(convs)
 }
 
-// Whether the best chains of a file are these.
+// Returns whether the best chains of a file are these.
 fn has_chains(alloc: Global, file: &str, want: &str) -> Result<bool, Fail> {
     let convs = read_convs(alloc, file)?;
     let shown = chains(alloc, &convs)?;

@@ -1,4 +1,4 @@
-//! Words and lines that take memory.
+//! Tests of words and lines that allocate memory.
 use line_words::{Word, push_escaped, read_quoted};
 use mime_lines::{JoinedLine, LineText, joined_lines};
 use std::alloc::{AllocError, Global};
@@ -9,7 +9,8 @@ fn push_behind(text: &mut Vec<u8>, mark: u8, behind: &[u8]) -> Result<(), AllocE
     text.extend_from_slice(behind)
 }
 
-// The bytes of a quoted word, a plus where they are copied, and what is behind it; or nothing, where no quote closes it.
+// Returns the bytes of a quoted word, `+` if they were copied or else `-`, and the text after the word. Returns no
+// bytes if no quote closes the word.
 fn quoted(alloc: Global, line: &[u8]) -> Result<Vec<u8>, AllocError> {
     let Some((word, behind)) = read_quoted(alloc, line)? else {
         return Ok(Vec::new(alloc));
@@ -54,7 +55,7 @@ fn a_backslash_stays_before_a_letter(rt: HostRuntime) -> Result<(), Fail> {
     Ok(())
 }
 
-// Adds lines, each behind a plus where it is copied.
+// Adds lines, each after `+` if it is copied, or else after `-`.
 fn push_lines(seen: &mut Vec<u8>, lines: &[JoinedLine]) -> Result<(), AllocError> {
     for line in lines {
         let mark = match &line.text {

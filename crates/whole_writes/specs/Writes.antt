@@ -1,8 +1,8 @@
--- What a writer that failed has written.
+-- The effect of a write that failed.
 use Rattle.std.specs.Prelude.{ℕ, ◌<◌, List, length, take, Option}
 use Rattle.std.specs.Io.KnownBytes.{Appends}
 
--- a prefix of the bytes was written, and not all
+-- A proper prefix of the bytes was written.
 pub record WroteSome (old new : Option (List ℕ)) (bytes : List ℕ) : Type 0 where
   pub count : ℕ
   pub short : count < length bytes

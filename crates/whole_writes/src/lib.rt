@@ -1,17 +1,17 @@
-//! Writing the whole of some bytes.
+//! Writes all of some bytes.
 //!
-//! Replies of commands and answers on a side channel are written by one function, [`write_whole`], which says what a
-//! writer has after a fault.
+//! [`write_whole`] writes replies of commands and answers on a side channel.
 //!
 //! # Promises
 //!
-//! - *ExactWrites*: after Ok all the bytes were written, once and in their order. After a fault a prefix of them was, and
-//!   not all (`WroteSome`). A writer that doesn't tell its bytes is written to in the same way.
-//! - The call returns: it makes at most 18,446,744,073,709,551,615 writes, and a writer that goes on after them is at fault.
+//! - *ExactWrites*: after Ok all bytes were written once, in order (`ok`). After an error a proper prefix of them was written (`err`, by
+//!   `WroteSome`). A writer whose bytes are unknown is written to in the same way.
+//! - The call returns: it makes at most 18,446,744,073,709,551,615 writes. If the writer has not accepted all bytes by then, the call
+//!   fails.
 //!
-//! # Faults
+//! # Errors
 //!
-//! [`WriteFault`]: the writer failed, or took nothing. A write that was interrupted is made again. No memory is taken.
+//! [`WriteFault`]: the writer failed, or accepted no byte. An interrupted write is repeated. The call allocates nothing.
 #![tactic(auto)]
 
 ghost use Rattle.std.specs.Prelude.{OnOk, OnErr};
@@ -24,7 +24,7 @@ use std::io::{ErrorKind, Write};
 #[derive(Clone, Copy, Debug, PartialEq, Eq)]
 pub struct WriteFault;
 
-/// Writes all the bytes, or after a fault a prefix of them.
+/// Writes all the bytes, or after an error a proper prefix of them.
 pub fn write_whole<W: Write>(writer: &mut W, bytes: &[u8]) -> Result<(), WriteFault>
     ensures ok { OnOk result (Appends (W.contents writer.old) (W.contents writer.new) bytes.now) }
     ensures err { OnErr result (WroteSome (W.contents writer.old) (W.contents writer.new) bytes.now) }

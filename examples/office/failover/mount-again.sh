@@ -1,8 +1,8 @@
 #!/bin/sh
-# Leaves a folder that is mounted and answers, and else mounts it anew: mount-again.sh FOLDER
+# Mounts a folder again unless it is mounted and responds: mount-again.sh FOLDER
 #
-# The folder has a mount unit of systemd. A mount whose client has died stays in its place and fails each look at it; one that hangs
-# is given up after ten seconds.
+# The folder has a mount unit of systemd. A mount whose client has died stays mounted, and every access fails. A mount that hangs is
+# abandoned after ten seconds.
 set -eu
 folder=$1
 if timeout 10 mountpoint -q "$folder" && timeout 10 ls "$folder" > /dev/null 2>&1; then

@@ -1,4 +1,4 @@
--- the last value among the options so far counts where none comes behind
+-- The last value among the options so far counts, unless a later one follows.
 use Rattle.std.proofs.Common.{◌≡◌, drop}
 use Rattle.std.specs.Option.{option_map}
 use Rattle.device_options.specs.DeviceOptions.{last_value, or_else}

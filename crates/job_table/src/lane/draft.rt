@@ -1,4 +1,4 @@
-//! The draft of a lane: what stands in it, before its waiting jobs are put in order.
+//! The draft of a lane: its contents before the waiting jobs are sorted.
 ghost use Rattle.std.specs.Prelude.{◌≡◌, ℕ, ◌+◌, ◌<◌, ◌≤◌, None, IfOk, OnOk};
 ghost use Rattle.queue_sched.specs.WaitingIndex.{HasEachOnce};
 ghost use Rattle.queue_sched.specs.declared.entry.Entry.{Entry};
@@ -11,17 +11,17 @@ use queue_sched::{Entry, Index};
 use spool_types::{JobId, Moment};
 use std::alloc::{AllocError, Global};
 
-/// A lane whose waiting jobs aren't in order yet.
+/// A lane whose waiting jobs are not sorted yet.
 #[derive(Drop)]
 pub(crate) struct Draft {
     waiting: Vec<Entry>,
     processing: Option<JobId>,
-    // How many jobs haven't ended.
+    // The number of jobs that have not ended.
     live: usize,
 }
 
 impl Draft {
-    /// The draft of a lane without jobs. It takes no memory.
+    /// Returns the draft of a lane without jobs. Does not allocate.
     pub(crate) fn new(alloc: Global) -> Draft
         ensures { IsBlank result }
     {
@@ -32,7 +32,7 @@ impl Draft {
         }
     }
 
-    /// Puts a job in that isn't there.
+    /// Adds a job that is not in the draft.
     pub(crate) fn add(&mut self, job: JobId, lane_state: LaneState) -> Result<(), AllocError>
         requires own { (e : Entry) → lane_state ≡ LaneState.Waiting e → e.id ≡ job }
         requires alone { lane_state ≡ LaneState.Processing → self.old.processing ≡ None }
@@ -55,7 +55,8 @@ impl Draft {
         Ok(())
     }
 
-    /// The lane at this moment. Its waiting jobs are put in order, and there is room for all jobs that haven't ended.
+    /// Turns the draft into the lane at this moment. Sorts the waiting jobs, and reserves room for all jobs that have
+    /// not ended.
     pub(crate) fn into_lane(self, moment: Moment) -> Result<Lane, AllocError>
         requires { HasEachOnce self.waiting.items }
         ensures { IfOk result (IsAdvanced moment (drafted self)) }

@@ -1,4 +1,4 @@
-//! Attempts at jobs: the start of an attempt, the end of a stage, and attempts that are lost.
+//! Attempts at jobs: the start of an attempt, the end of a stage, and lost attempts.
 ghost use Rattle.std.specs.Prelude.{◌≡◌, true, false, None, Some, IsSome};
 ghost use Rattle.job_table.specs.Attempts.{is_in_stage, is_last_stage, is_processing_at, lost_by, with_pages, rule_at, stage_verdict, with_effects};
 ghost use Rattle.job_table.specs.EventChanges.{change_job, change_queue_of};
@@ -21,7 +21,7 @@ use spool_types::{
 };
 
 impl Store {
-    // Answers the phase that the job has then.
+    // Returns the new phase of the job.
     pub(super) fn start(&mut self, job: JobId) -> Phase
         requires { refusal_of self.old.state (Event.Start job) ≡ None }
         ensures state { self.new.state ≡ after self.old.state (Event.Start job) }
@@ -32,7 +32,7 @@ impl Store {
         start_row(self.jobs.row_mut(job))
     }
 
-    // Folds the effects of the stage, and then rules on the job. Answers the phase that the job has then.
+    // Folds in the effects of the stage, then applies the verdict on its exit. Returns the new phase of the job.
     pub(super) fn end_stage(&mut self, end: StageEnd) -> Phase
         requires accepted { refusal_of self.old.state (Event.Stage end) ≡ None }
         requires room { HasRoom self.old.room.spare end.effects }
@@ -48,7 +48,7 @@ impl Store {
         self.rule(job, verdict)
     }
 
-    // The effects of a stage of this job, in order.
+    // Folds in the effects of a stage of this job, in order.
     fn fold_effects(&mut self, job: JobId, effects: Vec<Effect>)
         requires there { IsSome (job_at self.old.state job) }
         requires room { HasRoom self.old.room.spare effects.items }
@@ -61,7 +61,7 @@ impl Store {
         self.fold_into_queue(job, effects);
     }
 
-    // The job's pages.
+    // Updates the pages of the job.
     fn fold_into_job(&mut self, job: JobId, effects: &[Effect])
         requires { IsSome (job_at self.old.state job) }
         ensures state { self.new.state ≡ change_job self.old.state job (with_pages effects.now) }
@@ -73,7 +73,7 @@ impl Store {
         add_pages(self.jobs.row_mut(job), effects);
     }
 
-    // The reasons, attributes and message of the job's queue.
+    // Updates the reasons, attributes and message of the job's queue.
     fn fold_into_queue(&mut self, job: JobId, effects: Vec<Effect>)
         requires there { IsSome (job_at self.old.state job) }
         requires room { HasRoom self.old.room.spare effects.items }
@@ -91,7 +91,7 @@ impl Store {
         fold_queue(&mut self.queues[queue_at], &mut self.spare, effects);
     }
 
-    // Answers the phase that the job has then.
+    // Returns the new phase of the job.
     pub(super) fn abandon(&mut self, job: JobId) -> Phase
         requires { refusal_of self.old.state (Event.Abandon job) ≡ None }
         ensures state { self.new.state ≡ after self.old.state (Event.Abandon job) }
@@ -112,7 +112,7 @@ impl Store {
         }
     }
 
-    // The verdict on the end of a stage, by the job's queue.
+    // Returns the verdict on the end of a stage, by the policy and the limit of the job's queue.
     fn stage_verdict(&self, job: JobId, exit: Exit) -> Verdict
         requires { IsSome (job_at self.now.state job) }
         ensures { (r : Job) (q : QueueRow) → job_at self.now.state job ≡ Some r → queue_at self.now.state r.queue ≡ Some q → result ≡ stage_verdict exit r q }
@@ -122,7 +122,7 @@ impl Store {
         verdict(exit, last_stage, queue.policy, job.attempts, queue.limit)
     }
 
-    // The verdict on an attempt whose end nobody saw, by the job's queue.
+    // Returns the verdict on an attempt without a recorded end, by the policy and the limit of the job's queue.
     fn verdict_on_lost(&self, job: JobId) -> Verdict
         requires { IsSome (job_at self.now.state job) }
         ensures { (r : Job) (q : QueueRow) → job_at self.now.state job ≡ Some r → queue_at self.now.state r.queue ≡ Some q → result ≡ lost_by r q }
@@ -131,7 +131,7 @@ impl Store {
         lost_verdict(queue.policy, job.attempts, queue.limit)
     }
 
-    // A job that is there, and its queue, which is there too.
+    // Returns an existing job and its queue, which exists too.
     fn with_queue(&self, job: JobId) -> (&Job, &QueueRow)
         requires { IsSome (job_at self.now.state job) }
         ensures job { job_at self.now.state job ≡ Some result.0.now }
@@ -146,8 +146,7 @@ impl Store {
         (&row.job, &self.queues[queue_at])
     }
 
-    // Changes a job by a verdict on it, and stops its queue where the verdict says so. Answers the phase that the job has
-    // then.
+    // Applies a verdict to a job, and stops its queue if the verdict requires it. Returns the new phase of the job.
     fn rule(&mut self, job: JobId, verdict: Verdict) -> Phase
         requires there { IsSome (job_at self.old.state job) }
         requires busy { is_processing_at (job_at self.old.state job) ≡ true }
@@ -168,14 +167,14 @@ impl Store {
     }
 }
 
-// Whether the backend runs, behind the filters.
+// Returns whether the phase is the last stage of an attempt, the backend, which runs after the filters.
 fn is_last_stage(phase: Phase) -> bool
     ensures { result ≡ is_last_stage phase }
 {
     matches!(phase, Phase::Processing { stage, stages, .. } if stage == stages)
 }
 
-/// Whether a job of this phase is in this stage of this attempt.
+/// Returns whether a job in this phase is in this stage of this attempt.
 pub fn is_in_stage(phase: Phase, attempt: AttemptNumber, stage: StageNumber) -> bool
     ensures { result ≡ is_in_stage attempt stage phase }
 {

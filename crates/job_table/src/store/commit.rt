@@ -1,4 +1,4 @@
-//! What an accepted event changes.
+//! The changes that an accepted event makes to the rows.
 ghost use Rattle.std.specs.Prelude.{◌≡◌, ◌+◌, ◌<◌, ◌^◌, true, None, Some, Ok};
 ghost use Rattle.job_table.specs.EventChanges.{change_job};
 ghost use Rattle.job_table.specs.Step.{creation, refusal_of, step, after, reply_to};
@@ -20,8 +20,8 @@ use spool_types::{
 };
 
 impl Store {
-    /// Changes the rows by the event just prepared. It takes no memory and always succeeds. `at` is where the event's
-    /// payload lies.
+    /// Changes the rows by the event just prepared. Does not allocate and always succeeds. `at` is the place of the
+    /// event's payload.
     #[tactic(auto, using(crate::proofs::RowChanges::asked))]
     pub(crate) fn commit(&mut self, event: Event, at: u64) -> Reply
         requires prepared { IsPrepared self.old event }
@@ -30,7 +30,7 @@ impl Store {
         ensures step { step self.old.state event ≡ Ok (self.new.state, result) }
         ensures places { AddsPlaces at (sent_by event) self.old self.new }
 
-        // What was reserved is used, and no more is taken.
+        // Uses at most the reserved room.
         ensures room { HasNoMore self.old.room self.new.room }
     {
         match event {
@@ -50,7 +50,7 @@ impl Store {
             Event::Start(job) => Reply::Phase(self.start(job)),
             Event::Stage(end) => Reply::Phase(self.end_stage(end)),
             Event::Abandon(job) => Reply::Phase(self.abandon(job)),
-            // The first two are many events in turn, and the last takes a row away.
+            // The table turns the first two into several events, and the last removes a row.
             Event::Clock(_) | Event::Reopen | Event::Purge(_) => unreachable!(),
         }
     }
@@ -116,7 +116,7 @@ impl Store {
         Reply::Done
     }
 
-    /// A new job, which is to start by a moment if one is told.
+    /// Adds a new job. It must start by the moment `by`, if one is given.
     pub(crate) fn create(&mut self, job: NewJob, by: Option<Moment>) -> Reply
         requires accepted { refusal_of self.old.state (creation job by) ≡ None }
         requires room { 0 < self.old.room.jobs }
@@ -132,7 +132,7 @@ impl Store {
         Reply::Number(number)
     }
 
-    // Answers the new size of the document.
+    // Returns the new size of the document in bytes.
     fn send(&mut self, job: JobId, bytes: Piece, at: u64) -> u32
         requires accepted { refusal_of self.old.state (Event.Send job bytes) ≡ None }
         requires room { 0 < document_room self.old.room job }
@@ -145,7 +145,7 @@ impl Store {
         add_bytes(self.jobs.row_mut(job), bytes, at)
     }
 
-    // What an event that isn't refused changes in the row of its job, where it changes nothing else.
+    // Applies an event that changes only the row of its job and is not refused.
     fn change_row(&mut self, job: JobId, change: RowChange) -> Reply
         requires asked { IsAsked self.old.state job change }
         requires ends { EndsInEnd change }
@@ -158,7 +158,7 @@ impl Store {
         Reply::Done
     }
 
-    /// Takes the row of a job that has ended out of the rows, and answers it. Its number stays given.
+    /// Removes the row of a job that has ended, and returns the row. The job's number is not assigned again.
     pub(crate) fn purge(&mut self, job: JobId) -> JobRow
         requires { refusal_of self.old.state (Event.Purge job) ≡ None }
         ensures state { self.new.state ≡ after self.old.state (Event.Purge job) }
@@ -166,13 +166,13 @@ impl Store {
         ensures ended { has_ended result.job.phase ≡ true }
         ensures places { KeepsPlaces self.old self.new }
 
-        // Only for jobs there may be more room.
+        // Only the room for jobs may grow.
         ensures room { HasNoMore self.old.room (record self.new.room { jobs = 0 }) }
     {
         self.jobs.remove(job)
     }
 
-    /// Brings a moment.
+    /// Sets the current moment.
     pub(crate) fn advance(&mut self, moment: Moment)
         ensures state { self.new.state ≡ record self.old.state { moment = moment } }
         ensures places { self.new.places ≡ self.old.places }

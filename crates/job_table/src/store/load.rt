@@ -1,4 +1,4 @@
-//! What a listing adds: each of its rows goes last.
+//! Adding the rows of a listing, each as the last one.
 ghost use Rattle.std.specs.Prelude.{◌≡◌, ℕ, ◌<◌, ◌≤◌, ◌∷◌, [], false, IsTrue, OnOk, OnErr};
 ghost use Rattle.std.specs.Ordering.{nat_cmp};
 ghost use Rattle.std.specs.Cmp.Lexicographic.{slice_cmp};
@@ -15,7 +15,7 @@ use spool_types::{Head, JobId, JobRow, QueueName, QueueRow};
 use std::alloc::AllocError;
 
 impl Store {
-    // What the head tells of a table without rows.
+    // Sets the highest number and the moment of a table without rows, by the head of a listing.
     pub(crate) fn set_head(&mut self, head: Head)
         requires empty { self.old.state ≡ nothing_in self.old.state.version }
         requires highest { head.highest ≤ greatest_number }
@@ -26,7 +26,7 @@ impl Store {
         self.moment = head.moment;
     }
 
-    // Whether the name is above the names of all queues, of which the last is the greatest.
+    // Returns whether the name is greater than the names of all queues. The last queue has the greatest name.
     pub(crate) fn is_above_queues(&self, name: &QueueName) -> bool
         ensures yes { IsTrue result → IsAbove (slice_cmp nat_cmp) name.now (finite.keys self.now.state.queues) }
         ensures no { result ≡ false → ¬ (IsAbove (slice_cmp nat_cmp) name.now (finite.keys self.now.state.queues)) }
@@ -37,7 +37,7 @@ impl Store {
         }
     }
 
-    // Whether the number is above the numbers of all jobs, of which the last is the greatest.
+    // Returns whether the number is greater than the numbers of all jobs. The last job has the greatest number.
     pub(crate) fn is_above_jobs(&self, id: JobId) -> bool
         ensures yes { IsTrue result → IsAbove nat_cmp id (finite.keys self.now.state.jobs) }
         ensures no { result ≡ false → ¬ (IsAbove nat_cmp id (finite.keys self.now.state.jobs)) }

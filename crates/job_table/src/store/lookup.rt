@@ -1,4 +1,4 @@
-//! Where rows stand, by binary search.
+//! Binary search among the rows.
 ghost use Rattle.std.specs.Prelude.{IsSome, IsTrue, IfOk, IfErr, map};
 ghost use Rattle.std.specs.Ordering.{nat_cmp};
 ghost use Rattle.std.specs.Cmp.Lexicographic.{slice_cmp};
@@ -13,7 +13,7 @@ use super::Store;
 use spool_types::{QueueName, QueueRow};
 
 impl Store {
-    // Where the queue stands among the names, or would go.
+    // Returns the position of the queue, or as an error the position where a queue of this name would be inserted.
     pub(crate) fn queue_position(&self, name: &QueueName) -> Result<usize, usize>
         ensures found { IfOk result (IsNameAt (finite.keys self.now.state.queues) name.now) }
         ensures there { IfOk result (λ at. IsSome (queue_at self.now.state name.now)) }
@@ -24,7 +24,7 @@ impl Store {
     }
 }
 
-// Where the queue stands, or would go.
+// Returns the position of the queue, or as an error the position where a queue of this name would be inserted.
 pub(super) fn queue_position(queues: &[QueueRow], name: &QueueName) -> Result<usize, usize>
     requires { IsTrue (finite.is_sorted (slice_cmp nat_cmp) (map queue_entry queues.now)) }
     ensures found { IfOk result (IsPosition (slice_cmp nat_cmp) (λ r. r.name) queues.now name.now) }

@@ -1,4 +1,4 @@
-//! Documents that go to new places.
+//! Setting new places of documents.
 ghost use Rattle.std.specs.Prelude.{◌≡◌, ℕ, ◌<◌, false, Some, IsTrue, length, map, slice_index_or};
 ghost use Rattle.std.specs.Ordering.{nat_cmp};
 ghost use Rattle.std.specs.FinMap as finite;
@@ -13,7 +13,7 @@ use job_rows::Rows;
 use spool_types::JobRow;
 
 impl Store {
-    /// Each document of a job that hasn't ended goes to its new places. It takes no memory.
+    /// Sets the document of each job that has not ended to its new places. Does not allocate.
     pub(crate) fn move_documents(&mut self, noted: NewPlaces)
         requires { HasMoves self.old.state noted }
         ensures state { self.new.state ≡ self.old.state }
@@ -40,7 +40,7 @@ fn move_rows(rows: &mut Rows, mut noted: NewPlaces)
     }
 }
 
-// The document of a job that hasn't ended goes to its new places.
+// Sets the document of a job that has not ended to its new places.
 fn move_row(row: &mut JobRow, noted: &mut NewPlaces)
     requires { HasNew noted.old.places row.old }
     ensures moved { IsMoved noted.old row.old row.new }

@@ -1,4 +1,4 @@
-//! The memory that an event takes.
+//! The memory that an event needs.
 ghost use Rattle.std.specs.Prelude.{◌≡◌, ◌<◌, false, None, Some, IsSome, IsOk, OnOk};
 ghost use Rattle.spool_types.specs.Phases.{has_ended};
 ghost use Rattle.spool_types.specs.State.{Job, job_at};
@@ -10,7 +10,7 @@ use spool_types::{Event, JobId};
 use std::alloc::AllocError;
 
 impl Store {
-    // Makes room for an event that isn't refused.
+    // Reserves room for an event that is not refused.
     pub(crate) fn reserve(&mut self, event: &Event) -> Result<(), AllocError>
         requires { refusal_of self.old.state event.now ≡ None }
         ensures room { OnOk result (HasRoom self.new.room event.now) }
@@ -23,7 +23,7 @@ impl Store {
             Event::Create(_) | Event::CreateBy { .. } => self.reserve_job(),
             Event::Send { job, .. } => self.reserve_extent(*job),
             Event::Stage(end) => self.spare.reserve(end.effects.as_slice()),
-            // The others take none.
+            // The other events need no memory.
             _ => Ok(()),
         }
     }
@@ -46,7 +46,8 @@ impl Store {
         self.jobs.reserve()
     }
 
-    // `Vec::reserve` at least doubles what it grows, so the extents of many sends are moved a few times only.
+    // Reserves room for one more extent. `Vec::reserve` at least doubles the capacity, so many sends move the list only
+    // a few times.
     fn reserve_extent(&mut self, job: JobId) -> Result<(), AllocError>
         requires there { IsSome (job_at self.old.state job) }
         requires live { (r : Job) → job_at self.old.state job ≡ Some r → has_ended r.phase ≡ false }

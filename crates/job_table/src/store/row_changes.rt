@@ -1,4 +1,4 @@
-//! New rows, and what events change in a row.
+//! New rows, and the changes of a row by an event.
 ghost use Rattle.std.specs.Prelude.{◌≡◌, ◌+◌, ◌<◌, ◌≤◌, ◌^◌, true, false, cond, [], ◌∷◌, ◌++◌, length, vec_len, vec_capacity};
 ghost use Rattle.job_table.specs.Attempts.{started, with_pages, ruled, stops_queue, next_stage};
 ghost use Rattle.spool_types.specs.Limits.{longest_document, greatest_attempts};
@@ -18,7 +18,7 @@ use spool_types::{
 };
 use std::alloc::Global;
 
-// A new queue accepts, isn't stopped, and has empty texts and lists.
+// Returns the row of a new queue. It accepts jobs, is not stopped, and has empty texts and lists.
 pub(super) fn new_queue_row(alloc: Global, queue: NewQueue) -> QueueRow
     ensures { result ≡ new_queue queue }
 {
@@ -58,7 +58,8 @@ pub(super) fn set_stopped(row: &mut QueueRow, stopped: bool)
     row.stopped = stopped;
 }
 
-// A new job is incoming and free, and has no bytes. It is to start by a moment, if one is told.
+// Returns the row of a new job, which is incoming, has no hold and no bytes. It must start by the moment `by`, if one
+// is given.
 pub(super) fn new_job_row(alloc: Global, job: NewJob, by: Option<Moment>) -> JobRow
     ensures row { result.job ≡ new_job job by }
     ensures room { vec_capacity result.document ≡ 0 }
@@ -85,7 +86,7 @@ pub(super) fn new_job_row(alloc: Global, job: NewJob, by: Option<Moment>) -> Job
     }
 }
 
-// Adds the bytes of a send, whose payload is at this place, to the document, and answers its size.
+// Adds the bytes of a send to the document. `at` is the place of the payload. Returns the new size of the document.
 pub(super) fn add_bytes(row: &mut JobRow, bytes: Piece, at: u64) -> u32
     requires room { vec_len row.old.document < vec_capacity row.old.document }
     requires short { row.old.job.size + length bytes ≤ longest_document }
@@ -102,12 +103,12 @@ pub(super) fn add_bytes(row: &mut JobRow, bytes: Piece, at: u64) -> u32
     row.job.size
 }
 
-/// What an event changes in the row of its job, where it changes nothing else.
+/// The change of an event that changes only the row of its job.
 #[derive(Drop)]
 pub(crate) enum RowChange {
-    /// It waits, or is still incoming, with this hold.
+    /// The job, which is waiting or still incoming, gets this hold.
     Hold(Hold),
-    /// It ends in this phase.
+    /// The job ends in this phase.
     End(Phase),
     Close(Closing),
 }
@@ -126,7 +127,7 @@ pub(super) fn change_row(row: &mut JobRow, change: RowChange)
     }
 }
 
-// A job that ends loses its document.
+// Ends a job and drops its document.
 fn end_row(row: &mut JobRow, phase: Phase)
     requires { has_ended phase ≡ true }
     ensures row { row.new.job ≡ ended phase row.old.job }
@@ -138,7 +139,7 @@ fn end_row(row: &mut JobRow, phase: Phase)
     row.document = Vec::new(alloc);
 }
 
-// A closed job waits with the hold that it had, or ends where no filters lead to its queue.
+// Closes a job. It waits with its current hold, or is aborted if no filters convert its document for the queue.
 fn close_row(row: &mut JobRow, closing: Closing)
     requires { has_ended row.old.job.phase ≡ false }
     ensures row { row.new.job ≡ closed closing row.old.job }
@@ -159,7 +160,7 @@ fn close_row(row: &mut JobRow, closing: Closing)
     }
 }
 
-// A job that waits or is still incoming gets this hold.
+// Sets the hold of a job that is waiting or still incoming.
 fn hold_row(row: &mut JobRow, hold: Hold)
     ensures row { row.new.job ≡ held hold row.old.job }
     ensures memory { TakesNone row.old row.new }
@@ -168,7 +169,7 @@ fn hold_row(row: &mut JobRow, hold: Hold)
     row.job.phase = row.job.phase.with_hold(hold);
 }
 
-// Begins a further attempt: the first of the job's stages, its filters in order and then the backend.
+// Begins another attempt in its first stage. The stages are the job's filters in order, followed by the backend.
 pub(super) fn start_row(row: &mut JobRow) -> Phase
     requires more { row.old.job.attempts < greatest_attempts }
     requires live { has_ended row.old.job.phase ≡ false }
@@ -187,7 +188,7 @@ pub(super) fn start_row(row: &mut JobRow) -> Phase
     row.job.phase
 }
 
-// The pages that the effects of a stage tell.
+// Updates the pages by the effects of a stage.
 pub(super) fn add_pages(row: &mut JobRow, effects: &[Effect])
     ensures row { row.new.job ≡ with_pages effects.now row.old.job }
     ensures memory { TakesNone row.old row.new }
@@ -196,7 +197,7 @@ pub(super) fn add_pages(row: &mut JobRow, effects: &[Effect])
     row.job.pages = pages_after(row.job.pages, effects);
 }
 
-// One verdict on a job stops its queue.
+// Stops the queue if the verdict on its job is StopQueue.
 pub(super) fn rule_queue_row(row: &mut QueueRow, verdict: Verdict)
     ensures { row.new ≡ cond (stops_queue verdict) (with_stopped true row.old) row.old }
 {
@@ -205,7 +206,7 @@ pub(super) fn rule_queue_row(row: &mut QueueRow, verdict: Verdict)
     }
 }
 
-// What a verdict makes of a job, at the moment now, where its queue tries a job again after the interval.
+// Applies a verdict to a job. A retry waits for `interval` after the moment `now`.
 pub(super) fn rule_row(row: &mut JobRow, verdict: Verdict, now: Moment, interval: Interval) -> Phase
     requires next { verdict ≡ Verdict.NextStage → HasNextStage row.old.job.phase }
     requires live { is_processing row.old.job.phase ≡ true }
@@ -244,7 +245,7 @@ fn waiting(hold: Hold, not_before: Moment, first: bool) -> Phase
     }
 }
 
-// The stage after this one. A job has at most 16 stages, so none is passed by.
+// Returns the phase in the next stage. A job has at most 16 stages, so the number of the stage cannot overflow.
 fn next_stage(phase: Phase) -> Phase
     requires { HasNextStage phase }
     ensures { result ≡ next_stage phase }

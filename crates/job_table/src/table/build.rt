@@ -1,6 +1,6 @@
-//! A table from its rows. Its lanes are built at once: one pass over the jobs hands each to the draft of its queue's lane,
-//! and then the waiting jobs of each draft are sorted. The timetable's deadlines are gathered and sorted once, too. So it takes
-//! n log n for n jobs, in whatever order their turns and their deadlines are.
+//! Builds a table from its rows. One pass over the jobs adds each to the draft of its queue's lane, and then the
+//! waiting jobs of each draft are sorted. The deadlines are collected and sorted once as well. For n jobs this takes n
+//! log n steps, whatever the order of the waiting jobs and of the deadlines.
 ghost use Rattle.std.specs.Prelude.{◌≡◌, count_by, is_some, length, IfOk};
 ghost use Rattle.std.specs.List.{All, filter_map};
 ghost use Rattle.queue_sched.specs.WaitingIndex.{HasEachOnce};
@@ -22,7 +22,7 @@ use spool_types::Moment;
 use std::alloc::{AllocError, Global};
 
 impl Table {
-    /// The table that has these rows.
+    /// Returns the table that has these rows.
     pub(crate) fn of_rows(alloc: Global, store: Store) -> Result<Table, AllocError>
         ensures state { IfOk result (λ table. table.state ≡ store.state) }
         ensures places { IfOk result (λ table. table.places ≡ store.places) }
@@ -41,7 +41,7 @@ impl Table {
     }
 }
 
-// The draft of each queue's lane, in the order of the queues. Each job's queue is found by binary search.
+// Returns the draft of each queue's lane, in the order of the queues. The queue of each job is found by binary search.
 fn drafts_of(alloc: Global, store: &Store) -> Result<Vec<Draft>, AllocError>
     ensures legal { IsLegal store.now.state }
     ensures drafts { IfOk result (λ drafts. AreDrafts store.now.state drafts.items) }
@@ -57,7 +57,7 @@ fn drafts_of(alloc: Global, store: &Store) -> Result<Vec<Draft>, AllocError>
     Ok(drafts)
 }
 
-// So many drafts without jobs.
+// Returns `count` drafts without jobs.
 fn empty_drafts(alloc: Global, count: usize) -> Result<Vec<Draft>, AllocError>
     ensures count { IfOk result (λ drafts. length drafts.items ≡ count) }
     ensures each { IfOk result (λ drafts. All IsBlank drafts.items) }
@@ -69,7 +69,7 @@ fn empty_drafts(alloc: Global, count: usize) -> Result<Vec<Draft>, AllocError>
     Ok(drafts)
 }
 
-// The lanes that the drafts are of, at this moment.
+// Turns the drafts into lanes at this moment.
 fn lanes_of(alloc: Global, drafts: Vec<Draft>, moment: Moment) -> Result<Vec<Lane>, AllocError>
     requires { All (λ d. HasEachOnce d.waiting.items) drafts.items }
     ensures { IfOk result (λ lanes. AreBeside (λ d lane. IsAdvanced moment (drafted d) lane) drafts.items lanes.items) }
@@ -81,7 +81,7 @@ fn lanes_of(alloc: Global, drafts: Vec<Draft>, moment: Moment) -> Result<Vec<Lan
     Ok(lanes)
 }
 
-// The timetable of the jobs, with room for all that are to start by a moment.
+// Returns the timetable of the jobs, with room for every job that must start by a moment.
 fn timetable_of(alloc: Global, store: &Store) -> Result<Timetable, AllocError>
     ensures { IfOk result (IsTimely (job_at store.now.state)) }
 {
@@ -90,7 +90,7 @@ fn timetable_of(alloc: Global, store: &Store) -> Result<Timetable, AllocError>
     Timetable::of_deadlines(deadlines, timed_count(rows))
 }
 
-// The deadlines of those that wait.
+// Returns the deadlines of the waiting jobs.
 fn deadlines_of(alloc: Global, rows: &Rows) -> Result<Vec<Deadline>, AllocError>
     ensures { IfOk result (λ deadlines. deadlines.items ≡ filter_map (λ row. deadline_of row.job) rows.now.items) }
 {
@@ -99,7 +99,7 @@ fn deadlines_of(alloc: Global, rows: &Rows) -> Result<Vec<Deadline>, AllocError>
         .collect(alloc)
 }
 
-// How many jobs are to start by a moment.
+// Counts the jobs that must start by a moment, whatever their phase.
 fn timed_count(rows: &Rows) -> usize
     ensures { result ≡ count_by (λ row. is_some row.job.by) rows.now.items }
 {

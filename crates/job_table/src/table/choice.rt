@@ -15,12 +15,12 @@ use queue_sched::{index_law, order_law};
 use spool_types::{Job, JobId, QueueName};
 
 impl Table {
-    /// The job of the queue that is to be started next, if any may be: the eligible one that no other eligible job of
-    /// the queue beats. It is read from the queue's index, and no row of a job is looked at.
+    /// Returns the job of the queue to start next: the eligible job that no other eligible job of the queue beats.
+    /// Returns None if no job is eligible or the queue does not exist. Reads the index of the queue, no row of a job.
     pub fn next(&self, queue: &QueueName) -> Option<JobId>
         ensures chosen { IfSome result (λ j. (r : Job) × (q : QueueRow) × (job_at self.now.state j ≡ Some r) × (queue_at self.now.state queue.now ≡ Some q) × IsNextJob (finite.values self.now.state.jobs) queue.now q.stopped self.now.state.moment r) }
         ensures none { IsNone result → (q : QueueRow) → queue_at self.now.state queue.now ≡ Some q → (j : ℕ) (r : Job) → job_at self.now.state j ≡ Some r → is_eligible (finite.values self.now.state.jobs) queue.now q.stopped self.now.state.moment r ≡ false }
-        // So it is the one that the test of a single job finds, and it can be started.
+        // The test of a single job (`is_next`) accepts exactly this job, and the job can be started.
         ensures value { result ≡ next_of self.now.state queue.now }
         ensures startable { IfSome result (λ j. refusal_of self.now.state (Event.Start j) ≡ None) }
         ensures legal { IsLegal self.now.state }
@@ -34,15 +34,14 @@ impl Table {
         lane.next()
     }
 
-    /// The job of the queue that is processing, if one is. It is read from the queue's lane, and no row of a job is
-    /// looked at.
+    /// Returns the job of the queue that is processing, if any. Reads the lane of the queue, no row of a job.
     pub fn processing(&self, queue: &QueueName) -> Option<JobId>
         ensures { result ≡ busy_of self.now.state queue.now }
     {
         self.lane(queue)?.processing()
     }
 
-    // Whether a job of this table is the next of its queue.
+    // Returns whether this job of the table is the next one of its queue.
     pub(super) fn is_next(&self, job: &Job) -> bool
         requires { IsLegal self.now.state → job_at self.now.state job.now.id ≡ Some job.now }
         ensures { result ≡ is_next self.now.state job.now }

@@ -1,5 +1,5 @@
-//! New places for the documents, as a checkpoint writes them anew: they are noted while it does so, and taken at once when
-//! it is done.
+//! New places for the documents. While a checkpoint writes all documents again it notes their new places, and at its
+//! end it sets them all at once.
 ghost use Rattle.std.specs.Prelude.{◌≡◌, ℕ, ◌+◌, ◌-◌, ◌*◌, ◌^◌, ◌==◌, ◌<◌, ◌≤◌, false, List, length, Some, IsSome, OnOk, OnErr, if◌then◌else◌};
 ghost use Rattle.std.specs.Ordering.{nat_cmp};
 ghost use Rattle.std.specs.FinMap.{find};
@@ -18,11 +18,11 @@ use std::alloc::AllocError;
 use std::mem;
 
 impl Table {
-    /// Reserves new places for the documents of all jobs, and drops those that were noted before. No row changes.
+    /// Reserves room for the new places of all documents, and drops the places noted before. No row changes.
     pub fn prepare_moves(&mut self) -> Result<(), AllocError>
         ensures none { OnOk result (HasNoMoves self.new.state self.new.moves) }
 
-        // There is room for the extents of all pieces of each document.
+        // There is room for one extent for each piece of each document.
         ensures room { OnOk result ((j : ℕ) (r : Job) → job_at self.new.state j ≡ Some r → document_len r ≤ move_room self.new.moves j * longest_send) }
         ensures same { self.new.state ≡ self.old.state }
         ensures places { self.new.places ≡ self.old.places }
@@ -35,7 +35,7 @@ impl Table {
         Ok(())
     }
 
-    /// Notes that so many bytes of a job's document, the next ones, lie in the payload at this place. It takes no memory.
+    /// Notes that the next `count` bytes of a job's document are in the payload at this place. Does not allocate.
     pub fn push_move(&mut self, job: JobId, at: u64, count: usize)
         requires room { 0 < move_room self.old.moves job }
         requires at { at + bytes_behind < 2 ^ 64 }
@@ -49,7 +49,7 @@ impl Table {
         self.new_places.note(job, extent_behind(at, count));
     }
 
-    /// Forgets the new places that are noted, and gives back their memory.
+    /// Drops the new places that were noted, and frees their memory.
     pub fn forget_moves(&mut self)
         ensures none { self.new.moves ≡ no_moves }
         ensures same { self.new.state ≡ self.old.state }
@@ -60,14 +60,14 @@ impl Table {
         self.new_places = NewPlaces::none(alloc);
     }
 
-    /// The document of each job that hasn't ended goes to the places that were noted for it. It takes no memory.
+    /// Sets the document of each job that has not ended to the places noted for it. Does not allocate.
     pub fn commit_moves(&mut self)
         requires { HasMoves self.old.state self.old.moves }
         ensures same { self.new.state ≡ self.old.state }
         ensures places { (j : ℕ) (r : Job) → job_at self.new.state j ≡ Some r → has_ended r.phase ≡ false → places_at self.new j ≡ places_of self.old.moves.places j }
         ensures none { self.new.moves ≡ no_moves }
 
-        // All other room stays, and a document that has moved has what is left of the room at its new places.
+        // All other room is unchanged. A moved document has the room left in its list of new places.
         ensures reserved { self.new.room ≡ record self.old.room { documents = self.new.room.documents } }
         ensures documents { (j : ℕ) (r : Job) → job_at self.new.state j ≡ Some r → has_ended r.phase ≡ false → document_room self.new.room j ≡ move_room self.old.moves j }
     {

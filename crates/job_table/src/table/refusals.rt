@@ -1,4 +1,4 @@
-//! Why an event is refused: its causes in order, of which the first that stands decides.
+//! The reasons for refusing an event. The causes are checked in order, and the first that applies decides.
 ghost use Rattle.std.specs.Prelude.{◌≡◌, Bool, true, false, not, List, [], ◌∷◌, Some, IfOk, IfErr};
 ghost use Rattle.std.specs.Result.{result_err};
 ghost use Rattle.spool_types.specs.declared.event.Closing.{Closing};
@@ -16,7 +16,7 @@ use spool_types::{
 };
 
 impl Table {
-    // Why the event is refused, if it is.
+    // Returns why the event is refused, if it is.
     pub(super) fn refusal(&self, event: &Event) -> Option<Refusal>
         ensures { result ≡ refusal_of self.now.state event.now }
     {
@@ -70,7 +70,7 @@ impl Table {
         self.no_queue_refusal(queue)
     }
 
-    // Of an event about a queue that is refused only where the queue isn't there.
+    // For events about a queue that are refused only if the queue does not exist.
     fn no_queue_refusal(&self, queue: &QueueName) -> Option<Refusal>
         ensures { result ≡ first_cause (about_queue self.now.state queue.now []) }
     {
@@ -113,7 +113,8 @@ impl Table {
         }
     }
 
-    /// Why a job can't be closed, whatever its type and its filters are found to be, if it can't.
+    /// Returns why a Close of this job would be refused whatever its media type and filters are, or None if it would be
+    /// accepted.
     pub fn close_refusal(&self, job: JobId) -> Option<Refusal>
         ensures { (c : Closing) → c.job ≡ job → result ≡ refusal_of self.now.state (Event.Close c) }
     {
@@ -163,7 +164,7 @@ impl Table {
         }
     }
 
-    // The row of a job that is still incoming, or why there is none.
+    // Returns the row of a job that is still incoming, or the refusal.
     fn incoming_job(&self, job: JobId) -> Result<&Job, Refusal>
         ensures found { IfOk result (λ r. job_at self.now.state job ≡ Some r.now) }
         ensures live { IfOk result (λ r. has_ended r.now.phase ≡ false) }
@@ -178,7 +179,7 @@ impl Table {
         }
     }
 
-    // The row of a job that waits or is still incoming, or why there is none.
+    // Returns the row of a job that is waiting or still incoming, or the refusal.
     fn idle_job(&self, job: JobId) -> Result<&Job, Refusal>
         ensures found { IfOk result (λ r. job_at self.now.state job ≡ Some r.now) }
         ensures live { IfOk result (λ r. has_ended r.now.phase ≡ false) }
@@ -193,7 +194,7 @@ impl Table {
         }
     }
 
-    // The row of a job that waits, or why there is none.
+    // Returns the row of a waiting job, or the refusal.
     fn waiting_job(&self, job: JobId) -> Result<&Job, Refusal>
         ensures found { IfOk result (λ r. job_at self.now.state job ≡ Some r.now) }
         ensures live { IfOk result (λ r. has_ended r.now.phase ≡ false) }
@@ -207,7 +208,7 @@ impl Table {
         }
     }
 
-    // The row of a job that is processing, or why there is none.
+    // Returns the row of a processing job, or the refusal.
     fn processing_job(&self, job: JobId) -> Result<&Job, Refusal>
         ensures found { IfOk result (λ r. job_at self.now.state job ≡ Some r.now) }
         ensures live { IfOk result (λ r. has_ended r.now.phase ≡ false) }
@@ -222,7 +223,7 @@ impl Table {
         }
     }
 
-    // The row of a job that hasn't ended, or why there is none.
+    // Returns the row of a job that has not ended, or the refusal.
     fn live_job(&self, job: JobId) -> Result<&Job, Refusal>
         ensures found { IfOk result (λ r. job_at self.now.state job ≡ Some r.now) }
         ensures live { IfOk result (λ r. has_ended r.now.phase ≡ false) }

@@ -17,17 +17,19 @@ use crate::header::{HEADER_LEN, NEWEST_VERSION};
 use gate_journal::Journal;
 use spool_disk::Disk;
 
-/// How long a block of records gets before it is written.
+/// The length of a block of records from which it is written.
 const BLOCK_LEN: usize = 65_536;
 
 impl<D: Disk> Areas<D> {
-    /// Where the first gate of the other area lies, or why rows can't be put there whose records take so many bytes
-    /// together, 5 and the payload each. The greatest number stands for all above it too. It calls no device.
+    /// Returns the first gate of the other area. If rows whose records, 5 bytes and the payload each, have this sum of
+    /// lengths cannot be written there, returns the error. The greatest sum represents any sum above it too. It calls
+    /// no device.
     pub fn plan_by_sum(&self, sum: u64) -> Result<u64, AreaFault>
         ensures exact { (payloads : List (List ℕ)) → sum ≡ sum_of payloads → result ≡ plan_of self.now (map length payloads) }
         ensures first { IfOk result (λ first. first ≡ other_base self.now + header_len) }
 
-        // Where they can, `begin` answers that place too, and the last gate and the 7 bytes kept from it on lie in the area.
+        // If they can, `begin` returns that gate too, and the last gate and the 7 bytes reserved from it on are in the
+        // area.
         ensures begins { IfOk result (λ first. plan_of self.now [] ≡ Ok first) }
         ensures fits { IfOk result (λ first. (payloads : List (List ℕ)) → sum ≡ sum_of payloads → first + length (records payloads) + kept_room ≤ other_base self.now + area_len self.now) }
     {
@@ -39,16 +41,16 @@ impl<D: Disk> Areas<D> {
         }
     }
 
-    // Where the other area begins.
+    // Returns the place where the other area begins.
     fn other_base(&self) -> u64
         ensures { result ≡ other_base self.now }
     {
         if self.base == 0 { self.len } else { 0 }
     }
 
-    /// Begins a change over to the other area, as the first of its steps: it closes that area's header, writes the rest of
-    /// the header, and a closed gate where the records begin. It answers that gate's place. Until `open_other` a crash
-    /// leaves the payloads of the current area, whatever the steps answer.
+    /// Begins a change over to the other area, as the first of its steps. It closes that area's header, writes the rest
+    /// of the header, and a closed gate where the records begin. It returns that gate's place. Until `open_other` a
+    /// crash leaves the payloads of the current area, whatever the steps return.
     pub fn begin(&mut self) -> Result<u64, AreaFault>
         ensures refused { (fault : AreaFault) → fault ≢ AreaFault.Disk → (IsErrOf result fault ↔ (plan_of self.old [] ≡ Err fault)) }
         ensures untouched { (fault : AreaFault) → fault ≢ AreaFault.Disk → IsErrOf result fault → self.new ≡ self.old }
@@ -75,10 +77,10 @@ impl<D: Disk> Areas<D> {
         }
     }
 
-    /// Adds a row, whose record begins at a place in a block: five free bytes, and its payload behind them. Before it the
-    /// block has the records of rows that aren't written yet, and the gate is where they go. Once the block is long enough
-    /// it is written, without a sync, and is empty then. It answers where the records go that are in the block from then
-    /// on.
+    /// Adds a row, whose record begins at `start` in the block: five free bytes followed by its payload. The bytes of
+    /// the block before it are the records of rows that are not written yet; they belong at `gate`. A block that is
+    /// long enough is written, without a sync, and is empty then. Returns the place where the records that are then in
+    /// the block belong.
     pub fn add_row(
         &mut self,
         gate: u64,
@@ -117,8 +119,8 @@ impl<D: Disk> Areas<D> {
         self.write_rows(gate, block)
     }
 
-    /// Writes the records that are in a block, without a sync. The block is empty then. It answers the place of the closed
-    /// gate behind them.
+    /// Writes the records of a block, without a sync. The block is empty afterwards. Returns the place of the closed
+    /// gate after them.
     pub fn write_rows(&mut self, gate: u64, block: &mut Vec<u8>) -> Result<u64, AreaFault>
         requires spare { vec_len block.old + 1 ≤ vec_capacity block.old }
         requires behind { other_base self.old + header_len ≤ gate }
@@ -152,8 +154,8 @@ impl<D: Disk> Areas<D> {
         }
     }
 
-    /// Opens the other area, once all its rows are written: it syncs, opens the header's gate and syncs. It is the current
-    /// one from then on, with the next epoch and in version 2.
+    /// Opens the other area after all its rows were written: it syncs, opens the header's gate and syncs. The other
+    /// area is then the current one, with the next epoch and version 2.
     pub fn open_other(&mut self, gate: u64) -> Result<(), AreaFault>
         requires behind { other_base self.old + header_len ≤ gate }
         requires room { gate < other_base self.old + area_len self.old }

@@ -1,4 +1,4 @@
-//! The block of memory that the rows of a listing are spelled into.
+//! The block of memory into which the rows of a listing are encoded.
 ghost use Rattle.std.specs.Prelude.{◌≡◌, ◌<◌, ◌≤◌, ◌+◌, ◌^◌, ◌++◌, length, replicate, vec_len, vec_capacity};
 ghost use Rattle.spool_types.specs.declared.listing.Row.{Row as RowOf};
 ghost use Rattle.spool_types.specs.declared.version.Version.TheVariants.{Two};
@@ -11,16 +11,16 @@ ghost use Rattle.spool_core.specs.ListingFilling.{block_room, free_head, IsPut};
 use event_codec::{encode_job_onto, encode_queue_onto, encode_row_onto};
 use spool_types::{Head, Job, JobId, QueueRow, Row};
 
-/// How many bytes a block has room for: the 65,536 that are written at once, a record's head, and the longest spelling.
+/// Size of a block in bytes: the 65,536 that are written at once, a record's head, and the longest encoded row.
 pub(super) const BLOCK_ROOM: usize = 65_536 + 5 + (1 << 19);
 
-/// How many bytes of a piece's record stand before those of the document.
+/// Number of bytes of a piece's record before those of the document.
 pub(super) const PIECE_HEAD: usize = 14;
 
-// The kind of a piece in its spelling.
+// The byte of an encoded piece that identifies its kind.
 const PIECE: u8 = 0x43;
 
-/// Spells the head of a listing into a block, behind five free bytes. It answers where these begin.
+/// Encodes the head of a listing into a block, after five free bytes. Returns the index of the first free byte.
 pub(super) fn put_head(block: &mut Vec<u8>, head: Head) -> usize
     requires few { length block.old.items < block_len }
     requires spare { block_room ≤ vec_capacity block.old }
@@ -37,7 +37,7 @@ pub(super) fn put_head(block: &mut Vec<u8>, head: Head) -> usize
     start
 }
 
-/// The same of a queue.
+/// Does the same for a queue.
 pub(super) fn put_queue(block: &mut Vec<u8>, queue: &QueueRow) -> usize
     requires few { length block.old.items < block_len }
     requires spare { block_room ≤ vec_capacity block.old }
@@ -52,7 +52,7 @@ pub(super) fn put_queue(block: &mut Vec<u8>, queue: &QueueRow) -> usize
     start
 }
 
-/// The same of a job, without its document.
+/// Does the same for a job, without its document.
 pub(super) fn put_job(block: &mut Vec<u8>, job: &Job) -> usize
     requires few { length block.old.items < block_len }
     requires spare { block_room ≤ vec_capacity block.old }
@@ -60,7 +60,7 @@ pub(super) fn put_job(block: &mut Vec<u8>, job: &Job) -> usize
     ensures spellable { IsLegalJob job.now → IsRowSpellable Two (RowOf.Job job.now) }
     ensures few { length job.now.filters ≤ 15 }
 {
-    // There are at most 15, so that a row can tell the stage.
+    // There are at most 15, so a row can represent the stage.
     let _filters = job.filters.as_slice();
     let start = begin_record(block);
     match encode_job_onto(job, block) {
@@ -70,7 +70,7 @@ pub(super) fn put_job(block: &mut Vec<u8>, job: &Job) -> usize
     start
 }
 
-/// The same of a piece of a document with so many bytes, in whose stead are zeros.
+/// Does the same for a piece of a document with `count` bytes, and writes zeros in their place.
 pub(super) fn put_piece(block: &mut Vec<u8>, job: JobId, count: usize) -> usize
     requires few { length block.old.items < block_len }
     requires spare { block_room ≤ vec_capacity block.old }
@@ -92,7 +92,7 @@ pub(super) fn put_piece(block: &mut Vec<u8>, job: JobId, count: usize) -> usize
     start
 }
 
-// Adds the free bytes of a record's head. It answers where they begin.
+// Adds the free bytes of a record's head. Returns the index of the first one.
 fn begin_record(block: &mut Vec<u8>) -> usize
     requires room { vec_len block.old + 5 ≤ vec_capacity block.old }
     ensures start { result ≡ length block.old.items }
@@ -105,7 +105,7 @@ fn begin_record(block: &mut Vec<u8>) -> usize
     start
 }
 
-// Adds bytes, in room that is there.
+// Adds bytes. The block must have room for them.
 fn put(block: &mut Vec<u8>, bytes: &[u8])
     requires room { vec_len block.old + length bytes.now ≤ vec_capacity block.old }
     ensures items { block.new.items ≡ block.old.items ++ bytes.now }
@@ -118,7 +118,7 @@ fn put(block: &mut Vec<u8>, bytes: &[u8])
     }
 }
 
-// Adds so many zeros, in room that is there.
+// Adds `count` zeros. The block must have room for them.
 fn put_zeros(block: &mut Vec<u8>, count: usize)
     requires room { vec_len block.old + count ≤ vec_capacity block.old }
     ensures items { block.new.items ≡ block.old.items ++ replicate count 0 }

@@ -20,38 +20,37 @@ use spool_disk::Disk;
 use std::alloc::{AllocError, Global};
 
 impl<D: Disk> Spool<D> {
-    /// Makes room for further events: lists the table in the other area, which becomes the current one, with the next
-    /// epoch. The table is as before, in the newest version of the format, and the events that led to it are no longer on
-    /// the disk.
+    /// Makes room for further events: lists the table in the other area, which becomes the current one, with the next epoch. The
+    /// table is as before, in the newest version of the format. The events that produced it are no longer on the disk.
     pub fn checkpoint(&mut self) -> Result<(), CheckpointFault>
-        // Each answer, with its cause and what it leaves.
+        // Each result, with its cause and its effect.
         ensures answer { IsCheckpoint D.device self.old result self.new }
         ensures blames { Blames (D.device.failures self.old.disk) (D.device.failures self.new.disk) (IsErrOf result CheckpointFault.Disk) }
         ensures fixed { D.device.size self.new.disk ≡ D.device.size self.old.disk }
         ensures told { IsSome (D.device.bytes self.new.disk) ↔ IsSome (D.device.bytes self.old.disk) }
 
-        // Whatever it answers, a crash at any moment of it leaves the table, and its documents.
+        // Whatever it returns, a crash at any moment leaves the table and its documents.
         ensures any_moment { self.old.dead ≡ false → IsSome (D.device.bytes self.old.disk) →
             LeavesOnly D.device self.old.disk self.new.disk (HasInEitherVersion self.old.state) }
         ensures documents { self.old.dead ≡ false → (r : List ℕ) (documents : ℕ → List ℕ) → D.device.bytes self.old.disk ≡ Some r → HasDocuments self.old.state documents r →
             LeavesOnly D.device self.old.disk self.new.disk (HasDocuments self.old.state documents) }
 
-        // Before it each image has the epoch that it counts from. After Ok a crash leaves the listing alone, with the next
-        // epoch, and nothing is unsynced.
+        // Before it each image has the epoch of the spool. After `Ok` a crash leaves only the listing, with the next epoch, and
+        // nothing is unsynced.
         ensures counts { self.old.dead ≡ false → IsSome (D.device.bytes self.old.disk) → (c : List ℕ) → D.device.image self.old.disk c → HasEpoch self.old.epoch c }
         ensures listed { OnOk result (IsSome (D.device.bytes self.old.disk) → (c : List ℕ) → D.device.image self.new.disk c → IsCheckpointed self.old.state (self.old.epoch + 1) c) }
         ensures kept { OnOk result (IsSome (D.device.bytes self.old.disk) → (c : List ℕ) → D.device.image self.new.disk c → HasTable self.new.state c) }
         ensures durable { OnOk result (IsSynced D.device self.new.disk) }
     {
         let changed = change_areas(*self.frame.allocator(), &mut self.areas, &mut self.table);
-        // The new places are taken, or of no use any more.
+        // The new places are either in use now or no longer needed.
         self.table.forget_moves();
         changed
     }
 }
 
-// Lists the table in the other area, and moves the documents there. While it does so one block of rows is in memory, and the
-// new places of the documents.
+// Lists the table in the other area, and moves the documents there. Meanwhile one block of rows and the new places of the
+// documents are in memory.
 fn change_areas<D: Disk>(
     alloc: Global,
     areas: &mut Areas<D>,
@@ -72,7 +71,7 @@ fn change_areas<D: Disk>(
     ensures open_spool { IsOpenSpoolAt D.device areas.new table.new }
     ensures durable { OnOk result (IsSynced D.device areas.new.disk) }
 {
-    // Before any memory is taken.
+    // Checked before memory is allocated.
     match areas.plan(&[]) {
         Ok(_) => {}
         Err(fault) => return Err(fault_of(fault)),
@@ -85,7 +84,7 @@ fn change_areas<D: Disk>(
         Ok(_) => {}
         Err(fault) => return Err(fault_of(fault)),
     }
-    // From here on nothing takes memory, and only Disk is answered.
+    // From here on nothing is allocated, and the only error is `Disk`.
     match fill_other(areas, table, prepared.block) {
         Ok(()) => {
             table.commit_moves();
@@ -109,14 +108,14 @@ fn fault_of(fault: AreaFault) -> CheckpointFault
     }
 }
 
-// What a checkpoint has before it writes: memory for a block of rows, and how many bytes the records of all rows take.
+// Prepared before a checkpoint writes: memory for a block of rows, and the total length in bytes of the records of all rows.
 #[derive(Drop)]
 struct Prepared {
     block: Vec<u8>,
     sum: u64,
 }
 
-// Takes all memory: for the new places of the documents, and for the block.
+// Allocates all memory: for the new places of the documents, and for the block.
 fn prepare(alloc: Global, table: &mut Table) -> Result<Prepared, AllocError>
     ensures sum { IfOk result (λ p. p.sum ≡ sum_of (listed_payloads table.new.state (blank table.new.state))) }
     ensures empty { IfOk result (λ p. p.block.items ≡ []) }
@@ -134,7 +133,7 @@ fn prepare(alloc: Global, table: &mut Table) -> Result<Prepared, AllocError>
     let sum = listing_len(table, &mut block)?;
     block.clear();
     let _jobs = table.jobs();
-    // The highest number is one that a row can tell.
+    // A row can represent the highest number.
     let _highest = table.highest();
     Ok(Prepared { block, sum })
 }

@@ -1,5 +1,5 @@
-//! Filling the other area with a table's listing: its rows are spelled into one block, one behind the other, and each time
-//! that it is long enough it is written. It is noted where the documents will lie.
+//! Filling the other area with a table's listing. The rows are encoded into one block, which is written whenever it is long
+//! enough. The new places of the documents are noted.
 ghost use Rattle.std.specs.Prelude.{◌≡◌, ◌<◌, ◌≤◌, ◌+◌, ◌^◌, ◌∷◌, [], ℕ, List, length, map, replicate, take, drop, false, Ok, Some, IsSome, OnOk, vec_len, vec_capacity};
 ghost use Rattle.std.specs.FinMap as finite;
 ghost use Rattle.std.specs.List.{flat_map, AllByRecursion};
@@ -29,15 +29,15 @@ use spool_areas::{AreaFault, Areas, ReadFault};
 use spool_disk::Disk;
 use spool_types::{JobId, LONGEST_SEND, QueueRow};
 
-// Rows that aren't written yet, and where their records go.
+// Rows that are not written yet, and the position of their records in the area.
 #[derive(Drop)]
 struct Filler {
     gate: u64,
     block: Vec<u8>,
 }
 
-/// Lists a table in the other area, and makes that the current one. Where its documents will lie is noted in the table. It
-/// takes no memory: the block has room for what is written at once.
+/// Lists a table in the other area, and makes that area the current one. Notes the new places of the documents in the table.
+/// Allocates nothing: the block has room for all bytes that are written at once.
 pub(super) fn fill_other<D: Disk>(
     areas: &mut Areas<D>,
     table: &mut Table,
@@ -84,7 +84,7 @@ fn add_listing<D: Disk>(
     ensures noted { OnOk result (AreDocumentsNoted table.old.state (next_place (filling_at areas.old filler.old)) table.new.moves) }
 {
     listings_are_loaded();
-    // The highest number is one that a row can tell.
+    // A row can represent the highest number.
     let _highest = table.highest();
     let queues = table.queues();
     let start = put_head(&mut filler.block, table.head());
@@ -171,7 +171,7 @@ fn add_job<D: Disk>(
     Ok(())
 }
 
-// Spells the row of a job into a block. It answers where its record begins, and how long its document is.
+// Encodes the row of a job into a block. Returns the index of its record, and the length of its document.
 fn put_row(block: &mut Vec<u8>, table: &Table, job: JobId) -> (usize, usize)
     requires few { length block.old.items < block_len }
     requires spare { block_room ≤ vec_capacity block.old }
@@ -189,7 +189,7 @@ fn put_row(block: &mut Vec<u8>, table: &Table, job: JobId) -> (usize, usize)
     }
 }
 
-// Adds the row of a piece of a document, so many bytes of it from a place on, and notes where they will lie.
+// Adds the row of a piece of a document, `count` bytes from an offset on, and notes their new place.
 fn add_piece<D: Disk>(
     areas: &mut Areas<D>,
     table: &mut Table,
@@ -228,7 +228,7 @@ fn add_piece<D: Disk>(
     end_record(areas, filler, start)
 }
 
-// Reads bytes of a document from the current area, which nothing has changed.
+// Reads bytes of a document from the current area, which has not changed.
 fn read_piece<D: Disk>(
     areas: &mut Areas<D>,
     table: &Table,
@@ -251,7 +251,7 @@ fn read_piece<D: Disk>(
     }
 }
 
-// Ends a record that begins at a place in the block. Where the block is long enough all of it is written.
+// Ends the record that begins at this index of the block. If the block is long enough, writes all of it.
 fn end_record<D: Disk>(
     areas: &mut Areas<D>,
     filler: &mut Filler,

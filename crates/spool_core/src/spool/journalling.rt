@@ -20,8 +20,8 @@ use spool_disk::Disk;
 use spool_types::Event;
 use std::alloc::AllocError;
 
-/// Looks whether the table refuses an event, reserves the memory that it takes there, and adds its record to the area.
-/// No row changes.
+/// Checks whether the table refuses an event, reserves the memory that it needs there, and adds its record to the area. No row
+/// changes.
 pub(super) fn journal<D: Disk>(
     areas: &mut Areas<D>,
     table: &mut Table,
@@ -42,17 +42,18 @@ pub(super) fn journal<D: Disk>(
     ensures fixed { D.device.size areas.new.disk ≡ D.device.size areas.old.disk }
     ensures told { IsSome (D.device.bytes areas.new.disk) ↔ IsSome (D.device.bytes areas.old.disk) }
 
-    // Whatever it answers, a crash at any moment of it leaves the table before the event or the one after it.
+    // Whatever it returns, a crash at any moment leaves the table from before the event or the one after it.
     ensures any_moment { areas.old.dead ≡ false → IsSome (D.device.bytes areas.old.disk) →
         LeavesOnly D.device areas.old.disk areas.new.disk (HasBeforeOrAfterEvent table.old.state event.now) }
 
-    // So it is with the documents.
+    // The same for the documents.
     ensures documents { areas.old.dead ≡ false → (r : List ℕ) (documents : ℕ → List ℕ) → D.device.bytes areas.old.disk ≡ Some r → HasDocuments table.old.state documents r →
         LeavesOnly D.device areas.old.disk areas.new.disk (HasWholeBeforeOrAfterEvent table.old.state documents event.now) }
     ensures sent { OnOk result ((r : List ℕ) (documents : ℕ → List ℕ) → D.device.bytes areas.old.disk ≡ Some r → HasDocuments table.old.state documents r →
         (c : List ℕ) → D.device.image areas.new.disk c → HasDocuments (after table.old.state event.now) (documents_after_one table.old.state documents event.now) c) }
 
-    // After Ok a crash leaves the one after it, and nothing is unsynced; after an error, but of the device, the one before.
+    // After `Ok` a crash leaves the table after the event, and nothing is unsynced. After an error, unless the device failed, it
+    // leaves the one from before.
     ensures added { IfOk result (λ place. (c : Contents) → c.state ≡ after table.old.state event.now → AddsPlaces place (sent_by event.now) table.new c → IsOpenSpoolAt D.device areas.new c) }
     ensures kept { OnErr result (IsOpenSpoolAt D.device areas.new table.new) }
     ensures durable { OnOk result (IsSynced D.device areas.new.disk) }
@@ -80,7 +81,7 @@ pub(super) fn journal<D: Disk>(
     }
 }
 
-/// Adds the record of a reopening to the area, in the room that is kept for it. No row changes.
+/// Adds the record of a reopening to the area, in the room that is reserved for it. No row changes.
 pub(super) fn journal_reopening<D: Disk>(
     areas: &mut Areas<D>,
     table: &mut Table,
@@ -104,13 +105,13 @@ pub(super) fn journal_reopening<D: Disk>(
 
     ensures epoch { areas.new.epoch ≡ areas.old.epoch }
 
-    // The room that is left, without its record.
+    // The room that is left, less its record.
     ensures room { OnOk result (areas.new.end - areas.new.gate ≡ areas.old.end - areas.old.gate - record_len Event.Reopen) }
 
-    // Whatever it answers, a crash at any moment of it leaves the table before the reopening or the one after it.
+    // Whatever it returns, a crash at any moment leaves the table from before the reopening or the one after it.
     ensures any_moment { LeavesOnly D.device areas.old.disk areas.new.disk (λ c. IsSome (D.device.bytes areas.old.disk) → HasBeforeOrAfterEvent table.old.state Event.Reopen c) }
 
-    // It leaves the documents.
+    // The documents do not change.
     ensures documents { LeavesOnly D.device areas.old.disk areas.new.disk (λ c. (r : List ℕ) (documents : ℕ → List ℕ) → D.device.bytes areas.old.disk ≡ Some r → HasDocuments table.old.state documents r → HasDocuments table.old.state documents c) }
     ensures added { OnOk result ((c : Contents) → c.state ≡ reopened table.old.state → KeepsPlaces table.new c → IsOpenSpoolAt D.device areas.new c) }
     ensures idle { HasNoProcessing (reopened table.old.state) }
@@ -121,7 +122,7 @@ pub(super) fn journal_reopening<D: Disk>(
     let event = Event::Reopen;
     let prepared = table.prepare(&event);
     let filled = fill_frame(frame, &event);
-    // Let go by a call: at the end of its scope each of its kinds would be a case of each way out.
+    // An explicit drop: at the end of the scope each kind of event would be a case of each way out.
     drop(event);
     match prepared {
         Ok(()) => {}
@@ -139,7 +140,7 @@ pub(super) fn journal_reopening<D: Disk>(
     }
 }
 
-// Makes the frame of an event: four free bytes, its spelling and one free byte.
+// Fills the frame of an event: four free bytes, the encoded event and one free byte.
 fn fill_frame(frame: &mut Vec<u8>, event: &Event) -> Result<(), AllocError>
     ensures { OnOk result (IsFrameOf event.now frame.new.items) }
 {

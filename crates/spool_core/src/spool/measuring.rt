@@ -1,4 +1,4 @@
-//! How many bytes the records of a listing take together.
+//! The total length of the records of a listing, in bytes.
 ghost use Rattle.std.specs.Prelude.{◌≡◌, ◌≤◌, ◌+◌, ◌++◌, ◌/◌, ℕ, List, length, map, min, IfOk, OnOk, vec_capacity};
 ghost use Rattle.spool_types.specs.declared.listing.Row.{Row as RowOf};
 ghost use Rattle.spool_types.specs.declared.version.Version.TheVariants.{Two};
@@ -18,14 +18,14 @@ use job_table::{Table, document_len};
 use spool_types::{Job, LONGEST_SEND, QueueRow};
 use std::alloc::AllocError;
 
-// How many bytes a record's head takes.
+// Length of a record's head, in bytes.
 const RECORD_HEAD: u64 = 5;
 
-// How many bytes the record of a listing's head takes.
+// Length of the record of a listing's head, in bytes.
 const HEAD_RECORD: u64 = 18;
 
-/// How many bytes the records of a table's listing take together, or the greatest number where they take more. Each row is
-/// spelled into the block, over the one before it.
+/// Returns the total length in bytes of the records of a table's listing, or the greatest `u64` if they are longer. Each row is
+/// encoded into the block, over the previous one.
 pub(super) fn listing_len(table: &Table, block: &mut Vec<u8>) -> Result<u64, AllocError>
     ensures sum { IfOk result (λ sum. sum ≡ sum_of (listed_payloads table.now.state (blank table.now.state))) }
     ensures spare { vec_capacity block.old ≤ vec_capacity block.new }
@@ -34,7 +34,7 @@ pub(super) fn listing_len(table: &Table, block: &mut Vec<u8>) -> Result<u64, All
     jobs_len(sum, table.jobs(), block)
 }
 
-// That sum, with the records of queues.
+// Returns the sum with the records of queues added.
 fn queues_len(before: u64, queues: &[QueueRow], block: &mut Vec<u8>) -> Result<u64, AllocError>
     ensures sum { IfOk result (λ sum. IsSumMore (map (λ q. RowOf.Queue q) queues.now) before sum) }
     ensures spare { vec_capacity block.old ≤ vec_capacity block.new }
@@ -48,7 +48,7 @@ fn queues_len(before: u64, queues: &[QueueRow], block: &mut Vec<u8>) -> Result<u
     Ok(sum)
 }
 
-// That sum, with the records of jobs and of the pieces of their documents.
+// Returns the sum with the records of jobs and of the pieces of their documents added.
 fn jobs_len(before: u64, jobs: &Rows, block: &mut Vec<u8>) -> Result<u64, AllocError>
     ensures sum { IfOk result (λ sum. IsSumMore (flat_map blank_rows (map job_of jobs.now.items)) before sum) }
     ensures spare { vec_capacity block.old ≤ vec_capacity block.new }
@@ -60,7 +60,7 @@ fn jobs_len(before: u64, jobs: &Rows, block: &mut Vec<u8>) -> Result<u64, AllocE
     Ok(sum)
 }
 
-// That sum, with the records of a job and of the pieces of its document.
+// Returns the sum with the records of a job and of the pieces of its document added.
 fn job_len(before: u64, job: &Job, block: &mut Vec<u8>) -> Result<u64, AllocError>
     ensures sum { IfOk result (λ sum. IsSumMore (blank_rows job.now) before sum) }
     ensures spare { vec_capacity block.old ≤ vec_capacity block.new }
@@ -73,14 +73,14 @@ fn job_len(before: u64, job: &Job, block: &mut Vec<u8>) -> Result<u64, AllocErro
     Ok(sum.saturating_add(len as u64).saturating_add(heads))
 }
 
-// How many pieces a document of so many bytes has.
+// Returns the number of pieces of a document of `len` bytes.
 fn piece_count(len: usize) -> usize
     ensures { result ≡ (len + 65535) / longest_send }
 {
     len.div_ceil(LONGEST_SEND)
 }
 
-// That sum, with the record of a row whose spelling has so many bytes.
+// Returns the sum with the record of an encoded row of `len` bytes added.
 fn with_record(sum: u64, len: usize) -> u64
     ensures { result ≡ min (sum + (5 + len)) 18446744073709551615 }
 {

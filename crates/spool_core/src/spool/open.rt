@@ -21,13 +21,12 @@ use spool_types::Event;
 use std::alloc::Global;
 
 impl<D: Disk> Spool<D> {
-    /// Opens the spool on a disk: syncs it, makes the table anew from the rows and events of its current area, and gives up each
-    /// attempt that was under way, as its queue's error policy says. Where no job is processing it writes nothing. Of
-    /// several faults it tells the first in the order of the records. Last it looks whether a job is processing and the
-    /// area has no room for the record of its reopening: that is damage at the closed gate.
+    /// Opens the spool on a disk: syncs it, builds the table from the rows and events of its current area, and gives up each
+    /// attempt that was running, as its queue's error policy specifies. If no job is processing, it writes nothing. Of several
+    /// faults it returns the first in the order of the records. The last check is whether a job is processing and the area has no
+    /// room for the record of its reopening, which is damage at the closed gate.
     pub fn open(alloc: Global, disk: D) -> Result<Spool<D>, OpenError<D>>
-        // The table is that of the bytes after the policy, the room is that of the disk then, and a fault of the bytes is
-        // theirs.
+        // The table is that of the bytes after the policy, the room is that of the disk then, and a fault of the bytes is theirs.
         ensures opened { IfOk result (λ spool. (r : List ℕ) → D.device.bytes disk ≡ Some r → IsReopenedFrom spool.state r) }
         ensures room { IfOk result (λ spool. (r : List ℕ) → D.device.bytes spool.disk ≡ Some r → HasRoom spool.room r) }
         ensures epoch { IfOk result (λ spool. (r : List ℕ) → D.device.bytes disk ≡ Some r → HasEpoch spool.epoch r) }
@@ -39,31 +38,31 @@ impl<D: Disk> Spool<D> {
         ensures told { IfOk result (λ spool. IsSome (D.device.bytes spool.disk) ↔ IsSome (D.device.bytes disk)) }
         ensures told_back { IfErr result (λ e. IsSome (D.device.bytes e.disk) ↔ IsSome (D.device.bytes disk)) }
 
-        // The room is that of the bytes, less the record of a reopening where a job was processing.
+        // The room is that of the bytes, less the record of a reopening if a job was processing.
         ensures left { IfOk result (λ spool. (r : List ℕ) (t : State) (room : ℕ) → D.device.bytes disk ≡ Some r → HasTable t r → HasRoom room r → LeavesRoom t room spool.room) }
 
-        // Where no job is processing it writes nothing.
+        // If no job is processing, it writes nothing.
         ensures unwritten { IfOk result (λ spool. (r : List ℕ) (t : State) → D.device.bytes disk ≡ Some r → HasTable t r → HasNoProcessing t → D.device.bytes spool.disk ≡ Some r) }
 
-        // Until its first sync has answered a crash leaves what it was handed, and from then on an image with the table of
-        // the bytes, or that one after the policy, and with the documents of the bytes.
+        // Until its first sync has succeeded, a crash leaves an image of the disk passed in. From then on it leaves an image with
+        // the table of the bytes, or the one after the policy, and with the documents of the bytes.
         ensures synced { IfOk result (λ spool. (synced : D) × LeavesOnly D.device disk synced (D.device.image disk)
             × LeavesOnly D.device synced spool.disk (λ c. (r : List ℕ) → D.device.bytes disk ≡ Some r → IsMidway r c)) }
         ensures kept { IfOk result (λ spool. IsSome (D.device.bytes disk) → (c : List ℕ) → D.device.image spool.disk c → HasTable spool.state c) }
         ensures documents { IfOk result (λ spool. (r : List ℕ) (t : State) (documents : ℕ → List ℕ) → D.device.bytes disk ≡ Some r → HasTable t r → HasDocuments t documents r →
             (c : List ℕ) → D.device.image spool.disk c → HasDocuments spool.state documents c) }
 
-        // An error hands the disk back. But for a failed device it reads as before and has no new image.
+        // An error returns the disk. Unless the device failed, the disk reads as before and has no new image.
         ensures back { IfErr result (λ e. ¬ (e.fault ≡ OpenFault.Disk) → (D.device.bytes e.disk ≡ D.device.bytes disk) × LeavesOnly D.device disk e.disk (D.device.image disk)) }
         ensures size_back { IfErr result (λ e. D.device.size e.disk ≡ D.device.size disk) }
 
-        // In the same order as above: before the first sync has answered what was handed over, and from then on an image
-        // midway.
+        // In the same order as above: before the first sync has succeeded, an image of the disk passed in, and from then on an
+        // intermediate image.
         ensures failed { IfErr result (λ e. LeavesOnly D.device disk e.disk (D.device.image disk)
             ⊎ ((synced : D) × LeavesOnly D.device disk synced (D.device.image disk)
             × LeavesOnly D.device synced e.disk (λ c. (r : List ℕ) → D.device.bytes disk ≡ Some r → IsMidway r c))) }
 
-        // No attempt goes over a restart.
+        // No attempt continues after a restart.
         ensures idle { IfOk result (λ spool. HasNoProcessing spool.state) }
     {
         reopening();
@@ -84,8 +83,8 @@ impl<D: Disk> Spool<D> {
         }
     }
 
-    /// The same without the policy: it syncs the disk and makes the table anew from the rows and events of its current area, and
-    /// each attempt that was under way is still so. It writes nothing.
+    /// Does the same without the policy: syncs the disk and builds the table from the rows and events of its current area. Each
+    /// attempt that was running is still shown as such. Writes nothing.
     pub fn load(alloc: Global, disk: D) -> Result<Spool<D>, OpenError<D>>
         // The table and the room are those of the bytes, and a fault of the bytes is theirs.
         ensures opened { IfOk result (λ spool. (r : List ℕ) → D.device.bytes disk ≡ Some r → HasTable spool.state r) }
@@ -100,7 +99,8 @@ impl<D: Disk> Spool<D> {
         ensures same { IfOk result (λ spool. ChangesNothing D.device disk spool.disk) }
         ensures back { IfErr result (λ e. ChangesNothing D.device disk e.disk) }
 
-        // Until its first sync has answered a crash leaves what it was handed, and from then on an image with this table.
+        // Until its first sync has succeeded, a crash leaves an image of the disk passed in, and from then on an image with this
+        // table.
         ensures synced { IfOk result (λ spool. (synced : D) × LeavesOnly D.device disk synced (D.device.image disk)
             × LeavesOnly D.device synced spool.disk (λ c. (r : List ℕ) → D.device.bytes disk ≡ Some r → (c ≡ r) × HasTable spool.state c)) }
         ensures kept { IfOk result (λ spool. IsSome (D.device.bytes disk) → (c : List ℕ) → D.device.image spool.disk c → HasTable spool.state c) }
@@ -145,7 +145,7 @@ impl<D: Disk> Spool<D> {
         })
     }
 
-    // Gives up each attempt that is under way, as its queue's error policy says, and journals that.
+    // Gives up each attempt that was running, as its queue's error policy specifies, and journals that.
     fn reopen(&mut self) -> Result<(), OpenFault>
         requires alive { self.old.dead ≡ false }
         requires legal { IsLegal self.old.state }
@@ -174,7 +174,8 @@ impl<D: Disk> Spool<D> {
     }
 }
 
-// Whether a job is processing, and so many bytes are no room for the record of its reopening, whose payload is one byte.
+// Returns whether a job is processing and `room` bytes are too few for the record of its reopening, which has a payload of one
+// byte.
 fn is_cramped(table: &Table, room: u64) -> bool
     ensures cramped { IsTrue result → ¬ (HasNoProcessing table.now.state) × (room < kept_room) }
     ensures roomy { result ≡ false → ¬ (HasNoProcessing table.now.state) → kept_room ≤ room }

@@ -6,7 +6,7 @@ use Rattle.std.proofs.KnownBytes.{Appends-trans}
 use Rattle.whole_writes.proofs.write_whole.Goals as goal
 use Rattle.whole_writes.proofs.write_whole.Goals.{in-Ok, in-Err+else-ne}
 
--- what is written next comes behind what was
+-- The next bytes follow the bytes written before.
 grown : (bytes rest : List ℕ) (at n : ℕ) → rest ≡ drop at bytes → take at bytes ++ take n rest ≡ take (at + n) bytes
 grown bytes rest at n e =
     ap (λ l. take at bytes ++ take n l) e

@@ -6,7 +6,7 @@ use Rattle.builtin_stages.specs.declared.fault.ToolFault.TheVariants.{Write}
 use Rattle.builtin_stages.specs.declared.words.Backend.TheVariants.{SpoolFile}
 use Rattle.builtin_stages.proofs.running.run_backend.Goals as goal
 
--- the end of `spoolfile`, which has only one fault
+-- The end of `spoolfile`, which has only one fault.
 spooled : (ended : Result ℕ ToolFault) (status : ℕ) (old new : Option (List ℕ))
     → IfErr ended (λ fault. fault ≡ Write) → status ≡ status_of ended → OnOk ended (Keeps old new) → IfErr ended (λ fault. Tells fault old new)
     → BackendEnds SpoolFile old new status

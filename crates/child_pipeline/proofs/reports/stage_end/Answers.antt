@@ -3,7 +3,7 @@ use Rattle.spool_types.specs.Effects.{AreEffects}
 use Rattle.child_pipeline.specs.Finishes.{heard}
 use Rattle.child_pipeline.proofs.reports.stage_end.Goals as goal
 
--- what is reported may be the effects of one stage
+-- The report fits into the effects of one stage.
 pub unreachable-requires : goal.unreachable-requires
 unreachable-requires c =
     let fit = subst AreEffects (ap (λ t. t.effects) (sym c.in_ok-effects.ensures)) (c.effects_fit.ensures (heard c.as_slice.result.now)) in

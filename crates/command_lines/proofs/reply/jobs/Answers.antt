@@ -12,7 +12,7 @@ use Rattle.spool_types.specs.declared.rows.JobRow.{JobRow}
 use Rattle.command_lines.specs.Replies.{job_line, jobs_text}
 use Rattle.command_lines.proofs.reply.jobs.Goals as goal
 
--- the line of one job more
+-- The line of one more job.
 next_line : (line : Job → List ℕ) (xs : List (Bor JobRow)) (x : Bor JobRow) → flat_map line (map job_of (map (λ row. row.now) (xs ++ x ∷ []))) ≡ flat_map line (map job_of (map (λ row. row.now) xs)) ++ line (job_of x.now)
 next_line line xs x =
     ap (λ (rs : List JobRow). flat_map line (map job_of rs)) (map_push (λ row. row.now) xs x)
@@ -20,7 +20,7 @@ next_line line xs x =
     ∙ flat_map-append line (map job_of (map (λ row. row.now) xs)) (job_of x.now ∷ [])
     ∙ ap (λ (rest : List ℕ). flat_map line (map job_of (map (λ row. row.now) xs)) ++ rest) (flat_map-cons line (job_of x.now) [] ∙ append-nil (line (job_of x.now)))
 
--- the line that ends a listing of so many jobs
+-- The line that ends a listing of n jobs.
 abbrev counted : ℕ → List ℕ
 counted n = codes "ok " ++ decimal n ++ codes "\n"
 

@@ -1,4 +1,4 @@
--- the lines of the jobs so far
+-- The lines of the jobs so far.
 use Rattle.std.proofs.Common.{◌≡◌, map}
 use Rattle.std.specs.List.{flat_map}
 use Rattle.spool_types.specs.State.{job_of}

@@ -1,4 +1,4 @@
--- the bytes so far were added, the escaped ones behind a backslash
+-- The bytes so far were appended, each escaped one after a backslash.
 use Rattle.std.proofs.Common.{◌≡◌, ◌++◌, take}
 use Rattle.std.specs.List.{flat_map}
 use Rattle.command_lines.specs.Replies.{escaped_byte}

@@ -1,4 +1,4 @@
--- the other reasons so far were added, each behind a comma
+-- The other reasons so far were appended, each after a comma.
 use Rattle.std.proofs.Common.{◌≡◌, ◌∷◌, ◌++◌, take}
 use Rattle.std.specs.List.{flat_map}
 use Rattle.command_lines.proofs.reply.push_reasons.Given as goal

@@ -1,4 +1,4 @@
--- the two counts, each behind its word
+-- The two counts, each after its word.
 use Rattle.std.proofs.Common.{◌≡◌, ℕ, List, ◌++◌, codes, sym, ap, ◌∙◌, append_assoc}
 use Rattle.std.specs.Fmt.{decimal}
 use Rattle.command_lines.proofs.reply.rounded.Goals as goal

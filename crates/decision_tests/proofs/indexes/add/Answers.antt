@@ -1,4 +1,4 @@
--- no entry is this job's
+-- No entry is for this job.
 use Rattle.std.proofs.Common.{refl}
 use Rattle.decision_tests.proofs.indexes.add.Goals as goal
 

@@ -4,7 +4,7 @@ use Rattle.spool_disk.specs.Disk.{overwritten, SameOutside}
 use Rattle.spool_disk.proofs.Writes.{overwrites}
 use Rattle.disk_images.proofs.content.leave_in.Goals as goal
 
--- a part of the bytes with others in its place
+-- A part of the bytes, replaced by others.
 put_back : (at len : ℕ) (bytes part : List ℕ) → at + len ≤ length bytes → length part ≡ length (take (at + len - at) (drop at bytes))
     → SameOutside at len bytes (take at bytes ++ (part ++ drop (at + len - at) (drop at bytes)))
 put_back at len bytes part fits same_length =

@@ -14,13 +14,13 @@ use Rattle.documents.proofs.reading.read_joined.Goals as goal
 abbrev none : Extent
 none = record { place = 0; len = 0 }
 
--- what lies before the area's end lies on the device
+-- An offset before the area's end is on the device.
 on_device : {D : Type 0} (v : DiskView D) → IsLawful v → (disk : D) (end place : ℕ) (r : List ℕ) → v.bytes disk ≡ Some r → place ≤ end → end ≤ v.size disk → place ≤ length r
 on_device v lawful disk end place r tells before within =
     let size = lawful.image_size disk r (lawful.reads_image disk r tells) in
     omega (arith, size, before, within)
 
--- a read that has answered Ok leaves living areas alive
+-- After a read that returned Ok the areas are not dead.
 lives : {Failed : Type 0} (old new : Bool) → old ≡ false → (IsTrue new → IsTrue old ⊎ Failed) → ¬ Failed → new ≡ false
 lives old false alive dies whole = refl
 lives old true alive dies whole = ⊎_elim (λ was. absurd (cc (was, alive))) (λ failed. absurd (whole failed)) (dies refl)

@@ -1,4 +1,4 @@
--- the words so far have no fault, and what the rest of the text says
+-- The words so far have no error. The rest of the text determines the result.
 use Rattle.std.proofs.Common.{◌≡◌, List, length}
 use denote.Text.{Utf8}
 use denote.Shadow.{shadow}

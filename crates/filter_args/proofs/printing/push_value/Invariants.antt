@@ -1,4 +1,4 @@
--- the text so far and what is left are the whole text
+-- The text so far and the text of the rest are the whole text.
 use Rattle.std.proofs.Common.{◌≡◌, ◌++◌, string_bytes}
 use Rattle.filter_args.specs.Printing.{escaped, printed_value}
 use Rattle.filter_args.proofs.printing.push_value.Given as goal

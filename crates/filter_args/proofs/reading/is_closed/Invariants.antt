@@ -1,4 +1,4 @@
--- what is left leads to the same place
+-- The rest of the value ends in the same state.
 use Rattle.std.proofs.Common.{◌≡◌}
 use Rattle.line_words.specs.declared.quoting.Quoting.TheVariants.{Bare}
 use Rattle.line_words.specs.Quoting.{place_after}

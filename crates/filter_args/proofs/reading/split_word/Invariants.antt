@@ -1,4 +1,4 @@
--- the word and the rest, of which the bytes so far are read
+-- The word and the rest after the bytes so far.
 use Rattle.std.proofs.Common.{◌≡◌, ◌++◌, take, drop}
 use Rattle.line_words.specs.declared.quoting.Quoting.TheVariants.{Bare}
 use Rattle.filter_args.specs.OptionTexts.{word_here, after_word}

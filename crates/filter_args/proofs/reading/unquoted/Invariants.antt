@@ -1,4 +1,4 @@
--- the value so far and what is left say the whole value
+-- The value so far and the value of the rest are the whole value.
 use Rattle.std.proofs.Common.{◌≡◌, ◌++◌, string_bytes}
 use Rattle.line_words.specs.declared.quoting.Quoting.TheVariants.{Bare}
 use Rattle.line_words.specs.Quoting.{said}

@@ -1,4 +1,4 @@
--- each clause is what is known at the end of a run
+-- Each clause follows from the invariant at the end of a run.
 use Rattle.std.proofs.Common.{◌≡◌, ℕ, Bool, List, subst}
 use Rattle.front_submission.specs.declared.step.End.{End}
 use Rattle.front_submission.specs.declared.step.Step.TheVariants.{Ended}

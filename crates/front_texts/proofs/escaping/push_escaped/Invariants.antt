@@ -1,4 +1,4 @@
--- the bytes so far were added
+-- The bytes so far were appended.
 use Rattle.std.proofs.Common.{◌≡◌, ◌++◌, take}
 use Rattle.std.specs.List.{flat_map}
 use Rattle.front_texts.specs.Escape.{entity}

@@ -1,4 +1,4 @@
--- no line feed so far
+-- No line feed so far.
 use Rattle.std.proofs.Common.{◌≡◌, ◌++◌, take, drop}
 use Rattle.front_texts.specs.JobPage.{line_here, behind_line}
 use Rattle.front_texts.proofs.job_shown.first_line.Given as goal

@@ -1,4 +1,4 @@
--- the values so far
+-- The values so far.
 use Rattle.std.proofs.Common.{◌≡◌, map, take}
 use Rattle.serde_json.specs.View.{view}
 use Rattle.front_texts.specs.Json.{text_item}

@@ -1,4 +1,4 @@
--- what was added, and what the jobs that are left add, are all entries
+-- The entries so far, followed by those of the remaining jobs, are all entries.
 use Rattle.std.proofs.Common.{◌≡◌, ◌≤◌, ◌+◌, ◌++◌, drop}
 use Rattle.front_texts.specs.Lpq.{entries}
 use Rattle.front_texts.proofs.lpq_form.push_entries.Given as goal

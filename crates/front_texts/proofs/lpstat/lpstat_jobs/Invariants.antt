@@ -1,4 +1,4 @@
--- the lines of the jobs so far
+-- The lines of the jobs so far.
 use Rattle.std.proofs.Common.{◌≡◌, take}
 use Rattle.std.specs.List.{flat_map}
 use Rattle.front_texts.specs.Lpstat.{pending_part}

@@ -1,4 +1,4 @@
--- the lines of the queues so far
+-- The lines of the queues so far.
 use Rattle.std.proofs.Common.{◌≡◌, take}
 use Rattle.front_texts.specs.Lpstat.{printers_text}
 use Rattle.front_texts.proofs.lpstat.lpstat_printers.Given as goal

@@ -1,4 +1,4 @@
--- no job so far is processing
+-- No job so far is processing.
 use Rattle.std.proofs.Common.{◌≡◌, drop}
 use Rattle.front_texts.specs.Lpstat.{printing_job}
 use Rattle.front_texts.proofs.lpstat.printing_job.Given as goal

@@ -1,4 +1,4 @@
--- what was added, and the blanks that are left, are all blanks
+-- The blanks so far and the remaining ones are all blanks.
 use Rattle.std.proofs.Common.{◌≡◌, ◌++◌, replicate}
 use Rattle.front_texts.proofs.lpstat.push_blanks.Given as goal
 

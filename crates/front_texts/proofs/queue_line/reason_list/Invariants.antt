@@ -1,4 +1,4 @@
--- the reasons so far, and what the parts that are left read as
+-- The reasons so far, followed by those of the remaining parts.
 use Rattle.std.proofs.Common.{◌≡◌, map, drop}
 use Rattle.spool_types.specs.Values.{is_reason}
 use Rattle.front_texts.specs.QueueRows.{texts_in, now_of}

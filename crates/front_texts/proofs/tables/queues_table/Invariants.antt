@@ -1,4 +1,4 @@
--- each line so far fits
+-- Each line so far fits.
 use Rattle.std.proofs.Common.{◌≡◌, ◌+◌, vec_len}
 use Rattle.front_texts.specs.Cells.{AllFit}
 use Rattle.front_texts.proofs.tables.queues_table.Given as goal

@@ -1,4 +1,4 @@
--- the rows of the jobs so far
+-- The rows of the jobs so far.
 use Rattle.std.proofs.Common.{◌≡◌, ◌++◌, take}
 use Rattle.std.specs.List.{flat_map}
 use Rattle.front_texts.specs.Page.{job_html}

@@ -1,4 +1,4 @@
--- the reasons so far
+-- The reasons so far.
 use Rattle.std.proofs.Common.{◌≡◌, ◌++◌, take}
 use Rattle.std.specs.List.{flat_map}
 use Rattle.front_texts.specs.Page.{reason_part}

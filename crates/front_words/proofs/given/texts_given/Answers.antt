@@ -1,4 +1,4 @@
--- what is copied is all that was found
+-- The copy contains all texts that were found.
 use Rattle.std.proofs.Common.{◌≡◌, ◌∙◌, List, [], Option, ap, map, sym}
 use Rattle.std.specs.Borrow.{Bor}
 use Rattle.std.specs.Prelude.{unwrap_or}

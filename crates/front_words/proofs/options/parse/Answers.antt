@@ -14,7 +14,7 @@ both : (a b : Bool) → (a && b) ≡ true → (a ≡ true) × (b ≡ true)
 both true b is = (refl, is)
 both false b is = cc
 
--- an error that is other than out of memory has one of the kinds, so there is one
+-- The kind of an error other than out of memory is in the list, so the list is not empty.
 refused_by_clap : (kinds : Kinds) (kind : ErrorKind) (fault : WordsFault) → RefusesOnly (kind ≡ OutOfMemory) fault
     → (kind ≡ OutOfMemory) ⊎ IsAmong kind kinds → RefusesOnly (kinds ≡ []) fault
 refused_by_clap kinds kind Memory other has = tt

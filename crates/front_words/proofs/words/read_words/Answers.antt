@@ -1,4 +1,4 @@
--- What clap finds by the command of the form is what it finds in the words.
+-- The values that clap finds by the form's command are those of the arguments.
 use Rattle.std.proofs.Common.{◌≡◌, ◌∙◌, List, true, ap, drop, map, subst, sym}
 use Rattle.std.specs.Prelude.{IfOk, MatchResult}
 use Rattle.clap.specs.Words.{App, Row, Text, app_of, found_of, is_simple_and_free, matches_of, rows_of}

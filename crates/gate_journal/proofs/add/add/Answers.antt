@@ -12,7 +12,7 @@ use Rattle.gate_journal.proofs.add.add.Goals as goal
 payload_length : (frame : List ℕ) → 5 ≤ length frame → 5 + length (payload_of frame) ≡ length frame
 payload_length frame whole = omega (arith, length-take (length frame - 5) (drop 4 frame), length-drop 4 frame)
 
--- The first write leaves the entries as they were.
+-- The first write does not change the entries.
 pub returns-in_err-persist-clause-any_moment : goal.returns-in_err-persist-clause-any_moment
 returns-in_err-persist-clause-any_moment g c base payloads keeps =
     weaker_run g.D.Disk.device c.args.disk.now c.persist.new.disk (IsBeforeOrAfter base payloads (payload_of c.args.frame.now)) _ c.persist.ensures.changes.images

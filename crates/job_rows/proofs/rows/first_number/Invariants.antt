@@ -2,7 +2,7 @@ use Rattle.std.proofs.Common.{◌≡◌, length}
 use Rattle.job_rows.specs.RowSlots.{first_number}
 use Rattle.job_rows.proofs.rows.first_number.Given as goal
 
--- only gone slots were passed over
+-- Only gone slots were skipped.
 abbrev pub invariant-loop-slot : goal.invariant-loop-slot
 invariant-loop-slot l = first_number l.left ≡ first_number l.slots
 

@@ -1,4 +1,4 @@
--- the closure tells whether a slot's number is not above the given one
+-- The closure returns whether a slot's number is at most the given one.
 use Rattle.std.proofs.Common.{rules}
 use Rattle.std.proofs.lemmas.List.Sorted.{IsPartitionPoint-from_clause}
 use Rattle.std.proofs.Math.Dec.{leb}

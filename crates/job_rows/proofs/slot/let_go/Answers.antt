@@ -1,4 +1,4 @@
--- no more are gone than there are
+-- At most all slots are gone.
 use Rattle.std.proofs.Common.{arith}
 use Rattle.job_rows.proofs.Holding.{length_held}
 use Rattle.job_rows.proofs.slot.let_go.Goals as goal

@@ -1,4 +1,4 @@
--- the closure gives a slot's number
+-- The closure returns a slot's number.
 use Rattle.std.proofs.Common.{rules}
 use Rattle.std.specs.Ordering.{nat_cmp}
 use Rattle.std.specs.Cmp.{nat_cmp_total}

@@ -1,4 +1,4 @@
--- the closure tells whether a slot holds a row
+-- The closure returns whether a slot has a row.
 use Rattle.std.proofs.Common.{IsTrue, List, map, rules, sym, ap, subst, ◌∙◌}
 use Rattle.std.specs.FinMap as finite
 use Rattle.std.specs.Ordering.{nat_cmp}

@@ -1,4 +1,4 @@
--- a gone slot less
+-- One gone slot less.
 use Rattle.std.proofs.Common.{◌≡◌, Some, rules}
 use Rattle.job_rows.specs.declared.slot.Slot.TheVariants.{Gone}
 use Rattle.job_rows.proofs.Ending.{trimmed_more}

@@ -1,4 +1,4 @@
--- the lanes so far are at the moment, and the others are as they were
+-- The visited lanes are at the moment, and the others are unchanged.
 use Rattle.std.proofs.Common.{◌≡◌, ℕ, ◌<◌, ◌≤◌, length, slice_index_or}
 use Rattle.job_table.specs.Lanes.{IsAdvanced}
 use Rattle.job_table.specs.declared.lane.Lane.{Lane}

@@ -1,4 +1,4 @@
--- one lane more
+-- One more lane.
 use Rattle.std.proofs.Common.{◌+◌, ◌<◌, ◌≤◌, length, get_or, subst, ◌∙◌, arith}
 use Rattle.std.proofs.lemmas.List.{length-set, get_or_default}
 use Rattle.job_table.specs.Lanes.{IsSameLane}

@@ -1,4 +1,4 @@
--- the lanes so far have room for a job more, and the others are as they were
+-- The visited lanes have room for one more job, and the others are unchanged.
 use Rattle.std.proofs.Common.{◌≡◌, ℕ, ◌+◌, ◌<◌, ◌≤◌, length, slice_index_or}
 use Rattle.job_table.specs.Lanes.{IsSameLane}
 use Rattle.job_table.specs.declared.lane.Lane.{Lane}

@@ -1,4 +1,4 @@
--- the test of the jobs is that of their rows
+-- The test of the jobs is the test of their rows.
 use Rattle.std.proofs.Common.{◌≡◌, ◌&&◌, ◌||◌, Bool, List, [], ◌∷◌, map, rules, tests, refl, sym, ap, ◌∙◌}
 use Rattle.std.specs.List.{list_any}
 use Rattle.std.proofs.lemmas.Iterator.Consumers.{YieldsList-from_first}

@@ -1,4 +1,4 @@
--- each two neighbours were compared
+-- All neighbours were compared.
 use Rattle.std.proofs.Common.{rules}
 use Rattle.std.proofs.lemmas.List.Sorted.{answers_always}
 use Rattle.row_effects.specs.QueueAttributes.{name_of}

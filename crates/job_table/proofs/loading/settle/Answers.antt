@@ -1,4 +1,4 @@
--- a job whose document is whole
+-- A job with a complete document.
 use Rattle.spool_types.specs.State.{job_of}
 use Rattle.job_table.proofs.Loaded.{legal_new_job}
 use Rattle.job_table.proofs.loading.settle.Goals as goal

@@ -1,4 +1,4 @@
--- the closure gives a document's job
+-- The closure returns a document's job.
 use Rattle.std.proofs.Common.{rules}
 use Rattle.std.specs.Ordering.{nat_cmp}
 use Rattle.std.specs.Cmp.{nat_cmp_total}

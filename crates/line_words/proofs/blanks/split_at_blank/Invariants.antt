@@ -1,4 +1,4 @@
--- the word and the rest, of which the bytes so far are read
+-- The word and the rest after the bytes so far.
 use Rattle.std.proofs.Common.{◌≡◌, ◌++◌, take, drop}
 use Rattle.line_words.specs.Blanks.{word_here, behind_word}
 use Rattle.line_words.proofs.blanks.split_at_blank.Given as goal

@@ -1,4 +1,4 @@
--- what is left has the same trimmed bytes
+-- The rest has the same trimmed bytes.
 use Rattle.std.proofs.Common.{◌≡◌, length}
 use Rattle.line_words.specs.Blanks.{trimmed, without_end}
 use Rattle.line_words.proofs.blanks.trim.Given as goal

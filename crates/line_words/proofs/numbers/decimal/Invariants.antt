@@ -1,4 +1,4 @@
--- the number that the digits so far spell
+-- The number of the digits so far.
 use Rattle.std.proofs.Common.{◌≡◌, ◌≤◌, true, take, drop}
 use Rattle.std.specs.List.{list_all}
 use Rattle.std.specs.Char.{is_ascii_digit}

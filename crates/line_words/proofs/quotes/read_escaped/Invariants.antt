@@ -1,4 +1,4 @@
--- the text so far, and whether a backslash stands right before
+-- The text so far, and whether a backslash is directly before.
 use Rattle.std.proofs.Common.{◌≡◌, false, drop}
 use Rattle.line_words.specs.Quotes.{quoted, with_bytes}
 use Rattle.line_words.proofs.quotes.read_escaped.Given as goal

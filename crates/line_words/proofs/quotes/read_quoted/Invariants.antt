@@ -1,4 +1,4 @@
--- the bytes so far are the text's
+-- The bytes so far belong to the text.
 use Rattle.std.proofs.Common.{◌≡◌, false, take, drop}
 use Rattle.line_words.specs.Quotes.{quoted, with_bytes}
 use Rattle.line_words.proofs.quotes.read_quoted.Given as goal

@@ -1,4 +1,4 @@
--- the best size of the rows so far
+-- The best size of the rows so far.
 use Rattle.std.proofs.Common.{take}
 use Rattle.mime_costs.specs.Costs.{IsBestSize, costs_from}
 use Rattle.mime_costs.proofs.chain.best_size.Given as goal

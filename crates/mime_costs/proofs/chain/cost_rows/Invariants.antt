@@ -1,4 +1,4 @@
--- the rows so far, and the row that comes next
+-- The rows so far, and the next row.
 use Rattle.std.proofs.Common.{◌≡◌}
 use Rattle.mime_costs.specs.Costs.{IsTable, row_of}
 use Rattle.mime_costs.proofs.chain.cost_rows.Given as goal

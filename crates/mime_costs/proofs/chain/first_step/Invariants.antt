@@ -1,4 +1,4 @@
--- none of the conversions so far begins such a walk
+-- None of the conversions so far begins such a walk.
 use Rattle.std.proofs.Common.{◌≡◌, ℕ, ◌<◌, false}
 use Rattle.mime_costs.specs.Costs.{is_step}
 use Rattle.mime_costs.specs.declared.conversion.Conversion.{Conversion}

@@ -1,4 +1,4 @@
--- the lines so far, and those of the walk that is left
+-- The lines so far, and the lines of the rest of the walk.
 use Rattle.std.proofs.Common.{◌≡◌, ℕ, suc, ◌+◌, ◌≤◌, List, ◌++◌, Some, map}
 use Rattle.mime_costs.specs.Costs.{best, least_in, is_taken, row_of, IsTable}
 use Rattle.mime_costs.specs.Walks.{line_of}

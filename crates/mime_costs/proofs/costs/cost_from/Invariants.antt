@@ -1,4 +1,4 @@
--- the least cost among the conversions so far
+-- The least cost among the conversions so far.
 use Rattle.std.proofs.Common.{◌≡◌, take}
 use Rattle.mime_costs.specs.Costs.{least_in, is_taken}
 use Rattle.mime_costs.proofs.costs.cost_from.Given as goal

@@ -1,4 +1,4 @@
--- the costs of the conversions so far
+-- The costs of the conversions so far.
 use Rattle.std.proofs.Common.{◌≡◌, cond, Some, None, map, take}
 use Rattle.mime_costs.specs.Conversions.{same}
 use Rattle.mime_costs.proofs.costs.first_row.Given as goal

@@ -1,4 +1,4 @@
--- the least costs of the conversions so far
+-- The least costs of the conversions so far.
 use Rattle.std.proofs.Common.{◌≡◌, length}
 use Rattle.mime_costs.proofs.RowLaws.{AreGroups}
 use Rattle.mime_costs.proofs.costs.group_costs.Given as goal

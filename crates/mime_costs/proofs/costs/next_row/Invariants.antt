@@ -1,4 +1,4 @@
--- the costs of the links so far
+-- The costs of the links so far.
 use Rattle.std.proofs.Common.{◌≡◌, map, take}
 use Rattle.mime_costs.specs.Costs.{next_cost}
 use Rattle.mime_costs.proofs.costs.next_row.Given as goal

@@ -1,4 +1,4 @@
--- one more link, of the places that the sources have
+-- One more link, with the positions of the sources.
 use Rattle.std.proofs.Common.{ℕ, [], ◌∷◌, ◌++◌, map, take, get_or, ap, sym, ◌∙◌}
 use Rattle.std.proofs.lemmas.List.{take_more, map-append}
 use Rattle.mime_costs.specs.SourceIndex.{sources_of, position_in, positions_in, link_of}

@@ -1,4 +1,4 @@
--- the links of the conversions so far
+-- The links of the conversions so far.
 use Rattle.std.proofs.Common.{◌≡◌, map, take}
 use Rattle.mime_costs.specs.SourceIndex.{sources_of, link_of}
 use Rattle.mime_costs.proofs.links.links_of.Given as goal

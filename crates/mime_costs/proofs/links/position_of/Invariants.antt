@@ -1,4 +1,4 @@
--- no conversion so far has the source
+-- No conversion so far has the source.
 use Rattle.std.proofs.Common.{◌≡◌, ℕ, ◌<◌, false, [], get_or}
 use Rattle.mime_costs.specs.Conversions.{same}
 use Rattle.mime_costs.specs.SourceIndex.{sources_of}

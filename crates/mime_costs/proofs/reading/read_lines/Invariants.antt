@@ -1,4 +1,4 @@
--- what the lines so far say
+-- The conversions and warnings of the lines so far.
 use Rattle.std.proofs.Common.{◌≡◌, take}
 use Rattle.std.specs.List.{flat_map}
 use Rattle.mime_lines.specs.LineFields.{line_of}

@@ -1,4 +1,4 @@
--- the lines so far, and those that the rest of the text adds
+-- The lines so far, and the lines that the rest of the text adds.
 use Rattle.std.proofs.Common.{◌≡◌, ◌+◌, ◌≤◌, ◌++◌, length, map}
 use Rattle.std.specs.Option.{option_map}
 use Rattle.mime_lines.specs.JoinedLines.{lines_of, joined_from, joined_lines}

@@ -1,4 +1,4 @@
--- no line feed so far
+-- No line feed so far.
 use Rattle.std.proofs.Common.{◌≡◌, ℕ, ◌<◌, false, eqb, get_or}
 use Rattle.mime_lines.proofs.lines.next_line.Given as goal
 

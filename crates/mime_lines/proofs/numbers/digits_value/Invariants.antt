@@ -1,4 +1,4 @@
--- the digits so far were read, up to the greatest number and one
+-- The number of the digits so far, limited to the greatest number plus one.
 use Rattle.std.proofs.Common.{◌≡◌, ◌≤◌, drop, min}
 use Rattle.mime_lines.specs.RuleNumbers.{read_on}
 use Rattle.mime_lines.proofs.numbers.digits_value.Given as goal

@@ -1,4 +1,4 @@
--- the idle ones of the jobs so far
+-- The idle jobs so far.
 use Rattle.std.proofs.Common.{◌≡◌, ◌≤◌, take, vec_len}
 use Rattle.std.specs.Prelude.{vec_capacity}
 use Rattle.print_rounds.specs.StageChecks.{idle_among}

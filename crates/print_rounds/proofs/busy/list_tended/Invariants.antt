@@ -1,4 +1,4 @@
--- the jobs of the queues so far
+-- The jobs of the queues so far.
 use Rattle.std.proofs.Common.{◌≡◌, ◌≤◌, take, vec_len}
 use Rattle.std.specs.Prelude.{vec_capacity}
 use Rattle.std.specs.FinMap as finite

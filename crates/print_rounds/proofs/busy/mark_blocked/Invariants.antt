@@ -1,4 +1,4 @@
--- the flags so far: those of the queues, and then those by the jobs that have slots
+-- The flags so far: those of the queues, and then those set for the jobs that have slots.
 use Rattle.std.proofs.Common.{◌≡◌, false, replicate}
 use Rattle.std.specs.Prelude.{vec_capacity}
 use Rattle.std.specs.FinMap as finite

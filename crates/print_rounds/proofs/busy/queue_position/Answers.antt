@@ -1,4 +1,4 @@
--- the closure compares a queue's name with that of the job's queue
+-- The closure compares a queue's name with that of the job's queue.
 use Rattle.std.proofs.Common.{rules, ◌≡◌, Some, sym, subst}
 use Rattle.std.specs.Cmp.Lexicographic.{slice_cmp}
 use Rattle.std.specs.List.Sorted.{IsBinarySearchResult}

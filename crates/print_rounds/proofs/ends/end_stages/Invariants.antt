@@ -1,4 +1,4 @@
--- the ends of the jobs so far
+-- The ends of the jobs so far.
 use Rattle.std.proofs.Common.{◌≡◌, ◌≤◌, List, map, take}
 use Rattle.print_rounds.specs.Counts.{ending_fault, told_in}
 use Rattle.print_rounds.specs.RunStates.{Ending, AreEndings, run_state}

@@ -1,4 +1,4 @@
--- What is prepared is due, and is started with the document that was read for it.
+-- A prepared stage is due, and is started with the document that was read for it.
 use Rattle.std.proofs.Common.{◌≡◌, false, true, None, Err, refl, sym, ap, subst, ◌∙◌}
 use Rattle.spool_types.specs.State.{State, job_at, queue_at}
 use Rattle.child_pipeline.specs.StageSlots.{slot_in}

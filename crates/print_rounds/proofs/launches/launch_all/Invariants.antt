@@ -1,4 +1,4 @@
--- the starts of the jobs so far
+-- The starts of the jobs so far.
 use Rattle.std.proofs.Common.{◌≡◌, ◌≤◌, List, map, take}
 use Rattle.print_rounds.specs.Counts.{launching_fault, started_in}
 use Rattle.print_rounds.specs.RunStates.{Launching, AreLaunchings, AreReads}

@@ -1,4 +1,4 @@
--- The slot is that of the row that is found: a job's number is its key.
+-- The slot is for the row that is found: a job's number is its key.
 use Rattle.std.proofs.Common.{◌≡◌, Some, ap, sym, subst, ◌∙◌}
 use Rattle.std.specs.FinMap as finite
 use Rattle.std.specs.Option.{option_map, option_copied}

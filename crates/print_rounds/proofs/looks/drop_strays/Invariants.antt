@@ -1,4 +1,4 @@
--- the strays up to the job last visited
+-- The strays up to the last visited job.
 use Rattle.print_rounds.proofs.FreeLaws.{jobs_ahead}
 use Rattle.print_rounds.proofs.LookLaws.{AreDroppedTo}
 use Rattle.print_rounds.proofs.looks.drop_strays.Given as goal

@@ -1,4 +1,4 @@
--- the looks at the jobs so far
+-- The checks of the jobs so far.
 use Rattle.std.proofs.Common.{◌≡◌, ◌≤◌, List, map, take, vec_len}
 use Rattle.std.specs.Prelude.{vec_capacity}
 use Rattle.print_rounds.specs.StageChecks.{Look, AreLooks, ripe_in}

@@ -1,4 +1,4 @@
--- it is a pass that waits
+-- A round is a pass that waits.
 use Rattle.std.proofs.Common.{subst}
 use Rattle.job_table.specs.Legal.{IsLegal}
 use Rattle.print_rounds.specs.RunStates.{run_state}

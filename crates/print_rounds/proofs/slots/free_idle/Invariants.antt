@@ -1,4 +1,4 @@
--- the slots up to the job last visited are left or freed
+-- The slots up to the last visited job are retained or freed.
 use Rattle.print_rounds.proofs.FreeLaws.{IsFreedTo, jobs_ahead}
 use Rattle.print_rounds.proofs.slots.free_idle.Given as goal
 

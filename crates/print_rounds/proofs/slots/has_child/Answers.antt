@@ -1,4 +1,4 @@
--- what is told of a slot
+-- The answer for a slot.
 use Rattle.std.specs.FinMap as finite
 use Rattle.print_rounds.proofs.FreeLaws.{answered}
 use Rattle.print_rounds.proofs.slots.has_child.Goals as goal

@@ -1,4 +1,4 @@
--- the jobs of the queues so far
+-- The jobs of the queues so far.
 use Rattle.std.proofs.Common.{◌≡◌, ◌≤◌, length, take}
 use Rattle.std.specs.FinMap as finite
 use Rattle.print_rounds.specs.Choice.{busy_jobs}

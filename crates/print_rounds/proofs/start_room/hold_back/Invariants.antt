@@ -1,4 +1,4 @@
--- no queue is open so far
+-- No queue is open so far.
 use Rattle.std.proofs.Common.{◌≡◌, true, replicate}
 use Rattle.std.specs.Prelude.{vec_capacity}
 use Rattle.print_rounds.proofs.start_room.hold_back.Given as goal

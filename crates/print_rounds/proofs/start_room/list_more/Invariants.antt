@@ -1,4 +1,4 @@
--- the jobs so far
+-- The jobs so far.
 use Rattle.std.proofs.Common.{◌≡◌, ◌++◌, take, vec_len}
 use Rattle.std.specs.Prelude.{vec_capacity, ◌+◌}
 use Rattle.print_rounds.proofs.start_room.list_more.Given as goal

@@ -1,4 +1,4 @@
--- the queues so far
+-- The queues so far.
 use Rattle.std.proofs.Common.{◌≡◌, ◌⊎◌, ◌≤◌, ◌<◌, ◌+◌, ℕ, true, false, length, get_or}
 use Rattle.print_rounds.specs.StartLimits.{can_start, opened_in}
 use Rattle.print_rounds.proofs.start_room.open_some.Given as goal

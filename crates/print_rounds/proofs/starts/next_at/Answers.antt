@@ -1,4 +1,4 @@
--- the row at a place has the name there
+-- The row at a position has the name at that position.
 use Rattle.std.proofs.Common.{rules, ◌<◌, sym, subst}
 use Rattle.std.specs.FinMap as finite
 use Rattle.print_rounds.proofs.StartLaws.{name_at, queue_count}

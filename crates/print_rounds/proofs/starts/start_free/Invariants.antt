@@ -1,4 +1,4 @@
--- the starts of the queues so far
+-- The starts of the queues so far.
 use Rattle.std.proofs.Common.{◌≡◌, List, map, take}
 use Rattle.std.specs.FinMap as finite
 use Rattle.print_rounds.specs.Counts.{starting_fault}

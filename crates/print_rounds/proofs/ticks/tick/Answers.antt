@@ -1,4 +1,4 @@
--- the pass is a tick
+-- The pass is a tick.
 use Rattle.std.proofs.Common.{false, Option, subst}
 use Rattle.job_table.specs.Legal.{IsLegal}
 use Rattle.child_pipeline.specs.declared.children.StartRoom.{StartRoom}

@@ -1,4 +1,4 @@
--- the closure says which of two deadlines comes before the other
+-- The closure compares two deadlines.
 use Rattle.std.proofs.Common.{◌≡◌, rules}
 use Rattle.std.proofs.lemmas.Fn.{always_returns_same}
 use Rattle.std.specs.Ordering.{is_lt}

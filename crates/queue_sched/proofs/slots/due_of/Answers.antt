@@ -1,4 +1,4 @@
--- one slot more
+-- One more slot.
 use Rattle.std.proofs.Common.{ap, sym, ◌∙◌}
 use Rattle.queue_sched.specs.OrderSlots.{items_of}
 use Rattle.queue_sched.proofs.Due.{none_so_far, none_left}

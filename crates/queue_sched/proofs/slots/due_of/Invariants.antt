@@ -1,4 +1,4 @@
--- the entries so far may be started as they may now
+-- The visited entries may be started until the due moment exactly if they may be started now.
 use Rattle.std.specs.VecDeque.Iter.{deque_iter_rest}
 use Rattle.queue_sched.specs.OrderSlots.{items_of}
 use Rattle.queue_sched.proofs.Due.{IsSameSoFar}

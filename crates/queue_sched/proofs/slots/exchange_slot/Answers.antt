@@ -1,4 +1,4 @@
--- the other entry has the slot
+-- The slot has the other entry.
 use Rattle.std.proofs.Common.{arith}
 use Rattle.queue_sched.specs.OrderSlots.{there_of}
 use Rattle.queue_sched.proofs.SlotLists.{exchanged, first_set, order_same_turn, stands}

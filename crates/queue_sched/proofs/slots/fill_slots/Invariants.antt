@@ -1,4 +1,4 @@
--- the slots of the entries so far, and no memory is taken
+-- The slots of the visited entries. Nothing is allocated.
 use Rattle.std.proofs.Common.{◌≡◌, map, take}
 use Rattle.std.specs.VecDeque.{deque_len, deque_capacity}
 use Rattle.queue_sched.specs.OrderSlots.{there_of}

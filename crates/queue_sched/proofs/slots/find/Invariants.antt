@@ -1,4 +1,4 @@
--- where the job is there, it is among those that are left
+-- If the job is in the list, it is among the remaining entries.
 use Rattle.std.specs.VecDeque.Iter.{deque_iter_rest}
 use Rattle.queue_sched.specs.OrderSlots.{items_of}
 use Rattle.queue_sched.proofs.SlotLists.{IsSought}

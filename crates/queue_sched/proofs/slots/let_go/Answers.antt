@@ -1,4 +1,4 @@
--- what a pass over the gone ones leaves
+-- The slots after all gone ones were deleted.
 use Rattle.std.proofs.Common.{length, sym, ap, subst, ◌∙◌, arith}
 use Rattle.queue_sched.specs.OrderSlots.{items_of, InSlotOrder, IsFirstThere}
 use Rattle.queue_sched.proofs.SlotLists.{few_items, swept, swept_count, swept_first, swept_in_order}

@@ -1,4 +1,4 @@
--- the ready ones so far and those among the slots that are left, and no memory is taken
+-- The startable entries so far, and those of the remaining slots. Nothing is allocated.
 use Rattle.std.proofs.Common.{◌≡◌, ◌+◌, ◌≤◌, ◌++◌, ◌&&◌, length}
 use Rattle.std.specs.List.{filter}
 use Rattle.std.specs.VecDeque.{deque_len, deque_capacity}

@@ -1,4 +1,4 @@
--- the closure says whether an entry goes before the one that is looked for
+-- The closure returns whether an entry comes before the given one.
 use Rattle.std.proofs.Common.{rules}
 use Rattle.std.proofs.lemmas.List.Sorted.{IsPartitionPoint-from_clause}
 use Rattle.queue_sched.specs.WaitingIndex.{goes_before}

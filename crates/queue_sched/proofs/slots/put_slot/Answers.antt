@@ -1,4 +1,4 @@
--- an entry in the slot of a gone one, or in one of its own
+-- The entry takes a gone slot, or a new one.
 use Rattle.std.proofs.Common.{rules, ◌≡◌, get_or, sym, subst}
 use Rattle.std.proofs.lemmas.List.{get_or_default}
 use Rattle.std.specs.List.{insert}

@@ -1,4 +1,4 @@
--- the closure says whether the entry is there
+-- The closure returns whether the slot is not gone.
 use Rattle.std.proofs.Common.{rules}
 use Rattle.std.proofs.lemmas.List.Elements.{filter_from_retain}
 use Rattle.queue_sched.specs.OrderSlots.{is_there}

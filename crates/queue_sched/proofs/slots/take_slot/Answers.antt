@@ -1,4 +1,4 @@
--- the slot of the entry is marked
+-- The slot of the entry is marked as gone.
 use Rattle.queue_sched.proofs.SlotLists.{gone_of, order_same_turn, stands, take_marked}
 use Rattle.std.proofs.Common.{refl, arith}
 use Rattle.queue_sched.specs.OrderSlots.{there_of}

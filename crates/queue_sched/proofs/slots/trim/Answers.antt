@@ -1,4 +1,4 @@
--- one slot less
+-- One less slot.
 use Rattle.std.proofs.Common.{refl}
 use Rattle.queue_sched.proofs.SlotLists.{not_trimmed}
 use Rattle.queue_sched.proofs.slots.trim.Goals as goal

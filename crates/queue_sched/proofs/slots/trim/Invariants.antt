@@ -1,4 +1,4 @@
--- gone ones in front are let go, and no memory is taken
+-- Only gone slots at the front are deleted. Nothing is allocated.
 use Rattle.std.proofs.Common.{◌≡◌}
 use Rattle.std.specs.VecDeque.{deque_len, deque_capacity}
 use Rattle.queue_sched.proofs.SlotLists.{IsTrimmed}

@@ -1,4 +1,4 @@
--- a new word goes into its gap where there is room, and one that is there changes nothing
+-- A new word is inserted at its gap if there is room, and an existing one changes nothing.
 use Rattle.std.proofs.Common.{◌≡◌, true, length, ap, sym, subst, ◌∙◌, arith}
 use Rattle.row_effects.specs.Keys.{is_ascending}
 use Rattle.row_effects.specs.QueueReasons.{word_of}

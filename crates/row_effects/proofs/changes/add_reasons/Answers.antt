@@ -1,4 +1,4 @@
--- one more word
+-- One more word.
 use Rattle.std.proofs.Common.{ap, sym, ◌∙◌, arith}
 use Rattle.std.proofs.lemmas.List.Sums.{fold_push}
 use Rattle.row_effects.specs.QueueReasons.{add_reason}

@@ -1,4 +1,4 @@
--- the reasons are those after the words so far
+-- The reasons are those after the visited words.
 use Rattle.std.proofs.Common.{◌≡◌, ◌≤◌, true, vec_capacity}
 use Rattle.row_effects.specs.Keys.{is_ascending}
 use Rattle.row_effects.specs.QueueReasons.{word_of, add_reasons}

@@ -1,4 +1,4 @@
--- the word at its place is removed, and one that isn't there changes nothing
+-- The word at its position is removed, and a word that does not occur changes nothing.
 use Rattle.std.proofs.Common.{◌≡◌, true, [], ◌∷◌, sym, subst, ◌∙◌}
 use Rattle.row_effects.specs.Keys.{is_ascending}
 use Rattle.row_effects.specs.QueueReasons.{word_of}

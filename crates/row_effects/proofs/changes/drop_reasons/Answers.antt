@@ -1,4 +1,4 @@
--- one more word
+-- One more word.
 use Rattle.std.proofs.Common.{◌∷◌, [], ap, sym, ◌∙◌, arith}
 use Rattle.row_effects.specs.QueueReasons.{drop_reasons}
 use Rattle.row_effects.proofs.ReasonSteps.{dropped_none, dropped_more}

@@ -1,4 +1,4 @@
--- the list is searched by its words
+-- The list is searched by its words.
 use Rattle.row_effects.specs.QueueReasons.{word_of}
 use Rattle.row_effects.proofs.Keys.{searched}
 use Rattle.row_effects.proofs.changes.reason_position.Goals as goal

@@ -1,4 +1,4 @@
--- an attribute takes the place of the one of its name, or goes into its gap where there is room
+-- An attribute replaces the one of its name, or is inserted at its gap if there is room.
 use Rattle.std.proofs.Common.{◌≡◌, true, length, ap, sym, subst, ◌∙◌, arith}
 use Rattle.row_effects.specs.Keys.{is_ascending}
 use Rattle.row_effects.specs.QueueAttributes.{name_of}

@@ -1,4 +1,4 @@
--- the first attribute of a name is the one that was set
+-- The attribute that was set is the first one of its name.
 use Rattle.row_effects.proofs.AttributeLaws.{replaced, added, others}
 use Rattle.row_effects.proofs.laws.attributes_are_set.Goals as goal
 

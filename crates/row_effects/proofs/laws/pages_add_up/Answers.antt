@@ -1,4 +1,4 @@
--- effect by effect
+-- By induction on the effects.
 use Rattle.row_effects.proofs.PageLaws.{sum}
 use Rattle.row_effects.proofs.laws.pages_add_up.Goals as goal
 

@@ -1,4 +1,4 @@
--- by each effect in turn
+-- By each effect in order.
 use Rattle.row_effects.proofs.Order.{stays_in_order}
 use Rattle.row_effects.proofs.laws.queues_stay_in_order.Goals as goal
 

@@ -1,4 +1,4 @@
--- by each word in turn
+-- By each word in order.
 use Rattle.std.proofs.Common.{[], refl}
 use Rattle.row_effects.proofs.ReasonLaws.{added, dropped}
 use Rattle.row_effects.proofs.laws.reasons_are_kept.Goals as goal

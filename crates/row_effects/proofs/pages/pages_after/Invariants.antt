@@ -1,4 +1,4 @@
--- the pages after the effects so far
+-- The pages after the visited effects.
 use Rattle.std.proofs.Common.{◌≡◌, take}
 use Rattle.row_effects.specs.EffectFold.{pages_after}
 use Rattle.row_effects.proofs.pages.pages_after.Given as goal

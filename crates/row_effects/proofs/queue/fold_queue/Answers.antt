@@ -1,4 +1,4 @@
--- the lists stay as short as a row's
+-- The lists still have at most 64 items.
 use Rattle.std.proofs.Common.{◌≤◌, length, ap, sym, subst, ◌∙◌}
 use Rattle.row_effects.specs.Keys.{most_kept}
 use Rattle.row_effects.specs.EffectFold.{reasons_after, attributes_after}

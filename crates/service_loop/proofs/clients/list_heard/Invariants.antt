@@ -1,4 +1,4 @@
--- what was listed, and then those that are left, are all clients
+-- The clients listed so far, and then the remaining ones, are all clients.
 use Rattle.std.proofs.Common.{◌≡◌, ◌++◌, map}
 use Rattle.service_loop.specs.AdmissionViews.{heard_at, heard_of}
 use Rattle.service_loop.proofs.clients.list_heard.Given as goal

@@ -1,4 +1,4 @@
--- the line is as it was
+-- The connection is unchanged.
 use Rattle.std.proofs.Common.{◌≡◌}
 use Rattle.std.specs.Io.KnownBytes.{Keeps}
 use Rattle.service_loop.proofs.connection.read_of.Given as goal

@@ -1,4 +1,4 @@
--- each clause is a law on what is due
+-- Each clause is a law of `DueLaws`.
 use Rattle.service_loop.proofs.DueLaws.{changes_nothing, quiet_until, starts_none, state_stays, reason_stays}
 use Rattle.service_loop.proofs.laws.nothing_is_due_before.Goals as goal
 

@@ -1,4 +1,4 @@
--- the engine answered the command, if there was memory
+-- The engine answered the command, unless memory ran out.
 use Rattle.service_loop.proofs.CallLaws.{answered_as}
 use Rattle.service_loop.proofs.maintenance.say.Goals as goal
 

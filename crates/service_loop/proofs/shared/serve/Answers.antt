@@ -1,4 +1,4 @@
--- one command is one call, however it is answered
+-- One command is one call, however it is answered.
 use Rattle.service_loop.proofs.CallLaws.{by_turn}
 use Rattle.service_loop.proofs.shared.serve.Goals as goal
 

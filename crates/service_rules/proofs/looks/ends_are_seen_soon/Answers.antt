@@ -1,4 +1,4 @@
--- an end is seen after a part of the child's time, or at its first look
+-- An end is seen after a part of the child's time, or at its first check.
 use Rattle.service_rules.proofs.Seeing.{ends_alone, ends_beside}
 use Rattle.service_rules.proofs.looks.ends_are_seen_soon.Goals as goal
 

@@ -1,4 +1,4 @@
--- what is left of the list leads to the same number
+-- The rest of the list gives the same number.
 use Rattle.std.proofs.Common.{◌≡◌, drop}
 use Rattle.service_rules.specs.Purges.{swept_to}
 use Rattle.service_rules.proofs.purges.swept_to.Given as goal

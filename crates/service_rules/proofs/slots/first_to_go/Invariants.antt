@@ -1,4 +1,4 @@
--- the first one to go of the clients so far
+-- The first one to be replaced of the clients so far.
 use Rattle.std.proofs.Common.{take}
 use Rattle.service_rules.proofs.GoingFirst.{FirstOf}
 use Rattle.service_rules.proofs.slots.first_to_go.Given as goal

@@ -1,4 +1,4 @@
--- what is left to be noted
+-- The stages not yet handled.
 use Rattle.std.proofs.Common.{◌≡◌, drop}
 use Rattle.service_texts.specs.Notices.{with_others}
 use Rattle.service_texts.proofs.changes.note_others.Given as goal

@@ -1,4 +1,4 @@
--- the lines of the jobs so far were added
+-- The lines of the jobs so far were appended.
 use Rattle.std.proofs.Common.{◌≡◌, ◌++◌, take}
 use Rattle.std.specs.List.{flat_map}
 use Rattle.service_texts.specs.Notices.{job_told}

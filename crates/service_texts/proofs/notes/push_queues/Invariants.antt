@@ -1,4 +1,4 @@
--- the lines of the queues so far were added
+-- The lines of the queues so far were appended.
 use Rattle.std.proofs.Common.{◌≡◌, ◌++◌, take}
 use Rattle.std.specs.List.{flat_map}
 use Rattle.service_texts.specs.Notices.{queue_told}

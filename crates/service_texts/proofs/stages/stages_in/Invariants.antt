@@ -1,4 +1,4 @@
--- the stages of the queues so far
+-- The stages of the queues so far.
 use Rattle.std.proofs.Common.{◌≡◌, take}
 use Rattle.std.specs.List.{flat_map}
 use Rattle.spool_types.specs.declared.rows.QueueRow.{QueueRow}

@@ -14,7 +14,7 @@ use Rattle.split_rows.proofs.rows.are_jobs_in.Goals.{then-takes+else-at-part+in_
 abbrev job_in : Bor JobRow → JobOf
 job_in row = job_of row.now
 
--- the job of a row in its place
+-- The job of a row at its position.
 in_place : (rows : List (Bor JobRow)) (i : ℕ) (row : Bor JobRow) → row ≡ get_or rows i row → get_or (jobs_in rows) i (job_in row) ≡ job_in row
 in_place rows i row is = get_or-map job_in rows i row ∙ ap job_in (sym is)
 

@@ -1,4 +1,4 @@
--- The first ones of the part are those of the queues so far that are the half's.
+-- The first rows of the part are those of the queues so far that belong to the half.
 use Rattle.std.proofs.Common.{◌≡◌, ◌≤◌, length, take}
 use Rattle.std.specs.List.{filter}
 use Rattle.spool_types.specs.declared.rows.QueueRow.{QueueRow}

@@ -7,7 +7,7 @@ use Rattle.spool_types.specs.declared.version.Version.TheVariants.{Two}
 use Rattle.event_codec.specs.RowSpelling.{row_spelling}
 use Rattle.split_rows.proofs.rows.is_same_job.Goals as goal
 
--- what the row tells
+-- The job that the row represents.
 told : JobOf → RowOf → JobOf
 told other (Head h) = other
 told other (Queue q) = other

@@ -1,4 +1,4 @@
--- The bytes before those that are left are copied, and no others are changed.
+-- All bytes except the remaining ones are copied, and no others have changed.
 use Rattle.std.proofs.Common.{◌≡◌, ◌≤◌, ◌-◌, List, ℕ, Some, drop}
 use Rattle.spool_disk.specs.Disk.{ChangesNothing}
 use Rattle.spool_admin.proofs.Pieces.{copied}

@@ -1,4 +1,4 @@
--- the whole blocks so far
+-- The whole blocks so far.
 use Rattle.std.proofs.Common.{◌*◌, replicate}
 use Rattle.std.specs.Io.KnownBytes.{Appends}
 use Rattle.spool_admin.proofs.folder.write_zeros.Given as goal

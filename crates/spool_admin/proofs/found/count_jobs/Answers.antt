@@ -1,4 +1,4 @@
--- each closure tells whether a row's job has such a phase
+-- Each closure returns whether a row's job has this phase.
 use Rattle.std.proofs.Common.{rules, tests, ◌∙◌, sym}
 use Rattle.std.proofs.lemmas.Iterator.Consumers.{count_from_yields_List, YieldsList-from_filter, YieldsList-from_first}
 use Rattle.std.proofs.lemmas.List.{length-map}

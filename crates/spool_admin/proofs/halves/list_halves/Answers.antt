@@ -1,4 +1,4 @@
--- the second half is listed of the same table, over the same bytes
+-- The second half is listed from the same table, with the same bytes.
 use Rattle.std.proofs.Common.{◌∙◌, Option, List, ℕ, false, subst, sym}
 use Rattle.spool_types.specs.State.{State}
 use Rattle.spool_disk.proofs.Moments.{twice_still}

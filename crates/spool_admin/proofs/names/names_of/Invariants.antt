@@ -1,4 +1,4 @@
--- the names of the words so far
+-- The names of the words so far.
 use Rattle.std.proofs.Common.{◌≡◌, map, take}
 use Rattle.spool_admin.proofs.names.names_of.Given as goal
 

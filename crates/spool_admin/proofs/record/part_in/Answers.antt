@@ -1,4 +1,4 @@
--- the first line is the part's name
+-- The first line is the part's name.
 use Rattle.std.proofs.Common.{◌≡◌, ◌∙◌, ◌++◌, ◌∷◌, List, ℕ, Option, Some, None, true, false, ap, arith, subst, sym}
 use Rattle.std.specs.Borrow.{Bor}
 use Rattle.std.specs.Option.{MatchOption}

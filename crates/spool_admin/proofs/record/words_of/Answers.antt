@@ -1,4 +1,4 @@
--- a word more is a line more
+-- One more word is one more line.
 use Rattle.std.proofs.Common.{◌≡◌, ◌∙◌, ◌++◌, ◌∷◌, ◌+◌, ◌<◌, List, ℕ, [], ap, append_assoc, get_or, length, map, refl, sym, take}
 use Rattle.std.specs.Borrow.{Bor}
 use Rattle.std.proofs.lemmas.List.{map-append, take_more}

@@ -1,4 +1,4 @@
--- what is written by now: the folder, and the queues so far
+-- The text so far: the folder, and the queues so far.
 use Rattle.std.proofs.Common.{◌≡◌, ◌∷◌, map, string_bytes, take}
 use Rattle.spool_admin.specs.Record.{lines_of}
 use Rattle.spool_admin.proofs.record.words_of.Given as goal

@@ -1,4 +1,4 @@
--- the words that are given are those that clap found
+-- The given words are the words that clap found.
 use Rattle.std.proofs.Common.{◌≡◌, ◌∙◌, List, [], Option, Some, None, ap, codes, map, subst, sym}
 use Rattle.std.specs.Borrow.{Bor}
 use Rattle.std.specs.declared.alloc.AllocError.{AllocError}
@@ -20,7 +20,7 @@ some_is r x found same is = ap (λ (o : Option (List Text)). unwrap_or o []) (sy
 none_is : (r : Option (Bor (List (Bor Text)))) (found : Option (List Text)) → texts_in r ≡ found → r ≡ None → [] ≡ unwrap_or found []
 none_is r found same is = ap (λ (o : Option (List Text)). unwrap_or o []) (sym (ap texts_in is) ∙ same)
 
--- what is found of these words, and of those that clap found
+-- The result for these words and for those that clap found.
 abbrev IsAskedBy : Text → Text → Result (Option Asked) AllocError → List Text → Type 0
 IsAskedBy task dir asked rest = IfOk asked (λ found. IfSome found (IsFor task dir rest))
 

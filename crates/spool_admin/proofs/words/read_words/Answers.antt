@@ -1,4 +1,4 @@
--- what the values don't ask for isn't asked for by the words
+-- A request that the values do not make is not made by the words.
 use Rattle.std.proofs.Common.{◌≡◌, List, Option, Some, None, map, subst, sym}
 use Rattle.std.specs.Prelude.{IfNone}
 use Rattle.clap.specs.Words.{Row, found_of, matches_of, rows_of}

@@ -1,4 +1,4 @@
--- A read changes nothing, nor does a sync, and the one byte is written only where the gate was read open.
+-- A read changes nothing, nor does a sync, and the byte is written only if the gate was read open.
 use Rattle.std.proofs.Common.{inl}
 use Rattle.spool_disk.proofs.Moments.{weaker_run, twice_still, still_then, still_changes}
 use Rattle.spool_areas.specs.Checkpoint.{IsClosing}

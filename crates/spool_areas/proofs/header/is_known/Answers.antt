@@ -8,7 +8,7 @@ use Rattle.spool_areas.proofs.header.is_known.Goals as goal
 abbrev are_zeros : List ℕ → Bool
 are_zeros bytes = pointwise nat_eq bytes (0 ∷ 0 ∷ 0 ∷ 0 ∷ 0 ∷ 0 ∷ [])
 
--- the six bytes compared are all behind the epoch
+-- The six bytes that are compared are all after the epoch.
 pub returns-then-is_version : goal.returns-then-is_version
 returns-then-is_version c =
     let header = c.args.header.now in

@@ -7,7 +7,7 @@ use Rattle.spool_core.proofs.DriveLaws.{next_of}
 use Rattle.spool_core.proofs.TurnLaws.{driven_none, driven_more, end_of_all, end_of_memory, end_of_turn, same_replies}
 use Rattle.spool_core.proofs.driving.drive_all.Goals as goal
 
--- what the iterator of a vector has given is a front of its items
+-- The elements that the iterator of a vector has returned are its first elements.
 taken_front : {X A : Type 0} (s : IntoIter X A) (xs : List X) (t : IntoIter X A) → Yields into_iter_steps s xs t → into_iter_items s ≡ xs ++ into_iter_items t
 taken_front s [] t y = ap into_iter_items y
 taken_front s (x ∷ xs) t y = y.1.0 ∙ ap (λ ys. x ∷ ys) (taken_front y.0 xs t y.2)
@@ -58,7 +58,7 @@ returns-in-Err g c =
     (record { fixed = c.drive_one.ensures.fixed; told = c.drive_one.ensures.told.0; tells = c.drive_one.ensures.told.1; any_moment = c.drive_one.ensures.any_moment; documents = c.drive_one.ensures.documents })
     c.in-Err.ending c.in-Err.ensures.driven)
 
--- how many it has given
+-- Their number.
 taken_count : {X A : Type 0} (s : IntoIter X A) (xs : List X) (t : IntoIter X A) → Yields into_iter_steps s xs t → into_iter_len s ≡ length xs + into_iter_len t
 taken_count s [] t y = omega (arith, ap into_iter_len y)
 taken_count s (x ∷ xs) t y = omega (arith, y.1.1, taken_count y.0 xs t y.2)

@@ -6,7 +6,7 @@ use Rattle.spool_core.specs.declared.spool.apply_fault.ApplyFault.{ApplyFault}
 use Rattle.spool_core.proofs.DriveLaws.{refused_sends}
 use Rattle.spool_core.proofs.driving.drive_one.Goals as goal
 
--- nothing has changed
+-- Nothing has changed.
 pub returns-in-Err-Refused-clause-sent : goal.returns-in-Err-Refused-clause-sent
 returns-in-Err-Refused-clause-sent g c = λ r documents tells has image left.
     let v = g.D.Disk.device in

@@ -1,4 +1,4 @@
--- Rows that are a whole listing, or events behind one.
+-- Rows that are a complete listing, or events after one.
 use Rattle.std.proofs.Common.{◌≡◌, refl, sym, subst, false, true}
 use Rattle.spool_core.specs.Folding.{HasNoneNoted, HasRead, ReadLiesIn}
 use Rattle.documents.specs.Documents.{LieIn}

@@ -1,4 +1,4 @@
--- A row that may come next or not, or the first event.
+-- A row that may come next, a row that may not, or the first event.
 use Rattle.std.proofs.Common.{◌≡◌, ◌∙◌, refl, sym, subst, false, true, [], None}
 use Rattle.documents.specs.Documents.{LieIn}
 use Rattle.job_table.specs.Contents.{places_of}

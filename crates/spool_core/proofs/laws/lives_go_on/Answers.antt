@@ -1,4 +1,4 @@
--- Each life is a list of events after the acknowledged ones of another.
+-- Each life is a list of events after the acknowledged events of another.
 use Rattle.std.proofs.Common.{◌≡◌, [], ◌++◌, refl, sym, ap, ◌∙◌, subst, take}
 use Rattle.std.specs.Prelude.{IsSome, Some}
 use Rattle.std.proofs.Math.Logic.{⊎_elim}
@@ -42,7 +42,7 @@ returns-clause-documents c s t documents events acknowledged most image has foun
           (documents_stay left (reopened left) documents_left image (over_after left Reopen legal refl c.ended_jobs_stay.ensures.accepted) has.3.1),
     )
 
--- The policy twice is the policy once.
+-- Applying the policy twice is the same as applying it once.
 pub returns-clause-cut : goal.returns-clause-cut
 returns-clause-cut c s t image left midway opened again =
     let table = c.one_reading.ensures.table in

@@ -1,4 +1,4 @@
--- a table without jobs needs no room
+-- A table without jobs needs no room.
 use Rattle.std.proofs.Common.{[], List, ℕ, OnOk, Result, Ok, Err, inl, inr, ⊎_elim}
 use Rattle.spool_types.specs.declared.version.Version.TheVariants.{Two}
 use Rattle.spool_areas.specs.Header.{newest_version}

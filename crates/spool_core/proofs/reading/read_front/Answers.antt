@@ -1,4 +1,4 @@
--- What is read is the front of the document.
+-- The bytes read are the first ones of the document.
 use Rattle.std.proofs.Common.{◌≡◌, ℕ, length, take, ap, ◌∙◌}
 use Rattle.std.proofs.lemmas.List.{take_at}
 use Rattle.spool_core.proofs.reading.read_front.Goals as goal

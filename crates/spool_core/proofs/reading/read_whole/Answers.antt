@@ -1,4 +1,4 @@
--- As many bytes are read as the table says that the document has.
+-- The number of bytes read is the length of the document according to the table.
 use Rattle.std.proofs.Common.{◌≡◌, List, ℕ, take, subst, sym, ap, ◌∙◌, arith, Result, Ok, Err}
 use Rattle.std.specs.Prelude.{IfOk}
 use Rattle.std.proofs.Math.Seq.{take-length}
@@ -8,7 +8,7 @@ use Rattle.spool_core.specs.DocumentReading.{IsDocument, IsPart}
 use Rattle.spool_core.specs.OpenSpools.{OpenSpool, len_at}
 use Rattle.spool_core.proofs.reading.read_whole.Goals as goal
 
--- as many as there are are all
+-- These are all bytes of the document.
 whole_part : {D : Type 0} (v : DiskView D) (s : OpenSpool D) (j n : ℕ) (part : List ℕ) → n ≡ len_at s.state j → IsPart v s j 0 n part → IsDocument v s j part
 whole_part v s j n part all is =
     subst (IsDocument v s j) (sym (is.part_is ∙ ap (λ (m : ℕ). take m is.document) (all ∙ sym is.is.long) ∙ take-length is.document)) is.is

@@ -1,4 +1,4 @@
--- the queues so far are shown
+-- The queues so far are shown.
 use Rattle.std.proofs.Common.{take}
 use Rattle.std.specs.FinMap as finite
 use Rattle.spool_engine.proofs.QueueLaws.{AreShown}

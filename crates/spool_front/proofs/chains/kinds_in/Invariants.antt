@@ -1,4 +1,4 @@
--- the types of the lines so far
+-- The types of the lines so far.
 use Rattle.std.proofs.Common.{◌≡◌, ◌++◌, take}
 use Rattle.std.specs.Prelude.{codes}
 use Rattle.std.specs.List.{flat_map}

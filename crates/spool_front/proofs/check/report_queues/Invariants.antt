@@ -1,4 +1,4 @@
--- whether all of the queues so far print
+-- Whether all of the queues so far can print.
 use Rattle.std.proofs.Common.{◌≡◌, take}
 use Rattle.std.specs.List.{list_all}
 use Rattle.spool_front.specs.Checks.{prints}

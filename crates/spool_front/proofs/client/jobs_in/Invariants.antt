@@ -1,4 +1,4 @@
--- what the rows so far tell
+-- The jobs of the rows so far.
 use Rattle.std.proofs.Common.{◌≡◌, take}
 use Rattle.std.specs.Prelude.{filter_map}
 use Rattle.front_texts.specs.JobRows.{job_row}

@@ -1,4 +1,4 @@
--- what the rows so far tell
+-- The queues of the rows so far.
 use Rattle.std.proofs.Common.{◌≡◌, take}
 use Rattle.std.specs.Prelude.{filter_map}
 use Rattle.front_texts.specs.QueueRows.{queue_row}

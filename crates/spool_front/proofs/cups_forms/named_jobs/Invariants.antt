@@ -1,4 +1,4 @@
--- those of the jobs so far that are asked for
+-- The requested jobs among those so far.
 use Rattle.std.proofs.Common.{◌≡◌, filter}
 use Rattle.spool_front.specs.CupsForms.{is_named}
 use Rattle.spool_front.proofs.cups_forms.named_jobs.Given as goal

@@ -1,4 +1,4 @@
--- whether one of the queues so far is meant
+-- Whether one of the queues so far was requested.
 use Rattle.std.proofs.Common.{◌≡◌, take}
 use Rattle.std.specs.List.{list_any}
 use Rattle.spool_front.specs.CupsForms.{is_meant}

@@ -1,4 +1,4 @@
--- what was read so far is the front of the buffer, and each turn reads something
+-- The bytes read so far are the front of the buffer, and each iteration reads at least one.
 use Rattle.std.proofs.Common.{◌≡◌, ◌≤◌, ◌-◌, length, take}
 use Rattle.std.specs.Io.KnownBytes.{Consumes}
 use Rattle.spool_front.proofs.document.fill.Given as goal

@@ -1,4 +1,4 @@
--- the options so far, each with a blank behind it
+-- The options so far, each followed by a blank.
 use Rattle.std.proofs.Common.{◌≡◌, take}
 use Rattle.std.specs.Prelude.{string_bytes}
 use Rattle.std.specs.List.{flat_map}

@@ -1,4 +1,4 @@
--- what was noted before, and the rows so far
+-- The earlier queue, followed by the rows so far.
 use Rattle.std.proofs.Common.{◌≡◌, ◌++◌, map, take}
 use Rattle.spool_front.specs.QueueChoice.{noted, place_at}
 use Rattle.spool_front.proofs.services.note_only.Given as goal

@@ -6,7 +6,7 @@ use Rattle.front_texts.specs.declared.queue_line.QueueLine.{QueueLine}
 use Rattle.spool_front.specs.QueueChoice.{noted, place_at}
 use Rattle.spool_front.proofs.services.only_queue.Goals as goal
 
--- what holds of the socket of a row, and of what was noted before, holds of what is noted then
+-- A property of the socket of a row, and of the queue stored before, holds for the queue stored then.
 noted_at : {T : Type 0} (P : List ℕ → Type 0) (text : T → List ℕ) (old new : Option (T × String Global)) (socket : List ℕ) (rows : List QueueLine)
     → noted new text ≡ noted old text ++ map (place_at socket) rows → IfSome old (λ service. P (text service.0)) → P socket → IfSome new (λ service. P (text service.0))
 noted_at P text old None socket rows is h p = tt

@@ -1,4 +1,4 @@
--- what was noted is at one of the services
+-- The stored queue is at one of the services.
 use Rattle.std.proofs.Common.{IfSome, map}
 use Rattle.std.specs.List.{Contains}
 use Rattle.spool_front.proofs.services.only_queue.Given as goal

@@ -1,4 +1,4 @@
--- the jobs so far
+-- The numbers of the jobs so far.
 use Rattle.std.proofs.Common.{◌≡◌, take}
 use Rattle.std.specs.Prelude.{filter_map}
 use Rattle.spool_front.specs.Acts.{number_of}

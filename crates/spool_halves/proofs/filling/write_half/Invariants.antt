@@ -1,4 +1,4 @@
--- More rows may be written, and the whole spool is as it was.
+-- More rows may be written, and the whole spool is as before.
 use Rattle.std.proofs.Common.{◌≡◌}
 use Rattle.spool_disk.specs.Disk.{ChangesNothing}
 use Rattle.split_rows.specs.Writing.{MayWrite}

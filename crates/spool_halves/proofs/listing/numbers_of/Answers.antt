@@ -10,7 +10,7 @@ loop-row-preserved c =
     let number : Bor JobRow → ℕ = λ row. row.now.job.id in
     c.in_ok-push.ensures.items ∙ ap (λ (ns : List ℕ). ns ++ number c.in-Some.row ∷ []) c.loop-row.invariant ∙ sym (map_push number c.loop-row.yielded c.in-Some.row)
 
--- the numbers of borrowed rows
+-- The numbers of borrowed rows.
 of_rows : (rows : List (Bor JobRow)) → map (λ row. row.now.job.id) rows ≡ map (λ (row : JobRow). row.job.id) (map (λ row. row.now) rows)
 of_rows [] = refl
 of_rows (row ∷ rows) = ap (λ (ns : List ℕ). row.now.job.id ∷ ns) (of_rows rows)

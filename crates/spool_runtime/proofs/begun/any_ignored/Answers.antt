@@ -1,4 +1,4 @@
--- the test of the lines is that of their bytes
+-- The test of the lines is the test of their bytes.
 use Rattle.std.proofs.Common.{rules, tests, sym, ◌∙◌}
 use Rattle.std.proofs.lemmas.Iterator.{YieldsList-from_slice}
 use Rattle.std.proofs.lemmas.Iterator.Search.{any_from_yields_List}

@@ -1,4 +1,4 @@
--- so much was read, and nothing else
+-- These bytes were read and no others, and they are at most `most`.
 use Rattle.std.proofs.Common.{◌≤◌, length}
 use Rattle.std.specs.Io.KnownBytes.{Consumes}
 use Rattle.spool_runtime.proofs.child_files.read_at_most.Given as goal

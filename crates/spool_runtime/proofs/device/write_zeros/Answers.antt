@@ -16,7 +16,7 @@ on_ok : {A E : Type 0} (P Q : Type 0) (r : Result A E) → (P → Q) → OnOk r 
 on_ok P Q (Ok x) f h = f h
 on_ok P Q (Err e) f h = tt
 
--- the whole blocks and the rest of the last
+-- The whole blocks, and the rest of the last block.
 all : (count blocks : ℕ) → blocks ≤ count / 65536 → count / 65536 ≤ blocks → blocks * 65536 + count % 65536 ≡ count
 all count blocks most least = omega (arith, most, least)
 

@@ -1,4 +1,4 @@
--- the whole blocks so far
+-- The whole blocks so far were written.
 use Rattle.std.proofs.Common.{◌*◌, replicate}
 use Rattle.std.specs.Io.KnownBytes.{Appends}
 use Rattle.spool_runtime.proofs.device.write_zeros.Given as goal

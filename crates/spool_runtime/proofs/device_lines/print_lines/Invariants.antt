@@ -1,4 +1,4 @@
--- the lines so far were printed
+-- The lines so far were printed.
 use Rattle.std.proofs.Common.{map, take}
 use Rattle.spool_runtime.specs.DeviceLines.{PrintsDevices}
 use Rattle.spool_runtime.proofs.device_lines.print_lines.Given as goal

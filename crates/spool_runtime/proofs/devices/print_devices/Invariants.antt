@@ -1,4 +1,4 @@
--- what the backends so far told was printed
+-- The output of the backends so far was printed.
 use Rattle.std.proofs.Common.{take}
 use Rattle.spool_runtime.specs.DeviceLines.{PrintsTold}
 use Rattle.spool_runtime.proofs.devices.print_devices.Given as goal

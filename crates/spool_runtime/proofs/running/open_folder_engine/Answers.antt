@@ -1,4 +1,4 @@
--- The engine is the one that was opened over the folder's disk.
+-- The engine is the engine that was opened over the folder's disk.
 use Rattle.std.specs.Prelude.{Option}
 use Rattle.child_pipeline.specs.ChildTraces.{ChildTrace}
 use Rattle.filter_args.specs.declared.place.Place.{Place}

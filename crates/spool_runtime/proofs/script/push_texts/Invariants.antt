@@ -1,4 +1,4 @@
--- the texts so far were added, and nothing else has changed
+-- The texts so far were added, and nothing else has changed.
 use Rattle.std.proofs.Common.{◌≡◌, ◌++◌, map, string_bytes, take}
 use Rattle.std.specs.Process.{SameEnv, command_args, command_program}
 use Rattle.spool_runtime.proofs.script.push_texts.Given as goal

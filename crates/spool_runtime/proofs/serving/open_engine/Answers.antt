@@ -1,4 +1,4 @@
--- The engine that was made is over the spool that was opened.
+-- The new engine is over the spool that was opened.
 use Rattle.std.proofs.Common.{◌≡◌, ◌∙◌, ℕ, List, Option, Some, false, ap}
 use Rattle.std.specs.FinMap as finite
 use Rattle.std.specs.String.{string_bytes}

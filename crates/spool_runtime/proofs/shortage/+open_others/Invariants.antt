@@ -1,4 +1,4 @@
--- one descriptor fewer is to be opened each time
+-- Each call opens one descriptor fewer.
 use Rattle.spool_runtime.proofs.shortage.+open_others.Given as goal
 
 abbrev pub decreases-open_others : goal.decreases-open_others

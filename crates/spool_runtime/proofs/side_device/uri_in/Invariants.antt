@@ -1,4 +1,4 @@
--- the URI isn't among the variables so far
+-- The variables so far do not contain the URI.
 use Rattle.std.proofs.Common.{◌≡◌, drop, map}
 use Rattle.std.specs.String.{string_bytes}
 use Rattle.spool_runtime.specs.SideDevice.{uri_among}

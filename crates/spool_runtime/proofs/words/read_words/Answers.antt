@@ -9,7 +9,7 @@ use Rattle.spool_runtime.proofs.Accepted.{has_flag, has_number, one_found, text_
 use Rattle.spool_runtime.proofs.Refusals.{is_not_short, is_short, refuses}
 use Rattle.spool_runtime.proofs.words.read_words.Goals as goal
 
--- BYTES that were found are in their range
+-- The number BYTES, if it was found, is in its range.
 has_size : (command : Command) (m : ArgMatches) → app_of command ≡ shell_app → PassParsers (app_of command) m → HasNumberIn 4096 1073741824 (codes "size") m
 has_size command m is pass =
     has_number shell_app m (codes "size") 4096 1073741824 (subst (λ (a : App). PassParsers a m) is pass) (λ none. cc) (refl, refl)

@@ -1,4 +1,4 @@
--- No call after the shell was made sets a variable.
+-- No call after the creation of the shell sets a variable.
 use Rattle.std.proofs.Common.{◌∙◌}
 use Rattle.spool_service.proofs.kills.command_of.Goals as goal
 

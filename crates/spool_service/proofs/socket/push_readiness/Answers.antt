@@ -9,7 +9,7 @@ use Rattle.service_loop.specs.declared.listener.Readiness.{Readiness}
 use Rattle.spool_service.specs.Socket.{readiness_of}
 use Rattle.spool_service.proofs.socket.push_readiness.Goals as goal
 
--- the sign of one event more
+-- The readiness of one more event.
 one_more : (all old : List Readiness) (before : List (Bor Event)) (event : Bor Event) (sign : Readiness) → sign ≡ readiness_of event.now
     → all ≡ old ++ map readiness_of (map (λ e. e.now) before) → all ++ sign ∷ [] ≡ old ++ map readiness_of (map (λ e. e.now) (before ++ event ∷ []))
 one_more all old before event sign is told =

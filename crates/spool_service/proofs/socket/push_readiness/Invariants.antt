@@ -1,4 +1,4 @@
--- the signs of the events so far were added
+-- The readiness of each event so far was added.
 use Rattle.std.proofs.Common.{◌≡◌, ◌++◌, map}
 use Rattle.spool_service.specs.Socket.{readiness_of}
 use Rattle.spool_service.proofs.socket.push_readiness.Given as goal

@@ -24,7 +24,7 @@ has_flags m pass = record {
   verbose = has_flag service_app m (codes "verbose") pass (λ none. cc) (refl, refl);
 }
 
--- what is refused only where less doesn't hold
+-- If q implies p, a refusal that contradicts p contradicts q.
 less_refused : (p q : Type 0) (fault : WordsFault) → (q → p) → RefusesOnly p fault → RefusesOnly q fault
 less_refused p q (Refused error) more only = λ held. only (more held)
 less_refused p q Memory more only = tt
@@ -53,7 +53,7 @@ returns-in-Ok-parse-clause-taken g c =
     (subst (λ (a : App). AreFaultlessFor a words) c.in-Ok.ensures c.in-Ok-parse.ensures.taken)
     (subst (λ rows. MatchResult c.words_in.result (λ _. Fit rows) (RefusesOnly (Fit rows))) rows_are c.words_in.ensures.fit)
 
--- words in which there is no fault are refused by want of memory alone
+-- Arguments without an error are refused only if memory runs out.
 no_mistake : (p : Type 0) (fault : WordsFault) → RefusesOnly p fault → p → IsMistake fault
 no_mistake p (Refused error) only held = absurd (only held)
 no_mistake p Memory only held = tt

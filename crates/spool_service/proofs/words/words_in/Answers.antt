@@ -1,4 +1,4 @@
--- What was found is what the words ask for.
+-- The values found are returned.
 use Rattle.std.proofs.Common.{rules, ◌≡◌, ◌∙◌, ◌<◌, ◌≤◌, ℕ, Option, Some, None, length, ap, sym, subst, arith, codes}
 use Rattle.std.specs.Prelude.{IfSome, IsSomeAnd}
 use Rattle.std.specs.Borrow.{Bor}
@@ -11,7 +11,7 @@ use Rattle.spool_runtime.proofs.Refusals.{refuses}
 use Rattle.spool_service.specs.ServiceArguments.{Fit, IsMode, SaysMode}
 use Rattle.spool_service.proofs.words.words_in.Goals as goal
 
--- a text that `get_str` answers is the first value in the rows
+-- A text that `get_str` returns is the first value in the rows.
 first_is : (f : Found) (id : Text) (r : Option (Bor Text)) → option_map (λ s. s.now) r ≡ first_value f id → first_of id (rows_of f) ≡ option_map (λ s. s.now) r
 first_is f id r gives = sym (gives ∙ first_value-rows f id)
 

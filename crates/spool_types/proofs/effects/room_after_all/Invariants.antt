@@ -1,4 +1,4 @@
--- the room that is left is for the codes that are left
+-- The remaining room is for the remaining codes.
 use Rattle.std.proofs.Common.{◌≡◌, drop}
 use Rattle.spool_types.specs.Effects.{effects_size, room_left}
 use Rattle.spool_types.proofs.effects.room_after_all.Given as goal

@@ -1,4 +1,4 @@
--- the test of the bytes is that of the folded text
+-- The test of the bytes gives the same result as the test of the folded text.
 use Rattle.std.proofs.Common.{rules, tests, sym, ◌∙◌}
 use Rattle.std.proofs.lemmas.Iterator.{YieldsList-from_slice}
 use Rattle.std.proofs.lemmas.Iterator.Search.{all_from_yields_List}

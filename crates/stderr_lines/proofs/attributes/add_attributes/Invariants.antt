@@ -1,4 +1,4 @@
--- the words so far are tallied
+-- The words so far are tallied.
 use Rattle.std.proofs.Common.{◌≡◌}
 use Rattle.std.specs.Prelude.{IfSome}
 use Rattle.std.specs.List.{filter_map}

@@ -1,4 +1,4 @@
--- the bytes so far are none that cuts
+-- None of the bytes so far is the byte to split at.
 use Rattle.std.proofs.Common.{◌≡◌, take, drop}
 use Rattle.line_words.specs.Quotes.{with_bytes}
 use Rattle.stderr_lines.specs.Cuts.{cut_at}

@@ -1,4 +1,4 @@
--- the bytes so far are shown
+-- The bytes so far are shown.
 use Rattle.std.proofs.Common.{◌≡◌, ◌++◌, map, take, drop}
 use Rattle.stderr_lines.specs.LineEffects.{shown_byte}
 use Rattle.stderr_lines.proofs.line.show.Given as goal

@@ -1,4 +1,4 @@
--- the bytes so far are taken
+-- The bytes so far are taken.
 use Rattle.std.proofs.Common.{take}
 use Rattle.stderr_lines.specs.CurrentLine.{IsHeld}
 use Rattle.stderr_lines.specs.PendingEffects.{Takes}

@@ -1,4 +1,4 @@
--- the bytes so far stand in the first word
+-- The bytes so far belong to the first word.
 use Rattle.std.proofs.Common.{◌≡◌, take, drop}
 use Rattle.line_words.specs.Quoting.{pieces}
 use Rattle.line_words.specs.declared.quoting.Quoting.TheVariants.{Bare}

@@ -1,4 +1,4 @@
--- the bytes so far are read
+-- The bytes so far are read.
 use Rattle.std.proofs.Common.{◌≡◌, ◌++◌, drop}
 use Rattle.line_words.specs.Quoting.{said}
 use Rattle.line_words.specs.declared.quoting.Quoting.TheVariants.{Bare}

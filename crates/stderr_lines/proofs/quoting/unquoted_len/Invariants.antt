@@ -1,4 +1,4 @@
--- the bytes so far are counted
+-- The bytes so far are counted.
 use Rattle.std.proofs.Common.{◌≡◌, ◌+◌, ◌≤◌, length, drop}
 use Rattle.line_words.specs.Quoting.{said}
 use Rattle.line_words.specs.declared.quoting.Quoting.TheVariants.{Bare}

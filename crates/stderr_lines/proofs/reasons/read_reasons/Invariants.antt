@@ -1,4 +1,4 @@
--- the reasons so far are read
+-- The reasons so far are read.
 use Rattle.std.proofs.Common.{◌≡◌, ◌++◌, length}
 use Rattle.std.specs.Option.{option_copied}
 use Rattle.stderr_lines.specs.ReasonLines.{reasons_of}

@@ -1,4 +1,4 @@
--- the reasons so far are counted
+-- The reasons so far are counted.
 use Rattle.std.proofs.Common.{◌≡◌, ◌+◌, length}
 use Rattle.std.specs.Option.{option_copied}
 use Rattle.spool_types.specs.Effects.{texts_size}

@@ -1,4 +1,4 @@
--- the bytes so far stand in the first word
+-- The bytes so far belong to the first word.
 use Rattle.std.proofs.Common.{◌≡◌, take, drop}
 use Rattle.std.specs.List.{slice_split}
 use Rattle.stderr_lines.specs.ReasonLines.{is_separator}

@@ -7,7 +7,7 @@ use Rattle.child_pipeline.specs.StageSlots.{numbered}
 use Rattle.child_pipeline.proofs.SlotLaws.{no_slot, slot_there, inserted, own_alone, kept_exchanged}
 use Rattle.child_pipeline.proofs.runner.Runner.exchange.Goals as goal
 
--- the job has a slot
+-- The job has a slot.
 pub unreachable-requires : goal.unreachable-requires
 unreachable-requires g c = no_slot g.C.Children.number c.self.inside.keys.entries c.self.inside.slots c.args.self.now c.args.job c.self.view_is (sym c.in_default.ensures.value) c.requires
 

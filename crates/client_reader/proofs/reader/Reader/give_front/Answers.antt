@@ -1,4 +1,4 @@
--- the whole of what came is given on
+-- All of the text is passed on.
 use Rattle.std.proofs.Common.{arith}
 use Rattle.client_reader.proofs.Gives.{front_on}
 use Rattle.client_reader.proofs.reader.Reader.give_front.Goals as goal

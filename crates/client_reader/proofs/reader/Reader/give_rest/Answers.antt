@@ -1,4 +1,4 @@
--- up to the line feed, or all of it
+-- Up to the line feed, or all of it.
 use Rattle.std.proofs.Common.{◌≡◌, false, arith, sym}
 use Rattle.command_lines.specs.TextLines.{has_lf}
 use Rattle.client_reader.proofs.Gives.{IsLine, rest_on, rest_to_end}

@@ -1,4 +1,4 @@
--- no more than the send wants
+-- At most the bytes that the send needs.
 use Rattle.std.proofs.Common.{arith}
 use Rattle.client_reader.proofs.Gives.{send_on}
 use Rattle.client_reader.proofs.reader.Reader.give_send.Goals as goal

@@ -1,4 +1,4 @@
--- nothing came yet
+-- Nothing has arrived yet.
 use Rattle.std.proofs.Common.{refl}
 use Rattle.client_reader.proofs.Gives.{begins}
 use Rattle.client_reader.proofs.reader.Reader.new.Goals as goal

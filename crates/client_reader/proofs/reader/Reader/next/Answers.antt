@@ -1,4 +1,4 @@
--- the command that comes first
+-- The first command.
 use Rattle.std.proofs.Common.{refl}
 use Rattle.command_lines.specs.Steps.{GivesOne}
 use Rattle.client_reader.proofs.Gives.{gives_command}

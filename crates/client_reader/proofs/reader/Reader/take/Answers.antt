@@ -1,4 +1,4 @@
--- the piece follows what came
+-- The piece follows the earlier text.
 use Rattle.std.proofs.Common.{refl}
 use Rattle.client_reader.proofs.Gives.{takes}
 use Rattle.client_reader.proofs.reader.Reader.take.Goals as goal

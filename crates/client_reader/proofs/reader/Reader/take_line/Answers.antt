@@ -1,4 +1,4 @@
--- a word of the service, or a line that is none
+-- A word of the service, or a line that is none.
 use Rattle.std.proofs.Common.{take, sym, ap, ◌∙◌}
 use Rattle.client_reader.specs.Asks.{own_of}
 use Rattle.client_reader.proofs.Gives.{line_word, line_on}

@@ -6,7 +6,7 @@ use Rattle.command_lines.proofs.LineLaws.{more_scanned, all_scanned, place_scann
 use Rattle.command_lines.proofs.commands.Commands.line_end.Goals as goal
 use Rattle.command_lines.proofs.commands.Commands.line_end.Goals.{After-lf_place}
 
--- what is searched is what is behind `clean`
+-- The bytes that are searched are those after `clean`.
 searched : (c : After-lf_place) → take (length c.deref.result.now - c.self.inside.clean) (drop c.self.inside.clean c.deref.result.now) ≡ drop c.self.inside.clean c.self.inside.bytes.items
 searched c = take_rest c.deref.result.now c.self.inside.clean ∙ ap (drop c.self.inside.clean) c.deref.ensures.value
 

@@ -3,7 +3,7 @@ use Rattle.spool_disk.specs.Images.{Device, IsImage}
 use Rattle.disk_images.proofs.Steps.{settled, goes_on, ends, ends_exactly}
 use Rattle.disk_images.proofs.disk.ImageDiskDisk.sync.Goals as goal
 
--- the past with this moment, as it was before the call
+-- The past with this moment, as it was before the call.
 kept_from : (past mid new : List Device) (now mid_now : Device) → mid ≡ past → mid_now ≡ now → new ≡ mid ++ mid_now ∷ [] → new ≡ past ++ now ∷ []
 kept_from past mid new now mid_now same_past same_now kept = kept ∙ ap (λ (l : List Device). l ++ mid_now ∷ []) same_past ∙ ap (λ (d : Device). past ++ d ∷ []) same_now
 

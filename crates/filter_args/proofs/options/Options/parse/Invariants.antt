@@ -1,4 +1,4 @@
--- the options so far, and what the rest of the text says
+-- The options so far, and the options of the rest of the text.
 use Rattle.std.proofs.Common.{◌≡◌, true, length}
 use denote.Text.{Utf8}
 use denote.Shadow.{shadow}

@@ -1,4 +1,4 @@
--- the text so far and the pairs that are left
+-- The text so far, and the remaining pairs.
 use Rattle.std.proofs.Common.{◌≡◌, ◌++◌, string_bytes, flat_map}
 use Rattle.filter_args.specs.Printing.{after_blank, printed}
 use Rattle.filter_args.specs.OptionFields.{pairs_of}

@@ -2,7 +2,7 @@ use Rattle.std.proofs.Common.{◌≡◌, length}
 use Rattle.job_rows.specs.RowSlots.{held}
 use Rattle.job_rows.proofs.iter.IterIterator.next.Given as goal
 
--- only gone slots were passed over
+-- Only gone slots were skipped.
 abbrev pub invariant-loop-slot : goal.invariant-loop-slot
 invariant-loop-slot l = held l.self-inside.slots.now ≡ l.fn.self
 

@@ -1,4 +1,4 @@
--- the first slot that holds a row has the least number
+-- The first slot with a row has the least number.
 use Rattle.std.proofs.Common.{ap, ◌∙◌}
 use Rattle.std.specs.Prelude.{slice_get}
 use Rattle.job_rows.specs.NumberedRows.{Listed}

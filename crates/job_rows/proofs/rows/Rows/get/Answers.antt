@@ -1,4 +1,4 @@
--- the slot of the number holds the row, or there is none
+-- The slot of the number has the row, or no such slot exists.
 use Rattle.std.proofs.Common.{IsSome, None, subst}
 use Rattle.std.specs.Prelude.{IfSome, IfNone, ◌↔◌}
 use Rattle.std.specs.Borrow.{Bor}

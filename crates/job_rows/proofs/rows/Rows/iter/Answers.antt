@@ -1,4 +1,4 @@
--- no more rows than slots
+-- There are no more rows than slots.
 use Rattle.std.proofs.Common.{◌<◌, ◌^◌, length, arith}
 use Rattle.job_rows.specs.RowSlots.{held}
 use Rattle.job_rows.proofs.Holding.{length_held}

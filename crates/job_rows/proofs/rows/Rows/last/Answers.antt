@@ -1,4 +1,4 @@
--- the last slot holds the last row
+-- The last slot has the last row.
 use Rattle.std.proofs.Common.{◌-◌, length, sym, ap, ◌∙◌}
 use Rattle.std.specs.Prelude.{slice_get}
 use Rattle.job_rows.specs.NumberedRows.{Listed}

@@ -1,4 +1,4 @@
--- what is not gone is held
+-- A slot that is not gone has a row.
 use Rattle.std.proofs.Common.{◌≡◌, ◌-◌, length, ap, subst, ◌∙◌, arith}
 use Rattle.std.specs.List.Sorted.{IsStrictlyIncreasing}
 use Rattle.job_rows.specs.NumberedRows.{Listed}

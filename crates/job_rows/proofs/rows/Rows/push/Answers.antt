@@ -1,4 +1,4 @@
--- a slot more at the end, which holds the row
+-- One more slot at the end, with the row.
 use Rattle.std.proofs.Common.{◌≡◌, ◌<◌, IsTrue, List, ◌∷◌, ◌++◌, [], length, map, sym, ap, subst, ◌∙◌, arith}
 use Rattle.std.specs.Prelude.{All}
 use Rattle.std.specs.FinMap as finite

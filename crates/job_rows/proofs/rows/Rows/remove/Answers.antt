@@ -1,4 +1,4 @@
--- the slot of the number is marked as gone
+-- The slot of the number is marked as gone.
 use Rattle.std.proofs.Common.{◌≡◌, ◌+◌, IsTrue, get_or, set, map, sym, ap, subst, ◌∙◌}
 use Rattle.std.specs.FinMap as finite
 use Rattle.std.specs.Ordering.{nat_cmp}

@@ -1,4 +1,4 @@
--- the slot of the number holds the row, and whatever is written there stands under the number
+-- The slot of the number has the row, and the row that is written there is under the number.
 use Rattle.std.proofs.Common.{◌≡◌, get_or, length-set, refl, sym, ap, subst, ◌∙◌, arith}
 use Rattle.std.specs.Ordering.{nat_cmp}
 use Rattle.job_rows.specs.declared.slot.Slot.TheVariants.{Held}

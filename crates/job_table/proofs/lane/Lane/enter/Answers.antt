@@ -1,4 +1,4 @@
--- a job is put in where it stands
+-- The job is added with its lane state.
 use Rattle.std.proofs.Common.{refl, ap}
 use Rattle.job_table.specs.Lanes.{is_live}
 use Rattle.job_table.proofs.Lanes.{put_incoming, put_waiting, put_processing}

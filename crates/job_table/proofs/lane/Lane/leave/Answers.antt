@@ -1,4 +1,4 @@
--- a job leaves from where it stands
+-- The job is removed with its lane state.
 use Rattle.std.proofs.Common.{◌≡◌, ◌-◌, ◌≤◌, ap, ◌∙◌, arith}
 use Rattle.job_table.specs.Lanes.{is_live, live_count}
 use Rattle.job_table.proofs.Lanes.{one_live, left_ended, left_incoming, left_waiting, left_processing}

@@ -1,4 +1,4 @@
--- all that wait are among the jobs that haven't ended
+-- All waiting jobs are jobs that have not ended.
 use Rattle.std.proofs.Common.{◌≤◌, length, arith}
 use Rattle.job_table.proofs.Lanes.{as_many_wait, lacks}
 use Rattle.job_table.proofs.lane.Lane.list.Goals as goal

@@ -1,4 +1,4 @@
--- no job is in the lane
+-- The lane has no jobs.
 use Rattle.std.proofs.Common.{◌∙◌}
 use Rattle.job_table.proofs.Lanes.{empty_lane}
 use Rattle.job_table.proofs.lane.Lane.new.Goals as goal

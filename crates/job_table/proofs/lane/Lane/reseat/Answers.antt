@@ -1,4 +1,4 @@
--- the job leaves, and is put in again, or keeps its place
+-- The job is removed and added again, or its entry is replaced.
 use Rattle.std.proofs.Common.{◌≡◌, sym, ap, ◌∙◌}
 use Rattle.job_table.specs.declared.lane.LaneState.TheVariants.{Ended, Processing}
 use Rattle.job_table.specs.Lanes.{IsLane}

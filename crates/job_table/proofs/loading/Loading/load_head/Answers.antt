@@ -1,4 +1,4 @@
--- nothing was read before the head
+-- Nothing was read before the head.
 use Rattle.std.proofs.Common.{refl, sym, subst}
 use Rattle.job_table.specs.LoadingFields.{progress_of, IsReading}
 use Rattle.job_table.proofs.Loaded.{progress_is, reading_head}

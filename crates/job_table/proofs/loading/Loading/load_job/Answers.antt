@@ -1,4 +1,4 @@
--- a job that may come next
+-- The job may come next.
 use Rattle.std.proofs.Common.{◌≡◌, [], ◌∷◌, refl, sym, ap, subst, ◌∙◌}
 use Rattle.spool_types.specs.State.{Job}
 use Rattle.spool_types.specs.declared.listing.Row.TheVariants.{Job as JobRow}

@@ -1,4 +1,4 @@
--- the next piece of the last job
+-- The next piece of the last job.
 use Rattle.std.proofs.Common.{◌∷◌, length, Some, rules, refl, sym, ap, subst, ◌∙◌}
 use Rattle.std.specs.Option.{option_map}
 use Rattle.spool_types.specs.declared.listing.Row.TheVariants.{Piece}

@@ -1,4 +1,4 @@
--- a queue that may come next
+-- The queue may come next.
 use Rattle.std.proofs.Common.{refl, sym, subst}
 use Rattle.job_table.specs.Loading.{IsNextQueue, Loaded}
 use Rattle.job_table.specs.LoadingFields.{progress_of}

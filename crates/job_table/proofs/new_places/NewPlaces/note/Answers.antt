@@ -1,4 +1,4 @@
--- the document is changed where it stands
+-- The document is changed at its position.
 use Rattle.std.proofs.Common.{◌-◌, ◌==◌, ◌<◌, ◌++◌, ◌∷◌, [], if◌then◌else◌, IsSome, sym, ap, subst, ◌∙◌, arith}
 use Rattle.std.specs.Ordering.{nat_cmp}
 use Rattle.std.specs.FinMap as finite

@@ -1,4 +1,4 @@
--- one document more
+-- One more document.
 use Rattle.std.proofs.Common.{◌++◌, ◌∷◌, [], List, IsTrue, map, sym, subst, ◌∙◌}
 use Rattle.std.specs.Ordering.{nat_cmp}
 use Rattle.std.specs.FinMap as finite

@@ -1,4 +1,4 @@
--- the documents so far are those of the rows so far
+-- The documents so far are those of the visited rows.
 use Rattle.std.proofs.Common.{map}
 use Rattle.job_table.specs.Lanes.{AreBeside}
 use Rattle.job_table.specs.Noted.{IsNewOf}

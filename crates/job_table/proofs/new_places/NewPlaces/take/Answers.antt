@@ -1,4 +1,4 @@
--- the document gives its extents away where it stands
+-- The extents are taken out of the document at its position.
 use Rattle.std.proofs.Common.{◌-◌, sym, ap, ◌∙◌}
 use Rattle.std.specs.Prelude.{vec_capacity, vec_len}
 use Rattle.std.specs.Ordering.{nat_cmp}

@@ -1,4 +1,4 @@
--- the verdict is the one of the job's queue
+-- The verdict is that of the job's queue.
 use Rattle.std.proofs.Common.{sym, subst}
 use Rattle.job_table.specs.Attempts.{lost_by}
 use Rattle.job_table.specs.Legal.{IsLegal}

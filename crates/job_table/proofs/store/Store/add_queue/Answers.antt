@@ -1,4 +1,4 @@
--- the row goes into its gap
+-- The row is inserted at its gap.
 use Rattle.std.proofs.Common.{◌<◌, sym, ap, subst, ◌∙◌, arith}
 use Rattle.std.specs.FinMap as finite
 use Rattle.spool_types.specs.declared.event.Event.TheVariants.{AddQueue}

@@ -1,4 +1,4 @@
--- the row goes last, as no job has a number above the highest
+-- The row is appended, because no job has a number above the highest.
 use Rattle.std.proofs.Common.{◌≡◌, ◌<◌, ◌≤◌, ◌++◌, ◌∷◌, [], length, sym, ap, subst, ◌∙◌, arith}
 use Rattle.std.specs.Prelude.{All}
 use Rattle.std.specs.List.{insert}
@@ -16,7 +16,7 @@ use Rattle.job_table.proofs.Rooms.{room_seen}
 use Rattle.job_table.proofs.Steps.{reply_creation, below_new, create_state, create_ordered, create_room, create_places}
 use Rattle.job_table.proofs.store.Store.create.Goals as goal
 
--- at the end the row stands where the search would put it
+-- The end of the rows is the position at which a search would insert the row.
 at_end : (old new : Listed) (row : JobRow) → new.items ≡ old.items ++ row ∷ [] → new.items ≡ insert old.items (length old.items) row
 at_end old new row items = items ∙ sym (insert_last old.items row)
 

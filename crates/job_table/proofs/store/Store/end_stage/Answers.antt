@@ -1,4 +1,4 @@
--- the effects are folded, and the verdict is then the one of the job's queue
+-- The effects are folded in first, and the verdict is that of the job's queue.
 use Rattle.std.proofs.Common.{◌≡◌, refl, sym, ap, subst, ◌∙◌}
 use Rattle.job_table.specs.Attempts.{is_processing_at, rule_at, stage_verdict, with_effects}
 use Rattle.job_table.specs.Legal.{IsLegal}

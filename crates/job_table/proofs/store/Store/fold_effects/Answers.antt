@@ -1,4 +1,4 @@
--- the queue keeps the job
+-- The job still exists after the change of its queue.
 use Rattle.std.proofs.Common.{IsSome, sym, ap, subst, ◌∙◌}
 use Rattle.row_effects.specs.EffectFold.{queue_after}
 use Rattle.row_effects.specs.Room.{HasRoom}

@@ -1,4 +1,4 @@
--- the row is changed where it stands
+-- The row is changed at its position.
 use Rattle.std.proofs.Common.{IsSome, refl, sym, ap, subst, ◌∙◌}
 use Rattle.std.specs.FinMap as finite
 use Rattle.spool_types.specs.State.{State, job_at}

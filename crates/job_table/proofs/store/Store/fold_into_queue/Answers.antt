@@ -1,4 +1,4 @@
--- the queue of the job is changed where it stands
+-- The queue of the job is changed at its position.
 use Rattle.std.proofs.Common.{◌≡◌, Some, refl, sym, ap, subst, ◌∙◌}
 use Rattle.std.specs.FinMap as finite
 use Rattle.row_effects.specs.EffectFold.{queue_after}

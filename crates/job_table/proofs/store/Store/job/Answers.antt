@@ -1,4 +1,4 @@
--- the row that was read is the one that the map has
+-- The row that was read is the one in the map.
 use Rattle.std.proofs.Common.{◌≡◌, [], true, None, Some, Option, ap, ◌∙◌}
 use Rattle.std.specs.Prelude.{IfSome}
 use Rattle.std.specs.Borrow.{Bor}

@@ -1,4 +1,4 @@
--- each row has its document at the new places
+-- Each row has its document at the new places.
 use Rattle.std.proofs.Common.{refl, sym, ap, subst, ◌∙◌}
 use Rattle.job_rows.specs.NumberedRows.{Listed}
 use Rattle.job_table.specs.Contents.{Contents, HasMoves}

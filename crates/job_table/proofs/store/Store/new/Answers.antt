@@ -1,4 +1,4 @@
--- no rows make empty maps
+-- The maps of no rows are empty.
 use Rattle.std.proofs.Common.{map, refl, sym, ap, subst, arith}
 use Rattle.std.specs.Ordering.{nat_cmp}
 use Rattle.std.specs.Cmp.Lexicographic.{slice_cmp}

@@ -1,4 +1,4 @@
--- the row of a job that has ended is taken out at its place
+-- The row of a job that has ended is removed at its position.
 use Rattle.std.proofs.Common.{◌≡◌, Some, sym, ap, ◌∙◌}
 use Rattle.std.specs.FinMap as finite
 use Rattle.spool_types.specs.declared.event.Event.TheVariants.{Purge}

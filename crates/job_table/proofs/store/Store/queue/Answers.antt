@@ -1,4 +1,4 @@
--- the row that was read is the one that the map has
+-- The row that was read is the one in the map.
 use Rattle.std.proofs.Common.{Some, sym, ap, ◌∙◌}
 use Rattle.std.specs.FinMap as finite
 use Rattle.job_table.proofs.Tables.{get_queue, get_no_queue}

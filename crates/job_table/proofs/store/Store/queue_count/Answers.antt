@@ -1,4 +1,4 @@
--- as many entries as rows
+-- The number of entries is the number of rows.
 use Rattle.std.proofs.Common.{sym, ap, ◌∙◌}
 use Rattle.std.specs.FinMap as finite
 use Rattle.job_table.proofs.Tables.{len_queues}

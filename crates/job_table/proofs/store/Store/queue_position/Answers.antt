@@ -1,4 +1,4 @@
--- a place among the rows is one among the names
+-- A position among the rows is one among the names.
 use Rattle.std.proofs.Common.{IsSome, refl, sym, subst}
 use Rattle.std.specs.FinMap as finite
 use Rattle.spool_types.specs.State.{queue_at}

@@ -1,4 +1,4 @@
--- the rows are the map's values
+-- The rows are the values of the map.
 use Rattle.std.proofs.Common.{map, sym, ap, subst, ◌∙◌}
 use Rattle.std.specs.FinMap as finite
 use Rattle.job_table.specs.Legal.{IsLegal}

@@ -1,4 +1,4 @@
--- bytes are sent to a job that hasn't ended
+-- Bytes are only sent to a job that has not ended.
 use Rattle.std.proofs.Common.{◌≡◌, None, refl, subst}
 use Rattle.spool_types.specs.Phases.{is_incoming}
 use Rattle.spool_types.specs.declared.event.Event.TheVariants.{Send}

@@ -1,4 +1,4 @@
--- the row keeps its meaning, and its document has the room
+-- The meaning of the row does not change, and its document has the room.
 use Rattle.std.proofs.Common.{◌+◌, ◌≤◌, sym, ap, subst, ◌∙◌, arith, IsSome}
 use Rattle.std.specs.Vec.{vec_len, vec_capacity}
 use Rattle.std.specs.FinMap as finite

@@ -1,4 +1,4 @@
--- the job and its queue are changed where they stand
+-- The job and its queue are changed at their positions.
 use Rattle.std.proofs.Common.{◌≡◌, Some, IsSome, sym, ap, subst, ◌∙◌}
 use Rattle.std.specs.FinMap as finite
 use Rattle.job_rows.specs.NumberedRows.{position_in}

@@ -1,4 +1,4 @@
--- the row is changed where it stands
+-- The row is changed at its position.
 use Rattle.std.proofs.Common.{refl, ap, ◌∙◌}
 use Rattle.std.specs.FinMap as finite
 use Rattle.spool_types.specs.declared.event.Event.TheVariants.{SetAccept}

@@ -1,4 +1,4 @@
--- the job's queue is there in a legal table
+-- In a legal table the job's queue exists.
 use Rattle.std.proofs.Common.{◌≡◌, Some, sym, ap, ◌∙◌}
 use Rattle.std.specs.FinMap as finite
 use Rattle.spool_types.specs.State.{job_of, job_at}

@@ -1,4 +1,4 @@
--- the closure compares a row's name with the name that is looked for
+-- The closure compares a row's name with the given name.
 use Rattle.std.proofs.Common.{rules}
 use Rattle.std.specs.Ordering.{nat_cmp}
 use Rattle.std.specs.Cmp.Lexicographic.{slice_cmp, nat_list_cmp_total}

@@ -1,4 +1,4 @@
--- the documents of the rows so far have moved, and the places of the others are still noted
+-- The documents of the visited rows have moved, and the places of the others are still noted.
 use Rattle.std.proofs.Common.{◌≡◌, ℕ, ◌<◌, ◌≤◌, length, slice_index_or}
 use Rattle.std.specs.Prelude.{slice_get}
 use Rattle.std.specs.Ordering.{nat_cmp}

@@ -1,4 +1,4 @@
--- the extents have so many bytes more
+-- The extents have the length of the new bytes more.
 use Rattle.std.proofs.Common.{◌+◌, cond, length, sym, ap, ◌∙◌, arith}
 use Rattle.extents.specs.declared.extent.Extent.{Extent}
 use Rattle.extents.specs.Extents.{size_of}

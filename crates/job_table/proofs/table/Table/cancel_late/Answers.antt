@@ -1,4 +1,4 @@
--- one late job more is canceled; where none is listed, none is late
+-- One more late job is canceled. If no deadline has passed, no job is late.
 use Rattle.std.proofs.Common.{◌≡◌, ℕ, ◌<◌, true, Some, refl, sym, ap, subst, ◌∙◌}
 use Rattle.std.specs.List.{Contains}
 use Rattle.spool_types.specs.declared.event.Event.TheVariants.{Cancel}
@@ -22,7 +22,7 @@ module _ (a : Inside) (v : Contents) (view : table_of a ≡ v) (is : IsInLanes a
   timely : IsTimely (job_at v.state) a.timetable
   timely = subst (λ (w : Contents). IsTimely (job_at w.state) a.timetable) view is.timely
 
-  -- the job that is listed first
+  -- The job with the first deadline.
   late_first : (now j : ℕ) → (d : Deadline) × Contains a.timetable.deadlines.items d × (d.id ≡ j) × (d.by < now) → (r : Job) × (job_at v.state j ≡ Some r) × (is_late now r ≡ true)
   late_first now = late_listed now v.state a.timetable timely
 

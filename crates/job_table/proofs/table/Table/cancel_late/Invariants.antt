@@ -1,4 +1,4 @@
--- the jobs that are still to be canceled, and that nothing else has changed
+-- The jobs that are still to be canceled. Nothing else has changed.
 use Rattle.std.proofs.Common.{◌≡◌}
 use Rattle.job_table.specs.EventChanges.{at_moment, change_jobs}
 use Rattle.job_table.specs.Contents.{HasNoMore, KeepsPlaces}

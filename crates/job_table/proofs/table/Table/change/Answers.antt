@@ -1,4 +1,4 @@
--- an event about a queue that is there leaves the jobs, and so the lanes and the timetable
+-- An event about an existing queue leaves the jobs unchanged, and so the lanes and the timetable.
 use Rattle.std.proofs.Common.{◌≡◌, None, sym, ap, subst, ◌∙◌}
 use Rattle.spool_types.specs.Sent.{sent_by, with_placed}
 use Rattle.job_table.specs.Contents.{Contents, places_at}

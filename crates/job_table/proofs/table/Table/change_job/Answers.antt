@@ -1,4 +1,4 @@
--- the job goes to where it stands then in the lane of its queue, and its deadline with it; no other job stands elsewhere
+-- The job gets its new lane state and its new deadline. No other lane state changes.
 use Rattle.std.proofs.Common.{◌≡◌, None, sym, ap, subst, ◌∙◌, arith}
 use Rattle.std.specs.Prelude.{is_some}
 use Rattle.spool_types.specs.Sent.{sent_by, with_placed}
@@ -13,7 +13,7 @@ use Rattle.job_table.proofs.Seats.{Goes, goes, gone, gone_there, goes_from, goes
 use Rattle.job_table.proofs.table.Table.change_job.Goals as goal
 use Rattle.job_table.proofs.table.Table.change_job.Goals.{After-commit-reply}
 
--- what the event makes of the rows
+-- The effect of the event on the rows.
 rows : (c : After-commit-reply) → Goes c.self.inside.store.state c.commit-reply.new.self.state c.args.job
 rows c =
     let s = c.self.inside.store.state in
@@ -42,7 +42,7 @@ reseat-requires-clause-own c = λ e waits.
     let g = rows (goal.at.reseat-requires-clause-own c).After-commit-reply in
     goes_number _ _ _ g e (sym (c.seat-to.ensures.lane_state (gone _ _ _ g) (gone_there _ _ _ g)) ∙ waits)
 
--- it hasn't ended before
+-- The job had not ended before.
 pub reseat-requires-clause-room : goal.reseat-requires-clause-room
 reseat-requires-clause-room c = λ live dead.
     let g = rows (goal.at.reseat-requires-clause-room c).After-commit-reply in
@@ -54,7 +54,7 @@ reseat-requires-clause-alone c = λ busy.
     goes_alone _ _ _ g c.self.inside.vacant c.self.inside.lanes.items c.self.invariant.lanes c.seat-place.result.0 (c.seat-place.ensures.place g.row g.there)
     c.index_mut.result.now c.index_mut.ensures.value (sym (c.seat-to.ensures.lane_state (gone _ _ _ g) (gone_there _ _ _ g)) ∙ busy)
 
--- its deadline goes, comes or stays
+-- The deadline is removed, added or unchanged.
 pub change-requires : goal.change-requires
 change-requires c =
     let g = rows (goal.at.change-requires c).After-commit-reply in

@@ -1,4 +1,4 @@
--- the late jobs are canceled, and then the moment comes to each lane
+-- The late jobs are canceled, and then the moment is set in each lane.
 use Rattle.std.proofs.Common.{◌≡◌, ℕ, ◌<◌, ◌≤◌, [], cond, length, get_or, sym, ap, subst, ◌∙◌, arith, rules}
 use Rattle.std.specs.FinMap as finite
 use Rattle.std.specs.Ordering.{nat_cmp, is_lt}

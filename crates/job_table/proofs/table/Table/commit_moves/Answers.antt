@@ -1,4 +1,4 @@
--- the lanes stay, as no row says anything else
+-- The lanes do not change, because the jobs and queues of the rows do not.
 use Rattle.std.proofs.Common.{sym, ap, subst, ◌∙◌}
 use Rattle.job_table.specs.Contents.{Contents, Noted, HasMoves, move_room, places_of}
 use Rattle.job_table.proofs.Held.{held_same}

@@ -1,4 +1,4 @@
--- the index of the queue's lane
+-- The index of the queue's lane.
 use Rattle.job_table.proofs.Indexed.{index_of}
 use Rattle.job_table.proofs.table.Table.index.Goals as goal
 

@@ -1,4 +1,4 @@
--- a job is the next of its queue where its number was chosen
+-- A job is the next of its queue if its number was chosen.
 use Rattle.std.proofs.Common.{refl, sym, ◌∙◌}
 use Rattle.std.proofs.lemmas.Bool.{eqb-true, eqb-false}
 use Rattle.job_table.proofs.Choice.{next_none, next_some}

@@ -1,4 +1,4 @@
--- the lane at the place of the queue
+-- The lane at the position of the queue.
 use Rattle.std.proofs.Common.{sym, ap, subst, ◌∙◌}
 use Rattle.std.specs.Option.{is_some, IsSome}
 use Rattle.std.proofs.lemmas.Bool.{both_ways}

@@ -1,4 +1,4 @@
--- each queue has its lane, and each deadline is in the timetable
+-- Each queue has its lane, and each deadline is in the timetable.
 use Rattle.std.proofs.Common.{subst, arith}
 use Rattle.job_table.specs.Lanes.{AreBeside, IsAdvanced}
 use Rattle.job_table.specs.LaneDrafts.{drafted}

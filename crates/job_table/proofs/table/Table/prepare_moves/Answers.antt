@@ -1,4 +1,4 @@
--- the rows are those of the table
+-- The rows are those of the table.
 use Rattle.std.proofs.Common.{IsTrue, sym, ap, subst, ◌∙◌}
 use Rattle.std.specs.Ordering.{nat_cmp}
 use Rattle.std.specs.FinMap as finite

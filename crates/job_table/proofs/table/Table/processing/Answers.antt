@@ -1,4 +1,4 @@
--- the lane of the queue tells it
+-- The processing job is read from the queue's lane.
 use Rattle.std.proofs.Common.{refl, ◌∙◌}
 use Rattle.job_table.proofs.Busy.{lane_busy, none_busy}
 use Rattle.job_table.proofs.table.Table.processing.Goals as goal

@@ -1,4 +1,4 @@
--- the job stood in no lane, and had no deadline
+-- The job was in no lane and had no deadline.
 use Rattle.std.proofs.Common.{◌≡◌, None, sym, ap, subst, ◌∙◌, arith}
 use Rattle.spool_types.specs.declared.event.Event.TheVariants.{Purge}
 use Rattle.spool_types.specs.State.{job_at}

@@ -1,4 +1,4 @@
--- the extent is noted
+-- The extent is noted.
 use Rattle.std.proofs.Common.{◌-◌, ◌==◌, ◌<◌, ◌++◌, ◌∷◌, [], if◌then◌else◌, IsSome, Some, sym, ap, subst, ◌∙◌}
 use Rattle.std.specs.Ordering.{nat_cmp}
 use Rattle.std.specs.FinMap as finite

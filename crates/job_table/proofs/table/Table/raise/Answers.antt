@@ -1,4 +1,4 @@
--- another version changes no queue and no job
+-- Another version changes no queue and no job.
 use Rattle.std.proofs.Common.{refl, sym, subst}
 use Rattle.job_table.specs.Legal.{IsLegal}
 use Rattle.job_table.proofs.Held.{held_stays}

@@ -1,4 +1,4 @@
--- each lane has its jobs as before, and room for one more where all was found
+-- Each lane has its jobs as before, and room for one more if no allocation failed.
 use Rattle.std.proofs.Common.{◌≡◌, ℕ, ◌+◌, ◌<◌, ◌≤◌, List, [], length, get_or, sym, ap, subst, ◌∙◌, arith}
 use Rattle.std.specs.Vec.{with_items}
 use Rattle.std.proofs.lemmas.List.{with_items_is}
@@ -14,7 +14,7 @@ use Rattle.job_table.proofs.table.Table.reserve_job.Goals as goal
 same_before : (old was new : List Lane) → was ≡ old → ((i : ℕ) (d : Lane) → i < length new → IsSameLane (get_or was i d) (get_or new i d)) → (i : ℕ) (d : Lane) → i < length new → IsSameLane (get_or old i d) (get_or new i d)
 same_before old was new same each i d lt = subst (λ ls. IsSameLane (get_or ls i d) (get_or new i d)) same (each i d lt)
 
--- what was spare is spare in the same lanes
+-- The spare room of the lanes is not smaller than before.
 still_spare : (s : State) (v : ℕ) (old new : List Lane) → AreLanes s v old → length new ≡ length old → ((i : ℕ) (d : Lane) → i < length new → IsSameLane (get_or old i d) (get_or new i d))
     → (i : ℕ) (d : Lane) → i < length new → (get_or new i d).live + v ≤ (get_or new i d).reserved
 still_spare s v old new are count each i d lt =
@@ -22,7 +22,7 @@ still_spare s v old new are count each i d lt =
     let now = each i d lt in
     omega (arith, was.spare, now.live, now.reserved)
 
--- the lanes once some of them have more room
+-- The lanes after some of them have more room.
 module _ (a : Inside) (is : IsInLanes a) (seen new : List Lane) (value : seen ≡ a.lanes.items) (same : length new ≡ length seen) (each : (i : ℕ) (d : Lane) → i < length new → IsSameLane (get_or seen i d) (get_or new i d)) where
   count : length new ≡ length a.lanes.items
   count = same ∙ ap length value

@@ -1,4 +1,4 @@
--- no row changes, and no lane
+-- No row and no lane changes.
 use Rattle.std.proofs.Common.{sym, subst}
 use Rattle.job_table.specs.Lanes.{AreLanes}
 use Rattle.job_table.proofs.Held.{held_same}

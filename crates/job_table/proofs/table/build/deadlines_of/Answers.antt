@@ -1,4 +1,4 @@
--- the closure gives the deadline of a row's job
+-- The closure returns the deadline of a row's job.
 use Rattle.std.proofs.Common.{rules, tests}
 use Rattle.std.proofs.lemmas.Iterator.{items_from_collect}
 use Rattle.std.proofs.lemmas.Iterator.Consumers.{YieldsList-from_filter_map, YieldsList-from_first}

@@ -1,4 +1,4 @@
--- a job more is in the draft of its queue
+-- One more job is in the draft of its queue.
 use Rattle.std.proofs.Common.{◌+◌, ◌≤◌, [], ◌∷◌, length, set, sym, ap, subst, ◌∙◌, arith}
 use Rattle.std.proofs.lemmas.List.{length-append, length-map}
 use Rattle.spool_types.specs.State.{job_of}

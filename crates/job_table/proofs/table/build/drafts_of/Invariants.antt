@@ -1,4 +1,4 @@
--- the jobs so far are in the drafts
+-- The visited jobs are in the drafts.
 use Rattle.std.proofs.Common.{length}
 use Rattle.job_table.proofs.Begun.{AreBegun}
 use Rattle.job_table.proofs.table.build.drafts_of.Given as goal

@@ -1,4 +1,4 @@
--- the drafts so far have no jobs
+-- The drafts so far have no jobs.
 use Rattle.std.proofs.Common.{◌≡◌, length}
 use Rattle.std.specs.List.{All}
 use Rattle.job_table.specs.LaneDrafts.{IsBlank}

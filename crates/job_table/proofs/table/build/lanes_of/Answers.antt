@@ -1,4 +1,4 @@
--- one lane more
+-- One more lane.
 use Rattle.std.proofs.Common.{sym, subst}
 use Rattle.job_table.specs.LaneDrafts.{drafted}
 use Rattle.job_table.specs.Lanes.{AreBeside, IsAdvanced}

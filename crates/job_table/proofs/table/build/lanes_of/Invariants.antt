@@ -1,4 +1,4 @@
--- the lanes so far are those of the drafts so far
+-- The lanes so far are those of the visited drafts.
 use Rattle.job_table.specs.LaneDrafts.{drafted}
 use Rattle.job_table.specs.Lanes.{AreBeside, IsAdvanced}
 use Rattle.job_table.proofs.table.build.lanes_of.Given as goal

@@ -1,4 +1,4 @@
--- the closure tells whether a row's job is to start by a moment
+-- The closure returns whether a row's job must start by a moment.
 use Rattle.std.proofs.Common.{rules, tests, ◌∙◌}
 use Rattle.std.specs.Prelude.{is_some}
 use Rattle.std.proofs.lemmas.Iterator.Consumers.{count_from_yields_List, YieldsList-from_filter, YieldsList-from_first}

@@ -1,4 +1,4 @@
--- the timetable of all jobs
+-- The timetable of all jobs.
 use Rattle.std.proofs.Common.{ℕ, Option, sym, subst}
 use Rattle.std.proofs.lemmas.Result.{IfOk-weaker}
 use Rattle.queue_sched.specs.Deadlines.{HasEachDeadlineOnce}

@@ -1,4 +1,4 @@
--- a job's queue is there
+-- The queue of the job exists.
 use Rattle.std.proofs.Common.{refl, sym}
 use Rattle.spool_types.specs.State.{job_of}
 use Rattle.job_table.proofs.Tables.{needed_and_not}

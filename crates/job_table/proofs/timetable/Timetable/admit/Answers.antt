@@ -1,4 +1,4 @@
--- a job more, and no deadline
+-- One more job, and no new deadline.
 use Rattle.std.proofs.Common.{refl}
 use Rattle.job_table.proofs.Timely.{admitted_free, admitted_timed}
 use Rattle.job_table.proofs.timetable.Timetable.admit.Goals as goal

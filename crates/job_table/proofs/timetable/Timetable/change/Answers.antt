@@ -1,4 +1,4 @@
--- the deadline comes, goes, or stays
+-- The deadline is added, removed or unchanged.
 use Rattle.std.proofs.Common.{sym, ap, subst, ◌∙◌}
 use Rattle.std.specs.Prelude.{Some}
 use Rattle.job_table.specs.Timely.{IsRetimed}

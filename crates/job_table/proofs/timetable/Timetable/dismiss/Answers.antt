@@ -1,4 +1,4 @@
--- a job fewer, and no deadline
+-- One job less, and no removed deadline.
 use Rattle.std.proofs.Common.{arith}
 use Rattle.job_table.proofs.Timely.{dismissed_free, dismissed_timed}
 use Rattle.job_table.proofs.timetable.Timetable.dismiss.Goals as goal

@@ -1,4 +1,4 @@
--- a job that is to start by a moment, and has no deadline there, is one of those that there is room for
+-- A job that must start by a moment and has no deadline in the list is one of the jobs for which there is room.
 use Rattle.std.proofs.Common.{◌<◌, length, refl, arith}
 use Rattle.job_table.proofs.Timely.{room_for_one}
 use Rattle.job_table.proofs.timetable.Timetable.list.Goals as goal

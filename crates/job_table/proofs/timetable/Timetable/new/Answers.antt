@@ -1,4 +1,4 @@
--- no job has a deadline
+-- No job has a deadline.
 use Rattle.job_table.proofs.Timely.{no_deadlines}
 use Rattle.job_table.proofs.timetable.Timetable.new.Goals as goal
 

@@ -1,4 +1,4 @@
--- the sorted deadlines are the given ones
+-- The sorted deadlines are the given ones.
 use Rattle.std.proofs.Common.{arith}
 use Rattle.job_table.proofs.Timely.{sorted_timely}
 use Rattle.job_table.proofs.timetable.Timetable.of_deadlines.Goals as goal

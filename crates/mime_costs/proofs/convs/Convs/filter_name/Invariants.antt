@@ -1,4 +1,4 @@
--- none of the conversions so far has the line
+-- None of the conversions so far has the line.
 use Rattle.std.proofs.Common.{◌≡◌, ℕ, ◌<◌, get_or}
 use Rattle.mime_costs.specs.declared.conversion.Conversion.{Conversion}
 use Rattle.mime_costs.proofs.convs.Convs.filter_name.Given as goal

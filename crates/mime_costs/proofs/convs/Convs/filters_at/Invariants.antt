@@ -1,4 +1,4 @@
--- the programs of the lines so far
+-- The programs of the lines so far.
 use Rattle.std.proofs.Common.{◌≡◌, ◌≤◌, List, length, map, take}
 use Rattle.std.specs.List.{All, Contains}
 use Rattle.mime_costs.specs.Walks.{line_of}

@@ -1,4 +1,4 @@
--- the sources of the conversions that are done
+-- The sources of the conversions so far.
 use Rattle.std.proofs.Common.{◌≡◌, List, ◌++◌, length}
 use Rattle.mime_costs.specs.declared.conversion.Conversion.{Conversion}
 use Rattle.mime_costs.proofs.SourceLaws.{Known}

@@ -9,7 +9,7 @@ use Rattle.program_lists.proofs.list.ProgramList.read.Goals as goal
 abbrev nowhere : Bor (List ℕ)
 nowhere = record { ref_ptr = (0, 0); now = [] }
 
--- whether the line fits, in the words of the lines so far
+-- Whether the line fits, by the contents of the lines so far.
 fit : (list : Programs) (said : Said) (bytes : List ℕ) (line : Bor (List ℕ)) (before : List Said) (v w : Bool)
     → list ≡ programs_of before → said ≡ said_by (words_of bytes) → bytes ≡ line.now → v ≡ fits list said → v ≡ w → fits (programs_of before) (says line) ≡ w
 fit list said bytes line before v w same told at fitting is =

@@ -1,4 +1,4 @@
--- the programs of the lines so far, which were read
+-- The programs of the lines so far, which were accepted.
 use Rattle.std.proofs.Common.{◌≡◌, true, map, take}
 use Rattle.program_lists.specs.Programs.{programs_of, reads_of}
 use Rattle.program_lists.proofs.ListLaws.{says}

@@ -1,4 +1,4 @@
--- the first one is not before the moment, and no other is earlier
+-- The first deadline is not before the moment, and no other is earlier.
 use Rattle.std.proofs.Common.{sym, subst, ◌∙◌, arith}
 use Rattle.std.proofs.lemmas.Map.Keys.{ge_from_not_lt}
 use Rattle.std.specs.List.{Contains}

@@ -1,4 +1,4 @@
--- the sorted deadlines are the given ones
+-- The sorted deadlines are the given ones.
 use Rattle.std.proofs.Common.{List, sym, subst}
 use Rattle.std.proofs.lemmas.List.Sorted.{length_permutation}
 use Rattle.std.specs.List.Sorted.{IsPermutation}

@@ -1,4 +1,4 @@
--- a deadline less
+-- One less deadline.
 use Rattle.std.proofs.Common.{◌↔◌, ◌≡◌, length, sym, ap, subst, arith}
 use Rattle.std.proofs.lemmas.List.Edits.{length-remove}
 use Rattle.std.specs.List.{Contains}

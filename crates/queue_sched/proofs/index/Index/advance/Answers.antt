@@ -1,4 +1,4 @@
--- before the due moment nothing changes
+-- Before the due moment nothing changes.
 use Rattle.std.proofs.Common.{◌≤◌, sym, subst, ◌∙◌}
 use Rattle.queue_sched.specs.Lists.{IsBefore}
 use Rattle.queue_sched.proofs.Due.{same_later, until_later}

@@ -1,4 +1,4 @@
--- the entries are those of the list
+-- The entries are those of the list.
 use Rattle.std.proofs.Common.{subst}
 use Rattle.std.specs.Option.{IsNone}
 use Rattle.queue_sched.specs.WaitingIndex.{LacksJob}

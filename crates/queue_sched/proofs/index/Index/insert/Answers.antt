@@ -1,4 +1,4 @@
--- an entry more
+-- One more entry.
 use Rattle.std.proofs.Common.{◌≡◌, ◌+◌, ◌<◌, ◌⊎◌, ◌↔◌, length, true, false, sym, ap, subst, ◌∙◌, arith}
 use Rattle.std.specs.List.{Contains}
 use Rattle.queue_sched.specs.WaitingIndex.{LacksJob, is_startable}

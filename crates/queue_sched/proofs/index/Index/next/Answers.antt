@@ -1,4 +1,4 @@
--- the first of those that may be started
+-- The first of the startable entries.
 use Rattle.std.proofs.Common.{◌≡◌, ◌<◌, length, get_or, refl, subst, ap, arith}
 use Rattle.std.specs.List.{filter}
 use Rattle.queue_sched.specs.WaitingIndex.{is_startable, IsFirstStartable, NoneIsStartable}

@@ -1,4 +1,4 @@
--- an entry in the place of another one
+-- An entry is replaced by another one.
 use Rattle.std.proofs.Common.{◌≡◌, ◌⊎◌, ◌↔◌, length, true, false, sym, ap, subst, ◌∙◌, arith}
 use Rattle.std.specs.List.{Contains, filter}
 use Rattle.queue_sched.specs.WaitingIndex.{InOrder, is_startable}
@@ -20,7 +20,7 @@ take_ready-requires c = λ passes.
     subst (λ l. Contains l c.args.from) (sym c.self.invariant.ready)
     ((has_passed (is_startable a.moment) a.entries.items c.args.from).1 (subst (λ w. Contains w.items c.args.from) (sym c.self.view_is) c.requires.there, passes))
 
--- what is left of those that may be started
+-- The remaining startable entries.
 left : (c : After-take_ready) → c.take_ready.new.self.items ≡ filter (is_startable c.self.inside.moment) c.exchange.ensures.items.rest
 left c =
     let a = c.self.inside in

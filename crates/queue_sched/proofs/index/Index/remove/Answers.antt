@@ -1,4 +1,4 @@
--- an entry less
+-- One less entry.
 use Rattle.std.proofs.Common.{◌≡◌, ◌+◌, ◌↔◌, length, refl, sym, subst, arith}
 use Rattle.std.specs.List.{Contains}
 use Rattle.queue_sched.specs.WaitingIndex.{InOrder, is_startable}

@@ -1,4 +1,4 @@
--- an entry of a job for another one
+-- The entry of a job is replaced by another one.
 use Rattle.std.proofs.Common.{◌≡◌, inl, inr, refl, ◌∙◌}
 use Rattle.std.proofs.Math.Logic.{⊎_elim}
 use Rattle.std.specs.List.{Contains}

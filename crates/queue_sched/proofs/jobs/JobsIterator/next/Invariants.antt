@@ -1,4 +1,4 @@
--- no number is passed over
+-- No number is skipped.
 use Rattle.std.proofs.Common.{◌≡◌, length}
 use Rattle.std.specs.VecDeque.Iter.{deque_iter_rest}
 use Rattle.queue_sched.specs.Jobs.{numbers_left}

@@ -1,4 +1,4 @@
--- the entries are those of the slots
+-- The entries are those of the slots.
 use Rattle.std.proofs.Common.{subst}
 use Rattle.queue_sched.specs.Lists.{IsSameUntil}
 use Rattle.queue_sched.proofs.waiting_entries.WaitingEntries.due.Goals as goal

@@ -1,4 +1,4 @@
--- the slot has the other entry
+-- The slot has the other entry.
 use Rattle.std.proofs.Common.{sym, subst, arith}
 use Rattle.std.specs.List.{Contains}
 use Rattle.queue_sched.specs.OrderSlots.{items_of}

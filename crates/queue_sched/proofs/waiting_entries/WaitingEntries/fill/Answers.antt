@@ -1,4 +1,4 @@
--- the slots are those of the entries
+-- The slots are those of the entries.
 use Rattle.std.proofs.Common.{length, sym, ap, subst, ◌∙◌, arith}
 use Rattle.std.proofs.lemmas.List.{length-map}
 use Rattle.queue_sched.specs.OrderSlots.{items_of, there_of, InSlotOrder, IsFirstThere}

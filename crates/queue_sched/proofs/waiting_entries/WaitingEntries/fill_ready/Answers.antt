@@ -1,4 +1,4 @@
--- the slots are those of the entries that may be started
+-- The slots are those of the startable entries.
 use Rattle.std.proofs.Common.{length, sym, ap, subst, ◌∙◌, arith}
 use Rattle.std.specs.List.{filter}
 use Rattle.queue_sched.specs.WaitingIndex.{is_startable}

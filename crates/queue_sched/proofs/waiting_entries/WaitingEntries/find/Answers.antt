@@ -1,4 +1,4 @@
--- the entries are those of the slots
+-- The entries are those of the slots.
 use Rattle.std.proofs.Common.{◌≡◌, IfSome, subst}
 use Rattle.std.specs.Option.{IsNone, option_copied}
 use Rattle.std.specs.List.{Contains}

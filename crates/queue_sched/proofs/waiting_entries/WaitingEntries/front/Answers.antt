@@ -1,4 +1,4 @@
--- the first slot's entry is there
+-- The first slot is not gone.
 use Rattle.std.proofs.Common.{◌≡◌, rules, None, slice_get, ap, ◌∙◌, arith}
 use Rattle.std.specs.Option.{option_copied}
 use Rattle.queue_sched.proofs.SlotLists.{first_item, first_none}

@@ -1,4 +1,4 @@
--- a slot more, or one that is taken again
+-- One more slot, or a gone slot that is taken again.
 use Rattle.std.proofs.Common.{◌<◌, length, sym, ap, subst, arith}
 use Rattle.queue_sched.specs.WaitingIndex.{LacksJob}
 use Rattle.queue_sched.specs.OrderSlots.{items_of}

@@ -1,4 +1,4 @@
--- the slot is marked, and gone ones are let go
+-- The slot is marked as gone, and gone slots may be deleted.
 use Rattle.std.proofs.Common.{length, sym, ap, subst, arith}
 use Rattle.std.specs.List.{Contains}
 use Rattle.queue_sched.specs.OrderSlots.{items_of}

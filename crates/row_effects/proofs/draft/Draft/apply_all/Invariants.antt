@@ -1,4 +1,4 @@
--- the draft is the one after the effects so far
+-- The draft is the one after the visited effects.
 use Rattle.std.proofs.Common.{◌≡◌, ◌≤◌}
 use Rattle.row_effects.specs.QueueDrafts.{IsAscendingDraft, room_of}
 use Rattle.row_effects.specs.EffectFold.{reasons_after, attributes_after, message_after}

@@ -1,4 +1,4 @@
--- one deed: a tick, or a turn of the engine
+-- One action: a tick, or a command step of the engine.
 use Rattle.std.proofs.Common.{refl, ◌∙◌}
 use Rattle.service_loop.proofs.ClientStepLaws.{answered_by_tick, answered_by_turn, is_round_one, is_no_round}
 use Rattle.service_loop.proofs.client.Client.answer_command.Goals as goal

@@ -1,4 +1,4 @@
--- one deed: what the word says, over the table
+-- One action: the answer to the word, over the table.
 use Rattle.std.proofs.Common.{◌≡◌, ◌⊎◌, ℕ, List, Bor, refl, ap, sym, ◌∙◌, inl, inr, [], codes}
 use Rattle.service_texts.specs.Shown.{shown_job}
 use Rattle.service_loop.specs.ClientActions.{IsSaid}

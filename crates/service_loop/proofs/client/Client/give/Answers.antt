@@ -1,4 +1,4 @@
--- what was written so far, and then some more
+-- The bytes written so far, and then some more.
 use Rattle.std.proofs.Common.{◌≡◌, ◌≤◌, false, arith}
 use Rattle.service_loop.specs.AdmissionViews.{unread}
 use Rattle.service_loop.proofs.ProgressLaws.{fewer_by, given_then, heard_then}

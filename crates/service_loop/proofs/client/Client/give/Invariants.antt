@@ -1,4 +1,4 @@
--- it asks for nothing meanwhile, and is told nothing
+-- Meanwhile it requests nothing and is sent nothing.
 use Rattle.std.proofs.Common.{◌≡◌, ◌≤◌, ◌+◌, [], cond}
 use Rattle.service_loop.specs.AdmissionViews.{unread}
 use Rattle.service_loop.specs.Progress.{IsMarked, as_given, heard_after}

@@ -1,4 +1,4 @@
--- one deed, the end that was told
+-- One action: the end that was reported.
 use Rattle.std.proofs.Common.{refl, ap, sym, ◌∙◌}
 use Rattle.service_texts.specs.Shown.{has_settled, told_job}
 use Rattle.service_loop.proofs.ClientStepLaws.{goes_none, step_ended, step_none}

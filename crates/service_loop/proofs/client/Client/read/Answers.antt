@@ -1,4 +1,4 @@
--- what came of the line is what the reader takes
+-- The reader takes the bytes that the connection brought.
 use Rattle.std.proofs.Common.{refl, take}
 use Rattle.service_loop.proofs.ClientStepLaws.{goes_read}
 use Rattle.service_loop.proofs.client.Client.read.Goals as goal

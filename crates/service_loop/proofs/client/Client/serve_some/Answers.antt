@@ -1,4 +1,4 @@
--- what was done so far, and then in one step
+-- The actions so far, and then those of one step.
 use Rattle.std.proofs.Common.{◌∙◌, ap, refl, arith}
 use Rattle.service_loop.specs.declared.client.Turn.{Turn}
 use Rattle.service_loop.proofs.CallLaws.{calls_then, no_calls}

@@ -1,4 +1,4 @@
--- what was done so far
+-- The actions so far.
 use Rattle.std.proofs.Common.{◌≡◌, ◌≤◌, true, false}
 use Rattle.service_loop.specs.ServiceCalls.{GoesByCalls}
 use Rattle.service_loop.specs.Progress.{IsMarked}

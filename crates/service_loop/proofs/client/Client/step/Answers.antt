@@ -1,4 +1,4 @@
--- the end that was told, and then what was asked for next
+-- The end that was reported, and then the next request.
 use Rattle.std.proofs.Common.{◌∙◌}
 use Rattle.service_loop.proofs.ClientStepLaws.{stepped_then, step_answered, step_none}
 use Rattle.service_loop.proofs.client.Client.step.Goals as goal
@@ -19,6 +19,6 @@ returns-in_ok-read_more-in-Text-clause-client_step g c =
     stepped_then _ _ _ _ _ _ _ _ c.in_ok-has_reported_end.ensures.client_step
     (stepped_then _ _ _ _ _ _ _ _ (step_none _ _ _ _ _ asked c.in_ok-ask.ensures.waits) (step_none _ _ _ _ _ c.in_ok-read_more-in-Text.ensures.goes c.in_ok-read_more-in-Text.ensures.waits))
 
--- it waits for nothing then
+-- It waits for no job then.
 pub answer-requires : goal.answer-requires
 answer-requires g c = c.in_ok-ask.ensures.waits ∙ c.in_ok-has_reported_end.ensures.waits c.if-not-branch.false

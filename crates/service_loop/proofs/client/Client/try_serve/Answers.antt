@@ -1,4 +1,4 @@
--- what it takes, what was served, and what it takes behind that
+-- It takes replies, requests are served, and it takes more replies.
 use Rattle.std.proofs.Common.{ap, sym, ◌∙◌}
 use Rattle.service_loop.specs.declared.client.Turn.{Turn}
 use Rattle.service_loop.proofs.ProgressLaws.{ends_at_rest, has_left}

@@ -1,4 +1,4 @@
--- some bytes are written, and then forgotten
+-- Some bytes are written, and then forgotten.
 use Rattle.std.proofs.Common.{refl, subst, ℕ, ◌≤◌, List, length, take, arith}
 use Rattle.std.specs.Io.KnownBytes.{Appends}
 use Rattle.std.proofs.lemmas.List.{length-drop}

@@ -1,4 +1,4 @@
--- where there is no place nobody has changed
+-- If there is no slot, no client changes.
 use Rattle.std.proofs.Common.{refl, inl}
 use Rattle.service_loop.specs.ClientSlots.{HasGone}
 use Rattle.service_loop.proofs.clients.Clients.admit.Goals as goal

@@ -1,4 +1,4 @@
--- the places below this one were told, and no more clients went than there are places
+-- The slots below this one were notified, and at most one client left for each of them.
 use Rattle.std.proofs.Common.{◌≡◌, ℕ, ◌<◌, ◌≤◌}
 use Rattle.slab.specs.Slab.{get}
 use Rattle.service_loop.specs.ClientSlots.{IsSlotNotified}

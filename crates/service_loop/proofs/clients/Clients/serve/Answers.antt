@@ -1,4 +1,4 @@
--- each place had its turn behind the others, and so each client had one of its own
+-- The slots had their turns in order, so each client had its own.
 use Rattle.std.proofs.Common.{◌≡◌, ◌+◌, ◌≤◌, ◌||◌, ℕ, Bool, true, false, cond, ap, refl, sym, ◌∙◌, subst, arith}
 use Rattle.service_loop.specs.ClientSlots.{HasNoneNow, HaveTurns, leaves_more}
 use Rattle.service_loop.specs.Progress.{IsGiven}

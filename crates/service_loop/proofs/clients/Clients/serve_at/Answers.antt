@@ -1,4 +1,4 @@
--- the client of this place had its turn, and stays or goes
+-- The client of this slot had its turn, and stays or leaves.
 use Rattle.std.proofs.Common.{sym, ◌∙◌}
 use Rattle.service_loop.proofs.PlaceLaws.{had_turn, has_gone, has_stayed}
 use Rattle.service_loop.proofs.clients.Clients.serve_at.Goals as goal

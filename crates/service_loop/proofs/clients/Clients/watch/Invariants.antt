@@ -1,4 +1,4 @@
--- nobody below this place watches
+-- No client below this slot watches.
 use Rattle.std.proofs.Common.{◌≡◌, ℕ, ◌<◌, false}
 use Rattle.slab.specs.Slab.{get}
 use Rattle.service_loop.specs.AdmissionViews.{is_watched}

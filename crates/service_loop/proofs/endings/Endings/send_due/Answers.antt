@@ -1,4 +1,4 @@
--- one child more
+-- One more child.
 use Rattle.std.proofs.Common.{arith, ap, sym, subst, ◌∙◌, ◌∷◌, [], List, ℕ}
 use Rattle.service_loop.specs.Endings.{Sends, signalled, signals_due}
 use Rattle.service_loop.specs.declared.endings.Ending.{Ending}

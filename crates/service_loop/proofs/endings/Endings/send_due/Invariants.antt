@@ -1,4 +1,4 @@
--- the first of them were sent what was due
+-- The first of them were sent their due signals.
 use Rattle.std.proofs.Common.{◌≡◌, take}
 use Rattle.service_loop.specs.Endings.{Sends, signalled, signals_due}
 use Rattle.service_loop.proofs.EndingLaws.{part}

@@ -1,4 +1,4 @@
--- the engine answered the checkpoint
+-- The engine answered the checkpoint.
 use Rattle.service_loop.proofs.CallLaws.{answered_by}
 use Rattle.service_loop.proofs.maintenance.Maintenance.checkpoint.Goals as goal
 

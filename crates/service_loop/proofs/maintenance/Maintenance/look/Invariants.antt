@@ -1,4 +1,4 @@
--- what was found so far, and then of those that are left, is what is found of all
+-- The result so far, continued over the remaining jobs, is the result over all jobs.
 use Rattle.std.proofs.Common.{◌≡◌, List, [], map}
 use Rattle.std.specs.FinMap as finite
 use Rattle.spool_types.specs.State.{job_of}

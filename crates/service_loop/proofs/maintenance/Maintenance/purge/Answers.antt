@@ -1,4 +1,4 @@
--- the next job was purged, and the rest is to follow
+-- The next job was purged, and the rest follows.
 use Rattle.std.proofs.Common.{ap, nat_lt, rules, ◌∙◌}
 use Rattle.std.proofs.lemmas.Fn.{filter_same}
 use Rattle.service_rules.specs.declared.purges.Candidate.{Candidate}

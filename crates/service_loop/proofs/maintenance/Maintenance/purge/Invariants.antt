@@ -1,4 +1,4 @@
--- the engine went on by calls, and what is still to be purged is the rest of what is to go, by which the count will have fallen
+-- The engine changed by calls. The remaining jobs are the rest of those to purge, and the count will have fallen by their number.
 use Rattle.std.proofs.Common.{◌≡◌, ◌-◌, length}
 use Rattle.service_rules.specs.Purges.{purged}
 use Rattle.spool_engine.specs.EngineRuns.{Engine}

@@ -1,4 +1,4 @@
--- the time, the purges and the checkpoint are calls
+-- The time, the purges and the checkpoint are calls.
 use Rattle.std.proofs.Common.{ap, ◌∙◌}
 use Rattle.service_loop.proofs.CallLaws.{calls_then}
 use Rattle.service_loop.proofs.TurnLaws.{keeps_time}

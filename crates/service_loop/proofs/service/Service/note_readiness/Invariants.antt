@@ -1,4 +1,4 @@
--- the engine is as it was
+-- The engine is unchanged.
 use Rattle.std.proofs.Common.{◌≡◌}
 use Rattle.service_loop.proofs.service.Service.note_readiness.Given as goal
 

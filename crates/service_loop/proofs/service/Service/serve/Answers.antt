@@ -1,4 +1,4 @@
--- each turn's calls follow those before it
+-- The calls of each turn follow those of the previous turns.
 use Rattle.std.proofs.Common.{ap}
 use Rattle.service_loop.proofs.CallLaws.{calls_kept, calls_then}
 use Rattle.service_loop.proofs.service.Service.serve.Goals as goal

@@ -1,4 +1,4 @@
--- the engine went on by calls
+-- The engine changed by calls.
 use Rattle.service_loop.specs.ServiceCalls.{GoesByCalls}
 use Rattle.service_loop.proofs.service.Service.serve.Given as goal
 

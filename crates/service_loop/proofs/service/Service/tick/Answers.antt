@@ -1,4 +1,4 @@
--- the engine's tick, and nothing else touches the engine
+-- The engine ticks, and nothing else changes it.
 use Rattle.std.proofs.Common.{ap, refl}
 use Rattle.service_loop.proofs.TurnLaws.{ticked_by}
 use Rattle.service_loop.proofs.service.Service.tick.Goals as goal

@@ -1,4 +1,4 @@
--- the clients' turns, the tick and the house are calls, and nothing else touches the engine
+-- The clients' turns, the tick and maintenance are calls, and nothing else changes the engine.
 use Rattle.std.proofs.Common.{ap, sym, subst, ◌∙◌, Ok}
 use Rattle.service_loop.specs.ServiceCalls.{GoesByCalls}
 use Rattle.service_loop.specs.ServiceTurns.{HasTriedAtMost, KeepsTime, has_new_client_waiting}

@@ -1,4 +1,4 @@
--- the engine serves it, and nothing else touches the engine
+-- The engine serves it, and nothing else changes the engine.
 use Rattle.service_loop.proofs.shared.Shared.answer.Goals as goal
 
 pub returns-in_ok-note_job-clause-served : goal.returns-in_ok-note_job-clause-served

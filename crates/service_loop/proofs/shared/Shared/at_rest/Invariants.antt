@@ -1,4 +1,4 @@
--- no more jobs are processing than there are queues
+-- At most one job of each queue is processing.
 use Rattle.std.proofs.Common.{◌≤◌}
 use Rattle.service_loop.proofs.shared.Shared.at_rest.Given as goal
 

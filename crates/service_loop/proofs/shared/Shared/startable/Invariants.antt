@@ -1,4 +1,4 @@
--- no more jobs are processing than there are queues
+-- At most one job of each queue is counted.
 use Rattle.std.proofs.Common.{◌≤◌}
 use Rattle.service_loop.proofs.shared.Shared.startable.Given as goal
 

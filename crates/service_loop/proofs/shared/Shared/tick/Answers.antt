@@ -1,4 +1,4 @@
--- one tick is one call
+-- One tick is one call.
 use Rattle.std.proofs.Common.{refl}
 use Rattle.service_loop.proofs.CallLaws.{by_tick}
 use Rattle.service_loop.proofs.shared.Shared.tick.Goals as goal

@@ -1,4 +1,4 @@
--- only jobs that aren't purged were passed over
+-- Only jobs that are not purged were skipped.
 use Rattle.std.proofs.Common.{◌≡◌, ◌≢◌, length}
 use Rattle.service_rules.specs.Purges.{purged}
 use Rattle.service_rules.proofs.purges.PurgesIterator.next.Given as goal

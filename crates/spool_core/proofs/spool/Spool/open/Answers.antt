@@ -26,7 +26,7 @@ returns-then-is_idle-clause-synced g c =
     let w = c.in-Ok.ensures.synced in
     (w.0, w.1, still disk.device c.args.disk c.in-Ok.spool.disk w.0 c.in-Ok.spool.state c.in-Ok.ensures.opened c.in-Ok.ensures.same.bytes w.2)
 
--- nothing was written
+-- Nothing was written.
 pub returns-then-is_idle-clause-documents : goal.returns-then-is_idle-clause-documents
 returns-then-is_idle-clause-documents g c = λ r t documents tells found has image left.
     let disk = g.D.Disk in

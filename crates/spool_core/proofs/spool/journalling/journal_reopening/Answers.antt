@@ -18,7 +18,7 @@ use Rattle.spool_core.specs.OpenSpools.{record_len}
 use Rattle.spool_core.proofs.ImageLaws.{IsPayloadOf, KeepsDocuments, framed_payload, told_before, told_after, is_told, over_after, shows_documents, unmoved, leaves_tables, leaves_documents, stands_next, where_told, GoOn, go_on, stands_on}
 use Rattle.spool_core.proofs.spool.journalling.journal_reopening.Goals as goal
 
--- what the append leaves meanwhile
+-- The images that the append leaves meanwhile.
 module _ {D : Type 0} (v : DiskView D) (lawful : IsLawful v) (old new : Current D) (t : Contents) (frame filled : List ℕ) (result : Result ℕ JournalFault)
     (stands : IsOpenSpoolAt v old t) (alive : old.dead ≡ false) (is : IsPayloadOf t.state Reopen (payload_of frame)) (added : AreaAppends v 1 old new frame filled result) where
   long : LeavesOnly v old.disk new.disk (λ c. length c ≡ v.size old.disk)
@@ -36,7 +36,7 @@ module _ {D : Type 0} (v : DiskView D) (lawful : IsLawful v) (old new : Current 
       (λ told. leaves_documents v lawful old t stands.area.end_is stands.roomy (stands.table alive told) new.disk (payload_of frame) is added.any_moment) long)
       (λ c has r documents tells. has (is_told (v.bytes old.disk) r tells) r documents tells)
 
-  -- where it is added the device hasn't failed
+  -- If the record was added, the device had not failed.
   lives : (at : ℕ) → result ≡ Ok at → new.dead ≡ false
   lives at ok = by_dead new.dead refl
     where
@@ -70,7 +70,7 @@ module _ {D : Type 0} (v : DiskView D) (lawful : IsLawful v) (old new : Current 
       kept = λ lives. absurd (dead lives);
     }
 
--- no append leaves the table, and its documents
+-- Without an append the table and its documents are left.
 module _ {D : Type 0} (v : DiskView D) (lawful : IsLawful v) (areas : Current D) (t : Contents) (stands : IsOpenSpoolAt v areas t) (alive : areas.dead ≡ false) where
   still : LeavesOnly v areas.disk areas.disk (λ c. IsSome (v.bytes areas.disk) → HasBeforeOrAfterEvent t.state Reopen c)
   still =

@@ -13,7 +13,7 @@ use Rattle.spool_core.specs.Measuring.{IsSumMore}
 use Rattle.spool_core.proofs.FillLaws.{sum_then}
 use Rattle.spool_core.proofs.spool.measuring.jobs_len.Goals as goal
 
--- the rows of one job more
+-- The rows of one more job.
 next_rows : (xs : List (Bor JobRow)) (x : Bor JobRow) → flat_map blank_rows (map job_of (map (λ row. row.now) (xs ++ x ∷ []))) ≡ flat_map blank_rows (map job_of (map (λ row. row.now) xs)) ++ blank_rows (job_of x.now)
 next_rows xs x =
     ap (λ (rs : List JobRow). flat_map blank_rows (map job_of rs)) (map_push (λ row. row.now) xs x)

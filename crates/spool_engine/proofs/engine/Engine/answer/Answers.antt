@@ -1,4 +1,4 @@
--- the printer serves it on the course that the engine shows, by the engine's locale
+-- The printer serves the command on the run state that the engine shows, with the engine's locale.
 use Rattle.std.proofs.Common.{subst, ℕ, List}
 use Rattle.spool_engine.specs.EventSteps.{setting}
 use Rattle.spool_engine.specs.EngineRuns.{Engine, Serves}

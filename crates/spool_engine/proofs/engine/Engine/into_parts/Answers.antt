@@ -1,4 +1,4 @@
--- what the printer's parts are, where what was found goes by another name
+-- The parts of the printer, over an equal run state.
 use Rattle.std.proofs.Common.{ap, subst, ◌∙◌}
 use Rattle.child_pipeline.specs.StageSlots.{Slots}
 use Rattle.print_rounds.specs.RunStates.{RunState, run_state}

@@ -1,4 +1,4 @@
--- a round of the printer, where what was found goes by another name
+-- A round of the printer, over an equal run state.
 use Rattle.std.proofs.Common.{List, ℕ, subst}
 use Rattle.std.specs.String.{string_bytes}
 use Rattle.spool_types.specs.declared.event.Event.{Event}

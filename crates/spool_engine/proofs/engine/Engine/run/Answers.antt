@@ -1,4 +1,4 @@
--- where no child ran before the turns none runs after them
+-- If no child ran before the steps, none runs after them.
 use Rattle.std.proofs.Common.{sym, subst}
 use Rattle.print_rounds.specs.Finished.{HasNoneRunning}
 use Rattle.spool_engine.specs.EngineRuns.{Engine}

@@ -1,4 +1,4 @@
--- where no child ran before the turn none runs after it
+-- If no child ran before the step, none runs after it.
 use Rattle.std.proofs.Common.{sym, subst}
 use Rattle.print_rounds.specs.Finished.{HasNoneRunning}
 use Rattle.spool_engine.specs.EngineRuns.{Engine}

@@ -1,4 +1,4 @@
--- a tick of the printer, where what was found goes by another name
+-- A tick of the printer, over an equal run state.
 use Rattle.std.proofs.Common.{List, subst}
 use Rattle.std.specs.String.{string_bytes}
 use Rattle.spool_types.specs.declared.event.Event.{Event}

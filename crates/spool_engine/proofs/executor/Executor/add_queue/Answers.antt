@@ -1,4 +1,4 @@
--- a queue is made where its URI is that of a device
+-- A queue is added if its URI is that of a device.
 use Rattle.std.proofs.Common.{sym, ap, ◌∙◌, codes, Err}
 use Rattle.spool_types.specs.declared.event.Event.TheVariants.{AddQueue}
 use Rattle.device_uri.specs.DeviceUris.{is_device_uri}

@@ -1,4 +1,4 @@
--- A job is closed by its document, if that is read, and where the spool isn't asked it is as it was.
+-- A job is closed by its document, if that is read. If the spool is not asked, it does not change.
 use Rattle.std.proofs.Common.{List, ℕ, refl, sym, ap, ◌∙◌, codes, []}
 use Rattle.spool_types.specs.declared.event.Event.TheVariants.{Close as Closes}
 use Rattle.job_table.specs.Step.{refusal_of}

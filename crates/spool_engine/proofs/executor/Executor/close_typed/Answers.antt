@@ -1,4 +1,4 @@
--- where the spool isn't asked, it is as it was
+-- If the spool is not asked, it does not change.
 use Rattle.std.proofs.Common.{refl, Err}
 use Rattle.spool_types.specs.declared.event.Event.TheVariants.{Close}
 use Rattle.spool_core.specs.declared.spool.apply_fault.ApplyFault.TheVariants.{Memory}

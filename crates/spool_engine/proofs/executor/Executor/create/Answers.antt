@@ -1,4 +1,4 @@
--- a job is made where its options can be kept
+-- A job is created if its options can be stored.
 use Rattle.std.proofs.Common.{sym, ap, subst, ◌∙◌, codes}
 use Rattle.std.specs.Result.{IsOk}
 use Rattle.job_table.specs.Step.{creation}

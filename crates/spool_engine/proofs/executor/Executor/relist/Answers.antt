@@ -1,4 +1,4 @@
--- the spool's answer, and what a crash leaves then
+-- The spool's answer, and the images that a crash leaves.
 use Rattle.std.proofs.Common.{subst}
 use Rattle.spool_core.specs.OpenSpools.{OpenSpool}
 use Rattle.spool_engine.specs.EventAnswers.{IsRelisted}

@@ -1,4 +1,4 @@
--- those that run are waited for, and then a round over the spool, and what a crash leaves meanwhile
+-- The running children are waited for, and then a round runs over the spool. The clauses of the round state the images that a crash leaves.
 use Rattle.std.proofs.Common.{refl, subst, ℕ, List}
 use Rattle.spool_types.specs.declared.event.Event.{Event}
 use Rattle.spool_core.specs.OpenSpools.{OpenSpool}

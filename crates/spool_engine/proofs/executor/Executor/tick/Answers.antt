@@ -1,4 +1,4 @@
--- a tick over the spool, and what a crash leaves meanwhile
+-- A tick over the spool, and the images that a crash in it leaves.
 use Rattle.std.proofs.Common.{refl, subst, List, Option}
 use Rattle.spool_types.specs.declared.event.Event.{Event}
 use Rattle.spool_core.specs.OpenSpools.{OpenSpool}

@@ -1,4 +1,4 @@
--- What the rules look at is what is looked at; and a document is typed by its first bytes as it is by all of them.
+-- The number is that of the rules, and these first bytes of a document determine its type as all of them do.
 use Rattle.std.proofs.Common.{◌≡◌, ap, min, subst, unwrap_or}
 use Rattle.mime_rules.specs.Reach.{reach}
 use Rattle.spool_engine.specs.Mime.{Mime, IsEnough, unknown_type}

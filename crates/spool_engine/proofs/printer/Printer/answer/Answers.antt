@@ -1,4 +1,4 @@
--- a turn, by how its text was written
+-- A step, by the bytes that were written of its reply.
 use Rattle.std.proofs.Common.{◌∙◌, subst}
 use Rattle.std.specs.Io.KnownBytes.{Appends}
 use Rattle.whole_writes.specs.Writes.{WroteSome}

@@ -1,4 +1,4 @@
--- an event that is told as it went, or a purge that is withheld
+-- An event with its reply, or a withheld purge.
 use Rattle.std.proofs.Common.{sym, ap, refl, ◌∙◌}
 use Rattle.command_lines.specs.declared.command.Command.TheVariants.{Apply}
 use Rattle.print_rounds.specs.RunStates.{RunState}

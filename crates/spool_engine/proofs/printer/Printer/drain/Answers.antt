@@ -1,4 +1,4 @@
--- one round more, or the last of them
+-- One more round, or the last one.
 use Rattle.std.proofs.Common.{◌≡◌, ◌+◌, [], ◌∷◌, ◌++◌, length, Ok, suc, refl, sym, ap, ◌∙◌, arith}
 use Rattle.spool_engine.specs.EngineRounds.{Ran, is_last, rounds_run}
 use Rattle.spool_engine.proofs.DrainLaws.{ran_more, busy_more, length_more, all_at, all_last, run_busy, run_more, counts_fault}

@@ -1,4 +1,4 @@
--- the rounds so far, of which none was idle or had a fault
+-- The rounds so far, none of them idle or with a fault.
 use Rattle.std.proofs.Common.{◌≡◌, List, length}
 use Rattle.spool_engine.specs.EventSteps.{setting}
 use Rattle.spool_engine.specs.Mime.{Mime}

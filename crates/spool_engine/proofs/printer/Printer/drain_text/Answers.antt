@@ -1,4 +1,4 @@
--- the rounds of a drain are told by how many they were, or by the fault that ended them
+-- The reply to a drain is the number of its rounds, or the fault that ended it.
 use Rattle.std.proofs.Common.{ap, refl, sym, ◌∙◌}
 use Rattle.spool_engine.specs.EngineRounds.{counts_in, drain_line, line_told, results_of}
 use Rattle.spool_engine.specs.Script.{drain_text}

@@ -1,4 +1,4 @@
--- each command is told as it went
+-- Each command gets its reply.
 use Rattle.std.proofs.Common.{◌≡◌, ap, subst, sym, refl, codes, []}
 use Rattle.std.specs.Prelude.{IfOk}
 use Rattle.std.specs.FinMap as finite

@@ -1,4 +1,4 @@
--- each child that runs is waited for
+-- Each running child is waited for.
 use Rattle.std.proofs.Common.{subst}
 use Rattle.print_rounds.specs.RunStates.{RunState, run_state}
 use Rattle.spool_engine.specs.EngineRounds.{IsSettled}

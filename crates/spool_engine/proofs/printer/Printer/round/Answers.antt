@@ -1,4 +1,4 @@
--- a round of the executor, where what was found goes by another name
+-- A round of the executor, over an equal run state.
 use Rattle.std.proofs.Common.{List, ℕ, subst}
 use Rattle.spool_types.specs.declared.event.Event.{Event}
 use Rattle.print_rounds.specs.RunStates.{RunState, run_state}

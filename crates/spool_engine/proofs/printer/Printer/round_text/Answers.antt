@@ -1,4 +1,4 @@
--- a round is told by its counts or its fault
+-- The reply to a round is its counts or its fault.
 use Rattle.std.proofs.Common.{[], ◌∷◌, refl}
 use Rattle.spool_engine.specs.EngineRounds.{Ran, counts_in, line_told}
 use Rattle.spool_engine.specs.Script.{round_text}

@@ -1,4 +1,4 @@
--- what was read so far, and the turns of its commands
+-- The text that was read so far, and the steps of its commands.
 use Rattle.std.proofs.Common.{List, ℕ, length, ◌≡◌}
 use Rattle.spool_engine.specs.EventSteps.{setting}
 use Rattle.spool_engine.specs.EngineRuns.{CommandStep}

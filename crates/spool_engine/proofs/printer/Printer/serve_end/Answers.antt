@@ -1,4 +1,4 @@
--- one turn more, or a fault behind the turns so far
+-- One more step, or a fault after the steps so far.
 use Rattle.std.proofs.Common.{[], ◌∷◌, ◌++◌, Ok, Err}
 use Rattle.command_lines.specs.PendingCommands.{to_come}
 use Rattle.spool_engine.proofs.TurnLaws.{ends_more, ends_stop}

@@ -1,4 +1,4 @@
--- the commands so far were served
+-- The commands so far were served.
 use Rattle.std.proofs.Common.{List, [], Ok}
 use Rattle.command_lines.specs.PendingCommands.{weight, to_come}
 use Rattle.spool_engine.specs.EventSteps.{setting}

@@ -1,4 +1,4 @@
--- one turn, or a fault before it
+-- One step, or a fault before it.
 use Rattle.std.proofs.Common.{[], ◌∷◌, Ok, Err, refl, arith}
 use Rattle.spool_engine.proofs.TurnLaws.{drains_more, drains_none, drains_stop, drains_wait}
 use Rattle.spool_engine.proofs.printer.Printer.serve_next.Goals as goal

@@ -1,4 +1,4 @@
--- one turn more, or a fault behind the turns so far
+-- One more step, or a fault after the steps so far.
 use Rattle.std.proofs.Common.{[], ◌∷◌, ◌++◌, Ok, Err}
 use Rattle.spool_engine.proofs.TurnLaws.{drains_more, drains_stop}
 use Rattle.spool_engine.proofs.printer.Printer.serve_whole.Goals as goal

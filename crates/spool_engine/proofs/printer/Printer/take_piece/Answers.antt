@@ -1,4 +1,4 @@
--- a piece, and then the commands that are whole
+-- A piece, and then the commands that are whole.
 use Rattle.std.proofs.Common.{[]}
 use Rattle.spool_engine.proofs.RunLaws.{fed, unfed}
 use Rattle.spool_engine.proofs.printer.Printer.take_piece.Goals as goal

@@ -1,4 +1,4 @@
--- a tick of the executor, where what was found goes by another name
+-- A tick of the executor, over an equal run state.
 use Rattle.std.proofs.Common.{List, subst}
 use Rattle.spool_types.specs.declared.event.Event.{Event}
 use Rattle.print_rounds.specs.RunStates.{RunState, run_state}

@@ -1,4 +1,4 @@
--- none of the types so far leads there
+-- None of the types so far can be converted to the target.
 use Rattle.std.proofs.Common.{◌≡◌, false, take}
 use Rattle.std.specs.List.{list_any}
 use Rattle.spool_front.specs.ReachableTypes.{leads}

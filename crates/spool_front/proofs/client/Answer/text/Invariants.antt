@@ -1,4 +1,4 @@
--- the rows so far
+-- The text of the rows so far.
 use Rattle.std.proofs.Common.{◌≡◌, take}
 use Rattle.spool_front.specs.ReplyOutcomes.{rows_text}
 use Rattle.spool_front.proofs.client.Answer.text.Given as goal

@@ -1,4 +1,4 @@
--- nothing but the connection has changed
+-- Only the connection has changed.
 use Rattle.std.proofs.Common.{◌≡◌}
 use Rattle.spool_front.proofs.client.Client.ask_or_refused.Given as goal
 

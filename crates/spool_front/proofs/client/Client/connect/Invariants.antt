@@ -1,4 +1,4 @@
--- there is no connection yet, and nothing else has changed
+-- No connection is open yet, and nothing else has changed.
 use Rattle.std.proofs.Common.{◌≡◌, None}
 use Rattle.spool_front.proofs.client.Client.connect.Given as goal
 

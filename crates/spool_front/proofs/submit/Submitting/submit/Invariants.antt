@@ -1,4 +1,4 @@
--- once nothing is left to read, the document is at its end
+-- If nothing is left to read, the document is at its end.
 use Rattle.std.proofs.Common.{◌≡◌, true}
 use Rattle.std.specs.Io.KnownBytes.{IsAtEnd}
 use Rattle.spool_front.specs.Submissions.{is_behind}

@@ -1,4 +1,4 @@
--- No call after `the shell was made` sets a variable.
+-- No call after `script_shell` sets a variable.
 use Rattle.std.proofs.Common.{◌∙◌}
 use Rattle.spool_runtime.proofs.script.Call.command.Goals as goal
 

@@ -1,4 +1,4 @@
--- effects that may be those of one stage aren't too many for a list
+-- The effects of one stage do not exceed the maximum length of the list.
 use Rattle.std.proofs.Common.{◌≡◌, ◌≤◌, length, ap, sym, subst, ◌∙◌, arith}
 use Rattle.std.proofs.lemmas.Bool.{false≢true}
 use Rattle.spool_types.specs.Effects.{AreEffects, effects_size}

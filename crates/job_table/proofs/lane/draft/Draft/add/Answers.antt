@@ -1,4 +1,4 @@
--- a job is put in where it stands
+-- The job is added with its lane state.
 use Rattle.job_table.proofs.Drafts.{add_ended, add_incoming, add_processing, add_waiting}
 use Rattle.job_table.proofs.lane.draft.Draft.add.Goals as goal
 

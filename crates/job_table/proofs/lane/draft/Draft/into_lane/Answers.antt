@@ -1,4 +1,4 @@
--- the index has the waiting jobs of the draft, and room for all jobs
+-- The index has the waiting jobs of the draft, and room for all jobs.
 use Rattle.std.proofs.Common.{arith}
 use Rattle.job_table.proofs.Drafts.{sorted_lane}
 use Rattle.job_table.proofs.lane.draft.Draft.into_lane.Goals as goal

@@ -1,4 +1,4 @@
--- no job is in the draft
+-- The draft has no jobs.
 use Rattle.job_table.proofs.Drafts.{blank}
 use Rattle.job_table.proofs.lane.draft.Draft.new.Goals as goal
 
