@@ -1,12 +1,14 @@
 #!/usr/bin/env python3
-"""What a long file of conversions costs: it runs crates/spool_shell/out/spool_shell (made by `rt run` in that folder) on
-scripts that close jobs, with files of growing length, and prints
+"""Measures how a file of conversions affects the time to close a document: chains.py
 
-- the time in which a file is read;
-- the time of a close, which finds the cheapest chain to the queue's type, beyond its time on the shortest file.
+It runs crates/spool_shell/out/spool_shell (built by `rt run` in that crate) on scripts that close jobs, with conversion files of growing
+length, and prints
 
-The least chain is the same 15 conversions in each file, so the replies are the same. Times depend on the machine; that of
-a close on 1,000 conversions should be well under a millisecond, and no test reads it.
+- the time to read the file;
+- the time of a close, which finds the cheapest chain to the queue's type, minus its time with the shortest file.
+
+The cheapest chain is the same 15 conversions in each file, so the replies are the same. Times depend on the machine. A close with 1,000
+conversions should take well under a millisecond. No test checks these times.
 """
 import os
 import subprocess
@@ -21,29 +23,29 @@ CLOSES = 500
 CHAIN = 15
 COUNTS = (CHAIN, 100, 1_000, 10_000)
 
-# Documents of this name are of the type from which the chain leads.
+# Documents with this name have the type that the chain starts with.
 TYPES = "t/0 doc\n"
 NAME = b"page.doc"
 
 
 def step(line):
-    """A conversion to the next type, with a source of its own."""
+    """A conversion to the next type, from a source type of its own."""
     return f"t/{line} t/{line + 1} 10 f{line}\n"
 
 
 def steps(count):
-    """Each line has a source of its own."""
+    """Each line has its own source type."""
     return "".join(step(line) for line in range(count))
 
 
 def shared(count):
-    """All lines are of 16 sources, and those behind the chain are dear."""
+    """All lines share 16 source types, and the conversions after the chain are expensive."""
     dear = (f"t/{line % 16} t/{line * 7 % 16} 9000 dear\n" for line in range(CHAIN, count))
     return steps(CHAIN) + "".join(dear)
 
 
 def script(closes):
-    """Jobs are made, held, closed and canceled, so that none of them starts."""
+    """Jobs are created, held, closed and canceled, so that none of them starts."""
     lines = [b"queue lab spoolfile:/out t/%d abort-job\n" % CHAIN]
     for n in range(1, closes + 1):
         lines.append(
@@ -54,7 +56,7 @@ def script(closes):
 
 
 def seconds(folder, convs, closes):
-    """The least time of three runs."""
+    """The shortest time of three runs."""
     with open(os.path.join(folder, "convs"), "w") as file:
         file.write(convs)
     best = None

@@ -1,14 +1,13 @@
 #!/usr/bin/env python3
-"""What a checkpoint costs: checkpoints.py [FOLDER [PROGRAM]]
+"""Measures the time and memory of a checkpoint: checkpoints.py [FOLDER [PROGRAM]]
 
-It makes spools of 1,000 to 1,000,000 jobs of one queue in a new folder under FOLDER (here, where none is given), by writing
-their files byte by byte, and runs crates/spool_shell/out/spool_shell (made by `rt run` in that folder) or PROGRAM with `--root`
-over each. It prints the time of a checkpoint, from the command to its reply, its ratio to the time in which this script writes
-and syncs as many bytes, and how much memory the program took for it (VmHWM after it, without that before it).
+It creates spools of 1,000 to 1,000,000 jobs in one queue in a new folder under FOLDER (default: the current folder), by writing their files
+byte by byte. Over each it runs crates/spool_shell/out/spool_shell (built by `rt run` in that crate) or PROGRAM with `--root`. It prints the
+time of a checkpoint from the command to its reply, the ratio of that time to the time that this script takes to write and sync the same
+number of bytes, and the memory that the checkpoint took (the program's VmHWM after it minus VmHWM without it).
 
-A checkpoint writes its rows out of one block and syncs three times: its time should be a small multiple of that of its bytes,
-and its memory should not grow with them. Times depend on the machine and its disk; only the ratios are of interest, and no test
-reads them.
+A checkpoint writes its rows from one block and syncs three times. Its time should be a small multiple of the time to write its bytes, and
+its memory should not grow with them. Times depend on the machine and its disk, so only the ratios are of interest. No test checks them.
 """
 import os
 import subprocess
@@ -24,16 +23,16 @@ BLOCK = 65_536
 
 
 def memory(running):
-    """The greatest memory of a program so far, in KiB."""
+    """The peak memory of a program so far, in KiB."""
     with open(f"/proc/{running.pid}/status", encoding="ascii") as file:
         for line in file:
             if line.startswith("VmHWM:"):
                 return int(line.split()[1])
-    sys.exit("the program tells no memory")
+    sys.exit("the program reports no memory")
 
 
 def measured(folder, program, contents):
-    """The seconds of a checkpoint, and the KiB that it took."""
+    """The seconds that a checkpoint took, and its memory in KiB."""
     with tempfile.TemporaryDirectory(dir=folder) as root:
         with open(os.path.join(root, "spool.disk"), "wb") as file:
             file.write(contents)
@@ -50,7 +49,7 @@ def measured(folder, program, contents):
 
 
 def written(folder, length):
-    """The seconds in which so many bytes are written and synced."""
+    """The seconds to write and sync `length` bytes."""
     with tempfile.NamedTemporaryFile(dir=folder, buffering=0) as file:
         file.write(bytes(length))
         os.fsync(file.fileno())

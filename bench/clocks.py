@@ -1,17 +1,17 @@
 #!/usr/bin/env python3
-"""What the clock costs where jobs wait: clocks.py [FOLDER [PROGRAM]]
+"""Measures the `clock` command while jobs wait: clocks.py [FOLDER [PROGRAM]]
 
-It makes spools of 10 to 1,000,000 waiting jobs of one queue in a new folder under FOLDER (here, where none is given), by
-writing their files byte by byte, and runs crates/spool_shell/out/spool_shell (made by `rt run` in that folder) or PROGRAM
-with `--root` over each: once where no job has a moment by which it is to start, and once where each has another one, in an
-order that isn't theirs. It prints the time of a clock that cancels none, from the command to its reply, and its ratio to the
-floor: two writes and two syncs by a plain program (floor.c). Then clocks that cancel 1, 100 and 1,000 jobs, or those that are
-left, each with the time of a job that it cancels, without that of a clock that cancels none.
+It creates spools of 10 to 1,000,000 waiting jobs in one queue in a new folder under FOLDER (default: the current folder), by writing their
+files byte by byte. Over each it runs crates/spool_shell/out/spool_shell (built by `rt run` in that crate) or PROGRAM with `--root`: once
+with jobs that have no start deadline, and once with jobs that each have a different deadline, in an order other than that of the jobs. It
+prints the time of a `clock` that cancels no job, from the command to its reply, and its ratio to the floor: two writes and two syncs by a
+plain C program (floor.c). Then it runs clocks that cancel 1, 100 and 1,000 jobs, or the jobs that are left, and prints the time for each
+canceled job, without the time of a clock that cancels none.
 
-The time of a clock that cancels none should be that of any event, however many jobs wait. A job that is canceled is taken out
-of the list of those that wait, as by `cancel`, which moves no other: so its time should hardly grow with their number. In a
-folder in memory the syncs take no time, and what the program itself does is seen. Times depend on the machine and its disk; only
-the ratios are of interest, and no test reads them.
+A clock that cancels no job should take as long as any event, whatever the number of waiting jobs. A canceled job is removed from the list
+of waiting jobs, as by `cancel`, which moves no other job, so its time should hardly grow with their number. In a folder in memory the syncs
+take no time, so the times show the work of the program itself. Times depend on the machine and its disk, so only the ratios are of
+interest. No test checks them.
 """
 import os
 import subprocess
@@ -25,7 +25,7 @@ here = os.path.dirname(os.path.abspath(__file__))
 COUNTS = (10, 1_000, 100_000, 1_000_000)
 CANCELED = (1, 100, 1_000)
 TURNS = 200
-# The first moment by which a job is to start. The others follow, one a second.
+# The first start deadline. The others follow, one a second.
 FIRST = 1_000
 RECORD = 14  # bytes of a clock's record
 
@@ -43,7 +43,7 @@ def ask(running, command):
 
 
 def state_counts(running):
-    """How many jobs are in each state."""
+    """The number of jobs in each state."""
     running.stdin.write(b"jobs\n")
     running.stdin.flush()
     counts = {}
@@ -56,8 +56,8 @@ def state_counts(running):
 
 
 def measured(folder, program, count, is_timed):
-    """The seconds of a clock that cancels none, and of each that cancels some: how many, and its seconds."""
-    # A number that has no divisor in common with the count, so that each moment is there once.
+    """The seconds of a clock that cancels no job, and of each clock that cancels some: their number, and its seconds."""
+    # A number that has no divisor in common with the count, so that each moment occurs once.
     step = 7_919
     by = (lambda number: FIRST + number * step % count) if is_timed else (lambda number: None)
     with tempfile.TemporaryDirectory(dir=folder) as root:
@@ -92,7 +92,7 @@ def main():
     program, room = given()
     with room as folder:
         for is_timed in (False, True):
-            print("each job is to start by a moment" if is_timed else "no job has a moment")
+            print("each job has a start deadline" if is_timed else "no job has a start deadline")
             for count in COUNTS:
                 least = floor(folder)
                 none, some = measured(folder, program, count, is_timed)

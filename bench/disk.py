@@ -1,15 +1,15 @@
 #!/usr/bin/env python3
-"""What an event and a checkpoint cost on a disk: disk.py [FOLDER]
+"""Measures events and checkpoints on a disk: disk.py [FOLDER]
 
-It runs crates/spool_shell/out/spool_shell (made by `rt run` in that folder) with `--root` in a new folder under FOLDER
-(here, where none is given), and prints
+It runs crates/spool_shell/out/spool_shell (built by `rt run` in that crate) with `--root` in a new folder under FOLDER (default: the
+current folder), and prints
 
-- the time of an event, and its ratio to the floor: two writes and two syncs an event by a plain program (floor.c);
-- the same of the longest sends, each of 65,536 bytes, sixteen a document;
-- the time of a checkpoint as the table grows, and its ratio to the floor of as many events as there are rows: a checkpoint
-  syncs three times, however many there are. Beside it stands the time in which the same bytes are written and synced at once.
+- the time of an event, and its ratio to the floor: two writes and two syncs for each event by a plain C program (floor.c);
+- the same for the longest `send` commands, each of 65,536 bytes, sixteen for a document;
+- the time of a checkpoint as the table grows, and its ratio to the floor of one event for each row: a checkpoint syncs three times,
+  whatever the number of rows. Next to it is the time to write and sync the same bytes at once.
 
-Times depend on the machine and its disk; only the ratios are of interest, and no test reads them.
+Times depend on the machine and its disk, so only the ratios are of interest. No test checks them.
 """
 import os
 import struct
@@ -27,7 +27,7 @@ QUEUE = b"queue lab spoolfile:/out application/octet-stream abort-job\n"
 CREATE = b'create lab ann "A title" 1 50 ""\n'
 EVENTS = 2000
 PIECE = 65_536
-PIECES = 16  # of a document of the full size
+PIECES = 16  # for a document of the greatest length
 DOCUMENTS = 32
 
 HEADER = 16  # bytes of an area's header
@@ -35,7 +35,7 @@ GATE = b"\xa5"
 
 
 def run(root, script, *words):
-    """The seconds of a script over the spool in this folder. It is read from a file: Python fills a pipe slowly."""
+    """The seconds of a script over the spool in this folder. The script is read from a file, because Python fills a pipe slowly."""
     with tempfile.TemporaryFile(dir=root) as file:
         file.write(script)
         file.flush()
@@ -55,7 +55,7 @@ def record_length(payload):
 
 
 def journal_end(root):
-    """The place behind the last record of a spool whose only area in use is the first."""
+    """The offset after the last record of a spool that uses only its first area."""
     with open(os.path.join(root, "spool.disk"), "rb") as file:
         disk = file.read()
     at = HEADER
@@ -66,7 +66,7 @@ def journal_end(root):
 
 
 def floor(folder, count, bytes_each):
-    """The seconds of so many events by the plain program."""
+    """The seconds of `count` events by the plain program."""
     program = os.path.join(folder, "floor")
     subprocess.run(["cc", "-O2", "-o", program, os.path.join(here, "floor.c")], check=True)
     words = [program, os.path.join(folder, "floor.disk"), str(count), str(bytes_each)]
@@ -74,8 +74,8 @@ def floor(folder, count, bytes_each):
 
 
 def events(folder):
-    """Events beside their floor, in turns."""
-    print(f"{EVENTS} events, each beside two writes and two syncs")
+    """Events and their floor, alternately."""
+    print(f"{EVENTS} events, next to two writes and two syncs each")
     for turn in range(3):
         root = os.path.join(folder, f"events-{turn}")
         os.mkdir(root)
@@ -91,9 +91,9 @@ def events(folder):
 
 
 def sends(folder):
-    """The longest sends beside their floor, in turns. The floor reads them from nowhere."""
+    """The longest `send` commands and their floor, alternately. The floor reads no input."""
     count = DOCUMENTS * PIECES
-    print(f"{count} sends of {PIECE} bytes, each beside two writes and two syncs")
+    print(f"{count} sends of {PIECE} bytes, next to two writes and two syncs each")
     piece = bytes(PIECE)
     for turn in range(3):
         root = os.path.join(folder, f"sends-{turn}")
@@ -108,7 +108,7 @@ def sends(folder):
 
 
 def written(folder, size):
-    """The seconds in which so many bytes are written and synced at once."""
+    """The seconds to write and sync `size` bytes at once."""
     there = bytes(size)
     with open(os.path.join(folder, "written"), "wb") as file:
         start = time.perf_counter()
@@ -119,7 +119,7 @@ def written(folder, size):
 
 
 def checkpoints(folder):
-    """Checkpoints of longer and longer tables, of jobs without documents."""
+    """Checkpoints of tables of growing length, with jobs that have no documents."""
     print("checkpoints")
     for count in (1000, 10000, 100000):
         root = os.path.join(folder, f"checkpoint-{count}")

@@ -1,7 +1,7 @@
-/* The floor of an event on a disk: floor FILE EVENTS BYTES
+/* Measures the minimum cost of an event on a disk: floor FILE EVENTS BYTES
  *
- * It lays out a file, and then for each event writes a record of so many bytes, syncs, writes one byte before it, and
- * syncs. It prints the seconds that the events took. A spool does these four calls for each event too.
+ * Allocates the file. Then for each event it writes a record of BYTES bytes, syncs, writes one byte before the record, and
+ * syncs. Prints the time of all events in seconds. A spool makes the same four calls for each event.
  */
 #define _POSIX_C_SOURCE 200809L
 #include <fcntl.h>
@@ -24,7 +24,7 @@ static void put(int file, const void *bytes, size_t count, off_t at)
         fail("fdatasync");
 }
 
-/* A file with room for so many bytes, whose blocks are there: of the size that the spool's disk has by default, or longer. */
+/* Creates a file of at least this number of bytes with all blocks allocated. It has the default size of a spool's disk, or more. */
 static int laid_out(const char *name, off_t bytes)
 {
     static char zeros[4194304];

@@ -1,15 +1,14 @@
 #!/usr/bin/env python3
-"""What documents of the full size take of memory, and how long it takes to close one: large_documents.py [FOLDER]
+"""Measures the memory and the closing time of documents of the greatest length: large_documents.py [FOLDER]
 
-It runs crates/spool_shell/out/spool_shell (made by `rt run` in that folder) with `--root` in a new folder under FOLDER
-(here, where none is given), one program for each row, so that each tells its own greatest memory (VmHWM of
-/proc/PID/status): with nothing, with a document that was sent, closed, handed to a small filter, and after the output
-of a stage as long; then in a checkpoint, and eight documents in flight at once, on eight queues. The second column says how many
-documents that is, above the memory of a program with nothing.
+It runs crates/spool_shell/out/spool_shell (built by `rt run` in that crate) with `--root` in a new folder under FOLDER (default: the
+current folder). Each row is a program of its own, which reports its own peak memory (VmHWM of /proc/PID/status): with no document, with a
+document that was sent, closed, handed to a small filter, and after a stage whose output is as long as the document; then in a checkpoint,
+and with eight documents in progress at once, on eight queues. The second column divides the memory above that of a program with no document
+by the length of a document.
 
-A document is closed by as many of its first bytes as the rules of types look at. So a close is measured with no rule,
-with one that looks at the first bytes, and with one that looks at all of them. Times depend on the machine; no test reads
-them.
+When a document is closed, the program reads the first bytes that the type rules inspect. So a close is measured without rules, with a rule
+that inspects the first bytes, and with a rule that inspects all bytes. Times depend on the machine. No test checks them.
 """
 import os
 import sys
@@ -25,14 +24,14 @@ RUNS = 5
 
 UNKNOWN = b"application/octet-stream"
 
-# A filter that reads a document to its end and gives its first bytes, one that gives it whole, and a backend that does nothing.
+# A filter that reads a document to its end and writes only its first bytes, one that writes all of it, and a backend that does nothing.
 FILTERS = {"small": 'head -c 100 "$6"\ncat "$6" >/dev/null\n', "whole": 'cat "$6"\n'}
 
 RULES = {"no rule": "", "a rule of the first bytes": "a/b string(0,%PDF)\n", "a rule of the whole": f"a/b contains(0,{DOCUMENT},needle)\n"}
 
 
 def programs(room):
-    """The list of the programs."""
+    """The list of programs."""
     lines = ["backend nothing /bin/true"]
     for name, text in FILTERS.items():
         path = os.path.join(room, f"filter-{name}")
@@ -60,7 +59,7 @@ class Case:
         return self.spooler.ask(command)
 
     def send(self, job, queue, target=UNKNOWN):
-        """Makes a job on a queue of its own, and sends its document."""
+        """Creates a job on a queue of its own, and sends its document."""
         self.ask(b"queue %s nothing:/ %s abort-job\n" % (queue, target))
         self.ask(b'create %s ann t 1 50 ""\n' % queue)
         for _ in range(DOCUMENT // PIECE):
@@ -78,7 +77,7 @@ def tell(name, memory, nothing):
 
 
 def steps(room, filter_name):
-    """The greatest memory behind each step of a job that is printed by a filter and a backend."""
+    """The peak memory after each step of a job that a filter and a backend print."""
     case = Case(room, filter_name, convs=f"application/octet-stream a/b 10 {filter_name}\n")
     case.ask(b"jobs\n")
     nothing = case.memory()
@@ -122,7 +121,7 @@ def in_flight(room, nothing):
 
 
 def closes(room, nothing):
-    """The least time of some closes of full documents."""
+    """The shortest time of several closes of documents of the greatest length."""
     for name, rules in RULES.items():
         case = Case(room, name, types=rules)
         times = []

@@ -1,11 +1,16 @@
-/* The floors of a spooler's children: launches GROUP copies of a program through `/bin/sh -c` and `env -i` at once, waits
-   for them, and does so until COUNT were run. It prints the seconds. Words: COUNT GROUP FOLDER PROGRAM [DISK].
+/* Measures the minimum cost of a spooler's children: launches COUNT GROUP FOLDER PROGRAM [DISK]
 
-   Without DISK nothing is journalled, no output is read, and a child has no variables. With it the program does what any
-   spooler has to that keeps the same promises: it sees that the program can be run, starts the child with signals and
-   descriptors as they are for any program, in a session of its own, by a script that tells a file that can't be opened
-   from what the program answers, with variables and words of a job, reads what the child wrote, and journals the start
-   and the end of each child in the file DISK. An event is two writes and two syncs, as in `floor.c`. */
+   Launches GROUP copies of PROGRAM at once through `/bin/sh -c` and `env -i`, waits for them, and repeats this until COUNT
+   copies have run. Prints the time in seconds.
+
+   Without DISK it journals nothing, reads no output, and gives a child no variables. With DISK it does everything that a
+   spooler with the same promises must do:
+
+   - It checks that the program can be run.
+   - It starts the child in a session of its own, with default signals and descriptors, and with the variables and arguments
+     of a job. The child's script distinguishes a file that cannot be opened from a failure of the program.
+   - It reads what the child wrote.
+   - It journals the start and the end of each child in the file DISK, each with two writes and two syncs as in `floor.c`. */
 #define _GNU_SOURCE
 #include <fcntl.h>
 #include <signal.h>
@@ -17,8 +22,8 @@
 #include <time.h>
 #include <unistd.h>
 
-#define EVENT 32     /* bytes of an event with its gate */
-#define LONGEST 64   /* of a child's words */
+#define EVENT 32     /* length of an event with its gate, in bytes */
+#define LONGEST 64   /* greatest length of an argument list */
 
 static char *empty[] = {NULL};
 
@@ -150,7 +155,7 @@ static void finish(struct child *child, int disk)
     journal(disk);
 }
 
-/* A file of zeros, with room for all events. */
+/* Creates a file of zeros with room for all events. */
 static int make_disk(const char *path, int count)
 {
     static const char zeros[2 * EVENT];
@@ -168,7 +173,7 @@ int main(int count_of_words, char **given)
         return 2;
     int count = atoi(given[1]), group = atoi(given[2]);
     struct child children[group];
-    /* whole groups alone are run */
+    /* Only whole groups are run, so the number may exceed COUNT. */
     int disk = count_of_words == 6 ? make_disk(given[5], count + group) : -1;
     struct timespec begin, end;
     clock_gettime(CLOCK_MONOTONIC, &begin);

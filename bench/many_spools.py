@@ -1,20 +1,20 @@
 #!/usr/bin/env python3
-"""A day of many spools, from what one was measured to cost: many_spools.py COSTS [SPOOLS [JOBS [SEED]]]
+"""Computes a day of many spools from measured costs: many_spools.py COSTS [SPOOLS [JOBS [SEED]]]
 
-COSTS is a file that `scale.py --costs` writes, with the seconds of a failover beside it, as `"failover": SECONDS`, where they were
-measured; else the opening's are taken. SPOOLS spools (1,000 where none are given) have 64 queues each, and a queue gets JOBS jobs a day (60)
-on average, most of them in the office's hours, and prints one after another. Nothing is run: this adds up times.
+COSTS is a file that `scale.py --costs` writes. It may also have the seconds of a failover, as `"failover": SECONDS`, if they were measured;
+otherwise those of an opening are used. There are SPOOLS spools (default 1,000) of 64 queues each. A queue gets JOBS jobs a day (default 60)
+on average, most of them in office hours, and prints them in turn. The script runs no program: it adds up times.
 
-- A job is accepted in three events, started by one, ended by one and purged by one; each takes what an event was measured to take, and
-  those of one spool come one after another (the journal's queue is reckoned by the minute: what it has to do beyond a minute waits).
-- A job prints for 3 to 60 seconds. Its printer fails it once in 200 times, and the job is tried again 30 s later.
-- A spool's host fails once in ten days on average. Then the spool opens elsewhere after the seconds of a failover. A submission that
-  wasn't acknowledged by then is given again by its client. The attempts that were under way are lost, and by the policy
-  `retry-current-job` they are made again: what they had printed is printed twice.
-- That no acknowledged job is lost is what the contracts promise and tests/failover.py saw; here it is taken over, and counted over what the
-  rules above do with each job.
+- A job takes three events to be accepted, one to start, one to end and one to purge. Each takes as long as an event was measured to take,
+  and the events of one spool follow each other. The load of a journal is computed by the minute: work beyond a minute waits.
+- A job prints for 3 to 60 seconds. Its printer fails once in 200 jobs, and the job is tried again 30 s later.
+- A spool's host fails once in ten days on average. Then the spool opens on another host after the seconds of a failover. If a submission
+  was not acknowledged by then, its client submits it again. Attempts in progress are lost, and the policy `retry-current-job` repeats them,
+  so their printed pages are printed twice.
+- The contracts promise that no acknowledged job is lost, and tests/failover.py checks it. This script assumes it, and counts the jobs by
+  applying the rules above.
 
-It prints how many jobs were acknowledged, lost, printed, printed twice and are waiting at the end, how long jobs waited, and how much
+It prints how many jobs were acknowledged, lost, printed, printed twice and are waiting at the end, how long jobs waited, and for how much
 of a minute the busiest journal was at work.
 """
 import json
@@ -30,12 +30,12 @@ LEAST, MOST = 3, 60
 FAILS = 1 / 200
 RETRY = 30
 BETWEEN = 10 * DAY
-# How many parts of a day's jobs come in each hour: an office's.
+# The share of a day's jobs that arrives in each hour, for an office.
 HOURS = (1, 1, 1, 1, 1, 2, 4, 10, 30, 40, 42, 38, 25, 35, 42, 40, 32, 18, 8, 4, 3, 2, 2, 1)
 
 
 class Counts:
-    """What became of the jobs."""
+    """The outcome of the jobs."""
 
     def __init__(self):
         self.acknowledged = self.printed = self.twice = self.waiting = self.failed = self.again = self.failures = 0
@@ -54,13 +54,13 @@ def failures_of(chance, seconds):
 
 
 def arrivals(chance, mean):
-    """The moments of a queue's jobs, in order."""
+    """The arrival times of a queue's jobs, in order."""
     total = sum(HOURS)
     moments = []
     for hour, share in enumerate(HOURS):
         at = chance.expovariate(1)
         expected = mean * share / total
-        # So many gaps of an exponential length as fit into the hour.
+        # The gaps have an exponential distribution, and an hour has the jobs that fit into it.
         while at < expected:
             moments.append(3_600 * (hour + at / expected))
             at += chance.expovariate(1)
@@ -68,7 +68,7 @@ def arrivals(chance, mean):
 
 
 def outage(failures, begin, end):
-    """The first failure in this time, if there is one."""
+    """The first failure in this time, if any."""
     for fails, opens in failures:
         if begin < opens and fails < end:
             return fails, opens
@@ -76,10 +76,10 @@ def outage(failures, begin, end):
 
 
 def print_queue(chance, moments, failures, counts, event):
-    """Prints the jobs of one queue in turn. It answers when each was accepted."""
+    """Prints the jobs of one queue in turn. Returns when each was accepted."""
     free = 0.0
     for moment in moments:
-        # A client that isn't answered gives its job again.
+        # A client that gets no reply submits its job again.
         down = outage(failures, moment, moment + ACCEPTING * event)
         if down:
             counts.again += 1
@@ -93,7 +93,7 @@ def print_queue(chance, moments, failures, counts, event):
                 start = down[1]
                 continue
             if down:
-                # The attempt is lost, and made again once the spool is open.
+                # The attempt is lost, and repeated once the spool is open.
                 counts.twice += 1
                 start = down[1]
                 continue
@@ -111,16 +111,16 @@ def print_queue(chance, moments, failures, counts, event):
 
 
 def journal(all_moments, event, counts):
-    """How much of a minute the journal works, and what waits for it."""
+    """For how much of a minute the journal works, and the work that waits for it."""
     minutes = [0] * (DAY // MINUTE + 1)
     for moment in all_moments:
         minutes[int(moment) // MINUTE] += EVENTS
-    behind = 0.0
+    delay = 0.0
     for events in minutes:
         work = events * event
         counts.busiest = max(counts.busiest, work / MINUTE)
-        behind = max(0.0, behind + work - MINUTE)
-        counts.late = max(counts.late, behind)
+        delay = max(0.0, delay + work - MINUTE)
+        counts.late = max(counts.late, delay)
 
 
 def main():
@@ -146,11 +146,11 @@ def main():
     middle, late = (counts.waits[len(counts.waits) * part // 100] for part in (50, 99))
     print(f"{spools:,} spools of {QUEUES} queues, {jobs} jobs a queue; an event takes {1e6 * event:.0f} us, a failover {failover:.1f} s")
     print(f"  hosts that failed: {counts.failures:,}")
-    print(f"  acknowledged {counts.acknowledged:,}, given again by their clients {counts.again:,}, lost {lost:,}")
-    print(f"  printed {counts.printed:,}, attempts that were made again after a host's failure {counts.twice:,}, after a printer's {counts.failed:,}")
+    print(f"  acknowledged {counts.acknowledged:,}, submitted again by their clients {counts.again:,}, lost {lost:,}")
+    print(f"  printed {counts.printed:,}, attempts repeated after a host's failure {counts.twice:,}, after a printer's {counts.failed:,}")
     print(f"  waiting or printing at the end of the day {counts.waiting:,}")
     print(f"  waits before printing: median {middle:.1f} s, 99 of 100 {late:.0f} s, longest {counts.waits[-1]:.0f} s")
-    print(f"  the busiest journal worked {100 * counts.busiest:.1f} % of a minute, and was {counts.late:.1f} s behind at most")
+    print(f"  the busiest journal worked {100 * counts.busiest:.1f} % of a minute, and its greatest delay was {counts.late:.1f} s")
 
 
 main()

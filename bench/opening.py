@@ -1,13 +1,12 @@
 #!/usr/bin/env python3
-"""How the time of an opening grows with its journal: opening.py [FOLDER [PROGRAM]]
+"""Measures how the time of an opening grows with the journal: opening.py [FOLDER [PROGRAM]]
 
-It makes spools of 1,000 to 1,000,000 events, or rows of a listing, in a new folder under FOLDER (here, where none is
-given), by writing their files byte by byte, and runs crates/spool_shell/out/spool_shell (made by `rt run` in that folder)
-or PROGRAM with `--root` over each, on no commands. It prints the time of each opening without that of an opening of no
-events, and its ratio to the first.
+It creates spools of 1,000 to 1,000,000 events, or rows of a listing, in a new folder under FOLDER (default: the current folder), by writing
+their files byte by byte. Over each it runs crates/spool_shell/out/spool_shell (built by `rt run` in that crate) or PROGRAM with `--root`
+and no commands. It prints the time of each opening minus that of an opening without events, and its ratio to the first.
 
-A ratio near 1 says that an opening takes a time that is linear in its records. Times depend on the machine; only the ratios
-are of interest, and no test reads them.
+A ratio near 1 means that the time of an opening is linear in the number of records. Times depend on the machine, so only the ratios are of
+interest. No test checks them.
 """
 import os
 import struct
@@ -37,7 +36,7 @@ QUEUE = b"\x01" + text(b"lab") + text(b"spoolfile:/out") + text(b"application/oc
 
 
 def jobs(count):
-    """Jobs of a small document, each made, sent and canceled."""
+    """Jobs with a small document, each created, sent and canceled."""
     yield QUEUE
     for event in range(count - 1):
         number = struct.pack(">I", event // 3 + 1)
@@ -50,7 +49,7 @@ def jobs(count):
 
 
 def sends(count):
-    """Jobs of sixteen pieces of 64 bytes, each canceled once they are sent."""
+    """Jobs with sixteen pieces of 64 bytes, each canceled after they are sent."""
     yield QUEUE
     piece = struct.pack(">I", 64) + 64 * b"x"
     for event in range(count - 1):
@@ -69,7 +68,7 @@ def moment(seconds):
 
 
 def rows(count, by=lambda number: None):
-    """The listing of a table: a head, a queue, and waiting jobs without a document."""
+    """The listing of a table: a head, a queue, and waiting jobs without documents."""
     yield b"\x40" + struct.pack(">IQ", count, 0)
     yield b"\x41" + QUEUE[1:] + bytes(4) + b"\x01" + bytes(5)
     for number in range(1, count - 1):
@@ -78,7 +77,7 @@ def rows(count, by=lambda number: None):
 
 
 def timed_rows(count):
-    """The same with jobs that are to start by a moment, each by another one, in no order."""
+    """The same with jobs that each have a different start deadline, in no order."""
     return rows(count, lambda number: number * 7_919 % 1_000_003)
 
 
@@ -91,7 +90,7 @@ def spool(payloads):
 
 
 def seconds(program, root):
-    """The least time of three openings."""
+    """The shortest time of three openings."""
     best = None
     for _ in range(3):
         start = time.perf_counter()
@@ -112,7 +111,7 @@ def opening(folder, program, payloads):
 
 
 def given():
-    """The program, and a new folder, which goes at the end of a `with`: those that the words name, or else their defaults."""
+    """The program and a new folder, which is removed at the end of a `with`: those that the arguments name, or the defaults."""
     program = os.path.abspath(sys.argv[2]) if len(sys.argv) > 2 else SHELL
     if not os.path.exists(program):
         sys.exit("no program: run `rt run` in crates/spool_shell first")

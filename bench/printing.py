@@ -1,23 +1,22 @@
 #!/usr/bin/env python3
-"""How many jobs are printed a second, by one queue and by eight, and what eight documents of a mebibyte take of memory:
-printing.py [FOLDER]
+"""Measures the jobs printed per second, by one queue and by eight, and the memory of eight documents of a mebibyte: printing.py [FOLDER]
 
-It runs crates/spool_shell/out/spool_shell (made by `rt run` in that folder) with `--root` in a new folder under FOLDER
-(here, where none is given). Each job has one stage, a backend that does nothing (/bin/true). Beside it two floors, which
-a C program (launches.c) runs: both launch as many of the same children, as many at once, with the same files and the same
-shell. A ratio is a floor's time by the spooler's; 1 would be the floor itself.
+It runs crates/spool_shell/out/spool_shell (built by `rt run` in that crate) with `--root` in a new folder under FOLDER (default: the
+current folder). Each job has one stage, a backend that does nothing (/bin/true). The times are compared with two floors, which a C program
+(launches.c) runs. Both launch the same number of the same children, with the same number at once, the same files and the same shell. A
+ratio is a floor's time divided by the spooler's, so 1 means that the spooler is as fast as the floor.
 
-- The first, `bare`, journals nothing, reads no output, and gives its children no variables.
-- The second, `whole`, does what any spooler has to that keeps the same promises. An event is two writes and two syncs,
-  and a job that prints is two events, its start and its end. No two of a queue's syncs can go side by side, as each
-  event has to be on the disk before the next step. So this is the floor that the launcher is to be measured by.
+- The first floor, `bare`, keeps no journal, reads no output, and gives its children no variables.
+- The second, `whole`, does what any spooler must do to keep the same promises. An event is two writes and two syncs, and a printed job is
+  two events, its start and its end. Syncs of one queue cannot overlap, because each event must be on the disk before the next step. So the
+  launcher is measured against this floor.
 
-The spooler's time is also given without that of as many events of another kind (`hold`), beside the first floor. Such an
-event includes a command and its reply, which those of a round haven't.
+The spooler's time is also printed minus the time of the same number of events of another kind (`hold`), next to the first floor. The time
+of such an event includes a command and its reply, which the events of a round do not have.
 
-The jobs are printed by parts, and the floors run before and after each part, so that what else the machine does meets
-all three; a part is compared with the mean of the two runs beside it. Of the ratios the median is told, and between what
-their middle half lies. Times depend on the machine and its disk; only the ratios are of interest, and no test reads them.
+The jobs are printed in parts, and the floors run before and after each part, so that other load on the machine affects all three. Each part
+is compared with the mean of the floor runs before and after it. The script prints the median of the ratios and the range of their middle
+half. Times depend on the machine and its disk, so only the ratios are of interest. No test checks them.
 """
 import os
 import statistics
@@ -36,7 +35,7 @@ PIECE = 65_536
 
 
 class Spooler:
-    """A program that is served commands, one after another."""
+    """A program that serves commands, one at a time."""
 
     def __init__(self, folder, size, programs, more=()):
         os.mkdir(folder)
@@ -55,14 +54,14 @@ class Spooler:
         return reply
 
     def memory(self):
-        """The most memory that it has held, in KiB."""
+        """Its peak memory, in KiB."""
         with open(f"/proc/{self.running.pid}/status") as file:
             return next(int(line.split()[1]) for line in file if line.startswith("VmHWM:"))
 
     def end(self):
         self.running.stdin.close()
         if self.running.wait():
-            sys.exit("the program ended with a fault")
+            sys.exit("the program failed")
 
 
 def filled(folder, queues):
@@ -79,7 +78,7 @@ def filled(folder, queues):
 
 
 def printed(spooler, queues):
-    """The seconds of printing the jobs of a part, and of as many events as that takes."""
+    """The seconds to print the jobs of a part, and of the same number of other events."""
     start = time.perf_counter()
     reply = spooler.ask(b"drain %d\n" % (PART // queues))
     took = time.perf_counter() - start
@@ -99,7 +98,7 @@ def build(room):
 
 
 def launched(room, program, queues, *disk, jobs=PART):
-    """The seconds of a floor: of the second, where it is given a file for its events."""
+    """The seconds of a floor: of the second one if a file for its events is given."""
     folder = os.path.join(room, "files")
     os.makedirs(folder, exist_ok=True)
     words = [program, str(jobs), str(queues), folder, PROGRAM, *disk]
@@ -124,15 +123,15 @@ def rates(room):
             times.append((took, events, bare, whole))
             before = after
         spooler.end()
-        tell(queues, times)
+        print_medians(queues, times)
 
 
-def tell(queues, times):
-    """A part's jobs a second by the median, and the medians of the ratios with their middle halves."""
+def print_medians(queues, times):
+    """A part's jobs per second by the median, and the medians of the ratios with their middle halves."""
     took, events, bare, whole = ([PART / time for time in column] for column in zip(*times))
     print(
-        f"{queues} queues: {statistics.median(took):.0f} jobs a second, bare floor {statistics.median(bare):.0f},"
-        f" whole floor {statistics.median(whole):.0f}, as many events alone {statistics.median(events):.0f}"
+        f"{queues} queues: {statistics.median(took):.0f} jobs per second, bare floor {statistics.median(bare):.0f},"
+        f" whole floor {statistics.median(whole):.0f}, the same number of events alone {statistics.median(events):.0f}"
     )
     ratios = {
         "to the bare floor": [bare / took for took, _, bare, _ in times],

@@ -1,15 +1,15 @@
 #!/usr/bin/env python3
-"""What purges cost among many jobs: purging.py [FOLDER [PROGRAM]]
+"""Measures purges among many jobs: purging.py [FOLDER [PROGRAM]]
 
-It makes spools of 1,000 to 1,000,000 jobs of one queue in a new folder under FOLDER (here, where none is given), by writing
-their files byte by byte, and runs crates/spool_shell/out/spool_shell (made by `rt run` in that folder) or PROGRAM with `--root`
-over each. A clock cancels up to 10,000 jobs, which lie anywhere among the others, and then each of them is purged: in ascending
-order, in descending order, and at random. It prints the time of a purge, from the command to its reply, and its ratio to the
-floor: two writes and two syncs by a plain program (floor.c).
+It creates spools of 1,000 to 1,000,000 jobs in one queue in a new folder under FOLDER (default: the current folder), by writing their files
+byte by byte. Over each it runs crates/spool_shell/out/spool_shell (built by `rt run` in that crate) or PROGRAM with `--root`. A `clock`
+cancels up to 10,000 jobs anywhere among the others, and then each of them is purged: in ascending order, in descending order, and at
+random. It prints the time of a purge, from the command to its reply, and its ratio to the floor: two writes and two syncs by a plain C
+program (floor.c).
 
-The time should be that of any event, however many jobs there are and in whatever order they are purged. In a folder in memory
-the syncs take no time, and what the program itself does is seen. Times depend on the machine and its disk; only the ratios are
-of interest, and no test reads them.
+A purge should take as long as any event, whatever the number of jobs and the order of the purges. In a folder in memory the syncs take no
+time, so the times show the work of the program itself. Times depend on the machine and its disk, so only the ratios are of interest. No
+test checks them.
 """
 import os
 import random
@@ -25,12 +25,12 @@ BY = 1_000
 
 
 def measured(folder, program, count, numbers):
-    """The seconds of a purge, of these jobs in this order."""
+    """The seconds of a purge, for these jobs in this order."""
     ended = set(numbers)
     with tempfile.TemporaryDirectory(dir=folder) as root:
         with open(os.path.join(root, "spool.disk"), "wb") as file:
             file.write(spool(rows(count + 2, lambda number: BY if number in ended else None)))
-            # Room for the events behind the listing.
+            # Room for the events after the listing.
             half = os.path.getsize(file.name) // 2
         grow(os.path.join(root, "spool.disk"), half, 32 * len(numbers))
         words = [program, "--root", "."]
@@ -42,7 +42,7 @@ def measured(folder, program, count, numbers):
 
 
 def grow(path, half, more):
-    """Makes each half of a spool's file longer by so many zeros."""
+    """Extends each half of a spool's file by `more` zero bytes."""
     with open(path, "rb") as file:
         halves = file.read(half), file.read(half)
     with open(path, "wb") as file:

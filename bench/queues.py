@@ -1,10 +1,9 @@
 #!/usr/bin/env python3
-"""What `queues` costs: 64 queues, and 10, 10,000 and 300,000 jobs among them.
+"""Measures the command `queues` with 64 queues and 10, 10,000 and 300,000 jobs: queues.py [PROGRAM]
 
-It runs crates/spool_shell/out/spool_shell (made by `rt run` in that folder), or the program that is given as a word, on a
-spool in memory. The jobs are made first, and then `queues` is timed, from the command to its last line. A queue's state is
-read from its lane, so the time is to be the same whatever the number of jobs. Times depend on the machine; only the ratios
-are of interest, and no test reads them.
+It runs crates/spool_shell/out/spool_shell (built by `rt run` in that crate) or PROGRAM on a spool in memory. It creates the jobs first, and
+then times `queues`, from the command to its last line. The state of a queue is read from its lane, so the time should be the same whatever
+the number of jobs. Times depend on the machine, so only the ratios are of interest. No test checks them.
 """
 import os
 import statistics
@@ -22,14 +21,14 @@ SIZE = 1 << 28
 
 
 def made(count):
-    """The commands that make the queues and so many jobs, job by job in another queue."""
+    """The commands that create the queues and `count` jobs, each job in another queue than the one before."""
     lines = [b"queue q%d spoolfile:/out application/octet-stream abort-job\n" % n for n in range(QUEUES)]
     lines += [b'create q%d ann "A title" 1 50 ""\n' % (n % QUEUES) for n in range(count)]
     return lines
 
 
 def seconds(program, ask, replies):
-    """How long it takes from a command to the last line of its reply."""
+    """The time from a command to the last line of its reply."""
     start = time.perf_counter()
     program.stdin.write(ask)
     program.stdin.flush()
@@ -41,7 +40,7 @@ def seconds(program, ask, replies):
 
 
 def measured(count):
-    """The median time of a listing of the queues with so many jobs."""
+    """The median time of a listing of the queues with `count` jobs."""
     program = subprocess.Popen([shell, "--size", str(SIZE)], stdin=subprocess.PIPE, stdout=subprocess.PIPE)
     lines = made(count)
     for at in range(0, len(lines), 1_000):

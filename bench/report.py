@@ -1,12 +1,12 @@
 #!/usr/bin/env python3
-"""How the time to read standard error grows: report.py [PROGRAM]
+"""Measures how the time to read standard error grows: report.py [PROGRAM]
 
-It runs crates/spool_shell/out/spool_shell (made by `rt run` in that folder) or PROGRAM on a new spool, with a backend that
-writes a text of up to 1,048,576 bytes on standard error. It prints the time of each, without that of no text, and its ratio
-to the text of half the length.
+It runs crates/spool_shell/out/spool_shell (built by `rt run` in that crate) or PROGRAM on a new spool, with a backend that writes up to
+1,048,576 bytes to standard error. It prints the time of each run minus that of a run without such text, and its ratio to the run with half
+the length.
 
-A ratio near 2 says that the text is read in a time that is linear in its length. Times depend on the machine; only the
-ratios are of interest, and no test reads them.
+A ratio near 2 means that the time to read the text is linear in its length. Times depend on the machine, so only the ratios are of
+interest. No test checks them.
 """
 import os
 import subprocess
@@ -36,7 +36,7 @@ round
 
 
 def text(size):
-    """Lines of each kind in turn, so many bytes."""
+    """Lines of each kind in turn, up to `size` bytes."""
     turn = b"".join(LINES)
     return (turn * (size // len(turn) + 1))[:size]
 
@@ -49,22 +49,22 @@ def write(folder, name, data):
 
 
 def run(shell, said):
-    """The time of one run, with a backend that says this."""
+    """The time of one run, with a backend that writes this text."""
     with tempfile.TemporaryDirectory() as folder:
         tool = write(folder, "says", b"cat " + write(folder, "said", said).encode() + b" >&2\n")
         programs = write(folder, "programs", f"backend says /bin/sh {tool}\n".encode())
         os.mkdir(os.path.join(folder, "spool"))
         words = [shell, "--root", os.path.join(folder, "spool"), "--programs", programs]
         start = time.perf_counter()
-        told = subprocess.run(words, input=SCRIPT, stdout=subprocess.PIPE, check=True).stdout
+        replies = subprocess.run(words, input=SCRIPT, stdout=subprocess.PIPE, check=True).stdout
         took = time.perf_counter() - start
-    if not told.endswith(b"ok started 1 finished 1\n"):
-        sys.exit(f"report: the backend wasn't run: {told!r}")
+    if not replies.endswith(b"ok started 1 finished 1\n"):
+        sys.exit(f"report: the backend was not run: {replies!r}")
     return took
 
 
 def seconds(shell, said):
-    """The least time of nine runs."""
+    """The shortest time of nine runs."""
     return min(run(shell, said) for _ in range(9))
 
 

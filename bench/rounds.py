@@ -1,12 +1,13 @@
 #!/usr/bin/env python3
-"""What a round costs: by the number of queues that have a job to run, and by that of the jobs that don't run.
+"""Measures a round by the number of queues with a job to run and by the number of jobs that do not run: rounds.py
 
-It runs crates/spool_shell/out/spool_shell (made by `rt run` in that folder) on a spool in memory. There no child can be
-started, so each job ends in the round that starts it: a round is one Start, one order and one Stage for each queue. The
-queues and the jobs are made first, and then the rounds are timed, from the first command to the last reply.
+It runs crates/spool_shell/out/spool_shell (built by `rt run` in that crate) on a spool in memory. No child can be started there, so each
+job ends in the round that starts it: a round is one Start, one order and one Stage for each queue. The script creates the queues and the
+jobs first, and then times the rounds, from the first command to the last reply.
 
-The jobs that don't run are held. They are looked at by each queue until there is an index of the waiting jobs, so a
-round is not yet flat in them. Times depend on the machine; only the ratios are of interest, and no test reads them.
+The jobs that do not run are held. A queue chooses its next job from an index of its waiting jobs, which lists the startable ones separately
+(crates/queue_sched). So the time of a round should hardly grow with the number of held jobs. Times depend on the machine, so only the
+ratios are of interest. No test checks them.
 """
 import os
 import subprocess
@@ -34,7 +35,7 @@ def before(queues, held):
 
 
 def round_seconds(queues, held):
-    """The least time of a round in three runs."""
+    """The shortest time of a round in three runs."""
     script = before(queues, held)
     replies = script.count(b"\n")
     best = None

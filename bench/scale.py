@@ -1,19 +1,20 @@
 #!/usr/bin/env python3
-"""What one spool carries: scale.py [--costs FILE] [FOLDER [SHELL [SERVICE [ADMIN]]]]
+"""Measures the load that one spool can take: scale.py [--costs FILE] [FOLDER [SHELL [SERVICE [ADMIN]]]]
 
-It runs crates/spool_shell/out/spool_shell, crates/spool_service/out/spool_service and crates/spool_admin/out/spool_admin (made by
-`rt run` in those folders), or the programs that are named, in new folders under FOLDER (here, where none is given), and prints
+It runs crates/spool_shell/out/spool_shell, crates/spool_service/out/spool_service and crates/spool_admin/out/spool_admin (built by `rt run`
+in those crates), or the programs named, in new folders under FOLDER (default: the current folder), and prints
 
-- `events`: events a second by one program, which waits for each reply of the disk, beside two writes and two syncs each by a plain program
-  (floor.c), in turns;
-- `openings`: the seconds until a spool of so many waiting jobs has answered, those of a checkpoint, and the memory of the program;
-- `queues`: the same of 64 queues, with the jobs shared among them;
-- `splits`: the seconds until half of these queues are a spool of their own, those of a processor, and the memory of the program;
+- `events`: events per second by one program, which waits for each sync of the disk, alternately with two writes and two syncs each by a
+  plain C program (floor.c);
+- `openings`: for spools of several numbers of waiting jobs, the seconds until the program replies, the seconds of a checkpoint, and the
+  memory of the program;
+- `queues`: the same with 64 queues, which share the jobs;
+- `splits`: the seconds until half of these queues are a spool of their own, the processor seconds, and the memory of the program;
 - `bytes`: documents of 16 MiB until a spool of the greatest file is full, and an opening and a checkpoint of it;
-- `clients`: jobs of a KiB a second that are made, sent and closed, by 1 to 63 clients on 64 queues, beside the floor of their events.
+- `clients`: jobs of a KiB that are created, sent and closed per second, by 1 to 63 clients on 64 queues, next to the floor of their events.
 
-With `--costs` the figures that `many_spools.py` takes are written to FILE. Times depend on the machine and its disk, and on what else it
-does, so each stands beside its floor, measured just before and after; no test reads them. It takes some five minutes.
+With `--costs` the figures that `many_spools.py` reads are written to FILE. Times depend on the machine, its disk and its other load, so
+each is printed next to its floor, measured just before and after it. No test checks them. The script takes about five minutes.
 """
 import json
 import os
@@ -38,13 +39,13 @@ COUNTS = (1_000, 10_000, 100_000, 1_000_000)
 GREATEST = 1_073_741_824
 DOCUMENT = 16_777_216
 PIECE = 65_536
-# With the one that makes the queues, 63 are as many as the service lets in.
+# With the client that creates the queues, 63 is the greatest number that the service admits.
 CLIENTS = (1, 4, 16, 63)
 ACCEPTED = 192
 
 
 class Shell:
-    """A shell over a spool, that is asked command by command."""
+    """A shell over a spool, which is given one command at a time."""
 
     def __init__(self, program, root, *words):
         start = time.perf_counter()
@@ -64,7 +65,7 @@ class Shell:
         return time.perf_counter() - start
 
     def memory(self):
-        """The greatest memory so far, in MiB."""
+        """The peak memory so far, in MiB."""
         with open(f"/proc/{self.process.pid}/status", encoding="ascii") as file:
             return next(int(line.split()[1]) for line in file if line.startswith("VmHWM:")) / 1024
 
@@ -130,7 +131,7 @@ def events(folder, shell, costs):
 
 
 def many_rows(count, queues):
-    """The listing of so many waiting jobs, shared among so many queues."""
+    """The listing of `count` waiting jobs, shared among `queues` queues."""
     listed = list(rows(count + 2)) if queues == 1 else None
     if listed:
         return listed
@@ -183,7 +184,7 @@ def splits(folder, admin, _costs):
 
 
 def of_bytes(folder, shell, costs):
-    """As many of the longest documents as the greatest file has room for."""
+    """Documents of the greatest length, until the greatest file is full."""
     root = tempfile.mkdtemp(dir=folder)
     running = Shell(shell, root, "--size", str(GREATEST))
     running.ask(b"queue lab spoolfile:/out application/octet-stream abort-job\n")

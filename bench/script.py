@@ -1,9 +1,11 @@
 #!/usr/bin/env python3
-"""How the time of a script grows: it runs crates/spool_shell/out/spool_shell (made by `rt run` in that folder) on
-scripts of growing length, and prints the time of each and the ratio of the times per command.
+"""Measures how the time of a script grows with its length: script.py
 
-A ratio near 1 says that a command takes no longer in a long script than in a short one. Times depend on the machine;
-only the ratios are of interest, and no test reads them.
+It runs crates/spool_shell/out/spool_shell (built by `rt run` in that crate) on scripts of growing length, and prints the time of each and
+the ratio of the times per command.
+
+A ratio near 1 means that a command takes no longer in a long script than in a short one. Times depend on the machine, so only the ratios
+are of interest. No test checks them.
 """
 import os
 import subprocess
@@ -15,7 +17,7 @@ shell = os.path.join(here, "..", "crates", "spool_shell", "out", "spool_shell")
 
 
 def seconds(script):
-    """The least time of three runs."""
+    """The shortest time of three runs."""
     best = None
     # A spool in memory with room for all of it.
     size = str(max(4_194_304, 4 * len(script)))
@@ -30,7 +32,7 @@ def seconds(script):
 
 
 def jobs(count):
-    """Jobs are made and canceled, each with a small document."""
+    """Jobs are created and canceled, each with a small document."""
     lines = [b"queue lab spoolfile:/out application/octet-stream abort-job\n"]
     for n in range(1, count + 1):
         lines.append(b'create lab ann "A title" 1 50 ""\nsend %d 5\nhello\ncancel %d\n' % (n, n))
@@ -38,7 +40,7 @@ def jobs(count):
 
 
 def held(count):
-    """Jobs are made, and each is held and released."""
+    """Jobs are created, and each is held and released."""
     lines = [b"queue lab spoolfile:/out application/octet-stream abort-job\n"]
     lines += [b'create lab ann "A title" 1 50 ""\n'] * count
     lines += [b"hold %d indefinite\nrelease %d\n" % (n, n) for n in range(1, count + 1)]
@@ -46,14 +48,14 @@ def held(count):
 
 
 def listed(count):
-    """Jobs are made, and listed once."""
+    """Jobs are created, and listed once."""
     lines = [b"queue lab spoolfile:/out application/octet-stream abort-job\n"]
     lines += [b'create lab ann "A title" 1 50 ""\n'] * count
     return b"".join(lines) + b"jobs\n", count
 
 
 def sends(count):
-    """Full sends, sixteen to a job."""
+    """`send` commands of the greatest length, sixteen to a job."""
     lines = [b"queue lab spoolfile:/out application/octet-stream abort-job\n"]
     piece = b"x" * 65536
     for n in range(count):
@@ -67,7 +69,7 @@ def sends(count):
 
 
 def remarks(count):
-    """Long remarks, which are passed over."""
+    """Long comments, which are skipped."""
     return (b"#" + b"x" * 999 + b"\n") * count, count
 
 

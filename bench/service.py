@@ -1,28 +1,29 @@
 #!/usr/bin/env python3
-"""What the service does for many clients while it prints: service.py [PROGRAM]
+"""Measures the service with many clients while it prints: service.py [PROGRAM [PART..]]
 
-It runs crates/spool_service/out/spool_service (made by `rt run` in that folder) or PROGRAM, with its spool where TMPDIR says:
+It runs crates/spool_service/out/spool_service (built by `rt run` in that crate) or PROGRAM, with its spool in TMPDIR:
 
-- `replies`: how long a client waits for a listing while eight queues print, each child for 5 s (aimed at: 99 of 100 under 50 ms),
-  and while eight queues print jobs of 10 ms one after another;
-- `accepted`: jobs of a KiB a second that are made, sent and closed, by 1 to 16 clients on one queue and on eight, while nothing
-  prints. Each is three events, so six syncs. In turn with them, TIMES times, the same jobs by a CUPS of this script's own
-  (tests/cups_beside.py), where Debian's package `cups` is installed and this is run as root. The median of each is told, and by how much the
-  service is above it (aimed at: 5 times CUPS with syncs, and no less than CUPS without). CUPS's clients are as the service's: a connection that
-  is kept, and a job is one request, which is less than the service's three. What CUPS has written when it answers is its matter: `no syncs` is as
-  it comes; `syncs` is with `SyncOnClose Yes`, and then it still writes half a minute later what it knows of a job;
-  `syncs at once` has `DirtyCleanInterval 0` beside that, which comes nearest to what the service promises. No setting has it sync a
-  document. With the program `lp` a job is a process of its own, with two requests;
-- `printed`: jobs a second that one queue and eight print, whose backend does nothing, in TIMES runs. Beside each run as many of the same
-  launches and syncs by a C program (the whole floor of launches.c), before and after; the ratio of the median is aimed at 0.9. Ended
-  jobs are kept, so no purge is in it. Before each run there is a pause, as ext4 makes new files the slower the more were removed in
+- `replies`: how long a client waits for a listing while eight queues print, with children that take 5 s (target: 99 of 100 under 50 ms),
+  and while eight queues print jobs of 10 ms in turn;
+- `accepted`: jobs of a KiB that are created, sent and closed per second, by 1 to 16 clients on one queue and on eight, while nothing
+  prints. Each is three events, so six syncs. Alternately with them, TIMES times, the same jobs are sent to a private CUPS
+  (tests/cups_beside.py), if Debian's package `cups` is installed and the script runs as root. The script prints the median of each and the
+  ratio of the service to CUPS (target: 5 times CUPS with syncs, and at least as much as CUPS without). CUPS's clients keep their
+  connection, as those of the service do, and a job is one request, less than the service's three. The script sets two directives of CUPS,
+  whatever its defaults: `SyncOnClose` (cups-files.conf(5)) and `DirtyCleanInterval` (cupsd.conf(5)). They are `No` and 30 for `no syncs`,
+  `Yes` and 30 for `syncs`, and `Yes` and 0 for `syncs at once`, which is nearest to the promises of the service: with 30, CUPS may write
+  its job data up to 30 s after the reply. Neither directive makes CUPS sync a document. With the program `lp` a job is a process of its
+  own, with two requests;
+- `printed`: jobs per second that one queue and eight queues print with a backend that does nothing, in TIMES runs. Before and after each
+  run a C program does the same number of launches and syncs (the floor `whole` of launches.c); the target of the median ratio is 0.9. Ended
+  jobs are kept, so the runs have no purges. Each run follows a pause, because ext4 creates new files more slowly if many were removed in
   the seconds before;
 - `work`: processor time in ten seconds of the service, idle and with eight children that sleep;
 - `memory`: of the service when it is new, with eight documents of a MiB, and while all of them are printed.
 
-What a slow queue costs fast jobs is shown by `ticks.py real`. Times depend on the machine and its disk; only the ratios are of interest,
-and no test reads them. The load of the machine is told before and behind: a busy one says little. It takes some five minutes.
-With words behind PROGRAM only those parts are run.
+`ticks.py real` measures how a slow queue affects fast jobs. Times depend on the machine and its disk, so only the ratios are of interest.
+No test checks them. The script prints the load of the machine before and after: on a busy machine the figures mean little. It takes about
+five minutes. With PART only these parts are run.
 """
 import os
 import statistics
@@ -35,24 +36,24 @@ import printing
 here = os.path.dirname(os.path.abspath(__file__))
 sys.path.insert(0, os.path.join(here, "..", "tests"))
 
-from cups_beside import Cups, Line
-from service_parts import BUILT, Client, Folder, at_once, same, timed, told
+from cups_beside import Connection, Cups
+from service_parts import BUILT, Client, Folder, at_once, print_times, same, timed
 
 CLIENTS = (1, 4, 16)
 QUEUES = (1, 8)
-# Jobs that are accepted in a run, and that are printed in one, in which queues are enabled too.
+# The number of jobs that are accepted in a run, and the number that are printed in a run, which also enables queues.
 ACCEPTED = 192
 PRINTED = printing.PART * 4
 TIMES = 3
-# Seconds behind which the file system has forgotten the files that were removed.
+# The pause in seconds before a run. Afterwards files that were removed before no longer slow the file system.
 REST = 6
 DOCUMENT = "x" * 1_023 + "\n"
 MEBIBYTE = 1_048_576
 PIECE = 65_536
 
 
-class Office:
-    """A service in a folder of its own, with so many queues."""
+class RunningService:
+    """A service in a folder of its own, with `queues` queues."""
 
     def __init__(self, queues, seconds, program=None):
         self.folder = Folder()
@@ -82,21 +83,21 @@ class Office:
 
 
 def replies():
-    with Office(8, 5) as office:
-        jobs = [office.client.submit(name) for name in office.names]
-        office.client.until_ended(jobs, "5")
-        times = ask_for(office, 4)
-        told("replies while eight children sleep", times)
-    with Office(8, 0.01) as office:
+    with RunningService(8, 5) as service:
+        jobs = [service.client.submit(name) for name in service.names]
+        service.client.until_ended(jobs, "5")
+        times = ask_for(service, 4)
+        print_times("replies while eight children sleep", times)
+    with RunningService(8, 0.01) as service:
         for _ in range(40):
-            for name in office.names:
-                office.client.submit(name)
-        told("replies while eight queues print", ask_for(office, 4))
+            for name in service.names:
+                service.client.submit(name)
+        print_times("replies while eight queues print", ask_for(service, 4))
 
 
-def ask_for(office, seconds):
-    """How long each listing takes of a client that asks for so long."""
-    client, times, end = Client(office.folder), [], time.time() + seconds
+def ask_for(service, seconds):
+    """The time of each listing of a client that asks for `seconds` seconds."""
+    client, times, end = Client(service.folder), [], time.time() + seconds
     while time.time() < end:
         times.append(timed(lambda: client.listing("queues\n")))
         time.sleep(0.005)
@@ -106,23 +107,23 @@ def ask_for(office, seconds):
 # ---- accepted and printed
 
 
-def submit_some(office, first, count):
-    client = Client(office.folder)
+def submit_some(service, first, count):
+    client = Client(service.folder)
     for number in range(first, first + count):
-        client.submit(office.names[number % len(office.names)], DOCUMENT)
+        client.submit(service.names[number % len(service.names)], DOCUMENT)
     client.close()
 
 
 def accepted_by_service(queues, clients):
-    """Jobs a second that the service accepts."""
-    with Office(queues, 0) as office:
-        office.say_to_all("disable")
+    """Jobs per second that the service accepts."""
+    with RunningService(queues, 0) as service:
+        service.say_to_all("disable")
         share = ACCEPTED // clients
-        return ACCEPTED / timed(lambda: at_once([lambda n=n: submit_some(office, n * share, share) for n in range(clients)]))
+        return ACCEPTED / timed(lambda: at_once([lambda n=n: submit_some(service, n * share, share) for n in range(clients)]))
 
 
 def accepted_by_cups(queues, clients, syncs, interval, program=False):
-    """Jobs a second that CUPS accepts, or as many as the program lp makes of them."""
+    """Jobs per second that CUPS accepts, by requests or by the program lp."""
     with Cups(syncs, interval) as cups:
         for number in range(queues):
             cups.queue(f"q{number}")
@@ -131,19 +132,19 @@ def accepted_by_cups(queues, clients, syncs, interval, program=False):
         document = cups.write("document", DOCUMENT)
 
         def submit_share(first):
-            line = None if program else Line(cups)
+            connection = None if program else Connection(cups)
             for number in range(first, first + count // clients):
                 queue = f"q{number % queues}"
                 if program:
                     cups.run("lp", "-d", queue, document)
                 else:
-                    line.submit(queue, DOCUMENT.encode())
+                    connection.submit(queue, DOCUMENT.encode())
 
         tasks = [lambda n=n: submit_share(n * (count // clients)) for n in range(clients)]
         return count / timed(lambda: at_once(tasks))
 
 
-# What is compared: its name, and how many jobs a second it accepts of so many clients on so many queues.
+# One row of the comparison: its name, and the jobs per second that it accepts from `clients` clients on `queues` queues.
 WAYS = {
     "the service": accepted_by_service,
     "CUPS, no syncs": lambda queues, clients: accepted_by_cups(queues, clients, False, 30),
@@ -167,23 +168,23 @@ def accepted():
                     found[name][place].append(way(queues, clients))
         middle = {name: [statistics.median(runs) for runs in rates] for name, rates in found.items()}
         for name, rates in middle.items():
-            said = ", ".join(f"{clients} {rate:.0f}" for clients, rate in zip(CLIENTS, rates))
+            shown = ", ".join(f"{clients} {rate:.0f}" for clients, rate in zip(CLIENTS, rates))
             above = ", ".join(f"{mine / rate:.2f}" for mine, rate in zip(middle["the service"], rates))
-            beside = "" if name == "the service" else f"; the service {above} times as many"
-            print(f"  jobs accepted a second on {queues} queues by {name}, by clients: {said}{beside}", flush=True)
+            ratio = "" if name == "the service" else f"; the service's ratio {above}"
+            print(f"  jobs accepted per second on {queues} queues by {name}, by clients: {shown}{ratio}", flush=True)
 
 
 def printed():
     with tempfile.TemporaryDirectory() as room:
         program = printing.build(room)
         for queues in QUEUES:
-            runs = [beside_floors(room, program, queues) for _ in range(TIMES)]
+            runs = [with_floors(room, program, queues) for _ in range(TIMES)]
             took, floor = (statistics.median(column) for column in zip(*runs))
             ratio = statistics.median(floor / took for took, floor in runs)
-            print(f"  jobs printed a second by {queues} queues: {1 / took:.0f}, floor {1 / floor:.0f}, ratio {ratio:.2f}", flush=True)
+            print(f"  jobs printed per second by {queues} queues: {1 / took:.0f}, floor {1 / floor:.0f}, ratio {ratio:.2f}", flush=True)
 
 
-def beside_floors(room, program, queues):
+def with_floors(room, program, queues):
     """The seconds of a job of the service, and of one of the floor."""
     disk = os.path.join(room, "disk")
 
@@ -199,17 +200,17 @@ def beside_floors(room, program, queues):
 
 
 def print_all(queues):
-    """The seconds in which so many queues print all their jobs."""
-    with Office(queues, 0, printing.PROGRAM) as office:
-        office.say_to_all("disable")
-        submit_some(office, 0, PRINTED)
+    """The seconds until `queues` queues have printed all their jobs."""
+    with RunningService(queues, 0, printing.PROGRAM) as service:
+        service.say_to_all("disable")
+        submit_some(service, 0, PRINTED)
         waits = "".join(f"wait {job}\n" for job in range(1, PRINTED + 1))
 
         def print_them():
-            office.say_to_all("enable")
-            office.client.say(waits)
+            service.say_to_all("enable")
+            service.client.say(waits)
             for _ in range(2 * PRINTED):
-                office.client.reply()
+                service.client.reply()
 
         return timed(print_them)
 
@@ -218,32 +219,32 @@ def print_all(queues):
 
 
 def work():
-    with Office(8, 15) as office:
+    with RunningService(8, 15) as service:
         time.sleep(1)
-        idle = work_of(office)
-        jobs = [office.client.submit(name) for name in office.names]
-        office.client.until_ended(jobs, "5")
-        print(f"  processor time in 10 s: idle {idle:.0f} ms, with eight children {work_of(office):.0f} ms")
+        idle = work_of(service)
+        jobs = [service.client.submit(name) for name in service.names]
+        service.client.until_ended(jobs, "5")
+        print(f"  processor time in 10 s: idle {idle:.0f} ms, with eight children {work_of(service):.0f} ms")
 
 
-def work_of(office):
-    before = office.folder.work()
+def work_of(service):
+    before = service.folder.work()
     time.sleep(10)
-    return office.folder.work() - before
+    return service.folder.work() - before
 
 
 def memory():
-    with Office(8, 2) as office:
-        nothing = office.folder.memory()
-        for job, name in enumerate(office.names, 1):
-            same("create", office.client.create(name), job)
+    with RunningService(8, 2) as service:
+        nothing = service.folder.memory()
+        for job, name in enumerate(service.names, 1):
+            same("create", service.client.create(name), job)
             for _ in range(MEBIBYTE // PIECE):
-                office.client.ask(f"send {job} {PIECE}\n" + PIECE * "x" + "\n")
-        kept = office.folder.memory()
+                service.client.ask(f"send {job} {PIECE}\n" + PIECE * "x" + "\n")
+        kept = service.folder.memory()
         for job in range(1, 9):
-            office.client.ask(f"close {job} x\n")
-        office.client.until_ended(range(1, 9), "5")
-        print(f"  memory: {nothing} KiB, with eight documents of a MiB {kept} KiB, while they print {office.folder.memory()} KiB")
+            service.client.ask(f"close {job} x\n")
+        service.client.until_ended(range(1, 9), "5")
+        print(f"  memory: {nothing} KiB, with eight documents of a MiB {kept} KiB, while they print {service.folder.memory()} KiB")
 
 
 def main():

@@ -1,27 +1,27 @@
 #!/usr/bin/env python3
-"""What a tick costs where jobs wait, and what a slow printer costs the others: ticks.py [memory|real [PROGRAM]]
+"""Measures a tick while jobs wait, and how a slow printer affects the others: ticks.py [memory|real [PROGRAM]]
 
-With `memory`, or without words, it runs crates/spool_scripts/out/spool_scripts (made by `rt run` in that folder) or PROGRAM on
-cases that it writes, over a disk and children in memory: 64 queues, of which each has a job to start, and behind these 1,000 to
-100,000 jobs that wait. Then come no ticks, 200 or 2,000 of three kinds:
+With `memory`, or without arguments, it runs crates/spool_scripts/out/spool_scripts (built by `rt run` in that crate) or PROGRAM on cases
+that it writes, over a disk and children in memory: 64 queues that each have a job to start, and after these jobs 1,000 to 100,000 more that
+wait. They are followed by 0, 200 or 2,000 ticks of three kinds:
 
-- no child has ended: the first tick starts 64 children, and each later one looks at each of them in vain;
-- each ends at once: each tick starts 64 children and tells their ends, by which each job is tried again before all others;
-- none can be started: so it is there too, but no order is kept, and none is told in the account.
+- no child has ended: the first tick starts 64 children, and each later tick polls each of them;
+- each child ends at once: each tick starts 64 children and reports their ends, and then each job is tried again before all others;
+- no child can be started: the same, but no order is stored, and none is in the account.
 
-The program serves each case in WAYS ways and compares its replies and its account with those that are wanted here. Printed is its
-processor time for a tick: the least of RUNS runs, less that of the same case without ticks. Where each ends at once, that is with
-the text of 64 orders in the account.
+The program serves each case in WAYS ways and compares its replies and its account with the expected ones. The script prints the processor
+time of a tick: the least of RUNS runs, minus that of the same case without ticks. If each child ends at once, this includes the text of 64
+orders in the account.
 
-A tick should take as long behind 1,800 others as behind none, and hardly longer where more jobs wait. Where 100,000 wait, most of
-the time goes to making them, so that what is told of 200 ticks is rough.
+A tick should take as long after 1,800 other ticks as after none, and hardly longer if more jobs wait. With 100,000 waiting jobs most of the
+time is spent creating them, so the figure from 200 ticks is rough.
 
-With `real`, or without words, it runs crates/spool_service/out/spool_service or PROGRAM, which ticks, with real children. Two queues
-of jobs of 10 ms print for 35 s, kept full by clients, without and with a queue beside them whose jobs take 5 s. Printed is how many
-jobs they printed, the ratio (0.9 is aimed at), how long another client waited for a listing (under 50 ms in 99 of 100), and at last
-the processor time of the idle service in ten seconds. Its folder is where TMPDIR says.
+With `real`, or without arguments, it runs crates/spool_service/out/spool_service or PROGRAM, which ticks, with real children. Two queues
+with jobs of 10 ms print for 35 s, kept full by clients, without and with a third queue whose jobs take 5 s. The script prints how many jobs
+they printed, the ratio (target: 0.9), how long another client waited for a listing (target: 99 of 100 under 50 ms), and finally the
+processor time of the idle service in ten seconds. Its folder is in TMPDIR.
 
-Times depend on the machine; only their ratios are of interest, and no test reads them.
+Times depend on the machine, so only their ratios are of interest. No test checks them.
 """
 import os
 import subprocess
@@ -41,21 +41,21 @@ QUEUES = 64
 COUNTS = (1_000, 10_000, 100_000)
 TICKS = (200, 2_000)
 RUNS = 3
-# In how many ways the program serves a case.
+# How many times the program serves a case, each time in another way.
 WAYS = 7
 
 TYPE = "application/octet-stream"
-# Room for what a job and a tick append to an area, and for the queues.
+# Room for the records that a job and a tick append to an area, and for the queues.
 OF_JOB, OF_TICK, OF_QUEUES = 100, 50 * QUEUES, 100 * QUEUES
 
 
 def queue(number):
-    """Its name. The names are in the order of the numbers."""
+    """Its name. The names sort in the order of the numbers."""
     return f"q{number:02}"
 
 
 def before(count):
-    """The commands that make the queues and the jobs, and their replies."""
+    """The commands that create the queues and the jobs, and their replies."""
     lines = [f"queue {queue(n)} s:/ {TYPE} retry-current-job 30 0\n" for n in range(QUEUES)]
     replies = ["ok\n"] * QUEUES
     for job in range(1, QUEUES + count + 1):
@@ -65,7 +65,7 @@ def before(count):
 
 
 def orders(attempt, behind):
-    """How the account tells the orders of the first job of each queue."""
+    """The orders of the first job of each queue, as they are in the account."""
     for n in range(QUEUES):
         job = n + 1
         texts = ["CHARSET=utf-8", f"CONTENT_TYPE={TYPE}", "CUPS_FILETYPE=document", "DEVICE_URI=s:/", f"FINAL_CONTENT_TYPE={TYPE}"]
@@ -78,16 +78,16 @@ def orders(attempt, behind):
         yield "document \n"
 
 
-def told(started, finished):
+def account_of(started, finished):
     return f"tick: started {started}, finished {finished}\n"
 
 
 def none_ended(ticks):
-    """The children, and the account, of so many ticks in which no child has ended."""
+    """The children and the account of `ticks` ticks if no child ends."""
     if not ticks:
         return "", ""
     looks = "looks" + " no" * (QUEUES * ticks) + "\n\n"
-    first = told(QUEUES, 0) + told(0, 0) * (ticks - 1)
+    first = account_of(QUEUES, 0) + account_of(0, 0) * (ticks - 1)
     return looks + "\n\n".join(["exit 0"] * QUEUES), first + "".join(orders(1, 0)) + f"finished {QUEUES}\n"
 
 
@@ -95,12 +95,12 @@ def each_ended(ticks):
     if not ticks:
         return "", ""
     all_orders = (line for tick in range(ticks) for line in orders(tick + 1, QUEUES * tick))
-    account = told(QUEUES, QUEUES) * ticks + "".join(all_orders) + f"finished {QUEUES * ticks}\n"
+    account = account_of(QUEUES, QUEUES) * ticks + "".join(all_orders) + f"finished {QUEUES * ticks}\n"
     return "\n\n".join(["exit 7"] * (QUEUES * ticks)), account
 
 
 def none_started(ticks):
-    return "", told(0, QUEUES) * ticks
+    return "", account_of(0, QUEUES) * ticks
 
 
 KINDS = {"no child has ended": none_ended, "each ends at once": each_ended, "none can be started": none_started}
@@ -131,7 +131,7 @@ def run(program, folder):
         output.seek(0)
         said = output.read()
     if running.returncode or said != b"case ok\n1 scripts, 0 differ\n":
-        sys.exit(f"the program said {said[:300]!r}")
+        sys.exit(f"the program printed {said[:300]!r}")
     return used.ru_utime + used.ru_stime
 
 
@@ -139,12 +139,12 @@ def run(program, folder):
 
 SECONDS = 35
 FAST, SLOW = 0.01, 5
-# How many jobs of a queue wait while it is kept full.
+# The number of waiting jobs of a queue while it is kept full.
 WAITING = 8
 
 
 def keep_full(folder, queue, stop):
-    """A client that makes the jobs of a queue, so that some always wait."""
+    """A client that creates the jobs of a queue, so that some always wait."""
     client, jobs = service_parts.Client(folder), []
     while not stop.is_set():
         jobs.append(client.submit(queue, f"{queue}\n"))
@@ -159,8 +159,8 @@ def ask_on_and_on(folder, stop, times):
         time.sleep(0.01)
 
 
-def printed_beside(slow):
-    """How many jobs of 10 ms are printed, beside so many slow queues, and how long each reply to another client took."""
+def printed_next_to(slow):
+    """The number of jobs of 10 ms that are printed next to `slow` slow queues, and the time of each reply to another client."""
     folder, stop, times = service_parts.Folder(), threading.Event(), []
     try:
         folder.start("--quiet")
@@ -204,12 +204,12 @@ def idle_work():
 def with_real_children(program):
     service_parts.Folder.service = program
     print(f"real children, {SECONDS} s")
-    alone, times = printed_beside(0)
+    alone, times = printed_next_to(0)
     print(f"  {alone} fast jobs without a slow queue")
-    service_parts.told("a client's replies", times)
-    beside, times = printed_beside(1)
-    print(f"  {beside} fast jobs beside a slow one: {beside / alone:.2f}")
-    service_parts.told("a client's replies", times)
+    service_parts.print_times("a client's replies", times)
+    jobs, times = printed_next_to(1)
+    print(f"  {jobs} fast jobs next to a slow queue: {jobs / alone:.2f}")
+    service_parts.print_times("a client's replies", times)
     print(f"  idle for 10 s: {idle_work():.0f} ms of processor time")
 
 

@@ -1,10 +1,12 @@
 #!/usr/bin/env python3
-"""How the time to type a document grows: it runs crates/spool_shell/out/spool_shell (made by `rt run` in that folder) on
-a script that closes one document, with a file of types whose every rule looks for a text in the whole document and finds
-none. It prints the time beside that of the same script without rules, and the ratio to the line before.
+"""Measures how the time to detect a document's type grows: typing.py
 
-A ratio near 2 where the document or the file has doubled says that typing takes time in proportion to both. Times
-depend on the machine; only the ratios are of interest, and no test reads them.
+It runs crates/spool_shell/out/spool_shell (built by `rt run` in that crate) on a script that closes one document, with a file of types
+whose rules each search the whole document for a text and do not find it. It prints the time of each case next to that of the same script
+without rules, and the ratio to the case before.
+
+A ratio near 2 when the document or the file doubles means that the time of type detection is proportional to both. Times depend on the
+machine, so only the ratios are of interest. No test checks them.
 """
 import os
 import subprocess
@@ -19,7 +21,7 @@ MEBIBYTE = 1_048_576
 
 
 def script(size):
-    """One document of so many bytes is sent in pieces, and closed. Fronts of the texts looked for stand everywhere in it."""
+    """A document of `size` bytes is sent in pieces, and closed. Prefixes of the searched texts occur everywhere in it."""
     lines = [b'queue lab spoolfile:/out a/b abort-job\ncreate lab ann "A title" 1 50 ""\n']
     document = (b"needles00000-" * (size // 13 + 1))[:size]
     for at in range(0, size, 65_536):
@@ -30,12 +32,12 @@ def script(size):
 
 
 def rules(count):
-    """A file of so many lines, each with one rule that is false."""
+    """A file of `count` lines, each with one rule that is false."""
     return "".join(f"a/b contains(0,{MEBIBYTE},needles{n:06})\n" for n in range(count))
 
 
 def seconds(size, count):
-    """The least time of three runs."""
+    """The shortest time of three runs."""
     best = None
     with tempfile.NamedTemporaryFile("w", suffix=".types") as types:
         types.write(rules(count))
@@ -53,7 +55,7 @@ def seconds(size, count):
 
 
 def show(title, cases):
-    """The time of each case beside that without rules, and its ratio to the case before."""
+    """The time of each case next to that without rules, and its ratio to the case before."""
     print(title)
     before = None
     for size, count in cases:

@@ -1,15 +1,13 @@
 #!/usr/bin/env python3
-"""What waiting jobs cost: an event and the choice of the next job at 10 to 1,000,000 waiting jobs of one queue, and the
-memory of each job.
+"""Measures an event, the choice of the next job and the memory of a job with 10 to 1,000,000 jobs waiting in one queue: waiting.py
 
-It runs crates/spool_shell/out/spool_shell (made by `rt run` in that folder) on a spool in memory. The jobs are made first,
-and then the commands are timed, from the first to the last reply: `clock` (an event that no job waits for), `hold` and
-`release` of the job in the middle, `close` of a job of the highest priority (whose turn is before all others), and `round`
-(the choice, a Start and a Stage: there no child can be started, so each round ends the job that it starts). All of it is
-done again where all but a few jobs are held.
+It runs crates/spool_shell/out/spool_shell (built by `rt run` in that crate) on a spool in memory. It creates the jobs first, and then times
+the commands, from the first to the last reply: `clock` (an event that affects no job), `hold` and `release` of the job in the middle,
+`close` of a job of the highest priority (which is ordered before all others), and `round` (the choice, a Start and a Stage: no child can be
+started there, so each round ends the job that it starts). It repeats all of this with all but a few jobs held.
 
-The memory is what the resident set grew by while the jobs were made, with the part of the spool's image that their events
-fill, for each job. Times depend on the machine; only the ratios are of interest, and no test reads them.
+The memory is the growth of the resident set while the jobs are created, divided by their number, including the part of the spool's image
+that their events fill. Times depend on the machine, so only the ratios are of interest. No test checks them.
 """
 import os
 import subprocess
@@ -29,7 +27,7 @@ QUEUE = b"queue lab spoolfile:/out application/octet-stream abort-job\n"
 
 
 def made(first, last, held):
-    """The jobs of these numbers, held or not."""
+    """The jobs with these numbers, held or not."""
     lines = []
     for job in range(first, last + 1):
         lines.append(b'create lab ann t 1 50 ""\n')
@@ -40,7 +38,7 @@ def made(first, last, held):
 
 
 def ask(running, script):
-    """Writes the commands, and reads as many replies. Answers the seconds that it took."""
+    """Writes the commands and reads the same number of replies. Returns the seconds that it took."""
     replies = script.count(b"\n")
     start = time.perf_counter()
     writing = threading.Thread(target=write, args=(running, script))
@@ -64,7 +62,7 @@ def resident(running):
         for line in lines:
             if line.startswith("VmRSS:"):
                 return 1024 * int(line.split()[1])
-    sys.exit("the resident set isn't told")
+    sys.exit("the resident set is not reported")
 
 
 def measured(count, held):
@@ -97,8 +95,8 @@ def main():
         for count in COUNTS:
             clock, turned, urgent, choice, memory = measured(count, held)
             times = [("clock", clock), ("hold or release", turned), ("urgent close", urgent), ("round", choice)]
-            told = ", ".join(f"{name} {1e6 * seconds:7.1f} us" for name, seconds in times)
-            print(f"  {count:9,} jobs: {told}, {memory:5.0f} bytes a job")
+            columns = ", ".join(f"{name} {1e6 * seconds:7.1f} us" for name, seconds in times)
+            print(f"  {count:9,} jobs: {columns}, {memory:5.0f} bytes a job")
 
 
 main()

@@ -1,5 +1,6 @@
-"""What the tests of spool_admin share (grow.py, split.py): the programs, the spools that they look at, the calls at which they are killed
-or that fail, and how all tests are run.
+"""The shared parts of the tests of spool_admin, grow.py and split.py.
+
+They are the programs, the spools, the system calls to kill or to fail, and the loop that runs all tests.
 """
 import os
 import shutil
@@ -28,13 +29,13 @@ NAME = "spool.disk"
 LOCK = "spool.lock"
 OWNED = "spool: disk\nspool: cause: owned\n"
 
-# The calls that may be killed at, and those of them that fail, with an error.
+# The calls at which the program may be killed, each with an error that it may return.
 ERRORS = {"open": "EIO", "openat": "EIO", "flock": "ENOLCK", "statx": "EIO", "fstat": "EIO", "lstat": "EIO", "newfstatat": "EIO",
           "read": "EIO", "pread64": "EIO", "write": "ENOSPC", "pwrite64": "EIO", "fsync": "EIO", "fdatasync": "EIO", "fchown": "EPERM",
           "fchmod": "EPERM", "rename": "EIO", "renameat": "EIO", "renameat2": "EIO", "unlink": "EIO", "unlinkat": "EIO", "close": "EIO"}
 KILLED = (*ERRORS, "mmap", "munmap", "brk", "exit_group", "lseek", "fcntl")
 
-# Queues, and jobs of each phase: their documents are coming, they wait, are held, are processing, or have ended.
+# Queues, and jobs of each phase: incoming, waiting, held, processing and ended.
 EVENTS = (Q.event(), LAB.event(), of_q(1).event(), send(1, b"first"), send(1, b" and last"), close(1),
           of_q(2, title="Coming").event(), send(2, b"half of it"), of_lab(3).event(), send(3, b"held " * 60), close(3), hold(3),
           of_lab(4).event(), close(4), cancel(4), of_lab(5).event(), send(5, b"printing"), close(5), start(5))
@@ -45,21 +46,22 @@ def image_of(version=journal.NEWEST, size=SIZE, epoch=1):
 
 
 def in_second_area(file, epoch=7):
-    """The same spool with its areas changed over, and an older one in the other area."""
+    """The same spool with its areas exchanged, and an older one in the other area."""
     first, second = journal.halves(file)
     rest = file[2 * len(first):]
     return journal.area(len(first), epoch - 1, [spelled(Q.event())]) + journal.header(epoch, version=first[1]) + first[journal.HEADER:] + rest
 
 
 def administer(*words, before=()):
-    """The end of spool_admin with these words, and what it wrote. `before` is a command that runs it."""
+    """The result of spool_admin with these arguments, and its output. `before` is a command that runs it."""
     done = subprocess.run([*before, ADMIN, *words], capture_output=True, text=True, timeout=SECONDS)
     return done.returncode, done.stdout, done.stderr
 
 
 def run_all(prefix, plain, traced):
-    """Runs each test in a folder of its own, those that trace only where that is allowed. The first that finds a difference ends it,
-    with status 1, and its folder is left."""
+    """Runs each test in a folder of its own, and tests that trace only if tracing is allowed. The first difference ends the run with status
+    1, and the folder of that test is kept.
+    """
     for path in (ADMIN, SHELL):
         if not os.path.exists(path):
             sys.exit(f"no program {path}: run `rt run` in its crate first")

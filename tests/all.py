@@ -1,18 +1,21 @@
 #!/usr/bin/env python3
-"""Runs all that stands beside the gate: all.py [NAME..]
+"""Runs the tests of the built programs: all.py [--list | NAME..]
 
-`rt ci` is the gate. It can't see what a file, a process, a kill or the want of memory does; the scripts of this folder try
-that on the built programs. This runs each of them, several side by side, each in folders of its own, and prints a line for
-each as it ends: its name, its seconds, and how it ended. With names it runs these alone, as `all.py syncs killed`.
+`rt ci`, the gate, cannot see the effect of a file, a process, a kill or a failed allocation. The scripts of this folder test these on the
+built programs. This script runs them, several at a time, each in folders of its own. As each one ends it prints a line with its name, the
+seconds it took and its result. With names it runs only these, as in `all.py syncs killed`. With --list it runs nothing and prints the
+purpose of each script of tests/ and bench/.
 
-The programs have to be built before: `rt ci` leaves them in the folders of their crates. So do these commands there, but for
-what calls_without_memory.py runs: `rt run` in crates/spool_scripts, crates/spool_shell, crates/spool_admin, crates/spool_service,
-crates/spool_front and crates/spool_tools, and `rt test` in each crate that tests/allocations.py names. Which of them is missing is told first, with status 2.
+Build the programs first. `rt ci` leaves them in the folders of their crates. So do these commands, except for what calls_without_memory.py
+runs: `rt run` in crates/spool_scripts, crates/spool_shell, crates/spool_admin, crates/spool_service, crates/spool_front and
+crates/spool_tools, and `rt test` in each crate that tests/allocations.py names. If programs are missing, all.py names them and ends with
+status 2.
 
-A part that wants what isn't installed, or another user, is left out, and told as `skipped`. Each file of this folder has to
-be in one of the tables below. The last line is `all N passed`, with how much was skipped, and status 0; or `N failed`, with
-status 1. It takes some seven minutes on four processors, and may take fifteen on busy ones.
+A part that needs a package which is not installed, or another user, is left out and reported as `skipped`. Each file of this folder must be
+in one of the tables below. The last line is `all N passed`, with the number that were skipped, and status 0; or `N failed`, with
+status 1. It takes about seven minutes on four processors, and up to fifteen on busy ones.
 """
+import ast
 import concurrent.futures
 import os
 import shutil
@@ -27,7 +30,7 @@ import failover_volume
 HERE = os.path.dirname(os.path.realpath(__file__))
 ROOT = os.path.dirname(HERE)
 
-# How many scripts run at once: they wait more than they compute. And after how many seconds one of them hangs.
+# The number of scripts that run at once: they wait more than they compute. After this many seconds a script is killed.
 AT_ONCE = 5
 SECONDS = 1_800
 
@@ -35,7 +38,7 @@ FILTERS = "/usr/lib/cups/filter"
 BACKEND = "/usr/lib/cups/backend/socket"
 CUPS_TYPES = "/usr/share/cups/mime/mime.types"
 
-# The scripts, longest first, each with the words that it is given.
+# The scripts, longest first, each with its arguments.
 SCRIPTS = {
     "service.py": [],
     "front.py": [],
@@ -61,18 +64,17 @@ SCRIPTS = {
     "stock.py": [],
     "walk.py": [],
     "manuals.py": [],
-    "promises.py": [],
     "cups_types.py": [CUPS_TYPES],
     "grow.py": [],
     "split.py": [],
     "large.py": [],
 }
 
-# Those that run when the others have ended: they compare times.
+# These compare times, so they run after the others have ended.
 ALONE = ["large.py"]
 
-# Scripts that the gate runs (`.ci/run`), the scripts that take long and are run on demand, and what the scripts are made of.
-IN_GATE = ["out_of_memory.py", "unused_lemmas.py", "edits_apply.py", "places.py"]
+# The scripts that the gate runs (`.ci/run`), the scripts that take long and are run on demand, and the modules and data of the scripts.
+IN_GATE = ["out_of_memory.py", "unused_lemmas.py", "edits_apply.py", "places.py", "promises.py", "reference.py", "english.py"]
 ON_DEMAND = ["cuts.py", "failing_calls.py", "gate_minutes.py", "more_edits.py"]
 PARTS = [
     "admin_parts.py",
@@ -116,12 +118,33 @@ PARTS = [
 PROGRAMS = ["spool_scripts", "spool_shell", "spool_admin", "spool_service", "spool_front", "spool_tools"]
 
 
+def first_line(path):
+    """The first line of a script's docstring."""
+    with open(path, encoding="utf-8") as script:
+        return (ast.get_docstring(ast.parse(script.read())) or "").partition("\n")[0]
+
+
+def purposes():
+    """The purpose of each script, one line each."""
+    scripts = sorted(name for name in os.listdir(os.path.join(ROOT, "bench")) if name.endswith(".py"))
+    parts = {
+        "In the gate (.ci/run):": [("tests", name) for name in IN_GATE],
+        "Run by tests/all.py:": [("tests", name) for name in sorted(SCRIPTS)],
+        "On demand:": [("tests", name) for name in ON_DEMAND],
+        "Benchmarks, on demand:": [("bench", name) for name in scripts],
+    }
+    for title, names in parts.items():
+        yield title
+        for folder, name in names:
+            yield f"  {folder}/{name:24} {first_line(os.path.join(ROOT, folder, name))}"
+
+
 def installed(path):
     return os.path.exists(path)
 
 
-def wants():
-    """What isn't there, for each script: whether all of it is left out then, and why."""
+def missing_parts():
+    """The scripts with missing requirements: for each whether all of it is skipped, and the requirement."""
     missing = {}
     if not installed(FILTERS):
         missing["stock.py"] = (True, "stock filters (Debian's packages cups and cups-filters)")
@@ -130,17 +153,17 @@ def wants():
     if not installed(BACKEND):
         missing["office.py"] = (False, "CUPS's own backend socket (Debian's package cups)")
     if not installed(CUPS_TYPES):
-        missing["cups_types.py"] = (True, "the types of CUPS (Debian's package cups-daemon)")
+        missing["cups_types.py"] = (True, "CUPS's file of types (Debian's package cups-daemon)")
     if not shutil.which("chromium"):
         missing["front.py"] = (False, "the page in a browser (Debian's package chromium)")
     if not shutil.which("strace"):
         missing["syncs.py"] = (True, "strace (Debian's package strace)")
         missing["grow.py"] = missing["split.py"] = (False, "kills at each call (Debian's package strace)")
-        missing["children.py"] = (False, "what the system refuses (Debian's package strace)")
+        missing["children.py"] = (False, "refused system calls (Debian's package strace)")
         missing["service.py"] = (False, "power cuts (Debian's package strace)")
     elif os.geteuid():
         missing["children.py"] = (False, "a full folder (as root)")
-        missing["service.py"] = (False, "a full folder, and another user (as root)")
+        missing["service.py"] = (False, "a full folder and another user (as root)")
     lacking = failover_volume.lacks()
     if lacking:
         missing["failover.py"] = (True, f"a replicated volume: {lacking}")
@@ -149,38 +172,38 @@ def wants():
     if not shutil.which("shellcheck") or not shutil.which("debootstrap") or os.geteuid():
         missing["install.py"] = (False, "a fresh Debian (as root; Debian's packages debootstrap and shellcheck)")
     if not shutil.which("rt"):
-        missing["walk.py"] = (False, "the walk (the toolchain's rt)")
+        missing["walk.py"] = (False, "the commands of the README (the toolchain's rt)")
     if not shutil.which("valgrind"):
         missing["calls_without_memory.py"] = (True, "valgrind (Debian's package valgrind)")
     if not shutil.which("gcc"):
         missing["allocations.py"] = missing["refused_memory.py"] = missing["refused_scripts.py"] = (True, "a C compiler (Debian's package gcc)")
-        missing.setdefault("service.py", (False, "a day in fast motion (Debian's package gcc)"))
+        missing.setdefault("service.py", (False, "a day with a fast clock (Debian's package gcc)"))
     return missing
 
 
 def unlisted():
-    """The files of this folder that no table has, and the names of the tables that aren't here."""
+    """The files of this folder that are in no table, and the names in the tables that do not exist."""
     tables = {*SCRIPTS, *IN_GATE, *ON_DEMAND, *PARTS}
     here = {name for name in os.listdir(HERE) if os.path.isfile(os.path.join(HERE, name))}
     return [f"tests/{name} is in no table of tests/all.py" for name in sorted(here - tables)] + [
-        f"tests/{name} is in a table of tests/all.py, and isn't there" for name in sorted(tables - here)
+        f"tests/{name} is in a table of tests/all.py and does not exist" for name in sorted(tables - here)
     ]
 
 
 def unbuilt(names):
-    """What says how to build the programs that are missing."""
+    """A line for each program that is missing, with the command that builds it."""
     missing = [name for name in PROGRAMS if not installed(os.path.join(ROOT, "crates", name, "out", name))]
     lines = [f"crates/{name}/out has no program: run `rt run` in crates/{name} first" for name in missing]
     if "calls_without_memory.py" in names and not installed(os.path.join(ROOT, "crates", "spool_shell", "out", "spool_shell.by-rattle")):
         lines.append("crates/spool_shell/out has no spool_shell.by-rattle: run `rt ci` first")
     if "allocations.py" in names:
-        told = subprocess.run([sys.executable, os.path.join(HERE, "allocations.py"), "--programs"], capture_output=True, text=True)
-        lines += told.stdout.splitlines() if told.returncode else []
+        listed = subprocess.run([sys.executable, os.path.join(HERE, "allocations.py"), "--programs"], capture_output=True, text=True)
+        lines += listed.stdout.splitlines() if listed.returncode else []
     return sorted(set(lines))
 
 
 def run(name, room):
-    """Runs a script: its seconds, its status, and all that it wrote."""
+    """Runs a script. Returns its seconds, its status and its output."""
     # A short name: the folder of a spool has 64 bytes at most.
     folder = os.path.join(room, str(list(SCRIPTS).index(name)))
     os.mkdir(folder)
@@ -193,15 +216,15 @@ def run(name, room):
         text, _ = script.communicate(timeout=SECONDS)
         status = script.returncode
     except subprocess.TimeoutExpired:
-        # With the programs that it runs.
+        # Together with the programs that it runs.
         os.killpg(script.pid, signal.SIGKILL)
         text, _ = script.communicate()
-        status = "no end"
+        status = "a timeout"
     return time.monotonic() - begun, status, text
 
 
 def run_all(names, at_once, room):
-    """Runs scripts, so many at once, with a line for each as it ends. What the others wrote that failed is given."""
+    """Runs scripts, at most `at_once` at a time, and prints a line as each ends. Returns the output of each script that failed."""
     failures = []
     with concurrent.futures.ThreadPoolExecutor(at_once) as pool:
         tasks = {pool.submit(run, name, room): name for name in names}
@@ -216,23 +239,26 @@ def run_all(names, at_once, room):
 
 
 def main():
+    if sys.argv[1:] == ["--list"]:
+        print("\n".join(purposes()))
+        return
     names = [word if word.endswith(".py") else f"{word}.py" for word in sys.argv[1:]] or list(SCRIPTS)
     unknown = [name for name in names if name not in SCRIPTS]
     if unknown:
-        raise SystemExit(f"no script of this folder that is run here: {' '.join(unknown)}")
+        raise SystemExit(f"not a script that all.py runs: {' '.join(unknown)}")
     missing = unbuilt(names)
     if missing:
         print("\n".join(missing))
         sys.exit(2)
     failures = unlisted()
-    missing = wants()
+    missing = missing_parts()
     skipped = [name for name in names if name in missing]
     for name in skipped:
         print(f"{name:18} skipped{'' if missing[name][0] else ' in part'}: {missing[name][1]}", flush=True)
     names = [name for name in names if not missing.get(name, (False,))[0]]
     begun = time.monotonic()
     room = tempfile.mkdtemp(prefix="all-")
-    # Some of what is tried runs as another user, who has to reach its files.
+    # Some tests run programs as another user, who must be able to reach their files.
     os.chmod(room, 0o711)
     failures += run_all([name for name in names if name not in ALONE], AT_ONCE, room)
     failures += run_all([name for name in names if name in ALONE], 1, room)

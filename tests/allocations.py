@@ -1,27 +1,27 @@
 #!/usr/bin/env python3
 """Counts the allocations of the built programs, and refuses each in turn: allocations.py [--write | --programs] [NAME..]
 
-No clause can say that a call takes no memory, nor what a call does after an allocation that was refused in its midst. This
-script runs programs over the library of tests/count_allocations.c, which it compiles with gcc, and looks at these:
+No contract clause can say that a call allocates nothing, nor specify its result after one of its allocations was refused. This script runs
+programs with the library of tests/count_allocations.c, which it compiles with gcc, and checks:
 
-- A call that takes no memory. A test may print `begin NAME` before such a call and `end NAME` behind it, and no allocation
-  may come between the two.
-- The tests of CRATES, with their first allocation refused, then with their second, and so on. Each has to end with that very
-  fault: any other end is an answer that changed in the place of the fault. Some tests compare such an answer themselves
-  (BY_ANSWER): their own assertion fails then. Where std asks once more, for less, nothing changes, here and in a script.
-- The stored scripts of crates/spool_scripts/data that need no made up children, disk or limits, served by the shell. Between
-  the first write of an event and its last sync nothing is taken, and from there to the reply no more than the reply takes.
-- Some of these scripts with each allocation refused in turn. A command that finds no memory is answered `error memory`, and
-  all other replies are those to the script without it; or the program ends with `spool: memory`, having answered all before.
-  A start that finds no memory to look for what killed ones left says nothing, and leaves it there.
+- Calls that must not allocate. A test may print `begin NAME` before such a call and `end NAME` after it, and no allocation may occur
+  between the two.
+- The tests of CRATES, with their first allocation refused, then with their second, and so on. Each must end with an error that reports this
+  refusal. Any other end means that an answer changed because of the refusal. Some tests compare such an answer themselves (BY_ANSWER):
+  their own assertion fails then. If std retries with a smaller size, nothing changes, here and in a script.
+- The stored scripts of crates/spool_scripts/data that need no simulated children, disk or limits, served by the shell. Between the first
+  write of an event and its last sync nothing is allocated, and from there to the reply only the reply is.
+- Some of these scripts with each allocation refused in turn. A command that runs out of memory gets `error memory`, and all other replies
+  are those to the script without that command; or the program replies to all earlier commands and ends with `spool: memory`. A start that
+  runs out of memory while it looks for leftovers of killed programs logs nothing, and leaves them.
 
-How many allocations each test and each script makes is compared with tests/allocations.txt, a line `NAME PART COUNT` for
-each. A call that begins to take memory, or takes more of it, shows as a greater count. With `--write` the file is written
-anew. With names only these crates are looked at, or `shell`.
+The number of allocations of each test and each script is compared with tests/allocations.txt, a line `NAME PART COUNT` for each. A call
+that begins to allocate, or allocates more, shows as a greater count. With `--write` the file is written. With names only these crates, or
+`shell`, are checked.
 
-The programs are crates/NAME/out/NAME_tests, made by `rt test`, and crates/spool_shell/out/spool_shell, made by `rt run` in
-that folder. With `--programs` nothing is run, and those that are missing are told. The last line is `none`, with status 0, or
-`N differ`, with status 1. It takes some two minutes.
+The programs are crates/NAME/out/NAME_tests, built by `rt test`, and crates/spool_shell/out/spool_shell, built by `rt run` in that crate.
+With `--programs` nothing is run, and missing programs are listed. The last line is `none`, with status 0, or `N differ`, with status 1. It
+takes about two minutes.
 """
 import concurrent.futures
 import itertools
@@ -41,7 +41,7 @@ STORED = os.path.join(HERE, "allocations.txt")
 SOURCE = os.path.join(HERE, "count_allocations.c")
 SHELL = os.path.join(CRATES_FOLDER, "spool_shell", "out", "spool_shell")
 
-# The crates whose tests are counted and refused their allocations.
+# The crates whose tests are counted, and run with refused allocations.
 CRATES = ["decision_tests", "disk_tests", "spool_core_tests", "text_tests"]
 SHELL_NAME = "shell"
 
@@ -58,21 +58,21 @@ REFUSED_SCRIPTS = [
     "typed_by_bytes",
 ]
 
-# The allocations that are refused of a test: the first so many, and then one in so many. Of a script all are. Where that
-# takes more than so many seconds, every second one is, or every third.
+# Which allocations of a test are refused: the first FIRST, and then one in STEP. In a script all are refused. If that takes longer than
+# BUDGET seconds, only every second or third one is.
 FIRST = 100
 STEP = 17
 BUDGET = 30
 AT_ONCE = 4
 SECONDS = 60
 
-# What a test ends with whose allocation was refused: the error of std, with the value given back or without it, that of a
-# crate or of hex, or the test's own word for the call that failed. Another fault, an assertion that fails, or no fault at all is an
-# answer that changed.
+# A test may end with one of these errors after a refused allocation: the error of std, with or without the returned value, that of a crate
+# or of hex, or the test's own text for the call that failed. Another error, a failed assertion or no error at all means that an answer
+# changed.
 REFUSED = re.compile(r'^error: (?:AllocError|AllocFailed \{ \.\. \}|(?:\w+\()*Memory\)*|OutOfMemory|".*")$', re.M)
 
-# Tests that compare how a run ended, or what was read, and where want of memory is one more such answer: their own assertion
-# fails then. And one whose answer is the same whatever stops the run.
+# Tests that compare the end of a run or the bytes that it read, with out of memory as one more possible answer: their own assertion fails
+# then. And one test whose answer is the same whatever stops the run.
 BY_ANSWER = {
     "a_checkpoint_raises_an_old_spool",
     "a_dead_spool_leaves_the_bytes_of_the_reader",
@@ -87,7 +87,7 @@ WHATEVER_STOPS_IT = {"cut_at_each_call"}
 
 
 def is_right(name, status, text):
-    """Whether a test may end so where an allocation is refused."""
+    """Whether a test may end like this after an allocation was refused."""
     if status == 0:
         return name in WHATEVER_STOPS_IT
     return bool(REFUSED.search(text)) or name in BY_ANSWER and "assertion" in text
@@ -98,7 +98,7 @@ def program_of(crate):
 
 
 class Counting:
-    """Runs programs over the counting library, in a folder of its own."""
+    """Runs programs with the counting library, in a folder of its own."""
 
     def __init__(self, room):
         self.room = room
@@ -107,12 +107,13 @@ class Counting:
         subprocess.run(["gcc", "-shared", "-fPIC", "-O1", "-o", self.library, SOURCE], check=True)
 
     def fresh(self):
-        """The path of a file or folder that isn't there yet."""
+        """The path of a file or folder that does not exist yet."""
         return os.path.join(self.room, str(next(self.names)))
 
     def run(self, words, text=b"", refused=0, log=None):
-        """How a program ends, with an allocation refused where that is not 0. Its input is a file, whose pieces are always
-        of the same lengths."""
+        """The result of a program, with one allocation refused unless that number is 0. Its input is a file, which it reads in pieces of
+        the same lengths each time.
+        """
         environment = {"PATH": "/bin", "LANG": "C", "LD_PRELOAD": self.library, "REFUSED": str(refused)}
         if log:
             environment["COUNTED"] = log
@@ -122,7 +123,7 @@ class Counting:
             return subprocess.run(words, stdin=given, env=environment, capture_output=True, cwd=self.room, timeout=SECONDS)
 
     def calls(self, words, text=b"", refused=0):
-        """How a program ends, and its calls in order: the allocations before each, its word, its file and its text."""
+        """The result of a program, and its calls in order: the allocations before each, its name, its file and its text."""
         log = self.fresh()
         ended = self.run(words, text, refused, log)
         with open(log, encoding="utf-8", errors="replace") as file:
@@ -132,20 +133,20 @@ class Counting:
 
 
 def in_time(chosen, seconds):
-    """Those of the chosen allocations that are refused, where a run takes so many seconds."""
+    """The chosen allocations that are refused, given the seconds that a run takes."""
     most = max(8, int(BUDGET / max(seconds, 0.001)))
     return chosen[:: 1 + len(chosen) // most]
 
 
 def taken_between_marks(calls):
-    """What the calls between two marks took, each with its name."""
+    """The allocations of the calls between two marks, each with its name."""
     for (before, _, _, begin), (after, _, _, end) in zip(calls, calls[1:]):
         if begin.startswith("begin ") and end == f"end {begin[6:]}":
             yield begin[6:], after - before
 
 
-def looked_at(counting, crate, test):
-    """How many allocations a test makes, how many calls without memory it marks, and what differs."""
+def refused_in_turn(counting, crate, test):
+    """The number of allocations of a test, the number of calls without allocations that it marks, and the differences."""
     words = [program_of(crate), test]
     name = test.rsplit("::", 1)[-1]
     begun = time.monotonic()
@@ -154,12 +155,12 @@ def looked_at(counting, crate, test):
     if ended.returncode:
         return 0, 0, [f"{crate} {name}: fails by itself: {ended.stderr[-200:]!r}"]
     marked = list(taken_between_marks(calls))
-    differ = [f"{crate} {name}: {call} took memory {taken} times" for call, taken in marked if taken]
+    differ = [f"{crate} {name}: {call} allocates {taken} times" for call, taken in marked if taken]
     count = calls[-1][0]
     for number in in_time([*range(1, min(count, FIRST) + 1), *range(FIRST + 1, count + 1, STEP)], seconds):
         ended, refused = counting.calls(words, b"", number)
         text = (ended.stdout + ended.stderr).decode(errors="replace")
-        # A list that grows by a hint asks once more, for less.
+        # A list that grows by a size hint retries with a smaller size.
         if ended.returncode == 0 and refused[-1][0] > count:
             continue
         if not is_right(name, ended.returncode, text):
@@ -173,36 +174,37 @@ def tests_of(counting, crate):
 
 
 def crate_counts(counting, crate, pool):
-    """The lines of a crate for the stored file, and what differs."""
+    """The lines of a crate for the stored file, and the differences."""
     tests = tests_of(counting, crate)
     lines, differ = [], []
-    for test, (count, _, faults) in zip(tests, pool.map(lambda test: looked_at(counting, crate, test), tests)):
+    for test, (count, _, faults) in zip(tests, pool.map(lambda test: refused_in_turn(counting, crate, test), tests)):
         lines.append(f"{crate} {test.rsplit('::', 1)[-1]} {count}")
         differ += faults
     return lines, differ
 
 
 def serve(counting, name, text, root, refused=0):
-    """How the shell ends that serves a text as the script of this name in a fresh folder, and how many allocations it makes."""
+    """The result of the shell that serves a text as the script of this name in a fresh folder, and the number of its allocations."""
     ended, calls = counting.calls([SHELL, *scripts.words_of(name, root)], text, refused)
     shutil.rmtree(root)
     return ended, calls[-1][0]
 
 
 def form(reply):
-    """A reply without what differs from one to the next: its first word, and those behind it that aren't numbers or names."""
+    """A reply without its variable parts: its first word, and the following words that are neither numbers nor names."""
     words = reply.split()
     return " ".join(word for word in words[:4] if word in ("ok", "job", "bytes", "type", "stages", "unprintable"))
 
 
 def taken_by_events(calls, costs):
-    """What differs in the calls of a run: what was taken between the first write of an event and its last sync. What is taken
-    from there to the reply is added to the costs, by the reply's form."""
+    """The differences in the calls of a run: allocations between the first write of an event and its last sync. Allocations from there to
+    the reply are added to the costs, by the reply's form.
+    """
     disk = []
     begun = False
     for count, word, file, text in calls:
         if word == "write" and file == "1":
-            # What a start does lies before the first event.
+            # The start of the program precedes the first event.
             disk = disk if begun else disk[-4:]
             begun = True
             counts = {before for before, _ in disk}
@@ -217,7 +219,7 @@ def taken_by_events(calls, costs):
 
 
 def script_counted(counting, name):
-    """How many allocations a script makes, what its replies cost, and what differs."""
+    """The number of allocations of a script, the allocations of its replies, and the differences."""
     root = counting.fresh()
     words = [SHELL, *scripts.words_of(name, root)]
     count, costs, differ, got = 0, {}, [], b""
@@ -257,26 +259,27 @@ class Commands:
 
 
 MEMORY = b"error memory\n"
-NOWHERE = "it is told nowhere"
+UNREPORTED = "the refusal is not reported"
 
-# The allocations of a start that looks for what killed ones left, one behind the other: its folder has the spool's file and its lock.
+# The allocations of a start that looks for leftovers of killed programs: its folder has the spool's file and its lock.
 LEFTOVERS = 6
 
 
 def refused_reply(counting, script, number, others, usual):
-    """What differs where an allocation of a script is refused, beside how it ends where none is. The replies to the script
-    without a command are kept."""
+    """The differences if an allocation of a script is refused, compared with the result without a refusal. The replies to the script
+    without a command are cached.
+    """
     ended, count = serve(counting, script.name, script.text, counting.fresh(), number)
     if ended.returncode:
-        # The warnings of its files come before.
+        # The warnings about its files come first.
         warned = ended.stderr.removesuffix(b"spool: memory\n")
         if warned == ended.stderr or not usual[0].stderr.startswith(warned) or ended.stdout not in script.beginnings():
             return f"status {ended.returncode}, {ended.stderr[-100:]!r}, and then {ended.stdout[-100:]!r}"
         return None
     at = next((at for at in range(len(script.commands)) if ended.stdout[: len(script.before(at + 1))] != script.before(at + 1)), None)
     if at is None:
-        # A list that grows by a hint asks once more, for less.
-        return None if count > usual[1] else NOWHERE
+        # A list that grows by a size hint retries with a smaller size.
+        return None if count > usual[1] else UNREPORTED
     if at not in others:
         others[at] = serve(counting, script.name, script.without(at), counting.fresh())[0].stdout
     wanted = script.before(at) + MEMORY + others[at][len(script.before(at)) :]
@@ -284,7 +287,7 @@ def refused_reply(counting, script, number, others, usual):
 
 
 def script_refused(counting, name):
-    """What differs where the allocations of a script are refused in turn."""
+    """The differences if the allocations of a script are refused in turn."""
     script = Commands(name)
     begun = time.monotonic()
     usual = serve(counting, name, script.text, counting.fresh())
@@ -292,14 +295,14 @@ def script_refused(counting, name):
     others = {}
     chosen = in_time(range(1, usual[1] + 1), seconds)
     faults = [(number, refused_reply(counting, script, number, others, usual)) for number in chosen]
-    untold = [number for number, fault in faults if fault == NOWHERE]
-    if untold and untold[-1] - untold[0] < LEFTOVERS:
-        faults = [it for it in faults if it[0] not in untold]
+    unreported = [number for number, fault in faults if fault == UNREPORTED]
+    if unreported and unreported[-1] - unreported[0] < LEFTOVERS:
+        faults = [it for it in faults if it[0] not in unreported]
     return [f"{SHELL_NAME} {name}: allocation {number} refused: {fault}" for number, fault in faults if fault]
 
 
 def shell_counts(counting, pool):
-    """The lines of the shell for the stored file, and what differs."""
+    """The lines of the shell for the stored file, and the differences."""
     names = scripts.names()
     lines, differ, costs = [], [], {}
     for name, (count, taken, faults) in zip(names, pool.map(lambda name: script_counted(counting, name), names)):
@@ -309,18 +312,18 @@ def shell_counts(counting, pool):
             costs.setdefault(kind, set()).update(counts)
     lines += [f"{SHELL_NAME} reply:{kind.replace(' ', '_')} {max(counts)}" for kind, counts in sorted(costs.items())]
     if len(costs.get("ok", ())) != 1:
-        differ.append(f"{SHELL_NAME}: the reply `ok` to an event takes memory {sorted(costs.get('ok', ()))} times")
+        differ.append(f"{SHELL_NAME}: the reply `ok` to an event allocates {sorted(costs.get('ok', ()))} times")
     for faults in pool.map(lambda name: script_refused(counting, name), REFUSED_SCRIPTS):
         differ += faults
     return lines, differ
 
 
 def unbuilt(names):
-    """The programs that are missing, each with the command that makes it."""
+    """The programs that are missing, each with the command that builds it."""
     for name in names:
         program = SHELL if name == SHELL_NAME else program_of(name)
         if name != SHELL_NAME and not os.path.isdir(os.path.dirname(os.path.dirname(program))):
-            yield f"crates/{name} isn't there any more: take it out of CRATES of tests/allocations.py"
+            yield f"crates/{name} does not exist: remove it from CRATES of tests/allocations.py"
         elif not os.path.exists(program):
             crate = "spool_shell" if name == SHELL_NAME else name
             yield f"crates/{crate}/out has no program: run `rt {'run' if name == SHELL_NAME else 'test'}` in crates/{crate} first"
@@ -332,7 +335,7 @@ def stored_lines():
 
 
 def compared(lines, names):
-    """The lines that differ from the stored ones, of these names, or of all where none are given."""
+    """The lines that differ from the stored ones, for these names, or for all if no names are given."""
     stored = [line for line in stored_lines() if not names or line.split()[0] in names]
     return [f"only now: {line}" for line in sorted(set(lines) - set(stored))] + [
         f"only stored: {line}" for line in sorted(set(stored) - set(lines))
@@ -340,7 +343,7 @@ def compared(lines, names):
 
 
 def write(lines, names):
-    """Stores the lines. Where names are given, the others stay."""
+    """Stores the lines. If names are given, the lines of others are unchanged."""
     kept = [line for line in stored_lines() if names and line.split()[0] not in names]
     with open(STORED, "w", encoding="utf-8") as file:
         file.write("".join(line + "\n" for line in [*kept, *lines]))
@@ -354,7 +357,7 @@ def main():
         print("\n".join(missing) or "none")
         sys.exit(2 if missing else 0)
     lines, differ = [], []
-    # In memory, where a sync takes no time.
+    # A folder in memory: a sync takes no time there.
     folder = "/dev/shm" if os.path.isdir("/dev/shm") else None
     with tempfile.TemporaryDirectory(dir=folder) as room, concurrent.futures.ThreadPoolExecutor(AT_ONCE) as pool:
         counting = Counting(room)

@@ -1,21 +1,20 @@
 #!/usr/bin/env python3
-"""Opens files of spools that were changed at random, and compares what the shell makes of them with a model: any_image.py
-[SHELL] [SEED [COUNT]]
+"""Opens spool files with random changes, and compares the shell's results with a model: any_image.py [SHELL] [SEED [COUNT]]
 
-SHELL is the program, and crates/spool_shell/out/spool_shell (made by `rt run` in that folder) where none is given. It makes some
-real spools first: with events of each kind, listings in either area, documents, jobs that are processing, effects of children.
-Others are these as a program of version 1 would have written them. Then COUNT times (10,000) the bytes of one are changed, cut,
-swapped and repeated, as SEED says. Changes go by bytes, by fields and by whole records, so that many files hold what no spooler
-would write, but in the right form.
+SHELL is the program; the default is crates/spool_shell/out/spool_shell (built by `rt run` in that crate). The script first creates some
+real spools: with events of each kind, listings in either area, documents, jobs that are processing, effects of children. Others are these
+spools as a program of version 1 would have written them. Then COUNT times (default 10,000) the bytes of one spool are changed, cut, swapped
+and repeated, as SEED determines. Changes affect bytes, fields and whole records, so that many files contain data that no spooler would
+write, but in a valid form.
 
-The model of tests/spool_model.py, which was written from docs/PROMISES.md and the definitions that it names, says of each file
-which table it has, or its fault and the place. The shell has to tell that fault, answer nothing and leave the file as it was;
-or it has to give that table: in the replies to `jobs` and `queues`, in a round without programs (which starts the next job of
-each queue, and ends it by the queue's policy), in the answers to `createby` before and after a checkpoint, and, byte for byte, in
-what all these and the opening leave of the file.
+For each file the model of tests/spool_model.py, which was written from docs/PROMISES.md and the definitions that it names, says which table
+the file has, or its fault and the place on the disk. In the case of a fault the shell must report it, send no reply and leave the file
+unchanged. Otherwise the shell must have that table: in the replies to `jobs` and `queues`, in a round without programs (which starts the
+next job of each queue, and ends it by the queue's policy), in the replies to `createby` before and after a checkpoint, and, byte for byte,
+in the file after all these and the opening.
 
-The last line is `N passed`, with how many files had a table, in either version, and status 0; or the first difference, with status 1: the file is
-kept and named then. 10,000 files take a few minutes.
+The last line is `N passed`, with the number of files that had a table, by version, and status 0; or the first difference, with status 1:
+the file is kept then, and its path is printed. 10,000 files take a few minutes.
 """
 import os
 import random
@@ -35,7 +34,7 @@ COUNT = 10_000
 SECONDS = 60
 MOST_CHANGES = 3
 
-# The changes have to lead to a table, and to a fault, in so many of a hundred files at least, and in so many to a table of version 1.
+# The least number of changed files per hundred that must have a table, a fault, and a table of version 1.
 LEAST_SHARE = 15
 LEAST_OLD_SHARE = 5
 
@@ -111,7 +110,7 @@ round
 
 
 class Difference(Exception):
-    """The program doesn't do what it has to."""
+    """The program behaves differently than required."""
 
 
 def serve(shell, root, script, words=()):
@@ -119,7 +118,7 @@ def serve(shell, root, script, words=()):
 
 
 def real_spools(shell, folder):
-    """The files of spools as the program leaves them, one after each of some scripts."""
+    """The spool files that the program leaves, one after each of some scripts."""
     root = os.path.join(folder, "made")
     os.mkdir(root)
     words = [*real_children.Children(folder).words, "--size", "8192"]
@@ -128,20 +127,20 @@ def real_spools(shell, folder):
         done = serve(shell, root, script, words)
         replies = done.stdout.decode().splitlines()
         if done.returncode or any(reply.startswith("error") for reply in replies):
-            raise Difference(f"a spool can't be made: {done.stderr!r}, {replies}")
+            raise Difference(f"a spool cannot be created: {done.stderr!r}, {replies}")
         with open(os.path.join(root, "spool.disk"), "rb") as file:
             spools.append(file.read())
     kinds = {payload[0] for spool in spools for half in journal.halves(spool) for payload in journal.payloads_of(half)}
     missing = {*range(1, 0x12), *range(0x40, 0x44)} - kinds
     if missing:
-        raise Difference(f"the spools that were made have no event or row of the kinds {sorted(missing)}")
+        raise Difference(f"the created spools have no event or row of the kinds {sorted(missing)}")
     return spools
 
 
 # ---- areas of version 1
 
 def as_version_one_has_it(payload):
-    """An event or a row as version 1 has it, if it has it at all: no job is to start by a moment, and none is purged."""
+    """An event or a row as version 1 has it, if version 1 has it at all: no job has a start deadline, and none is purged."""
     if payload[:1] == b"\x10":
         return None
     if payload[:1] == b"\x11":
@@ -152,7 +151,7 @@ def as_version_one_has_it(payload):
 
 
 def as_version_one(file, base):
-    """The file with the area there as a program of version 1 would have written it."""
+    """The file with its area as a program of version 1 would have written it."""
     half = len(file) // 2
     area = file[base:base + half]
     payloads = [payload for payload in map(as_version_one_has_it, journal.payloads_of(area)) if payload]
@@ -160,7 +159,9 @@ def as_version_one(file, base):
 
 
 def old_spools(spools):
-    """Some of them with all areas of version 1, and all with that of the lower epoch alone, as the first checkpoint leaves it."""
+    """Some of the files with all areas of version 1, and all with only the area of the lower epoch in version 1, as the first checkpoint
+    leaves it.
+    """
     old = []
     for spool in spools:
         half = len(spool) // 2
@@ -175,10 +176,10 @@ def old_spools(spools):
     return old
 
 
-# ---- changes. Each takes a file and gives another one
+# ---- changes. Each takes a file and returns another one
 
 def area_of(file, chance):
-    """Mostly the current area: where it begins, and where the closed gate is behind its records."""
+    """Usually the current area: its start, and the offset of the closed gate after its records."""
     half = len(file) // 2
     if half < journal.HEADER:
         return 0, 0
@@ -190,7 +191,7 @@ def area_of(file, chance):
 
 
 def payloads_in(half):
-    """The payloads of an area, as far as records are in it."""
+    """The payloads of an area, as far as records are valid."""
     try:
         return [payload for payload in journal.payloads_of(half) if len(payload) < len(half)]
     except (IndexError, MemoryError, OverflowError):
@@ -198,7 +199,7 @@ def payloads_in(half):
 
 
 def some_range(file, chance):
-    """A range of a file, mostly a short one among its records."""
+    """A range of a file, usually a short one among its records."""
     base, gate = area_of(file, chance)
     first, last = (base, min(gate + 12, len(file))) if chance.random() < 0.9 else (0, len(file))
     begin = chance.randrange(first, max(first + 1, last))
@@ -210,7 +211,7 @@ def some_byte(chance):
 
 
 def changed(file, chance):
-    """A byte is another one, or one of its bits, or one more or less."""
+    """Replaces a byte by another one, flips one of its bits, or adds or subtracts one."""
     at, _ = some_range(file, chance)
     byte = chance.choice([some_byte(chance), file[at] ^ 1 << chance.randrange(8), (file[at] + 1) % 256, (file[at] - 1) % 256])
     return file[:at] + bytes([byte]) + file[at + 1:]
@@ -222,19 +223,19 @@ def filled(file, chance):
 
 
 def cut(file, chance):
-    """A range is taken out. The file is shorter then, or zeros are behind it."""
+    """Removes a range. The file is shorter then, or is padded with zeros."""
     begin, end = some_range(file, chance)
     left = file[:begin] + file[end:]
     return left if chance.random() < 0.3 else left.ljust(len(file), b"\0")
 
 
 def shortened(file, chance):
-    """The file ends early: mostly somewhere, sometimes within what was written, and sometimes at almost nothing."""
+    """Truncates the file: usually anywhere, sometimes within the written part, and sometimes to almost nothing."""
     return file[:chance.choice([chance.randrange(len(file) + 1), some_range(file, chance)[1], chance.randrange(60)])]
 
 
 def swapped(file, chance):
-    """Two ranges of one length change places."""
+    """Exchanges two ranges of the same length."""
     (one, end), (other, _) = some_range(file, chance), some_range(file, chance)
     one, other = min(one, other), max(one, other)
     length = min(end - one if end > one else 1, other - one, len(file) - other)
@@ -243,13 +244,13 @@ def swapped(file, chance):
 
 
 def repeated(file, chance):
-    """A range comes twice. What is behind it moves."""
+    """Repeats a range, which moves the bytes after it."""
     begin, end = some_range(file, chance)
     return (file[:end] + file[begin:end] + file[end:])[:len(file)]
 
 
 def headers(file, chance):
-    """The headers are other ones, or of another form."""
+    """Replaces the headers, or changes their form."""
     half = len(file) // 2
     if half < journal.HEADER:
         return file
@@ -266,12 +267,12 @@ def headers(file, chance):
         at = chance.randrange(2)
         epoch = chance.choice([0, 1, 2, 3, 4, 255, 256, 2 ** 63, 2 ** 64 - 2, 2 ** 64 - 1])
         gate = chance.choice([0, 1, 0xA4, journal.OPEN, journal.OPEN, journal.OPEN])
-        areas[at] = journal.header(epoch, gate, told_version(areas[at])) + areas[at][journal.HEADER:]
+        areas[at] = journal.header(epoch, gate, version_of(areas[at])) + areas[at][journal.HEADER:]
     return areas[0] + areas[1] + file[2 * half:]
 
 
-def told_version(half):
-    """The version of an area, or the newest where it tells one that isn't known."""
+def version_of(half):
+    """The version of an area, or the newest one if its header has an unknown version."""
     version = journal.version_of(half)
     return version if version in journal.VERSIONS else journal.NEWEST
 
@@ -279,7 +280,7 @@ def told_version(half):
 # ---- changes of whole records
 
 def rebuilt(file, chance, change, version=None):
-    """The file with the payloads of an area changed, and the records written anew, in its own version or in this one."""
+    """The file with the payloads of an area changed and its records rewritten, in its own version or in this one."""
     half = len(file) // 2
     base, _ = area_of(file, chance)
     payloads = payloads_in(file[base:base + half])
@@ -288,13 +289,13 @@ def rebuilt(file, chance, change, version=None):
     change(payloads)
     epoch = journal.epoch_of(file[base:base + half]) or 1
     if version is None:
-        version = told_version(file[base:base + half])
+        version = version_of(file[base:base + half])
     area = journal.area(half, epoch, payloads, closed=chance.choice([0, 0, 0, 7, 0xFF]), version=version)
     return file[:base] + area + file[base + half:]
 
 
 def records_moved(file, chance):
-    """A record is dropped, comes twice, or elsewhere, or two change places."""
+    """Drops a record, repeats or moves it, or exchanges two."""
     def change(payloads):
         at, to, kind = chance.randrange(len(payloads)), chance.randrange(len(payloads)), chance.randrange(4)
         if kind == 0:
@@ -310,7 +311,7 @@ def records_moved(file, chance):
 
 
 def records_cut(file, chance):
-    """The last records are gone."""
+    """Removes the last records."""
     def change(payloads):
         del payloads[chance.randrange(len(payloads)):]
 
@@ -318,7 +319,7 @@ def records_cut(file, chance):
 
 
 def field_changed(file, chance):
-    """A number somewhere in a payload, often the one behind its kind, is another one."""
+    """Changes a number somewhere in a payload, often the one after its kind."""
     def change(payloads):
         at = chance.randrange(len(payloads))
         payload = payloads[at]
@@ -335,7 +336,7 @@ def field_changed(file, chance):
 
 
 def payload_resized(file, chance):
-    """A payload has a byte more or less, and the record is as long as that."""
+    """Adds or removes a byte of a payload, and sets the length of the record accordingly."""
     def change(payloads):
         at = chance.randrange(len(payloads))
         place = chance.randrange(len(payloads[at]) + 1)
@@ -346,7 +347,7 @@ def payload_resized(file, chance):
 
 
 def event_added(file, chance):
-    """An event about some job, which may or may not be accepted."""
+    """Adds an event about some job, which may or may not be accepted."""
     def change(payloads):
         job, moment = chance.randrange(10), chance.choice([0, 500, 1_030, 5_000, model.GREATEST_MOMENT])
         event = chance.choice([
@@ -366,7 +367,7 @@ def event_added(file, chance):
 
 
 def version_changed(file, chance):
-    """An area tells one of the versions, and its jobs are those of it, of the other one, or here and there of either."""
+    """Sets one of the versions in an area's header, with jobs in that version, in the other one, or in a mixture of both."""
     kind = chance.randrange(4)
 
     def change(payloads):
@@ -382,7 +383,7 @@ def version_changed(file, chance):
 
 
 def changed_moment(payload, is_old, chance):
-    """The row of a job with another moment, or with none, or with no place for one. It stays where it is no row."""
+    """Gives the row of a job another deadline, or none, or no field for one. A payload that is no row is unchanged."""
     for version in journal.VERSIONS:
         try:
             row = journal.read_row(payload, version)
@@ -394,7 +395,7 @@ def changed_moment(payload, is_old, chance):
 
 
 def cramped(file, chance):
-    """The file is cut so that the area ends at, or a few bytes behind, the last gate."""
+    """Truncates the file so that the area ends at the last gate, or a few bytes after it."""
     half = len(file) // 2
     base, gate = area_of(file, chance)
     length = max(0, gate - base + chance.randrange(-3, 12))
@@ -405,12 +406,12 @@ def cramped(file, chance):
 CHANGES = [changed, filled, cut, shortened, swapped, repeated, headers, records_moved, records_cut, field_changed, payload_resized,
            event_added, version_changed, cramped]
 
-# How often each is made: those that mostly end at the first damage are rarer.
+# The frequency of each change: changes that usually end at the first damage are rarer.
 WEIGHTS = [4, 1, 1, 1, 1, 1, 2, 4, 3, 6, 2, 6, 4, 3]
 
 
 def some_file(spools, chance):
-    """A changed file, and the names of what was done to it."""
+    """A changed file, and the names of the changes."""
     file, names = chance.choice(spools), []
     for change in chance.choices(CHANGES, WEIGHTS, k=chance.randint(1, MOST_CHANGES)):
         if file:
@@ -419,10 +420,10 @@ def some_file(spools, chance):
     return file, names
 
 
-# ---- what the program makes of a file
+# ---- the program's results for a file
 
 def wanted_of(file):
-    """The lines of the replies, the standard error, the status, the file that is left, and the version of a table."""
+    """The lines of the replies, the standard error, the status, the resulting file, and the version of a table."""
     try:
         it = model.opened(file)
     except model.Fault as fault:
@@ -436,7 +437,7 @@ def wanted_of(file):
 
 
 def check(shell, root, file):
-    """The version of the file's table, if it has one. Refuses what the program does otherwise."""
+    """The version of the file's table, if it has one. Fails if the program does anything else."""
     path = os.path.join(root, "spool.disk")
     with open(path, "wb") as out:
         out.write(file)
@@ -448,7 +449,7 @@ def check(shell, root, file):
     if got != (lines, errors, status):
         raise Difference(f"{got} in place of {(lines, errors, status)}")
     if not is_left:
-        raise Difference(f"another file is left than the model's, after {lines}")
+        raise Difference(f"the resulting file differs from the model's, after {lines}")
     return version
 
 
@@ -460,7 +461,7 @@ def main():
         sys.exit(f"no program {shell}: run `rt run` in crates/spool_shell first")
     seed = numbers[0] if numbers else random.randrange(1 << 32)
     count = numbers[1] if len(numbers) > 1 else COUNT
-    # In memory, where a sync takes no time.
+    # A folder in memory: a sync takes no time there.
     folder = tempfile.mkdtemp(prefix="any-", dir="/dev/shm" if os.path.isdir("/dev/shm") else None)
     versions = []
     file, names, turn = b"", ["the real spools"], 0
@@ -488,7 +489,7 @@ def main():
     print(f"seed {seed}: {tables} files with a table, {old} of them of version 1, {count - tables} with a fault")
     share, old_share = 100 * tables // count, 100 * old // count
     if count >= 1_000 and not (LEAST_SHARE <= share <= 100 - LEAST_SHARE and LEAST_OLD_SHARE <= old_share):
-        sys.exit("too few of one kind: the changes show little")
+        sys.exit("too few of one kind: the changes test too little")
     print(f"{count} passed")
 
 

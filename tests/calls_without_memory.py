@@ -1,18 +1,18 @@
 #!/usr/bin/env python3
-"""Sees that the calls which take no memory take none, in a run of the program: calls_without_memory.py [PROGRAM]
+"""Shows that calls that must not allocate do not allocate in a run of the program: calls_without_memory.py [PROGRAM]
 
-No clause can say that a call takes no memory. This runs the shell under valgrind's callgrind, once for each call of CALLS,
-which collects only from the call's begin to its end. Whoever allocates then is in what it collected. The run prints
-documents with real children, through a filter and a side channel, makes a checkpoint while a job waits with its document, lets the
-clock cancel jobs that were to start by a moment, opens the spool again with a job in its second stage, and purges another one.
+No contract clause can say that a call allocates nothing. This script runs the shell under valgrind's callgrind, once for each call of
+CALLS. Callgrind collects only from the start of the call to its end, so every function that allocates then is among the collected ones. The
+run prints documents with real children, through a filter and a side channel, makes a checkpoint while a job waits with its document,
+cancels jobs with a start deadline by the clock, opens the spool again with a job in its second stage, and purges another one.
 
-PROGRAM is the shell as Rattle's own compiler builds it: crates/spool_shell/out/spool_shell.by-rattle, which `rt ci` makes, where
-none is given. Beside it spool_tools has to be there. That compiler puts fewer functions into their callers than LLVM does. Of
-those that it does (`push_move`, `Engine::new`, `answer`, `read_extent`) nothing can be told so; what is done with deadlines it
-puts into `Table::commit`, which is looked at.
+PROGRAM is the shell as Rattle's own compiler builds it; the default is crates/spool_shell/out/spool_shell.by-rattle, which `rt ci` builds.
+spool_tools must be in the same folder. That compiler inlines fewer functions than LLVM does. The functions that it inlines (`push_move`,
+`Engine::new`, `answer`, `read_extent`) cannot be checked like this. It inlines the code for deadlines into `Table::commit`, which is
+checked.
 
-Two controls have to be seen to allocate: `Table::prepare` and `Executor::create`. A call that isn't in the program, or isn't made
-in the run, is a fault. The last line is `none`, with status 0, or `N of M calls`, with status 1. It takes a quarter of a minute.
+Two controls must be seen to allocate: `Table::prepare` and `Executor::create`. A call that does not exist in the program, or does not occur
+in the run, is a failure. The last line is `none`, with status 0, or `N of M calls`, with status 1. It takes about 15 seconds.
 """
 import concurrent.futures
 import os
@@ -26,8 +26,8 @@ CRATES = os.path.join(HERE, "..", "crates")
 SHELL = os.path.join(CRATES, "spool_shell", "out", "spool_shell.by-rattle")
 TOOLS = os.path.join(CRATES, "spool_tools", "out", "spool_tools")
 
-# The calls. What stands for `append` of a journal is `add`, for `advance` of a slot the exchanges that it is made of, for a
-# verdict `stage_verdict`, for `type_of` the truth of its rules, and for the list of a queue's waiting jobs its two changes.
+# The calls. For a journal's `append` it is `add`, for `advance` of a slot the exchanges that implement it, for a verdict `stage_verdict`,
+# for `type_of` the evaluation of its rules, and for the list of a queue's waiting jobs its two changes.
 CALLS = [
     "job_table::table::Table::commit",
     "job_table::table::Table::commit_moves",
@@ -42,10 +42,10 @@ CALLS = [
     "mime_rules::meaning::holds",
 ]
 
-# Calls that do take memory in this run: a look that doesn't see it sees nothing.
+# Calls that do allocate in this run: if they are not seen to allocate, the check does not work.
 CONTROLS = ["job_table::table::Table::prepare", "spool_engine::executor::Executor::create"]
 
-# What takes memory, or more of it.
+# The functions that allocate or reallocate.
 ALLOCATES = re.compile(r"^(?:rattle_alloc|rattle_realloc|malloc|calloc|realloc|aligned_alloc|posix_memalign|memalign)\b")
 
 AT_ONCE = 4
@@ -91,17 +91,17 @@ SECOND = "jobs\npurge 5\ndrain 9\njobs\n"
 
 
 def symbols_of(program):
-    told = subprocess.run(["nm", program], check=True, capture_output=True, text=True)
-    return [line.split(" ", 2)[2] for line in told.stdout.splitlines() if len(line.split(" ", 2)) == 3]
+    listed = subprocess.run(["nm", program], check=True, capture_output=True, text=True)
+    return [line.split(" ", 2)[2] for line in listed.stdout.splitlines() if len(line.split(" ", 2)) == 3]
 
 
 def functions_of(call, symbols):
-    """The functions of a call: itself, or what is made of it for each type."""
+    """The functions of a call: the function itself, or its instances for each type."""
     return [it for it in symbols if it == call or it.startswith(call + "::<")]
 
 
 def collected(profile):
-    """The names of all functions that a profile has, and whether anything was collected."""
+    """The names of all functions in a profile, and whether anything was collected."""
     with open(profile, encoding="utf-8", errors="replace") as file:
         text = file.read()
     names = re.findall(r"^c?fn=\(\d+\) (.+)$", text, re.M)
@@ -109,7 +109,7 @@ def collected(profile):
 
 
 def serve(program, folder, functions, script, number):
-    """Serves a script while only these functions are looked at, and gives the names of all that ran within them."""
+    """Serves a script while only these functions are profiled, and returns the names of all functions that ran within them."""
     profile = os.path.join(folder, f"profile.{number}")
     words = ["valgrind", "--tool=callgrind", f"--callgrind-out-file={profile}"]
     words += [f"--toggle-collect={it}" for it in functions]
@@ -122,11 +122,11 @@ def serve(program, folder, functions, script, number):
     return collected(profile), ended.stdout.decode()
 
 
-def look(program, call, symbols):
-    """What is to say of a call: that it allocated, by which function, or wasn't made."""
+def report(program, call, symbols):
+    """The function that allocated during a call, or a text saying that the call did not occur. Empty if it did not allocate."""
     functions = functions_of(call, symbols)
     if not functions:
-        return "isn't in the program"
+        return "does not exist in the program"
     with tempfile.TemporaryDirectory(prefix="calls-") as folder:
         os.mkdir(os.path.join(folder, "spool"))
         for name, text in (("types", TYPES), ("convs", CONVS), ("programs", PROGRAMS)):
@@ -134,28 +134,29 @@ def look(program, call, symbols):
                 file.write(text.replace("TOOLS", os.path.realpath(TOOLS)))
         names, replies = serve(program, folder, functions, FIRST.replace("FOLDER", folder), 1)
         if not all(part in replies for part in ("job 3 lab 9 job-completed-successfully", "job 4 hall 5", "job 5 hall 7", "job 6 lab")):
-            raise SystemExit(f"the run went otherwise:\n{replies}")
+            raise SystemExit(f"the run had other results:\n{replies}")
         more, replies = serve(program, folder, functions, SECOND, 2)
         if "job 4 hall 9" not in replies:
-            raise SystemExit(f"the second run went otherwise:\n{replies}")
+            raise SystemExit(f"the second run had other results:\n{replies}")
     names |= more
     if not any(it in names for it in functions):
-        return "wasn't made in the run"
+        return "did not occur in the run"
     taken = sorted(it for it in names if ALLOCATES.match(it))
-    return f"takes memory by {' and '.join(taken)}" if taken else ""
+    return f"allocates in {' and '.join(taken)}" if taken else ""
 
 
 def main():
     program = os.path.realpath(sys.argv[1] if len(sys.argv) > 1 else SHELL)
     for path in (program, TOOLS):
         if not os.path.exists(path):
-            print(f"{path} isn't there: run `rt ci` first")
+            print(f"{path} does not exist: run `rt ci` first")
             sys.exit(2)
     symbols = symbols_of(program)
     with concurrent.futures.ThreadPoolExecutor(AT_ONCE) as pool:
-        found = dict(zip(CALLS + CONTROLS, pool.map(lambda it: look(program, it, symbols), CALLS + CONTROLS)))
+        found = dict(zip(CALLS + CONTROLS, pool.map(lambda it: report(program, it, symbols), CALLS + CONTROLS)))
     faults = [f"{call} {found[call]}" for call in CALLS if found[call]]
-    faults += [f"{call}, which takes memory, isn't seen to: {found[call] or 'nothing'}" for call in CONTROLS if not found[call].startswith("takes")]
+    unseen = [call for call in CONTROLS if not found[call].startswith("allocates")]
+    faults += [f"{call} allocates, which is not detected: {found[call] or 'nothing'}" for call in unseen]
     print("\n".join(faults + [f"{len(faults)} of {len(found)} calls" if faults else "none"]))
     sys.exit(1 if faults else 0)
 

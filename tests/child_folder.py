@@ -1,4 +1,4 @@
-"""The folder of a test of real children: what tests/children.py and tests/children_harm.py have in common."""
+"""The folder of a test of real children: shared by tests/children.py and tests/children_harm.py."""
 import os
 import re
 import subprocess
@@ -11,7 +11,7 @@ shell = os.path.abspath(sys.argv[1] if len(sys.argv) > 1 else os.path.join(here,
 TYPES = "a/a txt\n"
 CONVS = "a/a b/b 10 first\n"
 
-# What the programs of Python begin with: each reports what it finds in the file `NAME.WORD` of the test's folder.
+# The start of each Python program: it reports its findings in the file `NAME.WORD` of the test's folder.
 PYTHON = """#!/usr/bin/python3 -ES
 import os, socket, stat, sys, time
 word = sys.argv[1]
@@ -21,7 +21,7 @@ def report(text, name=None):
         file.write(text + "\\n")
 """
 
-# The side channel as a child of Python sees it.
+# The side channel as a child in Python uses it.
 CHANNEL = PYTHON + """
 side = os.environ["SPOOL_SIDE"]
 def call():
@@ -48,11 +48,11 @@ line.sendall(b"\\xff\\0\\0\\0")
 """
 
 
-# The file by whose lock a program owns the folder.
+# The file whose lock makes a program the owner of the folder.
 LOCK = "spool.lock"
 
-# What is told of a stage, or of a program of the file.
-TOLD = re.compile(r"spool: (job \d+ attempt \d+ stage \d+( \S+)?|filter \S+|backend \S+|side program): .")
+# The log lines about a stage, or about a program of the programs file.
+LOG_LINE = re.compile(r"spool: (job \d+ attempt \d+ stage \d+( \S+)?|filter \S+|backend \S+|side program): .")
 
 
 class Difference(Exception):
@@ -69,7 +69,7 @@ def quoted(text):
 
 
 class Folder:
-    """The folder of a test: the files of the shell, its programs, and what they report."""
+    """The folder of a test: the files of the shell, its programs, and their reports."""
 
     def __init__(self):
         self.path = tempfile.mkdtemp(prefix="spool-children-")
@@ -93,7 +93,7 @@ class Folder:
             return file.read()
 
     def program(self, kind, name, text, word="", file=None):
-        """Writes a program, and lists it."""
+        """Writes a program, and adds it to the programs file."""
         file = file or f"{kind}-{name}"
         self.write(file, text, 0o755)
         self.lines.append(f"{kind} {name} {self.at(file)} {word}".rstrip())
@@ -107,13 +107,13 @@ class Folder:
         files = [word for name in ("types", "convs", "programs") for word in (f"--{name}", name)]
         return [shell, "--root", self.root, "--size", str(self.size), *files]
 
-    def run(self, script, status=0, told=None, **how):
-        """The replies to a script. Standard error is `told`, or else has lines of stages and of programs alone."""
+    def run(self, script, status=0, log=None, **how):
+        """The replies to a script. Standard error must be `log`, or else have only lines about stages and programs."""
         text = script if isinstance(script, bytes) else "".join(line + "\n" for line in script).encode()
         run = subprocess.run(self.words(), input=text, cwd=self.path, stdout=subprocess.PIPE, stderr=subprocess.PIPE, timeout=120, **how)
         same("status", run.returncode, status)
         lines = run.stderr.decode().splitlines()
-        same("standard error", lines, told if told is not None else [line for line in lines if TOLD.match(line)])
+        same("standard error", lines, log if log is not None else [line for line in lines if LOG_LINE.match(line)])
         return run.stdout.decode().splitlines()
 
     def report(self, name):
@@ -124,12 +124,12 @@ class Folder:
             return opened.read().splitlines()
 
     def left(self):
-        """What the spool's folder has, beside the lock's file, which stays."""
+        """The contents of the spool's folder, except the lock file, which remains."""
         return sorted(name for name in os.listdir(self.at(self.root)) if name != LOCK)
 
 
 def printed(queue, uri, target="a/a", policy="abort-job", number=1, document=b"", title='""', user="ann", options='""', copies=1):
-    """The script that prints a document on a queue of its own: with target b/b through the filter `first`."""
+    """The script that prints a document on a queue of its own: with the target type b/b through the filter `first`."""
     head = f"queue {queue} {uri} {target} {policy}\ncreate {queue} {user} {title} {copies} 50 {options}\n"
     pieces = b"".join(f"send {number} {len(piece)}\n".encode() + piece + b"\n" for piece in pieces_of(document))
     return head.encode() + pieces + f"close {number} page.txt\n".encode()
@@ -154,10 +154,10 @@ def queue_states(replies):
 
 
 def stage_event(number, attempt, stage, end):
-    """What the journal has of the end of a stage."""
+    """The journal's bytes for the end of a stage."""
     return b"\x0d" + number.to_bytes(4, "big") + attempt.to_bytes(4, "big") + bytes([stage]) + end
 
 
-# A backend that takes what it is given, and ends with the status of its URI. A filter that writes so many zeros as the title says.
+# A backend that accepts all input, and ends with the status in its URI. A filter that writes the number of zeros in the title.
 EXIT = '#!/bin/sh\ncat >/dev/null\nexit "${DEVICE_URI##*/}"\n'
 COPIES = "#!/bin/sh\nhead -c \"$3\" /dev/zero\n"

@@ -1,14 +1,14 @@
 #!/usr/bin/env python3
-"""Runs the shell with real children, and looks at what each was given and what became of its job: children.py [SHELL [TEST..]]
+"""Runs the shell with real children, and checks the input of each child and the outcome of its job: children.py [SHELL [TEST..]]
 
-SHELL is the program, and crates/spool_shell/out/spool_shell (made by `rt run` in that folder) where none is given. No clause
-can say what a file, a socket or a process does, so these are the tests of the launcher, the side channel's sockets and
-`--devices`. Its filters and backends are small programs of sh and Python, which it writes into a fresh folder for each test.
-Each TEST is the name of a function below or in tests/children_harm.py; without one all are run. Two want more than Python, and say so where it is
-missing: a full folder is a file system that is mounted (as root), and what the system refuses is refused by `strace`.
+SHELL is the program; the default is crates/spool_shell/out/spool_shell (built by `rt run` in that crate). No contract clause describes
+files, sockets or processes, so these are the tests of the launcher, the side channel's sockets and `--devices`. The filters and backends
+are small programs in sh and Python, which the script writes into a fresh folder for each test. Each TEST is the name of a function below or
+in tests/children_harm.py; without one all are run. Two of the tests need more than Python, and say so if it is missing: the test of a full
+folder mounts a file system (as root), and the test of refused system calls uses `strace`.
 
-The last line is `N of N`, with status 0, or the first difference, with status 1. The folder of that test stays then, and is
-named. The whole takes about a minute.
+The last line is `N of N`, with status 0, or the first difference, with status 1. The folder of that test is kept then, and its path is
+printed. All tests take about a minute.
 """
 import os
 import resource
@@ -24,7 +24,7 @@ from child_folder import CHANNEL, COPIES, Difference, EXIT, Folder, printed, PYT
 
 # ---- ends of children
 
-# What becomes of the job of a backend with this status, under each policy: its state and reason, and the queue's state.
+# The outcome of the job of a backend with this status, under each policy: its state and reason, and the queue's state.
 FAILED = {"abort-job": ("8 backend-failed", "3"), "retry-job": ("3 retry-later", "3"), "retry-current-job": ("3 none", "3"), "stop-printer": ("3 none", "5")}
 ANSWERED = {
     0: ("9 job-completed-successfully", "3"),
@@ -40,6 +40,7 @@ STATUSES = [0, 1, 2, 3, 4, 5, 6, 7, 8, 255]
 
 
 def statuses_of_backends(folder):
+    """A backend that exits is reported with its status. Under each error policy the job and the queue show the result."""
     folder.program("backend", "exit", EXIT)
     script, wanted, queues = b"", {}, {}
     for policy in FAILED:
@@ -56,6 +57,7 @@ def statuses_of_backends(folder):
 
 
 def statuses_of_filters(folder):
+    """A filter that exits is reported with its status. Under each error policy the job and the queue show the result."""
     folder.program("filter", "first", '#!/bin/sh\nexit "$3"\n')
     folder.program("backend", "exit", EXIT)
     script = b""
@@ -67,6 +69,7 @@ def statuses_of_filters(folder):
 
 
 def signals(folder):
+    """A child that a signal ends is reported with that signal, not with a status."""
     folder.program("filter", "first", "#!/bin/sh\nkill -SEGV $$\n")
     folder.program("backend", "kill", '#!/bin/sh\nkill "${DEVICE_URI##*/}" $$\n')
     script = printed("a", "kill:/-KILL") + printed("b", "kill:/-TERM", policy="stop-printer", number=2) + printed("c", "kill:/-KILL", "b/b", number=3)
@@ -76,10 +79,11 @@ def signals(folder):
         same(f"signal of {number}", stage_event(number, 1, 1, b"\x01") in journal, True)
 
 
-JUNK = "neither a script nor a program"
+JUNK = "neither a script nor an ELF program"
 
 
 def programs_that_cannot_run(folder):
+    """A program that is missing or cannot be run results in NoStart, never in an exit status."""
     folder.program("backend", "there", "#!/bin/sh\nexit 0\n")
     folder.lines.append(f"backend absent {folder.at('absent')}")
     folder.lines.append(f"backend folder {folder.path}")
@@ -87,7 +91,7 @@ def programs_that_cannot_run(folder):
     folder.lines.append(f"backend plain {folder.at('plain')}")
     folder.write("broken", "#!/no/such/shell\n", 0o755)
     folder.lines.append(f"backend broken {folder.at('broken')}")
-    # What the system can't run, a shell would: an empty file as if it had printed.
+    # Files that the system cannot run, but a shell would: a shell would treat an empty file as if it had printed.
     folder.write("empty", "", 0o755)
     folder.lines.append(f"backend empty {folder.at('empty')}")
     folder.write("junk", "exit 0\n", 0o755)
@@ -97,15 +101,16 @@ def programs_that_cannot_run(folder):
     for number, scheme in enumerate(["absent", "folder", "plain", "unlisted", "broken", "there"], 1):
         script += printed(scheme, f"{scheme}:/x", number=number)
     script += printed("filtered", "there:/x", "b/b", number=7) + printed("m-empty", "empty:/x", number=8) + printed("n-junk", "junk:/x", number=9)
-    at_start = {"absent": "not there", "folder": "no file", "plain": "not executable", "empty": JUNK, "junk": JUNK, "dos": "a carriage return at its end"}
-    told = [f"spool: backend {name}: {cause}" for name, cause in at_start.items()]
+    at_start = {"absent": "file not found", "folder": "not a regular file", "plain": "not executable", "empty": JUNK, "junk": JUNK}
+    at_start["dos"] = "the line ends with a carriage return"
+    log = [f"spool: backend {name}: {cause}" for name, cause in at_start.items()]
     ended = {1: "absent", 7: "first", 2: "folder", 8: "empty", 9: "junk", 3: "plain", 4: "unlisted"}
     # They are started in the order of the queues' names.
-    causes = {**at_start, "first": "not in the file of programs", "unlisted": "not in the file of programs"}
-    told += [f"spool: job {number} attempt 1 stage 1 {name}: {causes[name]}" for number, name in ended.items()]
-    told.append("spool: job 5 attempt 1 stage 1 broken: ended with status 127, and told no cause")
-    replies = folder.run(script + b"round\njobs\n", told=told)
-    # `env` ends with 127 where it finds no shell for the program.
+    causes = {**at_start, "first": "not listed in the programs file", "unlisted": "not listed in the programs file"}
+    log += [f"spool: job {number} attempt 1 stage 1 {name}: {causes[name]}" for number, name in ended.items()]
+    log.append("spool: job 5 attempt 1 stage 1 broken: ended with status 127, no error message")
+    replies = folder.run(script + b"round\njobs\n", log=log)
+    # `env` ends with 127 if it does not find the shell that a program names.
     same("round", "ok started 2 finished 9" in replies, True)
     wanted = {number: "8 backend-failed" for number in (1, 2, 3, 4, 5, 8, 9)}
     same("jobs", states(replies), {**wanted, 6: "9 job-completed-successfully", 7: "8 filter-failed"})
@@ -117,6 +122,7 @@ def programs_that_cannot_run(folder):
 
 
 def no_descriptors_left(folder):
+    """On a system without free descriptors a start results in NoStart, never in an exit status."""
     folder.program("backend", "exit", EXIT)
     script = b"".join(printed(f"q{n:02}", "exit:/0", number=n) for n in range(1, 21))
 
@@ -126,17 +132,19 @@ def no_descriptors_left(folder):
     replies = folder.run(script + b"round\njobs\n", preexec_fn=limited)
     found = states(replies)
     started = sum(state == "9 job-completed-successfully" for state in found.values())
-    same("some are started, and some aren't", 0 < started < 20, True)
+    same("some are started, and some are not", 0 < started < 20, True)
     same("round", f"ok started {started} finished 20" in replies, True)
     same("ends", set(found.values()), {"9 job-completed-successfully", "8 backend-failed"})
     same("files", folder.left(), ["spool.disk"])
 
 
 def refused_by_the_system(folder):
-    """No process left, and files that can't be read: NoStart or Lost, whatever the child would have ended with."""
+    """No process is available, or files cannot be read: the stage ends with NoStart or Lost, whatever status the child would have ended
+    with.
+    """
     strace = shutil.which("strace")
     if not strace:
-        print("refused_by_the_system: left out, since it wants strace (Debian's package strace)")
+        print("refused_by_the_system: left out: it needs strace (Debian's package strace)")
         return
     folder.program("backend", "says", "#!/bin/sh\necho said\necho told >&2\nexit 3\n")
     root = os.path.realpath(folder.at(folder.root))
@@ -145,26 +153,26 @@ def refused_by_the_system(folder):
     no_output = ["-P", f"{root}/out-2-1-1", "-e", "inject=read,pread64,readv:error=EIO"]
     no_errors = ["-P", f"{root}/err-3-1-1", "-e", "inject=read,pread64,readv:error=EIO"]
     script = b"queue lab says:/x a/a abort-job\n"
-    unread = "what it wrote can't be read"
-    refusals = [(no_process, b"\x02", "not started, for want of processes"), (no_output, b"\x03", unread), (no_errors, b"\x03", unread)]
+    unread = "output cannot be read"
+    refusals = [(no_process, b"\x02", "not started: out of processes"), (no_output, b"\x03", unread), (no_errors, b"\x03", unread)]
     for number, (refusal, end, cause) in enumerate(refusals, 1):
         script += b'create lab ann "" 1 50 ""\nclose %d page.txt\nround\njobs\n' % number
         words = [strace, "-qq", "-o", folder.at("calls"), *refusal, *folder.words()]
         run = subprocess.run(words, input=script, cwd=folder.path, capture_output=True, timeout=60)
-        told = f"spool: job {number} attempt 1 stage 1 says: {cause}\n".encode()
-        same("status", (run.returncode, run.stderr), (0, told))
+        log = f"spool: job {number} attempt 1 stage 1 says: {cause}\n".encode()
+        same("status", (run.returncode, run.stderr), (0, log))
         same(f"job {number}", states(run.stdout.decode().splitlines())[number], "8 backend-failed")
         same(f"end of {number}", stage_event(number, 1, 1, end) in folder.read("spool/spool.disk"), True)
         same("files", folder.left(), ["spool.disk"])
         script = b""
     script = b'create lab ann "" 1 50 ""\nclose %d page.txt\nround\njobs\n'
-    # Three times there is no process, and then there is.
+    # Starting a process fails three times, and then succeeds.
     run = subprocess.run([strace, "-qq", "-o", folder.at("calls"), *some_processes, *folder.words()], input=script % 4, cwd=folder.path, capture_output=True, timeout=60)
     same("a process in a moment", states(run.stdout.decode().splitlines())[4], "4 held-by-backend")
     same("none is refused any more", states(folder.run(script % 5))[5], "4 held-by-backend")
 
 
-# ---- what children are given
+# ---- the input of children
 
 GIVEN = PYTHON + """
 report(repr(sys.argv[2:]), "words")
@@ -192,11 +200,12 @@ print("from", word)
 
 
 def given(folder):
+    """A child has exactly the documented arguments, variables, descriptors, input and files."""
     folder.program("filter", "first", GIVEN, "one", "given")
     folder.lines.append(f"backend last {folder.at('given')} two")
     script = b'queue lab last:/out?id=A%20B b/b abort-job\ninfo lab Front "Room 1"\n'
     script += b'create lab ann "First page" 2 50 "media=A4 nocollate"\nsend 1 5\nhello\nclose 1 page.txt\ndrain 5\njobs\n'
-    # What the shell was started with isn't handed on.
+    # The shell does not pass on its own environment and files.
     opened = [os.open("/dev/null", os.O_RDONLY) for _ in range(12)]
     replies = folder.run(script, pass_fds=opened, env={"SECRET": "x", "LANG": "de_DE", "PATH": "/sbin", "ENV": "/nowhere"})
     for fd in opened:
@@ -218,11 +227,12 @@ def given(folder):
     same("files left", folder.left(), ["spool.disk"])
 
 
-# Texts that a shell, `env` or a reader of options could take for more than words.
+# Texts that a shell, `env` or an option parser could misinterpret.
 ODD = ['a b', '"', "'", "$(touch hit)", "`touch hit`", "; touch hit;", "$HOME", "-i", "--", "A=B", "*", "\\", "\\n", "é €", "%s", "", "& touch hit &", "> hit", "a  b "]
 
 
 def odd_words(folder):
+    """No shell interprets a text of a job."""
     folder.program("backend", "last", GIVEN, "one", "given")
     script = b"queue lab last:/x a/a abort-job\n"
     for number, text in enumerate(ODD, 1):
@@ -234,7 +244,7 @@ def odd_words(folder):
     for number, (text, report) in enumerate(zip(ODD, folder.report("words")), 1):
         options = "x=" + "".join("\\" + c if c in " '\"\\" else c for c in text)
         same("words", report, repr([str(number), text or "u", text, "1", options, f"spool/in-{number}-1-1"]))
-    # A line feed is in no text: the line ends there, and neither half is a command.
+    # No text contains a line feed: the line ends there, and neither half is a command.
     replies = folder.run(b'create lab ann "a\nb" 1 50 ""\ncreate lab ann "" 1 50 "x=a\nb"\njobs\n')
     same("line feeds", replies[:4], ["error syntax"] * 4)
     same("no job of them", replies[4:], [*[line for line in replies if line.startswith("job ")], f"ok {len(ODD)}"])
@@ -242,6 +252,7 @@ def odd_words(folder):
 
 
 def links(folder):
+    """A file that an earlier child left is overwritten, and a symbolic link is not followed."""
     folder.program("backend", "exit", '#!/bin/sh\necho out; echo err >&2; cat "$6" >&2\n')
     folder.write("victim", "keep", 0o644)
     for name in ("in", "out", "err"):
@@ -256,12 +267,13 @@ def links(folder):
     same("files", folder.left(), ["err-3-1-1", "spool.disk"])
 
 
-# ---- what children write
+# ---- the output of children
 
 COUNTS = '#!/bin/sh\nwc -c >"$0.$1"\n'
 
 
 def outputs(folder):
+    """The output of a stage reaches the next stage whole. Above the limit the stage is Lost."""
     sizes = [0, 1, 65536, 16777216, 16777217, 20000000]
     folder.program("filter", "first", COPIES)
     folder.program("backend", "count", COUNTS)
@@ -276,6 +288,7 @@ def outputs(folder):
 
 
 def documents(folder):
+    """The first stage gets the whole document, whatever its bytes and its size."""
     folder.size = 67_108_864
     document = os.urandom(16777216)
     folder.program("filter", "first", '#!/bin/sh\ncat "$6"\n')
@@ -285,8 +298,8 @@ def documents(folder):
     same("document", folder.read("backend-keep.kept") == document, True)
 
 
-def files_taken_away(folder):
-    """A child that removes its output, and renames its standard error, loses nothing of them."""
+def files_that_a_child_removes(folder):
+    """A child that removes its output file and renames its standard error file loses no output."""
     text = '#!/bin/sh\ncd "$TMPDIR"\nrm out-*\nmv err-* "$0.err"\necho kept\necho "INFO: told" >&2\n'
     folder.program("filter", "first", text)
     folder.program("backend", "keep", '#!/bin/sh\ncat >"$0.kept"\n')
@@ -298,6 +311,7 @@ def files_taken_away(folder):
 
 
 def standard_error(folder):
+    """Standard error counts up to its limit, and not beyond it."""
     text = '#!/bin/sh\necho "STATE: +toner-low" >&2\nyes "DEBUG: on and on" | head -c 3000000 >&2\necho "STATE: +media-jam" >&2\n'
     folder.program("backend", "loud", text)
     folder.program("backend", "told", '#!/bin/sh\nprintf "INFO: half\\nPAGE: 1 3\\nSTATE: +media-low\\nATTR: marker-levels=5" >&2\nexit 3\n')
@@ -314,6 +328,7 @@ MEETS = '#!/bin/sh\ntouch "$0.${DEVICE_URI##*/}"\nfor i in 1 2 3 4 5 6 7 8 9 10;
 
 
 def at_once(folder):
+    """The children of a round run at the same time."""
     folder.program("backend", "meet", MEETS)
     script = printed("a", "meet:/x", title="y") + printed("b", "meet:/y", title="x", number=2)
     replies = folder.run(script + b"round\njobs\n")
@@ -324,12 +339,12 @@ def at_once(folder):
 SLOW = '#!/bin/sh\necho "$1 $SPOOL_ATTEMPT" >>"$0.ran"\nsleep 0.03\n'
 KILLS = 40
 
-# What is shown of a job whose end nobody saw, under each policy.
+# The shown state of a job whose end was not observed, under each policy.
 LOST = [("abort-job", "8 attempt-lost"), ("retry-current-job", "3 none"), ("retry-job", "3 retry-later"), ("stop-printer", "3 none")]
 
 
 def wait_for_children(folder):
-    """Waits until nothing runs in the folder any more: the child of a shell that was killed goes on."""
+    """Waits until no process runs in the folder any more: the child of a killed shell continues."""
     for _ in range(600):
         running = False
         for process in os.listdir("/proc"):
@@ -340,11 +355,11 @@ def wait_for_children(folder):
         if not running:
             return
         time.sleep(0.05)
-    raise Difference("a child goes on for half a minute")
+    raise Difference("a child still runs after half a minute")
 
 
 def killed(folder):
-    """A shell that is killed at some moment, and opened again: what had ended doesn't run again."""
+    """A shell is killed at some moment, and started again: stages that had ended do not run again."""
     folder.program("backend", "slow", SLOW)
     within = 0
     for trial in range(KILLS):
@@ -373,7 +388,7 @@ def killed(folder):
             same(f"job {number} that had ended", after[number], before[number])
         lost = any(after[number] == shown for number in set(attempts) - ended)
         within += lost
-        # Where no child ran, a start may be on the disk all the same.
+        # Even if no child ran, its start may be on the disk.
         allowed = ("5",) if lost else ("3", "5")
         allowed = allowed if policy == "stop-printer" else ("3",)
         same("the queue", queue_states(replies).get("lab", "3") in allowed, True)
@@ -381,12 +396,12 @@ def killed(folder):
             same(f"job {number} that was started", after[number] in (shown, "9 job-completed-successfully"), True)
         last = states(folder.run(b"enable lab\nclock 100\ndrain 100\njobs\n"))
         closed = {number: state for number, state in last.items() if after[number] != "4 job-incoming"}
-        same("all that were closed end", {state[0] for state in closed.values()} <= {"8", "9"}, True)
+        same("all closed jobs end", {state[0] for state in closed.values()} <= {"8", "9"}, True)
         for line in open(ran):
             number, attempt = map(int, line.split())
             if after.get(number, "3")[0] in "789":
-                same(f"job {number} didn't run again", attempt <= attempts.get(number, 0), True)
-        # What a child of the killed shell left is gone with the next start.
+                same(f"job {number} did not run again", attempt <= attempts.get(number, 0), True)
+        # Files that a child of the killed shell left are removed at the next start.
         same("files", folder.left(), ["spool.disk"])
     same("some were killed while a child ran", within > 0, True)
 
@@ -401,6 +416,7 @@ for request in ("04000000", "03000000", "05000000", "08000000", "010000024142", 
 
 
 def sessions(folder):
+    """If the file of programs has a `side` line, the side channel answers by the options of the queue's URI."""
     folder.root = "r" * 64
     os.mkdir(folder.at(folder.root))
     folder.program("backend", "ask", ASKS, "asks")
@@ -415,7 +431,7 @@ def sessions(folder):
 
 
 def stage_with_side(folder):
-    """A child with a side channel has the environment, the descriptors and the status of one without."""
+    """A child with a side channel has the same environment, descriptors and status as one without."""
     folder.program("backend", "last", GIVEN + "report(oct(os.stat(os.environ['SPOOL_SIDE']).st_mode), 'socket')\nsys.exit(6)\n", "one", "given")
     folder.program("backend", "kill", "#!/bin/sh\nkill -KILL $$\n")
     folder.side(word="a-word")
@@ -428,7 +444,7 @@ def stage_with_side(folder):
     same("files", folder.left(), ["spool.disk"])
 
 
-# Clients that are up to no good, and then one that asks.
+# Clients that send invalid data, and then one that sends a request.
 CLIENTS = {
     "hangup": "call().close()\nreport(ask(call(), b'\\3\\0\\0\\0'))",
     "cut": "l = call()\nl.sendall(b'\\3\\0\\0')\nl.close()\nreport(ask(call(), b'\\3\\0\\0\\0'))",
@@ -443,6 +459,7 @@ CLIENTS = {
 
 
 def clients(folder):
+    """Each client of a side channel gets its own answers, whatever the others send."""
     script = b""
     for number, (name, text) in enumerate(CLIENTS.items(), 1):
         folder.program("backend", name, CHANNEL + text + "\n", name)
@@ -456,6 +473,7 @@ def clients(folder):
 
 
 def sides_that_fail(folder):
+    """A side program that fails, or cannot be run, costs its own session only."""
     for name, text in {"fails": "#!/bin/sh\nexit 1\n", "silent": "#!/bin/sh\nexit 0\n", "broken": "#!/no/such/shell\n", "absent": None}.items():
         folder.lines = []
         folder.program("backend", "exit", EXIT)
@@ -473,14 +491,15 @@ def sides_that_fail(folder):
 
 
 def devices(folder):
+    """`--devices` prints the line of each device as its backend wrote it, and opens no spool."""
     folder.program("backend", "one", '#!/bin/sh\necho \'direct one:/x "A B" "C" "MFG:X;" ""\'\necho nothing\necho "$#$*" >"$0.words"\ncat /proc/$$/environ >"$0.environment"\necho loud >&2\n', "a-word")
     folder.lines.append(f"backend absent {folder.at('absent')}")
     folder.program("filter", "one", '#!/bin/sh\necho \'direct filter:/x "A" "B"\'\n')
     folder.program("backend", "a", '#!/bin/sh\nprintf \'network  a "Unknown" "A"\\ndirect b:/\\377 "A" "B"\\nfile c "Unknown" "C"\'\nexit 1\n')
-    # The line behind the first 1,048,576 bytes is not looked at, and who prints without end is ended by the closed pipe.
+    # Lines after the first 1,048,576 bytes are ignored, and a backend that writes without end is ended by the closed pipe.
     folder.program("backend", "much", "#!/bin/sh\necho 'file much:/early \"A\" \"B\"'\nhead -c 1048576 /dev/zero | tr '\\0' x\necho\necho 'file much:/late \"A\" \"B\"'\n")
     folder.program("backend", "endless", "#!/bin/sh\necho 'file endless:/ \"A\" \"B\"'\nexec yes\n")
-    # What a backend leaves running keeps its end of the pipe.
+    # A process that a backend leaves running keeps its end of the pipe open.
     folder.program("backend", "daemon", "#!/bin/sh\necho 'file daemon:/ \"A\" \"B\"'\nsleep 60 &\nsleep 0.3\necho 'file daemon:/late \"A\" \"B\"'\n")
     folder.side()
     begun = time.monotonic()
@@ -494,6 +513,8 @@ def devices(folder):
     same("words", folder.read("backend-one.words"), b"1a-word\n")
     same("environment", folder.read("backend-one.environment"), b"")
     same("spool", folder.left(), [])
+    run = subprocess.run([shell, "--version"], stdin=subprocess.DEVNULL, capture_output=True, timeout=60)
+    same("the version", (run.returncode, run.stdout.startswith(b"spool_shell (Cegmandi) "), run.stderr), (0, True, b""))
     run = subprocess.run([shell, "--devices"], stdin=subprocess.DEVNULL, capture_output=True, timeout=60)
     same("no programs", (run.returncode, run.stdout, run.stderr), (0, b"", b""))
     run = subprocess.run(f"exec '{shell}' --programs programs --devices >/dev/full", shell=True, cwd=folder.path, capture_output=True, timeout=60)
@@ -504,11 +525,11 @@ def devices(folder):
 
 
 def full_folder(folder):
-    """Where no file of a child can be filled, none is started; once there is room, the next round prints."""
+    """If no file of a child can be written, no child is started; once there is room, the next round prints."""
     root = folder.at(folder.root)
     mounted = subprocess.run(["mount", "-t", "tmpfs", "-o", "size=20m", "none", root], capture_output=True)
     if mounted.returncode:
-        print("full_folder: left out, since it may not mount a file system (it wants root)")
+        print("full_folder: left out: it may not mount a file system (it needs root)")
         return
     try:
         folder.program("backend", "keep", '#!/bin/sh\ncat "$6" >"${DEVICE_URI#keep:}"\n')
@@ -521,16 +542,16 @@ def full_folder(folder):
             except OSError:
                 pass
         begun = time.monotonic()
-        replies = folder.run(["round", "jobs"], told=["spool: job 1 attempt 1 stage 1 keep: not started, for want of room"])
+        replies = folder.run(["round", "jobs"], log=["spool: job 1 attempt 1 stage 1 keep: not started: out of disk space"])
         same("a full folder", (replies[0], states(replies)), ("ok started 0 finished 1", {1: "3 none"}))
         seconds = time.monotonic() - begun
         same("it is tried for a while", (seconds, 1.5 < seconds < 20), (seconds, True))
-        same("what is left", folder.left(), ["filler", "spool.disk"])
-        # There is room again while it is tried.
+        same("the remaining files", folder.left(), ["filler", "spool.disk"])
+        # There is room again while the start is retried.
         threading.Timer(0.7, os.remove, [os.path.join(root, "filler")]).start()
         replies = folder.run(["round", "jobs"])
         same("with room", (replies[0], states(replies)), ("ok started 1 finished 1", {1: "9 job-completed-successfully"}))
-        same("what it printed", folder.read("kept") == document, True)
+        same("the printed document", folder.read("kept") == document, True)
     finally:
         subprocess.run(["umount", root], check=True)
 
@@ -544,25 +565,25 @@ exit 0
 
 
 def no_room_at_the_end(folder):
-    """A filter whose output found no room isn't taken for one that gave nothing."""
+    """A filter whose output did not fit on the disk is not treated like one with empty output."""
     root = folder.at(folder.root)
     mounted = subprocess.run(["mount", "-t", "tmpfs", "-o", "size=20m", "none", root], capture_output=True)
     if mounted.returncode:
-        print("no_room_at_the_end: left out, since it may not mount a file system (it wants root)")
+        print("no_room_at_the_end: left out: it may not mount a file system (it needs root)")
         return
     try:
         folder.program("filter", "first", FILLS)
         folder.program("backend", "keep", '#!/bin/sh\ncat >"$0.kept"\n')
         folder.program("backend", "quiet", '#!/bin/sh\ncat /dev/zero >"$TMPDIR/filler" 2>/dev/null\nexit 0\n')
-        cut = "spool: job 1 attempt 1 stage 1 first: the folder has no room, so what it wrote may be cut off"
-        replies = folder.run(printed("lab", "keep:/x", "b/b") + b"drain 5\njobs\n", told=[cut])
+        cut = "spool: job 1 attempt 1 stage 1 first: no space left in the folder, output may be truncated"
+        replies = folder.run(printed("lab", "keep:/x", "b/b") + b"drain 5\njobs\n", log=[cut])
         same("a filter", states(replies), {1: "8 filter-failed"})
-        same("what was printed", os.path.exists(folder.at("backend-keep.kept")), False)
+        same("the printed document", os.path.exists(folder.at("backend-keep.kept")), False)
         same("its end", stage_event(1, 1, 1, b"\x03") in folder.read("spool/spool.disk"), True)
         os.remove(os.path.join(root, "filler"))
         # A backend that wrote nothing lost nothing.
-        told = ["spool: job 2 attempt 1 stage 1 quiet: the folder has no room left at its end"]
-        replies = folder.run(printed("next", "quiet:/x", number=2) + b"drain 5\njobs\n", told=told)
+        log = ["spool: job 2 attempt 1 stage 1 quiet: no space left in the folder when it ended"]
+        replies = folder.run(printed("next", "quiet:/x", number=2) + b"drain 5\njobs\n", log=log)
         same("a backend", states(replies)[2], "9 job-completed-successfully")
     finally:
         subprocess.run(["umount", root], check=True)
@@ -580,7 +601,7 @@ TESTS = [
     links,
     outputs,
     documents,
-    files_taken_away,
+    files_that_a_child_removes,
     standard_error,
     full_folder,
     at_once,

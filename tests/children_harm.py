@@ -1,5 +1,6 @@
-"""Tests of tests/children.py: what a child can't do to the spooler, to its data or to another, what is told of one that
-failed, and what is long or many.
+"""Tests of tests/children.py: harmful children, logs of failures, and long or numerous inputs.
+
+No child can harm the spooler, its data or another child. The log says why a child failed.
 """
 import fcntl
 import os
@@ -13,7 +14,7 @@ import time
 
 from child_folder import CHANNEL, COPIES, EXIT, LOCK, printed, PYTHON, same, shell, SIDE_END, stage_event, states, TYPES
 
-# ---- what a child can't do to the spooler
+# ---- harmful children
 
 ANSWERED_PRINTER = """#!/usr/bin/python3 -ES
 import os, socket, sys
@@ -30,7 +31,7 @@ while line.recv(100):
 
 
 def printers_that_answer(folder):
-    """What a printer says to its backend isn't written into the job, although the backend writes it to descriptor 3."""
+    """A printer's reply to its backend is not written into the job, although the backend writes it to descriptor 3."""
     folder.program("filter", "first", '#!/bin/sh\nhead -c 960000 /dev/zero | tr "\\0" x\n')
     folder.program("backend", "answered", ANSWERED_PRINTER)
     server = socket.create_server(("127.0.0.1", 0))
@@ -51,14 +52,14 @@ def printers_that_answer(folder):
     thread.join(20)
     server.close()
     same("jobs", states(replies), {1: "9 job-completed-successfully"})
-    same("what came", (len(b"".join(received)), set(b"".join(received))), (960000, {ord("x")}))
+    same("the received bytes", (len(b"".join(received)), set(b"".join(received))), (960000, {ord("x")}))
 
 
 GROUP = '#!/bin/sh\nps -o sid= -p $$ | tr -d " " >"$0.$1"\necho $$ >>"$0.$1"\nkill -TERM 0\nsleep 5\n'
 
 
 def groups(folder):
-    """What a child sends to its process group reaches it and what it started, and not the spooler."""
+    """A signal that a child sends to its process group reaches the child and its descendants, and not the spooler."""
     for side in (False, True):
         folder.lines = []
         folder.program("filter", "first", GROUP)
@@ -88,22 +89,22 @@ with open(os.path.join(here, "large"), "wb", buffering=0) as file:
 
 
 def limits(folder):
-    """What a child makes is its owner's alone, and none of its files grows above a gibibyte."""
+    """A child's files are accessible only to their owner, and none of them grows beyond a gibibyte."""
     folder.program("backend", "limited", LIMITED, "writes")
-    replies = folder.run(printed("lab", "limited:/x") + b"round\njobs\n", told=["spool: job 1 attempt 1 stage 1 limited: ended by a signal, and told no cause"])
+    replies = folder.run(printed("lab", "limited:/x") + b"round\njobs\n", log=["spool: job 1 attempt 1 stage 1 limited: killed by a signal, no error message"])
     same("jobs", states(replies), {1: "8 backend-failed"})
     same("the mask", folder.report("mask"), ["0o77"])
     same("the limit", folder.report("limit"), ["(1073741824, 1073741824)"])
-    same("what it wrote", folder.report("writes"), ["up to the limit"])
+    same("its report", folder.report("writes"), ["up to the limit"])
     same("its end", stage_event(1, 1, 1, b"\x01") in folder.read("spool/spool.disk"), True)
-    # A limit of the spooler's own that is lower holds, and the child runs.
+    # A lower limit of the spooler's own stays in force, and the child runs.
     lower = 2**20 * 64
     folder.run(printed("more", "limited:/x", number=2) + b"round\n", preexec_fn=lambda: resource.setrlimit(resource.RLIMIT_FSIZE, (lower, lower)))
     same("a lower limit", folder.report("limit")[1] in ("(67108864, 67108864)", "(1073741824, 1073741824)"), True)
 
 
 def causes(folder):
-    """Why a stage failed is told where its child tells no message."""
+    """The log says why a stage failed if its child reports no message."""
     folder.program("filter", "first", COPIES)
     folder.program("backend", "exit", EXIT)
     folder.program("backend", "says", '#!/bin/sh\necho "ERROR: no paper" >&2\nexit 1\n')
@@ -111,22 +112,22 @@ def causes(folder):
     folder.program("backend", "kill", "#!/bin/sh\nkill -KILL $$\n")
     script = printed("a", "exit:/0", "b/b", title="16777217") + printed("b", "exit:/7", number=2) + printed("c", "says:/x", number=3)
     script += printed("d", "mumbles:/x", number=4) + printed("e", "kill:/x", number=5) + printed("f", "exit:/0", number=6)
-    told = ["spool: job 1 attempt 1 stage 1 first: output above 16777216 bytes"]
-    told.append("spool: job 2 attempt 1 stage 1 exit: ended with status 7, and told no cause")
-    told.append("spool: job 4 attempt 1 stage 1 mumbles: ended with status 5, and told no cause")
-    told.append("spool: job 5 attempt 1 stage 1 kill: ended by a signal, and told no cause")
-    folder.run(script + b"round\n", told=told)
+    log = ["spool: job 1 attempt 1 stage 1 first: output exceeds 16777216 bytes"]
+    log.append("spool: job 2 attempt 1 stage 1 exit: ended with status 7, no error message")
+    log.append("spool: job 4 attempt 1 stage 1 mumbles: ended with status 5, no error message")
+    log.append("spool: job 5 attempt 1 stage 1 kill: killed by a signal, no error message")
+    folder.run(script + b"round\n", log=log)
 
 
 def ends_that_cannot_be_known(folder):
-    """Started with SIGCHLD ignored it serves no programs; and without programs as ever."""
+    """If SIGCHLD is ignored at the start, the shell with a programs file serves nothing; without one it works as usual."""
     folder.program("backend", "exit", EXIT)
 
     def ignoring():
         signal.signal(signal.SIGCHLD, signal.SIG_IGN)
 
     script = printed("lab", "exit:/0", policy="retry-current-job") + b"drain 20\njobs\n"
-    replies = folder.run(script, status=1, told=["spool: sigchld-ignored"], preexec_fn=ignoring)
+    replies = folder.run(script, status=1, log=["spool: sigchld-ignored"], preexec_fn=ignoring)
     same("replies", (replies, folder.left()), ([], []))
     words = [shell, "--root", folder.root]
     run = subprocess.run(words, input=b"jobs\n", cwd=folder.path, capture_output=True, timeout=60, preexec_fn=ignoring)
@@ -135,65 +136,68 @@ def ends_that_cannot_be_known(folder):
     same("with the usual signal", states(run.stdout.decode().splitlines()), {1: "9 job-completed-successfully"})
 
 
-def ends_that_nobody_knows(folder):
-    """Where a wait doesn't tell an end, nothing more is started in that run."""
+def ends_that_are_not_observed(folder):
+    """If a wait does not return a child's end, nothing more is started in that run."""
     strace = shutil.which("strace")
     if not strace:
-        print("ends_that_nobody_knows: left out, since it wants strace (Debian's package strace)")
+        print("ends_that_are_not_observed: left out: it needs strace (Debian's package strace)")
         return
     folder.program("backend", "counts", '#!/bin/sh\necho ran >>"$0.ran"\n')
     script = printed("lab", "counts:/x", policy="retry-current-job") + b"drain 20\njobs\n"
     words = [strace, "-qq", "-o", folder.at("calls"), "-e", "inject=wait4,waitid:error=ECHILD", *folder.words()]
     run = subprocess.run(words, input=script, cwd=folder.path, capture_output=True, timeout=60)
-    told = ["spool: job 1 attempt 1 stage 1 counts: how it ended isn't known"]
-    told += [f"spool: job 1 attempt {n} stage 1 counts: not started, since the end of a child before it isn't known" for n in range(2, 6)]
-    same("told", run.stderr.decode().splitlines(), told)
-    # Nobody waited for the child, which may come to its line only now.
+    log = ["spool: job 1 attempt 1 stage 1 counts: outcome unknown"]
+    log += [f"spool: job 1 attempt {n} stage 1 counts: not started: the outcome of an earlier child is unknown" for n in range(2, 6)]
+    same("log", run.stderr.decode().splitlines(), log)
+    # No wait returned the child's end, so the child may write its line only now.
     for _ in range(200):
         if os.path.exists(folder.at("backend-counts.ran")):
             break
         time.sleep(0.05)
-    same("what ran", folder.read("backend-counts.ran"), b"ran\n")
+    same("the record of runs", folder.read("backend-counts.ran"), b"ran\n")
 
 
-def names_taken_away(folder):
-    """A filter that cleans up the folder of its temporary files takes no job away."""
+def names_that_a_child_removes(folder):
+    """A filter that cleans up the folder of its temporary files removes no job."""
     folder.program("filter", "first", '#!/bin/sh\ncat "$6"\nrm -rf "$TMPDIR"/*\n')
     folder.program("backend", "keep", '#!/bin/sh\ncat >"$0.kept"\n')
     folder.program("backend", "blocks", '#!/bin/sh\nrm "$TMPDIR/spool.disk"\nmkdir "$TMPDIR/spool.disk"\n')
     script = printed("lab", "keep:/x", "b/b", document=b"doc") + printed("later", "keep:/x", number=2) + b"hold 2 indefinite\ndrain 5\njobs\n"
     replies = folder.run(script)
     same("jobs", states(replies), {1: "9 job-completed-successfully", 2: "4 job-hold-until-specified"})
-    same("what it printed", folder.read("backend-keep.kept"), b"doc")
+    same("the printed document", folder.read("backend-keep.kept"), b"doc")
     same("files", sorted(os.listdir(folder.at("spool"))), ["spool.disk", LOCK])
     found = os.stat(folder.at("spool", "spool.disk"))
     same("the file", (found.st_size, oct(found.st_mode)), (16777216, "0o100600"))
     again = folder.run(b"jobs\n")
     same("the jobs again", [line for line in again if line.startswith("job ")], [line for line in replies if line.startswith("job ")])
-    # Where the name can't be given back, nothing more is acknowledged.
-    replies = folder.run(printed("blocked", "blocks:/x", number=3) + b"round\njobs\nrelease 2\n", status=1, told=["spool: disk", "spool: cause: failed"])
+    # If the name cannot be restored, nothing more is acknowledged.
+    replies = folder.run(printed("blocked", "blocks:/x", number=3) + b"round\njobs\nrelease 2\n", status=1, log=["spool: disk", "spool: cause: failed"])
     same("without its name", ("error disk" in replies, replies[-1]), (True, "error dead"))
 
 
-def locks_that_go(folder):
-    """A lock that goes in a moment, as that of a program that was killed, is waited for, and one that stays isn't: that of the folder,
-    and that of the lock's file, which another host sees."""
+def locks_that_are_released(folder):
+    """A lock that is released within a moment, such as that of a killed program, is waited for, and one that remains is not: both the lock
+    of the folder and that of the lock file, which another host sees.
+    """
     for name in ("", LOCK):
         folder.run(b"jobs\n")
         lock = os.open(folder.at(folder.root, name), os.O_RDWR if name else os.O_RDONLY)
         fcntl.flock(lock, fcntl.LOCK_EX)
         begun = time.monotonic()
-        folder.run(b"jobs\n", status=1, told=["spool: disk", "spool: cause: owned"])
+        folder.run(b"jobs\n", status=1, log=["spool: disk", "spool: cause: owned"])
         same("seconds", 0.8 < time.monotonic() - begun < 5, True)
         threading.Timer(0.4, os.close, [lock]).start()
         same("replies", folder.run(b"jobs\n"), ["ok 0"])
 
 
-def locks_of_nobody(folder):
-    """Where a lock of the lock's file keeps no second one out, nothing is served or made. Where there is none of the folder, it is."""
+def locks_that_exclude_nobody(folder):
+    """If a lock on the lock file does not exclude a second one, nothing is served or created. If folders cannot be locked, the lock file is
+    enough.
+    """
     strace = shutil.which("strace")
     if not strace:
-        print("locks_of_nobody: left out, since it wants strace (Debian's package strace)")
+        print("locks_that_exclude_nobody: left out: it needs strace (Debian's package strace)")
         return
     lock = os.path.realpath(folder.at(folder.root)) + "/" + LOCK
     folder.write(os.path.join(folder.root, LOCK), "", 0o600)
@@ -205,15 +209,15 @@ def locks_of_nobody(folder):
 
     refused = (1, b"", b"spool: disk\nspool: cause: owner unknown\n")
     same("two locks at once", served("-P", lock, "-e", "inject=flock:retval=0"), refused)
-    same("what is made", os.listdir(folder.at(folder.root)), [LOCK])
+    same("the folder", os.listdir(folder.at(folder.root)), [LOCK])
     same("no lock of the file", served("-P", lock, "-e", "inject=flock:error=ENOLCK"), (1, b"", b"spool: disk\nspool: cause: failed\n"))
     same("no lock of the folder", served("-e", "inject=flock:error=EBADF:when=1"), (0, b"ok 0\n", b""))
 
 
-def locks_of_their_own(folder):
-    """The lock's file has the folder's owner: a program of root that comes first keeps no other user out."""
+def the_owner_of_the_lock_file(folder):
+    """The lock file has the folder's owner: a program that root runs first does not exclude other users."""
     if os.geteuid():
-        print("locks_of_their_own: left out, since it wants root")
+        print("the_owner_of_the_lock_file: left out: it needs root")
         return
     root = folder.at(folder.root)
     os.chown(root, 65534, 65534)
@@ -223,7 +227,7 @@ def locks_of_their_own(folder):
 
 
 def causes_of_the_disk(folder):
-    """`spool: disk` has a second line, which names its cause."""
+    """`spool: disk` is followed by a second line, which names its cause."""
     ends = {}
     for name in ("absent", "file", "taken", "dangling"):
         root = folder.at(name)
@@ -242,12 +246,12 @@ def causes_of_the_disk(folder):
     root = folder.at(folder.root)
     mounted = subprocess.run(["mount", "-t", "tmpfs", "-o", "size=64k", "none", root], capture_output=True)
     if mounted.returncode:
-        print("causes_of_the_disk: no room and read-only are left out, since it may not mount a file system (it wants root)")
+        print("causes_of_the_disk: no room and read-only are left out: it may not mount a file system (it needs root)")
         return
     try:
-        folder.run(b"", status=1, told=["spool: disk", "spool: cause: no room"])
+        folder.run(b"", status=1, log=["spool: disk", "spool: cause: no room"])
         subprocess.run(["mount", "-o", "remount,ro", root], check=True)
-        folder.run(b"", status=1, told=["spool: disk", "spool: cause: read-only"])
+        folder.run(b"", status=1, log=["spool: disk", "spool: cause: read-only"])
     finally:
         subprocess.run(["umount", root], check=True)
 
@@ -256,7 +260,7 @@ GOES_ON_ALONE = '#!/bin/sh\ncat "$6" >"$0.kept"\nwhile [ ! -e "$0.end" ]; do sle
 
 
 def leftovers_of_kills(folder):
-    """What a child of a killed program left is removed at the next start, unless it still runs, which is told."""
+    """Files that a child of a killed program left are removed at the next start, unless the child still runs, which is logged."""
     for side in (False, True):
         folder.lines = []
         folder.program("backend", "alone", GOES_ON_ALONE)
@@ -278,13 +282,13 @@ def leftovers_of_kills(folder):
         child.communicate()
         names = ["err-1-1-1", "in-1-1-1", "out-1-1-1", *(["side-1-1-1"] if side else []), "spool.disk"]
         same("left", folder.left(), names)
-        # Names that are no child's, and a link in a child's place.
+        # Names that do not belong to a child, and a link in place of a child's file.
         others = ["in-1-1", "in-1-1-1-1", "in-1-1-x", "notes", "out--1-1", "outs-1-1-1"]
         for name in others:
             folder.write(os.path.join("spool", name), "kept")
         os.symlink(folder.at("types"), folder.at("spool", "out-9-1-1"))
-        told = ["spool: job 1 attempt 1 stage 1: a child of an earlier start still runs"]
-        replies = folder.run(b"jobs\n", told=told)
+        log = ["spool: job 1 attempt 1 stage 1: a child of an earlier run is still running"]
+        replies = folder.run(b"jobs\n", log=log)
         same("jobs", states(replies), {1: "8 attempt-lost"})
         same("while it runs", folder.left(), sorted([*names, *others]))
         folder.write("backend-alone.end", "")
@@ -292,14 +296,14 @@ def leftovers_of_kills(folder):
             if not running_in(folder.path):
                 break
             time.sleep(0.05)
-        folder.run(b"jobs\n", told=[])
+        folder.run(b"jobs\n", log=[])
         same("once it has ended", folder.left(), sorted([*others, "spool.disk"]))
-        same("what a link led to", folder.read("types"), TYPES.encode())
-        # A folder whose spool doesn't open is left as it is.
+        same("the target of a link", folder.read("types"), TYPES.encode())
+        # The folder of a spool that cannot be opened is unchanged.
         folder.write(os.path.join("spool", "in-7-1-1"), "kept")
         with open(folder.at("spool", "spool.disk"), "r+b") as disk:
             disk.write(b"no spool")
-        folder.run(b"jobs\n", status=1, told=["spool: not-a-spool"])
+        folder.run(b"jobs\n", status=1, log=["spool: not-a-spool"])
         same("of no spool", "in-7-1-1" in folder.left(), True)
 
 
@@ -314,7 +318,7 @@ def running_in(path):
     return False
 
 
-# ---- floods, and what doesn't end
+# ---- floods, and children that do not end
 
 
 FLOOD = '#!/bin/sh\n[ "$3" = out ] && exec yes\nexec yes "DEBUG: on and on" >&2\n'
@@ -322,7 +326,7 @@ KEEP = '#!/bin/sh\ncat "${6:--}" >"$0.kept.$1"\n'
 
 
 def floods(folder):
-    """Filters that write for ever, to either stream: the limit of a file ends them, and their jobs alone."""
+    """Filters that write for ever to either stream: the limit on a file's size ends them, and only their jobs."""
     folder.program("filter", "first", FLOOD)
     folder.program("backend", "keep", KEEP)
     lower = 2**20 * 64
@@ -330,7 +334,7 @@ def floods(folder):
     script += printed("c", "keep:/x", document=b"doc", number=3)
     replies = folder.run(script + b"drain 5\njobs\n", preexec_fn=lambda: resource.setrlimit(resource.RLIMIT_FSIZE, (lower, lower)))
     same("jobs", states(replies), {1: "8 filter-failed", 2: "8 filter-failed", 3: "9 job-completed-successfully"})
-    same("what was printed", (folder.read("backend-keep.kept.3"), os.path.exists(folder.at("backend-keep.kept.1"))), (b"doc", False))
+    same("the printed document", (folder.read("backend-keep.kept.3"), os.path.exists(folder.at("backend-keep.kept.1"))), (b"doc", False))
     same("files", folder.left(), ["spool.disk"])
 
 
@@ -338,19 +342,19 @@ LEAVES = '#!/bin/sh\necho here\n(sleep 12; echo late) &\n'
 
 
 def daemons(folder):
-    """A filter that leaves a process which keeps its streams: the job goes on when the filter has ended, with what it wrote."""
+    """A filter leaves a process that keeps its streams open: the job continues when the filter has ended, with the filter's output."""
     folder.program("filter", "first", LEAVES)
     folder.program("backend", "keep", KEEP)
     begin = time.monotonic()
     replies = folder.run(printed("lab", "keep:/x", "b/b") + b"drain 5\njobs\n")
     same("in time", time.monotonic() - begin < 10, True)
     same("jobs", states(replies), {1: "9 job-completed-successfully"})
-    same("what was printed", folder.read("backend-keep.kept.1"), b"here\n")
+    same("the printed document", folder.read("backend-keep.kept.1"), b"here\n")
     same("files", folder.left(), ["spool.disk"])
 
 
-def one_that_never_ends(folder):
-    """The round of a child that never ends waits for it, while another queue's has run. The next start ends its attempt."""
+def a_child_that_never_ends(folder):
+    """The round waits for a child that never ends, after the stage of another queue has run. The next start ends its attempt."""
     folder.program("backend", "keep", KEEP)
     folder.program("backend", "never", GOES_ON_ALONE)
     child = subprocess.Popen(folder.words(), cwd=folder.path, stdin=subprocess.PIPE, stdout=subprocess.DEVNULL, stderr=subprocess.DEVNULL)
@@ -372,11 +376,11 @@ def one_that_never_ends(folder):
         time.sleep(0.05)
 
 
-# ---- many and much
+# ---- many and large inputs
 
 
 def much(folder):
-    """What is long or many, and still in its limits."""
+    """Long and numerous inputs that are still within their limits."""
     types = "".join(f"a/x{n} string(0,{'y' * 60}{n})\n" for n in range(1000)) + TYPES
     folder.write("types", types)
     folder.write("convs", "".join(f"a/{a} a/{b} 1 f{n:02}\n" for n, (a, b) in enumerate(zip(CHAIN, CHAIN[1:]), 1)))
@@ -440,7 +444,7 @@ report("early" if time.monotonic() - begun < 2 else "late", "when")
 
 
 def answers_before_others_end(folder):
-    """A child has its answers while one of a queue before its own is waited for."""
+    """A child gets its answers while a child of an earlier queue is waited for."""
     folder.program("backend", "long", "#!/bin/sh\nsleep 4\n")
     folder.program("backend", "ask", ASKS_EARLY, "asks")
     folder.side()
@@ -460,7 +464,7 @@ report("early" if time.monotonic() - begun < 2 else "late", "when")
 
 
 def several_connections(folder):
-    """A child that keeps silent connections has the answers of another one, and a request may come in pieces."""
+    """A child that keeps idle connections open does not delay the answers to another one, and a request may arrive in pieces."""
     folder.program("backend", "ask", SECOND, "asks")
     folder.side()
     replies = folder.run(printed("a", "ask:/o") + b"round\njobs\n")
@@ -485,8 +489,8 @@ report(ask(call(), b"\\3\\0\\0\\0"))
 """
 
 
-def leftovers_that_ask(folder):
-    """What a child leaves running, and goes on asking, holds no round."""
+def leftovers_that_send_requests(folder):
+    """A process that a child leaves running, and that continues to send requests, delays no round."""
     folder.program("backend", "ask", GOES_ON, "asks")
     folder.side("#!/bin/sh\nexit 0\n")
     begun = time.monotonic()
@@ -497,7 +501,7 @@ def leftovers_that_ask(folder):
 
 
 def side_programs_that_hang(folder):
-    """A side program that hangs, whatever signal it is sent, is ended after a bounded time; and none reaches the spooler."""
+    """A side program that hangs and ignores signals is ended after a bounded time; and no signal reaches the spooler."""
     folder.program("backend", "exit", EXIT)
     folder.side('#!/bin/sh\ntrap "" TERM\nkill -TERM 0\nwhile :; do sleep 1; done\n')
     begun = time.monotonic()
@@ -507,21 +511,22 @@ def side_programs_that_hang(folder):
 
 
 def many_devices(folder):
+    """The lines of many backends are all printed."""
     folder.program("backend", "many", "#!/bin/sh\nfor i in $(seq 60); do echo \"network many://$i \\\"A\\\" \\\"B $i\\\"\"; done\n")
     run = subprocess.run([*folder.words(), "--devices"], cwd=folder.path, capture_output=True, timeout=60)
     same("devices", run.stdout.decode().splitlines(), [f'network many://{n} "A" "B {n}"' for n in range(1, 61)])
 
 
 def documents_that_cannot_be_read(folder):
-    """The disk fails where a round reads the document: the round is a fault, and nothing is started."""
+    """The disk fails when the round reads the document: the round is a fault, and nothing is started."""
     strace = shutil.which("strace")
     if not strace:
-        print("documents_that_cannot_be_read: left out, since it wants strace (Debian's package strace)")
+        print("documents_that_cannot_be_read: left out: it needs strace (Debian's package strace)")
         return
     folder.program("backend", "exit", EXIT)
     folder.run(printed("lab", "exit:/0", document=b"x" * 3000))
     disk = os.path.realpath(folder.at(folder.root, "spool.disk"))
-    # The opening reads the journal, and then the round the document.
+    # The opening reads the journal, and then the round reads the document.
     reads = subprocess.run([strace, "-qq", "-o", "/dev/stdout", "-P", disk, "-e", "trace=pread64", *folder.words()], input=b"", cwd=folder.path, capture_output=True, timeout=60)
     count = reads.stdout.count(b"pread64(")
     words = [strace, "-qq", "-o", folder.at("calls"), "-P", disk, "-e", f"inject=pread64:error=EIO:when={count + 1}+", *folder.words()]
@@ -537,22 +542,22 @@ TESTS = [
     limits,
     causes,
     ends_that_cannot_be_known,
-    ends_that_nobody_knows,
-    names_taken_away,
-    locks_that_go,
-    locks_of_nobody,
-    locks_of_their_own,
+    ends_that_are_not_observed,
+    names_that_a_child_removes,
+    locks_that_are_released,
+    locks_that_exclude_nobody,
+    the_owner_of_the_lock_file,
     leftovers_of_kills,
     causes_of_the_disk,
     floods,
     daemons,
-    one_that_never_ends,
+    a_child_that_never_ends,
     much,
     attempts,
     side_programs_that_read,
     answers_before_others_end,
     several_connections,
-    leftovers_that_ask,
+    leftovers_that_send_requests,
     side_programs_that_hang,
     many_devices,
     documents_that_cannot_be_read,

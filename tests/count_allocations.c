@@ -1,14 +1,18 @@
-/* Counts the allocations of the program that it is loaded into, and refuses one of them.
+/* Counts the allocations of the program that loads it, and refuses one of them.
  *
- * LD_PRELOAD names the library that is made of this file. REFUSED is the number of the allocation that gets no memory, the
- * first being 1. With FROM the count begins behind the first allocation of just so many bytes. COUNTED is a file to which a
- * line is added for each call that writes or syncs and for a refusal:
+ * Compile this file as a shared library and name it in LD_PRELOAD. Environment:
+ *
+ *     REFUSED   number of the allocation that fails with ENOMEM, counted from 1
+ *     FROM      start to count after the first allocation of exactly this number of bytes
+ *     COUNTED   file to which a line is appended for each write, each sync and the refusal, and at the end of the program
+ *
+ * A line is
  *
  *     COUNT WORD FILE TEXT
  *
- * COUNT is how many allocations came before, WORD is write, sync, refused or end, FILE the number of the open file, and TEXT
- * what was written, up to its first line feed. A change of a length in place counts too: it may move. A call that frees
- * doesn't.
+ * COUNT is the number of allocations so far. WORD is write, sync, refused or end. FILE is the file descriptor. TEXT is the
+ * text that was written, up to its first line feed and at most 80 bytes. realloc counts as an allocation, because it may
+ * move the block. free is not counted.
  */
 #define _GNU_SOURCE
 #include <errno.h>
@@ -32,7 +36,7 @@ static unsigned long refused;
 static size_t from;
 static int counted = -1;
 
-/* Adds a line to the file. It takes no memory: stdio may. */
+/* Appends a line to the file. Uses the system call directly, because stdio may allocate. */
 static void tell(const char *word, int file, const char *text, size_t length)
 {
     char line[MOST_TEXT + 80];
@@ -62,7 +66,7 @@ __attribute__((destructor)) static void end(void)
     tell("end", 0, "", 0);
 }
 
-/* Counts an allocation, and says whether it is the one to refuse. */
+/* Counts an allocation. Returns whether it must be refused. */
 static int is_refused(size_t length)
 {
     if (from) {

@@ -1,7 +1,10 @@
-"""A CUPS of its own beside the spooler, for tests and the benchmark: in a folder, on a socket of that folder and a port of the loopback
-address, with its own files alone. It needs Debian's packages cups and cups-client, and is to be run as root, since CUPS starts so.
+"""A private CUPS server for tests and the benchmark.
 
-`Cups.missing()` says what isn't there, or None. `Line` is a client of it: one connection that is kept, and a request a call.
+It runs in a folder, on a socket in that folder and a port of the loopback address, with only its own files. It needs Debian's packages cups
+and cups-client, and must be run as root, because CUPS must start as root.
+
+`Cups.missing()` names a requirement that is missing, or returns None. `Connection` is a connection of a client, which is kept
+between its requests.
 """
 import os
 import shutil
@@ -14,7 +17,7 @@ import time
 
 CUPSD = "/usr/sbin/cupsd"
 
-# What CUPS is told. `{sync}` and `{interval}` say whether it syncs, and after how many seconds it writes what has changed.
+# The configuration of CUPS. `{sync}` says whether it syncs, and `{interval}` after how many seconds it writes changed data.
 FILES = """ServerRoot {folder}/etc
 RequestRoot {folder}/spool
 CacheDir {folder}/cache
@@ -57,7 +60,7 @@ SECONDS = 30
 
 
 class Cups:
-    """CUPS while a `with` lasts. `syncs` says whether it syncs what it writes, `interval` after how many seconds it writes it."""
+    """CUPS during a `with`. `syncs` says whether it syncs its files, and `interval` after how many seconds it writes them."""
 
     def __init__(self, syncs=False, interval=30):
         self.folder = tempfile.mkdtemp(prefix="cups-")
@@ -72,7 +75,7 @@ class Cups:
             return "CUPS (Debian's package cups)"
         if not (shutil.which("lpadmin") and shutil.which("lp")):
             return "CUPS's programs (Debian's package cups-client)"
-        return None if os.geteuid() == 0 else "to be run as root, as CUPS starts"
+        return None if os.geteuid() == 0 else "root, because CUPS must start as root"
 
     def __enter__(self):
         os.chmod(self.folder, 0o755)
@@ -86,7 +89,7 @@ class Cups:
         while not self.serves():
             if self.program.poll() is not None or end < time.time():
                 self.__exit__()
-                raise OSError(f"CUPS doesn't start: {self.said()}")
+                raise OSError(f"CUPS does not start: {self.said()}")
             time.sleep(0.05)
         return self
 
@@ -108,8 +111,8 @@ class Cups:
 
     def serves(self):
         try:
-            with socket.socket(socket.AF_UNIX) as line:
-                line.connect(self.socket)
+            with socket.socket(socket.AF_UNIX) as probe:
+                probe.connect(self.socket)
             return True
         except OSError:
             return False
@@ -122,7 +125,7 @@ class Cups:
             return ""
 
     def run(self, *words):
-        """Runs one of CUPS's programs for this CUPS, with no other of the machine in its way."""
+        """Runs one of CUPS's programs for this CUPS, without contacting any other CUPS of the machine."""
         how = {"PATH": "/usr/sbin:/usr/bin:/sbin:/bin", "CUPS_SERVER": self.socket, "HOME": self.folder, "LANG": "C"}
         ran = subprocess.run(words, env=how, capture_output=True, text=True, timeout=60)
         if ran.returncode:
@@ -130,35 +133,35 @@ class Cups:
         return ran.stdout
 
     def queue(self, name, uri="file:///dev/null"):
-        """A queue that sends documents as they are."""
+        """Creates a queue that sends documents as they are."""
         self.run("lpadmin", "-p", name, "-E", "-v", uri, "-m", "raw")
 
     def hold(self, name):
-        """Has a queue take jobs and print none."""
+        """Makes a queue accept jobs and print none."""
         self.run("cupsdisable", name)
 
 
-class Line:
-    """A connection to CUPS over its socket, which is kept from request to request (IPP over HTTP/1.1)."""
+class Connection:
+    """A connection to CUPS over its socket, which is kept between requests (IPP over HTTP/1.1)."""
 
     PRINT_JOB, CREATE_JOB, SEND_DOCUMENT = 0x0002, 0x0005, 0x0006
 
     def __init__(self, cups):
-        self.line = socket.socket(socket.AF_UNIX)
-        self.line.settimeout(SECONDS)
-        self.line.connect(cups.socket)
+        self.connection = socket.socket(socket.AF_UNIX)
+        self.connection.settimeout(SECONDS)
+        self.connection.connect(cups.socket)
         self.held = b""
 
     def close(self):
-        self.line.close()
+        self.connection.close()
 
     def submit(self, queue, document):
-        """A job by one request, which CUPS has accepted when it answers: its number."""
+        """Creates a job by one request, which CUPS has accepted when it replies. Returns the job's number."""
         asked = self.about(queue) + attribute(0x49, "document-format", b"application/octet-stream")
         return self.asked(self.PRINT_JOB, queue, asked, document)
 
     def submit_by_two(self, queue, document):
-        """A job by two requests, as the program lp makes one."""
+        """Creates a job by two requests, as the program lp does."""
         job = self.asked(self.CREATE_JOB, queue, self.about(queue))
         asked = self.about(queue, job) + attribute(0x49, "document-format", b"application/octet-stream")
         self.asked(self.SEND_DOCUMENT, queue, asked + attribute(0x22, "last-document", b"\1"), document)
@@ -170,20 +173,20 @@ class Line:
         return place + number + attribute(0x42, "requesting-user-name", b"ann") + (attribute(0x42, "job-name", b"t") if job is None else b"")
 
     def asked(self, operation, queue, attributes, document=b""):
-        """The number of the job that an answer tells."""
+        """The number of the job in a reply."""
         head = struct.pack(">BBhi", 2, 0, operation, 1) + b"\1"
         head += attribute(0x47, "attributes-charset", b"utf-8") + attribute(0x48, "attributes-natural-language", b"en")
         body = head + attributes + b"\3" + document
         path = f"POST /printers/{queue} HTTP/1.1\r\nHost: localhost\r\nContent-Type: application/ipp\r\nContent-Length: {len(body)}\r\n\r\n"
-        self.line.sendall(path.encode() + body)
-        told = self.answer()
-        if len(told) < 8 or 0xFF < struct.unpack(">h", told[2:4])[0]:
-            raise OSError(f"CUPS refused a request: {told[:80]!r}")
-        at = told.find(b"\x21\x00\x06job-id\x00\x04")
-        return struct.unpack(">i", told[at + 11 : at + 15])[0] if 0 <= at else None
+        self.connection.sendall(path.encode() + body)
+        reply = self.answer()
+        if len(reply) < 8 or 0xFF < struct.unpack(">h", reply[2:4])[0]:
+            raise OSError(f"CUPS refused a request: {reply[:80]!r}")
+        at = reply.find(b"\x21\x00\x06job-id\x00\x04")
+        return struct.unpack(">i", reply[at + 11 : at + 15])[0] if 0 <= at else None
 
     def answer(self):
-        """The body of the next answer."""
+        """The body of the next reply."""
         head = self.until(b"\r\n\r\n").decode().lower()
         if " 200 " not in head.split("\r\n")[0]:
             return self.answer() if " 100 " in head.split("\r\n")[0] else b""
@@ -210,12 +213,12 @@ class Line:
         return found
 
     def more(self):
-        piece = self.line.recv(65_536)
+        piece = self.connection.recv(65_536)
         if not piece:
-            raise OSError("CUPS closed the line")
+            raise OSError("CUPS closed the connection")
         self.held += piece
 
 
 def attribute(kind, name, value):
-    """An attribute of a request, spelled as RFC 8010 says."""
+    """An attribute of a request, encoded as in RFC 8010."""
     return struct.pack(">Bh", kind, len(name)) + name.encode() + struct.pack(">h", len(value)) + value

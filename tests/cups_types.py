@@ -1,15 +1,15 @@
 #!/usr/bin/env python3
-"""Which lines of an installed CUPS file of types aren't read: cups_types.py FILE [PROGRAM]
+"""Lists the lines of an installed CUPS file of types that the spool does not read: cups_types.py FILE [PROGRAM]
 
-FILE is the mime.types of an installed CUPS (Debian: package cups-daemon, /usr/share/cups/mime/mime.types); nothing of it belongs into
-this repository. PROGRAM is the shell, crates/spool_shell/out/spool_shell (made by `rt run` in that folder) where it isn't named.
+FILE is the mime.types of an installed CUPS (Debian: package cups-daemon, /usr/share/cups/mime/mime.types). None of its text belongs in this
+repository. PROGRAM is the shell; the default is crates/spool_shell/out/spool_shell (built by `rt run` in that crate).
 
-It runs `PROGRAM --types FILE` on empty standard input. For each line that can't be read the program writes `spool: warning N KIND`
-on standard error, with N the number of the line, where those that backslashes join are one line with the number of the first.
-Each such line is printed with its kind. A warning is as it should be where it is UnknownRule and its line has a rule `regex`, which the
-spool doesn't know. The others are outside of the grammar, or read wrongly: they are listed again for the reader, who has to judge, and
-the status is 1, as it is where the program doesn't end with 0. Else the status is 0. Lines that seem to have a rule `regex` and no
-warning are listed, too: they are right where it stands in a text.
+It runs `PROGRAM --types FILE` on empty standard input. For each line that cannot be read the program writes `spool: warning N KIND` to
+standard error. N is the number of the line; lines joined by backslashes count as one line with the number of the first. Each such line is
+printed with its kind. A warning is expected if it is UnknownRule and its line has a rule `regex`, which the spool does not know. Lines with
+other warnings either violate the grammar or are misread. They are listed again for the reader to judge, and the status is 1, as it is if
+the program does not end with 0. Otherwise the status is 0. Lines that seem to have a rule `regex` and no warning are listed too: they are
+correct if `regex` occurs in a text.
 """
 import os
 import re
@@ -20,12 +20,12 @@ here = os.path.dirname(os.path.abspath(__file__))
 shell = os.path.join(here, "..", "crates", "spool_shell", "out", "spool_shell")
 
 WARNING = re.compile(rb"spool: warning ([0-9]+) ([A-Za-z]+)")
-# The name right before its parenthesis, and not the end of a longer name.
+# The name directly before its parenthesis, and not the end of a longer name.
 REGEX = re.compile(rb"(?<![^\s,+()!&])regex\(")
 
 
 def lines_of(text):
-    """The lines that say something, by number: a backslash at the end joins the next line, with a blank in its place."""
+    """The lines with contents, by number: a backslash at the end joins the next line, with a blank in its place."""
     lines = {}
     begun = None
     for number, line in enumerate(text.replace(b"\r\n", b"\n").split(b"\n"), 1):
@@ -52,7 +52,7 @@ def warnings_of(program, file):
         if found:
             warnings.append((int(found[1]), found[2].decode()))
         else:
-            print("also told:", line.decode(errors="replace"))
+            print("other output:", line.decode(errors="replace"))
     if run.returncode != 0:
         sys.exit(f"the program ended with {run.returncode}")
     return warnings
@@ -80,9 +80,9 @@ def main():
     missed = [number for number, text in lines.items() if REGEX.search(text) and number not in warned]
     print(f"{len(lines)} lines, {len(warned)} with a warning")
     for number, kind, text in unjudged:
-        print(f"to be judged: {number} {kind}: {shown(text)}")
+        print(f"check by hand: {number} {kind}: {shown(text)}")
     for number in missed:
-        print(f"to be judged: {number} has no warning: {shown(lines[number])}")
+        print(f"check by hand: {number} has no warning: {shown(lines[number])}")
     sys.exit(1 if unjudged else 0)
 
 

@@ -1,26 +1,24 @@
 #!/usr/bin/env python3
-"""Makes the files that a power cut may leave, and opens them: cuts.py [SHELL] [SEED [COUNT]]
+"""Opens spool files as a power cut may leave them, and checks that every acknowledged event is in them: cuts.py [SHELL] [SEED [COUNT]]
 
-SHELL is the program, and crates/spool_shell/out/spool_shell (made by `rt run` in that folder) where none is given. It serves a
-script under strace (Debian's package `strace`): the spool is made, jobs are printed by rounds with real children, checkpoints are
-written, and the spool is opened again while a job is processing. Another run goes on from a spool of version 1, which its first
-checkpoint makes a newer one. From the calls comes what a cut may leave at each moment: of the
-spool's file all that was written up to the last sync that had returned, and at each place that was written since then any byte.
-So each write since then is there, or isn't, or is in part, or is zeros, FF, A5 or anything; gates are tried most. Until the folder
-is synced its names are the old ones or the new ones. The files of children are anything.
+SHELL is the program; the default is crates/spool_shell/out/spool_shell (built by `rt run` in that crate). It serves a script under strace
+(Debian's package `strace`): the spool is created, jobs are printed by rounds with real children, checkpoints are written, and the spool is
+opened again while a job is processing. Another run starts from a spool of version 1, which its first checkpoint converts to a newer one.
+From the system calls the script computes the possible results of a cut at each moment: of the spool's file everything that was written
+before the last sync that had returned, and any byte at each place that was written since then. So each later write is in the file, or
+missing, or partial, or replaced by zeros, FF, A5 or anything; gates are tried most often. Until the folder is synced its names are the old
+ones or the new ones. The files of children have any contents.
 
-The shell opens each of COUNT such files (2,000), half of them of each run, which lists the table after some of the events in their order, with all that
-were acknowledged: those that a reply, or the start of a child, came after. Which tables these are is said by the model of
-tests/spool_model.py, and of which version. Of a checkpoint that is given then the rows are compared too, with the documents. In one file of eight the
-jobs are printed to their end: no stage of an attempt runs that had run before the cut, or twice, and no job whose end was
-acknowledged.
+The shell opens COUNT such files (default 2,000), half of them from each run. It must list the table after a prefix of the events, including
+all that were acknowledged: events that a reply or the start of a child followed. The model of tests/spool_model.py computes these tables
+and their versions. The rows of a subsequent checkpoint are compared too, with the documents. In one file of eight the jobs are printed to
+their end: no stage of an attempt that had run before the cut runs again, no stage runs twice, and no job whose end was acknowledged runs.
 
-Controls have to be seen to fail: the same calls with a sync left out (behind the records of events, behind their gates, or before
-the gate of a checkpoint's header), with the current header closed before the other is open, and with a closed gate written before
-an unsynced header.
+Controls must be seen to fail: the same calls with a sync left out (after the records of events, after their gates, or before the gate of a
+checkpoint's header), with the current header closed before the other is open, and with a closed gate written before an unsynced header.
 
-The last line is `N passed`, with status 0, or the first difference, with status 1: the folder is kept and named then. Without
-strace, or where it may not trace, the status is 2. It takes some minutes.
+The last line is `N passed`, with status 0, or the first difference, with status 1: the folder is kept then, and its path is printed. If
+strace is missing or may not trace, the status is 2. It takes some minutes.
 """
 import os
 import random
@@ -44,13 +42,13 @@ SIZE = 16_384
 NAME = "spool.disk"
 UNFINISHED = "spool.disk.new"
 
-# Of the files that are opened one in so many is printed to its end.
+# One in this number of the opened files is printed to its end.
 PRINTED = 8
 
-# How many cuts a control may take until it fails.
+# The greatest number of cuts until a control fails.
 CONTROL = 3_000
 
-# How often a moment is cut at: one in which the header of an area isn't synced, another one in which something isn't, any other.
+# The weights of the moments: while the header of an area is not synced, while other bytes or names are not synced, and otherwise.
 HEADER_WEIGHT = 12
 UNSYNCED_WEIGHT = 4
 SYNCED_WEIGHT = 1
@@ -61,7 +59,7 @@ SYNCS = ("fsync", "fdatasync")
 STARTS = ("clone", "clone3", "vfork", "fork")
 NAMES = (*WRITES, *SYNCS, *STARTS, "lseek", "openat", "open", "rename", "renameat", "renameat2", "unlink", "unlinkat", "ftruncate")
 
-# What is served in turn, each part after an opening. Each command of the first has the reply behind it.
+# The commands that are served, in parts, each part after an opening. Each command of the first part has its reply.
 PARTS = ["""clock 1000
 queue hall s:/0 a/b retry-job 30
 queue lab s:/6 a/b retry-current-job
@@ -107,21 +105,22 @@ clock 0
 checkpoint
 """]
 
-# What the commands are asked before: it shows the version of the area, and changes nothing.
+# A command that precedes the others: it shows the version of the area, and changes nothing.
 ASKED = 'createby nobody u "" 1 50 "" 0\n'
 OF_VERSION = {1: "error 17 NeedsCheckpoint", 2: "error 1 NoQueue"}
 
 
 class Difference(Exception):
-    """A file opens as it must not."""
+    """A file opens in a way that it must not."""
 
 
-# ---- the calls of a run
+# ---- the system calls of a run
 
 @dataclass
 class Step:
-    """What one call does: `write` at a place, `sync` of the file, `names` changed or their `folder` synced, an acknowledging
-    `reply`, or the `start` of a child, with its key."""
+    """The effect of a call: `write` at an offset, `sync` of the file, `names` changed or their `folder` synced, an acknowledging `reply`,
+    or the `start` of a child, with its key.
+    """
     kind: str
     at: int = 0
     data: bytes = b""
@@ -186,8 +185,8 @@ class Tracing:
         self.steps.append(Step("write", at, data))
 
 
-class World:
-    """The folder in which the program runs, and the files that name its programs."""
+class RunFolder:
+    """The folder of the program, and the files that name its programs."""
 
     def __init__(self, shell, folder):
         self.shell = shell
@@ -198,7 +197,7 @@ class World:
         return [self.shell, "--root", root, "--size", str(SIZE), *self.children.words]
 
     def traced(self, first):
-        """The steps of a whole run, on this file where it isn't empty."""
+        """The steps of a whole run, on this file unless it is empty."""
         root = os.path.join(self.folder, "r")
         os.mkdir(root)
         if first:
@@ -223,8 +222,9 @@ class World:
 
 @dataclass
 class Moment:
-    """What is so after a call: the bytes that the last sync kept, what was written since, the file's name if it may have one, and the
-    tables that the file may have."""
+    """The state after a call: the bytes that the last sync made durable, the later writes, the file's name if it may have one, and the
+    tables that the file may have.
+    """
     kept: bytes
     written: list
     names: tuple
@@ -234,7 +234,7 @@ class Moment:
 
 
 def moments_of(steps, first):
-    """The moments of a run after each of its calls, which began with this file, or with none."""
+    """The moments of a run after each of its calls, which started with this file, or with none."""
     kept, now, written, names = first, first, [], (NAME,) if first else (None,)
     tables, started, ended = [table_of(first) or model.Table()], frozenset(), frozenset()
     for step in steps:
@@ -250,7 +250,7 @@ def moments_of(steps, first):
         elif step.kind == "folder":
             names = names[-1:]
         table = table_of(now)
-        if table and told(table) != told(tables[-1]):
+        if table and rows_and_version(table) != rows_and_version(tables[-1]):
             tables = [*tables, table]
         if step.kind in ("reply", "start"):
             tables = tables[-1:]
@@ -260,7 +260,7 @@ def moments_of(steps, first):
         yield Moment(kept, written, names, tables, started, ended)
 
 
-def told(table):
+def rows_and_version(table):
     """A table's rows, and the version of its area."""
     return table.version, table.listing()
 
@@ -275,12 +275,12 @@ def table_of(file):
 # ---- controls
 
 def is_frame(step):
-    """A record behind its gate, and the next gate."""
+    """Writes a record after its gate, and then the next gate."""
     return step.kind == "write" and len(step.data) > 5 and int.from_bytes(step.data[:4], "big") == len(step.data) - 5
 
 
 def is_header(step):
-    """A header behind its gate."""
+    """Writes a header after its gate."""
     return step.kind == "write" and len(step.data) == 15 and step.at in HEADERS
 
 
@@ -293,7 +293,7 @@ def is_header_gate(step):
 
 
 def without_syncs(steps, which, left_out):
-    """The steps without each sync behind, or before, a step of this kind."""
+    """The steps without each sync after, or before, a step of this kind."""
     at = {place + left_out for place, step in enumerate(steps) if which(step)}
     return [step for place, step in enumerate(steps) if step.kind != "sync" or place not in at]
 
@@ -329,10 +329,10 @@ def writes_closed_gate(steps):
 CONTROLS = [without_first_syncs, without_second_syncs, without_header_syncs, closes_current_first, writes_closed_gate]
 
 
-# ---- what a cut leaves
+# ---- the files that a cut leaves
 
 def part_of(data, old, chance):
-    """What may be in the place of a range that was written and not synced."""
+    """The bytes that may be in place of a range that was written and not synced."""
     kind = chance.randrange(8)
     if kind == 0:
         return old
@@ -358,7 +358,7 @@ def left_by(moment, chance):
     for at, data in moment.written:
         file = file[:at] + part_of(data, file[at:at + len(data)], chance) + file[at + len(data):]
     if moment.written and chance.random() < 0.5:
-        # Gates decide most: the first or the last byte of some range is an open one, or is closed.
+        # Gates matter most: the first or the last byte of some range is an open one, or is closed.
         at, data = chance.choice(moment.written)
         place = chance.choice([at, at + len(data) - 1])
         file = file[:place] + bytes([chance.choice([journal.OPEN, journal.OPEN, 0, 0xFF])]) + file[place + 1:]
@@ -366,7 +366,7 @@ def left_by(moment, chance):
 
 
 def leave(moment, root, chance):
-    """Makes the folder that a cut may leave."""
+    """Creates the folder that a cut may leave."""
     name = chance.choice(moment.names)
     for job, attempt, stage in moment.started:
         if chance.random() < 0.2:
@@ -378,14 +378,14 @@ def leave(moment, root, chance):
             file.write(left_by(moment, chance))
 
 
-# ---- what is made of it
+# ---- the results of opening it
 
-def check(world, moment, chance, is_printed):
-    root = os.path.join(world.folder, "r")
+def check(run_folder, moment, chance, is_printed):
+    root = os.path.join(run_folder.folder, "r")
     shutil.rmtree(root, ignore_errors=True)
     os.mkdir(root)
     leave(moment, root, chance)
-    lines, errors = world.serve(root, f"{ASKED}jobs\nqueues\ncheckpoint\n")
+    lines, errors = run_folder.serve(root, f"{ASKED}jobs\nqueues\ncheckpoint\n")
     fitting = [table for table in moment.tables if lines == [OF_VERSION[table.version], *table.jobs_reply(), *table.queues_reply(), "ok"]]
     if errors or not fitting:
         wanted = " or ".join(str([OF_VERSION[table.version], *table.jobs_reply()]) for table in moment.tables)
@@ -395,14 +395,14 @@ def check(world, moment, chance, is_printed):
     if payloads not in [table.listing() for table in fitting]:
         raise Difference("a checkpoint lists other rows")
     if is_printed:
-        check_printed(world, root, moment)
+        check_printed(run_folder, root, moment)
 
 
-def check_printed(world, root, moment):
-    """Prints all jobs, each of which a few times."""
-    world.children.stages()
-    _, errors = world.serve(root, "clock 3000\ndrain 3\nclock 4000\ndrain 3\n")
-    keys = world.children.stages()
+def check_printed(run_folder, root, moment):
+    """Prints all jobs, each with a few rounds."""
+    run_folder.children.stages()
+    _, errors = run_folder.serve(root, "clock 3000\ndrain 3\nclock 4000\ndrain 3\n")
+    keys = run_folder.children.stages()
     again = [key for key in keys if key in moment.started or keys.count(key) > 1 or key[0] in moment.ended]
     if errors or again:
         raise Difference(f"stages that had run, or whose jobs had ended, run: {again} {errors}")
@@ -414,21 +414,21 @@ def weight_of(moment):
     return UNSYNCED_WEIGHT if moment.written else SYNCED_WEIGHT
 
 
-def cuts(world, moments, seed, count):
-    """Cuts at moments in turn, as the seed says."""
+def cuts(run_folder, moments, seed, count):
+    """Cuts at moments in turn, as the seed determines."""
     chance = random.Random(seed)
     weights = [weight_of(moment) for moment in moments]
     for turn, moment in enumerate(chance.choices(moments, weights, k=count)):
-        check(world, moment, random.Random(f"{seed} {turn}"), turn % PRINTED == 0)
+        check(run_folder, moment, random.Random(f"{seed} {turn}"), turn % PRINTED == 0)
 
 
-def is_seen(world, steps, control, seed):
-    """In how many cuts a control fails, if it does."""
+def is_seen(run_folder, steps, control, seed):
+    """The number of cuts until a control fails, if it does."""
     moments = list(moments_of(control(steps), b""))
     changed = [moment for moment in moments if moment.written]
     for turn in range(CONTROL):
         try:
-            cuts(world, changed, f"{seed} {turn}", 1)
+            cuts(run_folder, changed, f"{seed} {turn}", 1)
         except Difference:
             return turn + 1
     return None
@@ -444,19 +444,19 @@ def main():
         sys.exit(2)
     seed = numbers[0] if numbers else random.randrange(1 << 32)
     count = numbers[1] if len(numbers) > 1 else COUNT
-    # In memory, where a sync takes no time.
+    # A folder in memory: a sync takes no time there.
     folder = tempfile.mkdtemp(prefix="cuts-", dir="/dev/shm" if os.path.isdir("/dev/shm") else None)
     try:
-        world = World(shell, folder)
+        run_folder = RunFolder(shell, folder)
         old = journal.image(SIZE, version=1)
-        old_steps, steps = world.traced(old), world.traced(b"")
-        cuts(world, list(moments_of(old_steps, old)), seed, count // 2)
-        cuts(world, list(moments_of(steps, b"")), seed, count - count // 2)
+        old_steps, steps = run_folder.traced(old), run_folder.traced(b"")
+        cuts(run_folder, list(moments_of(old_steps, old)), seed, count // 2)
+        cuts(run_folder, list(moments_of(steps, b"")), seed, count - count // 2)
         for control in CONTROLS:
-            tries = is_seen(world, steps, control, seed)
+            tries = is_seen(run_folder, steps, control, seed)
             print(f"{control.__name__}: {'not seen' if tries is None else f'seen at cut {tries}'}")
             if tries is None:
-                raise Difference(f"{control.__name__} isn't seen in {CONTROL} cuts")
+                raise Difference(f"{control.__name__} is not detected in {CONTROL} cuts")
     except (Difference, subprocess.TimeoutExpired) as difference:
         print(f"`cuts.py {seed}`: {difference}, in {folder}")
         sys.exit(1)

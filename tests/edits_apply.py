@@ -1,12 +1,11 @@
 #!/usr/bin/env python3
-"""Sees that each edit of a wrong body still applies to its crate: tests/edits_apply.py.
+"""Shows that each must-fail edit still applies to its crate: edits_apply.py
 
-An edit is a file of crates/NAME/must-fail, which the gate tries, or of crates/NAME/more-edits, which tests/more_edits.py
-tries. It has to name files below src/ of its crate, never a definition or a proof, and each text that it replaces has to
-stand there exactly once. The gate tries the wrong bodies that docs/PROMISES.md names, each in one crate, and no other edit.
+An edit is a file of crates/NAME/must-fail, which the gate tries, or of crates/NAME/more-edits, which tests/more_edits.py tries. It must
+name only files below src/ of its crate, never a definition or a proof, and each text that it replaces must occur there exactly once. The
+gate tries the wrong bodies that docs/PROMISES.md names, each in one crate, and no other edit.
 
-It takes seconds and proves nothing. The last line is `none`, with status 0. Otherwise it prints what is wrong, and ends
-with status 1.
+It takes seconds and proves nothing. The last line is `none`, with status 0. Otherwise it prints the errors, and ends with status 1.
 """
 import re
 import sys
@@ -15,8 +14,8 @@ from pathlib import Path
 
 HERE = Path(__file__).resolve().parent.parent
 
-# The wrong bodies that the promises name. Two more are refused by tests: a call that always wants memory, and a start
-# that waits for its child's end.
+# The wrong bodies that the promises name. Two more are refused by tests: a call that always runs out of memory, and a start that waits for
+# its child's end.
 PROMISED = {
     "always-appends-reopen",
     "bytes-left-over",
@@ -57,9 +56,9 @@ NAME = re.compile(r"[A-Za-z0-9_-][A-Za-z0-9_.-]*\.edit")
 
 
 def pairs_of(text):
-    """The path, the old and the new text of each replacement, as rt reads them, and the lines that it doesn't read.
+    """The path, the old and the new text of each replacement, as rt reads them, and the lines that it does not read.
 
-    A line that begins with # is a remark.
+    A line that begins with # is a comment.
     """
     path, old, pairs, unread = None, None, [], []
     for line in text.split("\n"):
@@ -76,7 +75,7 @@ def pairs_of(text):
 
 
 def fault_in(text, crate):
-    """What is wrong with an edit of a crate, or None. A later replacement applies to what the earlier ones made."""
+    """The error of an edit of a crate, or None. A later replacement applies to the result of the earlier ones."""
     pairs, unread = pairs_of(text)
     if unread:
         return f"a line begins with none of 'file: ', 'old: ' and 'new: ': {unread[0][:60]}"
@@ -87,14 +86,14 @@ def fault_in(text, crate):
         if path is None or not old:
             return "a line 'new: ' has no lines 'file: ' and 'old: ' before it"
         if not path.startswith("src/") or ".." in path.split("/"):
-            return f"{path} isn't below src/"
+            return f"{path} is not below src/"
         if path not in texts:
             if not (crate / path).is_file():
-                return f"there is no file {path}"
+                return f"missing file {path}"
             texts[path] = before[path] = (crate / path).read_text(encoding="utf-8")
         count = texts[path].count(old)
         if count != 1:
-            return f"a text stands {count} times in {path}, and not once: {old.strip()[:60]}"
+            return f"a text occurs {count} times in {path}, and not once: {old.strip()[:60]}"
         texts[path] = texts[path].replace(old, new)
     return "it changes nothing" if texts == before else None
 
@@ -108,23 +107,23 @@ def edits_in(crate, folder):
 
 
 def faults():
-    """What is wrong, a line each."""
+    """The errors, a line each."""
     places = Counter()
     for crate in sorted(it for it in (HERE / "crates").iterdir() if it.is_dir()):
         for folder in (IN_GATE, ON_DEMAND):
             for edit in edits_in(crate, folder):
                 is_edit = edit.is_file() and NAME.fullmatch(edit.name)
-                fault = fault_of(edit, crate) if is_edit else "its name isn't that of an edit"
+                fault = fault_of(edit, crate) if is_edit else "its name is not that of an edit"
                 if fault:
                     yield f"{edit.relative_to(HERE)}: {fault}"
         names = {it.stem for it in edits_in(crate, IN_GATE)}
         places.update(names & PROMISED)
-        beside = sorted(names - PROMISED)
-        if beside:
-            yield f"crates/{crate.name}/{IN_GATE}: the promises don't name {' '.join(beside)}: {ON_DEMAND} is the place for others"
+        others = sorted(names - PROMISED)
+        if others:
+            yield f"crates/{crate.name}/{IN_GATE}: PROMISED does not name {' '.join(others)}: move these to {ON_DEMAND}"
     for name in sorted(PROMISED):
         if places[name] != 1:
-            yield f"{name}: it stands in {IN_GATE} of {places[name]} crates, and not of one"
+            yield f"{name}: it is in {IN_GATE} of {places[name]} crates, and must be in one"
 
 
 def main():

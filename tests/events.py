@@ -1,13 +1,13 @@
 #!/usr/bin/env python3
-"""Writes journals of events, and looks at what the shell makes of them: events.py [SHELL [TEST..]]
+"""Writes journals of events, and checks the table that the shell loads from them: events.py [SHELL [TEST..]]
 
-SHELL is the program, and crates/spool_shell/out/spool_shell (made by `rt run` in that folder) where none is given. The journals
-are spelled by tests/journal.py, a second writer of the formats. What the events lead to is seen in the listing that a checkpoint
-writes. An event that no command makes, such as the start of a job out of turn, is tried too: one that the table refuses is damage
-at its gate. A job is the next one of its queue where its start is taken and that of each other job is refused.
+SHELL is the program; the default is crates/spool_shell/out/spool_shell (built by `rt run` in that crate). The journals are written by
+tests/journal.py, a second encoder of the formats. The effects of the events are checked in the listing that a checkpoint writes. Events
+that no command causes, such as the start of a job out of order, are tried too: an event that the table refuses is reported as damage at its
+gate. A job is the next one of its queue if its start is accepted and that of each other job is refused.
 
-Each TEST is the name of a function below; without one all are run. The last line is `N of N`, with status 0, or the first
-difference, with status 1. The folder of that test stays then, and is named.
+Each TEST is the name of a function below; without one all are run. The last line is `N of N`, with status 0, or the first difference, with
+status 1. The folder of that test is kept then, and its path is printed.
 """
 import sys
 from dataclasses import replace
@@ -18,7 +18,7 @@ from journal import (CANCELED, COMPLETED, LOST, NO_START, REOPEN, SIGNAL, Head, 
 from stories import (FIRST, GREATEST, GREATEST_NUMBER, HALL, LAB, Q, SIZE, Spool, Story, closed_job, of_lab, of_q, run, same)
 
 
-# What a backend says of its device and its pages, and the effects of it.
+# A backend's report on its device and its pages, and its effects.
 SAYS = "#!/bin/sh\nprintf 'STATE: +toner-low,door-open\\nPAGE: 1 2\\nATTR: marker-levels=5\\nINFO: hello\\nPAGE: total 9\\n' >&2\n"
 EFFECTS = (journal.add_reasons("toner-low", "door-open"), journal.pages(1, 2), journal.attribute("marker-levels", "5"),
            journal.message("hello"), journal.total_pages(9))
@@ -61,12 +61,12 @@ def each_command_is_its_event(folder):
     )
     spool.says(*[(command, reply) for command, reply, _ in story], words=words)
     same("the journal", journal.current(spool.content())[0], [event for _, _, events in story for event in events])
-    told = replace(lab, info="Laser", location="Room 5", message="hello", reasons=("door-open", "toner-low"),
+    reported = replace(lab, info="Laser", location="Room 5", message="hello", reasons=("door-open", "toner-low"),
                    attributes=(("marker-levels", "5"),))
     done = replace(job, media="a/a", filters=("f",), attempts=2, pages=9, size=5, phase=COMPLETED)
-    # The fourth was to start by a moment that is over, and the clock that goes back has it canceled.
+    # The fourth has a start deadline that has passed, and the clock that moves back cancels it.
     late = of_lab(4, options="collate=false", media="a/a", filters=("f",), size=1, phase=CANCELED, by=99)
-    same("the rows", spool.listing(), [Head(4, 100), told, done, of_lab(2, media=octets, phase=aborted("no-filter")), late])
+    same("the rows", spool.listing(), [Head(4, 100), reported, done, of_lab(2, media=octets, phase=aborted("no-filter")), late])
 
 
 def a_65th_queue(folder):
@@ -77,7 +77,7 @@ def a_65th_queue(folder):
     Story(folder, Head(0), *queues, size=32_768).refuses(Queue("r"), Queue("r").event())
 
 
-def queues_made_and_changed(folder):
+def queues_created_and_changed(folder):
     story = Story(folder)
     notes = journal.info("lab", "Laser", "Room 5")
     story.refuses(notes, set_accept("lab", False), set_accept("lab", True), set_stop("lab", True), set_stop("lab", False))
@@ -163,7 +163,7 @@ def the_next_job_is_chosen_and_started(folder):
     story.starts(3, 1, 2)
     story.takes(clock(60))
     story.starts(2, 1, 3)
-    # Its three stages come in turn, and no other job of the queue meanwhile.
+    # Its three stages run in order, with no other job of the queue in between.
     story.takes(start(2))
     story.refuses(start(1), start(3), start(2), hold(2), release(2))
     story.refuses(stage(2, 1, 2, 0), stage(2, 2, 1, 0), stage(1, 1, 1, 0))
@@ -176,7 +176,7 @@ def the_next_job_is_chosen_and_started(folder):
     second = of_lab(2, priority=80, media="a/b", filters=("texttops", "pstops"), attempts=1, phase=COMPLETED)
     first, third = of_lab(1, media="a/b", phase=waiting()), of_lab(3, priority=80, media="a/b", attempts=1)
     story.lists(Head(3, 60), lab, first, second, replace(third, attempts=0, phase=waiting()))
-    # A status of 7 has it tried first again, and one of 6 after the interval.
+    # After a status of 7 it is tried again first, and after one of 6 after the interval.
     story.takes(start(3), stage(3, 1, 1, 7))
     story.lists(Head(3, 60), lab, first, second, replace(third, phase=waiting(first=True)))
     story.takes(*closed_job(4, priority=90))
@@ -190,7 +190,7 @@ def the_next_job_is_chosen_and_started(folder):
     story.starts(3, 1, 4)
 
 
-def a_held_job_keeps_its_place(folder):
+def a_held_job_keeps_its_position(folder):
     story = Story(folder, LAB.event(), *closed_job(1), *closed_job(2), *closed_job(3, priority=80), *closed_job(4))
     first, third = of_lab(1, media="a/b"), of_lab(3, priority=80, media="a/b")
     second, fourth = replace(first, number=2), replace(first, number=4)
@@ -225,7 +225,7 @@ def a_held_job_keeps_its_place(folder):
     story.runs(3, 1, 2, 4)
     story.takes(release(5))
     story.starts(5, 1, 2, 4)
-    # A job that is canceled or started is none of those that wait.
+    # A job that is canceled or started no longer waits.
     story.takes(hold(1), cancel(2), start(3))
     story.refuses(*map(start, (1, 2, 3, 4)))
     story.takes(stage(3, 1, 1, 0))
@@ -233,14 +233,14 @@ def a_held_job_keeps_its_place(folder):
     story.takes(release(1))
     story.runs(1, 4)
     story.takes(hold(1, 300))
-    # The order is the same where the table is loaded from its listing.
+    # The order is the same if the table is loaded from its listing.
     again = Story(folder, *story.spool().listing())
     again.starts(4, 1)
     again.takes(release(1))
     again.runs(1, 4)
 
 
-def jobs_wait_by_their_turns(folder):
+def jobs_wait_in_order(folder):
     story = Story(folder, LAB.event(), of_lab(1).event(), of_lab(2, priority=80).event(), of_lab(3, priority=80).event(),
                   hold(3, 100))
     story.refuses(*map(start, (1, 2, 3)))
@@ -278,10 +278,10 @@ def a_mark_moves_to_the_front(folder):
     again.starts(5)
 
 
-# ---- jobs that are to start by a moment
+# ---- jobs with a start deadline
 
 def timed(number, by, queue="lab", **fields):
-    """The events of a job that waits and is to start by a moment."""
+    """The events of a job that waits and has a start deadline."""
     return Job(number, queue, by=by, **fields).event(), close(number)
 
 
@@ -289,7 +289,7 @@ def waits(number, by, queue="lab", **fields):
     return Job(number, queue, media="a/b", by=by, **{"phase": waiting(), **fields})
 
 
-def a_moment_that_is_over_cancels(folder):
+def a_deadline_that_has_passed_cancels(folder):
     story = Story(folder, clock(1_000), LAB.event(), *timed(1, 2_000))
     for moment in (1_000, 2_000):
         story.takes(clock(moment))
@@ -306,8 +306,8 @@ def a_moment_that_is_over_cancels(folder):
     again.lists(Head(1, 3_000), LAB, gone)
 
 
-def moments_in_any_order(folder):
-    # Two of one moment, one of another queue, and jobs without one, or with the greatest.
+def deadlines_in_any_order(folder):
+    # Two with the same deadline, one of another queue, and jobs with none, or with the greatest.
     moments = {1: 500, 2: 300, 3: None, 4: 300, 5: 400, 6: 4_000_000_000_000, 7: 300, 8: 0}
     queues = {5: "hall", 7: "hall"}
     story = Story(folder, LAB.event(), HALL.event())
@@ -320,7 +320,7 @@ def moments_in_any_order(folder):
         for table in tables:
             table.takes(clock(now))
             table.lists(Head(8, now), HALL, LAB, *rows)
-        # As well by one step of the clock as by many.
+        # One step of the clock has the same effect as several.
         Story(folder, *tables[0].payloads[:18], clock(now)).lists(Head(8, now), HALL, LAB, *rows)
         left = {row.number for row in rows if row.phase == waiting()}
         for table in tables:
@@ -328,14 +328,14 @@ def moments_in_any_order(folder):
             table.runs(*sorted(left & set(queues)))
 
 
-def what_waits_is_canceled_and_nothing_else(folder):
-    # Of one moment: incoming, held while incoming, waiting, held, held until a moment, processing, completed, canceled, aborted.
+def only_waiting_jobs_are_canceled(folder):
+    # All with one deadline: incoming, held while incoming, waiting, held, held until a moment, processing, completed, canceled, aborted.
     spare = Queue("spare")
     begun = (LAB.event(), HALL.event(), spare.event(), of_lab(1, by=50).event(), send(1, b"abc"), of_lab(2, by=50).event(), hold(2),
              *timed(3, 50), *timed(4, 50), hold(4), *timed(5, 50), hold(5, 10_000), *timed(6, 50, "hall"), start(6),
              *timed(7, 50, "spare"), start(7), stage(7, 1, 1, 0), *timed(8, 50), cancel(8), of_lab(9, by=50).event(), close(9, None))
     story = Story(folder, *begun)
-    # The opening of the listing loses the attempt of job 6, so its end is told here.
+    # Opening the listing loses the attempt of job 6, so its end is checked here.
     story.takes(clock(51), stage(6, 1, 1, 5))
     rows = [of_lab(1, by=50, size=3), Piece(1, b"abc"), of_lab(2, by=50, phase=incoming(held())),
             *[waits(number, 50, phase=CANCELED) for number in (3, 4, 5)], waits(6, 50, "hall", attempts=1, phase=CANCELED),
@@ -345,7 +345,7 @@ def what_waits_is_canceled_and_nothing_else(folder):
     story = Story(folder, *begun, clock(51))
     story.takes(stage(6, 1, 1, 0))
     story.has(waits(6, 50, "hall", attempts=1, phase=COMPLETED))
-    # What was incoming waits once it is closed, until the clock tells the time again.
+    # The incoming job waits once it is closed, until the time is set again.
     story.takes(close(1), close(2))
     story.has(waits(1, 50, size=3), Piece(1, b"abc"), waits(2, 50, phase=waiting(held())))
     story.starts(1)
@@ -354,7 +354,7 @@ def what_waits_is_canceled_and_nothing_else(folder):
     story.refuses(start(1), start(2), Piece(1, b"abc"))
 
 
-def a_moment_that_is_over_already(folder):
+def deadlines_before_the_current_time(folder):
     for back in (1_000, 999, 0):
         story = Story(folder, clock(1_000), LAB.event(), of_lab(1, by=999).event())
         story.takes(clock(back), send(1, b"abc"), clock(back))
@@ -362,15 +362,15 @@ def a_moment_that_is_over_already(folder):
         story.takes(close(1))
         story.lists(Head(1, 1_000), LAB, waits(1, 999, size=3), Piece(1, b"abc"))
         story.starts(1)
-        # A clock that goes back, or stands still, tells the time again.
+        # A clock that moves back, or not at all, also sets the time again.
         story.takes(clock(back))
         story.lists(Head(1, 1_000), LAB, waits(1, 999, size=3, phase=CANCELED))
-    # A moment that is now isn't over.
+    # A deadline that is now has not passed.
     story = Story(folder, clock(1_000), LAB.event(), *timed(1, 1_000), clock(0), clock(1_000))
     story.lists(Head(1, 1_000), LAB, waits(1, 1_000))
 
 
-def a_moment_stays_whatever_comes(folder):
+def a_deadline_never_changes(folder):
     lab = Queue("lab", policy="retry-current-job", interval=100)
     story = Story(folder, lab.event(), *timed(1, 500), hold(1))
     story.has(waits(1, 500, phase=waiting(held())))
@@ -385,7 +385,7 @@ def a_moment_stays_whatever_comes(folder):
     story.lists(Head(1, 200), replace(lab, stopped=True, accepting=False),
                 replace(tried, attempts=3, phase=waiting(held("cups-held-for-authentication"))))
     story.takes(set_stop("lab", False), release(1), start(1))
-    # It is printed while its moment goes by, and waits again behind it: the next clock cancels it.
+    # It is printed while its deadline passes, and waits again afterwards: the next clock cancels it.
     story.takes(clock(501))
     running = story.payloads
     for end, phase in ((abandon(1), waiting(first=True)), (REOPEN, waiting(first=True)), (stage(1, 4, 1, 6), waiting(not_before=601)),
@@ -397,7 +397,7 @@ def a_moment_stays_whatever_comes(folder):
     Story(folder, *running, stage(1, 4, 1, 0), clock(600)).has(replace(tried, attempts=4, phase=COMPLETED))
 
 
-def many_moments(folder):
+def many_deadlines(folder):
     size, count = 1_048_576, 2_000
     by = [None if number % 7 == 0 else number * 7_919 % 1_009 for number in range(count + 1)]
     events = [LAB.event()]
@@ -412,7 +412,7 @@ def many_moments(folder):
             same("the listing is its rows", story.spool().listing() == [Head(count, now), LAB, *rows], True)
 
 
-# What becomes of a job whose attempt is lost at the moment 1000, by its queue's policy and limit, and whether the queue stops.
+# The outcome of a job whose attempt is lost at the moment 1000, by its queue's policy and limit, and whether the queue stops.
 LOST_ATTEMPTS = (
     ("abort-job", 5, aborted("attempt-lost"), False),
     ("retry-job", 5, waiting(not_before=1_030), False),
@@ -426,7 +426,7 @@ def a_lost_attempt(folder):
     for policy, limit, phase, stopped in LOST_ATTEMPTS:
         queue = Queue("q", policy=policy, limit=limit)
         job = of_q(1, media="a/b", phase=waiting())
-        # An idle table is as it was.
+        # An idle table is unchanged.
         story = Story(folder, queue.event(), clock(1_000), of_q(1).event(), close(1), REOPEN)
         story.lists(Head(1, 1_000), queue, job)
         story.takes(start(1))
@@ -436,14 +436,14 @@ def a_lost_attempt(folder):
         rows = [replace(queue, stopped=stopped), replace(job, attempts=1, phase=phase)]
         same("the rows", spool.listing(), [Head(1, 2_000), *rows])
         story.lists(Head(1, 1_000), *rows)
-        # It is the same where the job is given up, and the moment of the first opening counts.
+        # The same applies if the job is given up, and the moment of the first opening counts.
         for lost in (REOPEN, abandon(1)):
             Story(folder, *story.payloads, lost).lists(Head(1, 1_000), *rows)
             Story(folder, *story.payloads, lost, clock(2_000), REOPEN).lists(Head(1, 2_000), *rows)
 
 
-# What the end of the last stage makes of a job at the moment 1000, by its child's exit, and whether the queue stops; or else by
-# the queue's policy.
+# The outcome of a job whose last stage ends at the moment 1000, by its child's exit, and whether the queue stops; otherwise by the queue's
+# policy.
 BY_EXIT = {
     0: (COMPLETED, False),
     2: (waiting(held("cups-held-for-authentication")), False),
@@ -513,26 +513,26 @@ def attempts_at_their_greatest(folder):
             late.refuses(start(1))
 
 
-def effects_come_before_the_verdict(folder):
+def effects_precede_the_verdict(folder):
     lab = Queue("lab", policy="stop-printer")
     story = Story(folder, lab.event(), HALL.event(), of_lab(1).event(), close(1, ["texttops"]), start(1),
                   stage(1, 1, 1, 0, journal.add_reasons("media-empty", "toner-low"), journal.pages(1, 2), journal.total_pages(9)))
     # The program loses the attempt of the job that is processing, and stops its queue.
-    told = replace(lab, reasons=("media-empty", "toner-low"), stopped=True)
+    reported = replace(lab, reasons=("media-empty", "toner-low"), stopped=True)
     job = of_lab(1, media="a/b", filters=("texttops",), attempts=1, pages=9, phase=waiting())
-    story.lists(Head(1), HALL, told, job)
+    story.lists(Head(1), HALL, reported, job)
     story.takes(stage(1, 1, 2, 1, journal.pages(2, GREATEST), journal.attribute("marker-levels", "5"),
                       journal.attribute("marker-colors", "a b"), journal.message("one"), journal.drop_reasons("toner-low"),
                       journal.message("two")))
-    told = replace(told, reasons=("media-empty",), attributes=(("marker-colors", "a b"), ("marker-levels", "5")), message="two")
-    story.lists(Head(1), HALL, told, replace(job, pages=GREATEST))
+    reported = replace(reported, reasons=("media-empty",), attributes=(("marker-colors", "a b"), ("marker-levels", "5")), message="two")
+    story.lists(Head(1), HALL, reported, replace(job, pages=GREATEST))
     story.takes(set_stop("lab", False), start(1))
-    story.lists(Head(1), HALL, told, replace(job, attempts=2, pages=0))
+    story.lists(Head(1), HALL, reported, replace(job, attempts=2, pages=0))
     story.takes(stage(1, 2, 1, 0, journal.set_reasons("paused"), journal.pages(1, 3), journal.message("")))
-    told = replace(told, reasons=("paused",), message="")
-    story.lists(Head(1), HALL, told, replace(job, attempts=2, pages=3))
+    reported = replace(reported, reasons=("paused",), message="")
+    story.lists(Head(1), HALL, reported, replace(job, attempts=2, pages=3))
     story.takes(stage(1, 2, 2, 0, journal.pages(1, 4)))
-    story.lists(Head(1), HALL, replace(told, stopped=False), replace(job, attempts=2, pages=7, phase=COMPLETED))
+    story.lists(Head(1), HALL, replace(reported, stopped=False), replace(job, attempts=2, pages=7, phase=COMPLETED))
 
 
 def effects_outlive_the_program(folder):
@@ -566,7 +566,7 @@ def jobs_are_purged(folder):
         story.takes(purge(job))
         story.refuses(purge(job), cancel(job), send(job, b"!"), close(job), start(job), of_lab(job).event())
     story.takes(REOPEN, cancel(1), cancel(2), purge(1), purge(2))
-    # The highest number stays, also over a checkpoint.
+    # The highest number remains, also after a checkpoint.
     again = Story(folder, *story.spool().listing())
     for table in (story, again):
         table.refuses(*(of_lab(job).event() for job in range(1, 7)), *(purge(job) for job in (1, 2, 3, 5, 6)))

@@ -1,29 +1,28 @@
 #!/usr/bin/env python3
-"""Lets each system call of the shell fail once, with each error that fits: failing_calls.py [SHELL] [SCENE..]
+"""Makes each system call of the shell fail once, with each possible error: failing_calls.py [SHELL] [SCENE..]
 
-SHELL is the program, and crates/spool_shell/out/spool_shell (made by `rt run` in that folder) where none is given. It runs under
-strace (Debian's package `strace`), which answers an error in the place of one call; the call isn't made. Those that are let fail are
-the calls on its files, its folder, its children, its sockets and its streams (ERRORS), one in each run, in some scenes: a first start, an
-opening in which a job is processing, events, a checkpoint, the first one of a spool of version 1, and rounds of two queues with
-filters, backends and side channels.
+SHELL is the program; the default is crates/spool_shell/out/spool_shell (built by `rt run` in that crate). It runs under strace (Debian's
+package `strace`), which returns an error in place of one call; the call is not made. The calls that fail are those on its files, its
+folder, its children, its sockets and its streams (ERRORS), one in each run, in several scenes: a first start, an opening while a job is
+processing, events, a checkpoint, the first one of a spool of version 1, and rounds of two queues with filters, backends and side channels.
 
-What has to come of it is told by `outcome`, a table by the call and what it is made on:
+`outcome` is a table of the required results, by the call and its object:
 
-- `same`: all is as without the failure.
-- `file`, `disk`: no command is served, `spool: file NAME` or `spool: disk` is told, and the status is 1.
-- `dead`: the command is answered `error disk`, each later one `error dead`, and `spool: disk` is told at the end.
-- `stage`: one stage ends as its queue's policy says; the other job is printed as ever.
-- `blind`: the end of a child can't be known; its stage ends so, and no other is started in this run. Where the program only
-  looked whether the child runs, nothing comes of it.
-- `read`, `write`: the stream failed; `spool: read` or `spool: write` is told, and the status is 1.
+- `same`: everything is as without the failure.
+- `file`, `disk`: no command is served, `spool: file NAME` or `spool: disk` is logged, and the status is 1.
+- `dead`: the command gets `error disk`, each later one `error dead`, and `spool: disk` is logged at the end.
+- `stage`: one stage ends as its queue's policy says; the other job is printed as usual.
+- `blind`: the end of a child cannot be known; its stage ends accordingly, and no other stage is started in this run. If the program only
+  polled whether the child runs, the failure has no effect.
+- `read`, `write`: the stream failed; `spool: read` or `spool: write` is logged, and the status is 1.
 
-An error that says that there is no memory may be told as `spool: memory` before the commands are served.
+An error that means out of memory may be logged as `spool: memory` before the commands are served.
 
-After each run the file holds what was answered, and at most what was under way. Then the spool is opened again, without a failure,
-and the jobs are printed to their end: no stage of an attempt runs twice, and none of a job that had ended.
+After each run the file has everything that was acknowledged, and at most the command in progress besides. Then the spool is opened again,
+without a failure, and the jobs are printed to their end: no stage of an attempt runs twice, and none of a job that had ended.
 
-SCENEs are names of scenes; without one all are tried. The last line is `N passed`, with status 0, or the first difference, with
-status 1: its folder is kept and named then. Without strace, or where it may not trace, the status is 2. It takes some minutes.
+SCENEs are names of scenes; without one all are tried. The last line is `N passed`, with status 0, or the first difference, with status 1:
+its folder is kept then, and its path is printed. If strace is missing or may not trace, the status is 2. It takes some minutes.
 """
 import concurrent.futures
 import os
@@ -46,7 +45,7 @@ SIZE = 16_384
 AT_ONCE = 4
 DISK = ("spool.disk", "spool.disk.new")
 LOCK = "spool.lock"
-# The files and the folder of the program itself, as the folder is named here.
+# The files and the folder of the program itself. The folder has its name in the test.
 OWN = (*DISK, LOCK, "r")
 OPTIONS = ("types", "convs", "programs")
 PROGRAMS = ("f", "s")
@@ -70,12 +69,12 @@ STARTS = ("clone", "clone3", "vfork")
 SHORTAGES = ("EAGAIN", "EDQUOT", "EMFILE", "ENOSPC")
 TRIED_AGAIN = ("bind", "fcntl", "open", "openat", "socket", "write")
 
-# What is told of a disk that failed, whichever cause is named behind it.
+# The log of a disk that failed, without the cause that follows.
 DISK_FAULT = "spool: disk\nspool: cause: CAUSE\n"
 CAUSE = re.compile(r"(?<=\nspool: cause: )[a-z -]+(?=\n)")
 SOCKETS = ("socket", "bind", "listen", "fcntl", "setsockopt", "accept4", "recvfrom", "sendto")
 
-# The program that ends a side channel: it asks one question before.
+# The program that ends a side channel: it asks one question first.
 SIDE = """#!PYTHON
 import socket, sys
 try:
@@ -100,23 +99,23 @@ HOLDS = [("hold 1 indefinite\n", "ok"), ("release 1\n", "ok"), ("clock 1000\n", 
          ("purge 1\n", "ok")]
 NOT_YET = [('createby lab bo "Late" 1 50 "" 999\n', "error 17 NeedsCheckpoint"), ("purge 1\n", "error 17 NeedsCheckpoint")]
 
-# The scenes: what was served before, and the commands in which calls fail, each with its reply.
+# The scenes: the commands before, and the commands whose calls fail, each with its reply.
 SCENES = {
     "start": ([], QUEUES[:1] + FIRST[:1]),
     "opening": (QUEUES + FIRST + SECOND + ROUND, [("clock 1\n", "ok")]),
     "events": (QUEUES[:1], QUEUES[1:] + FIRST + TIMED + HOLDS),
-    # Behind an event the documents are read anew.
+    # After an event the documents are read again.
     "checkpoint": (QUEUES + FIRST + SECOND + [("checkpoint\n", "ok")], [("clock 4\n", "ok"), ("checkpoint\n", "ok"), ("clock 5\n", "ok")]),
     "older": (QUEUES + FIRST, NOT_YET + [("checkpoint\n", "ok")] + TIMED + HOLDS[2:3]),
     "rounds": (QUEUES + FIRST + SECOND, ROUND * 2 + [("clock 5\n", "ok")]),
 }
-# Those that go on from a spool of version 1. What was served before has no moments and no checkpoint.
+# The scenes that start from a spool of version 1. Their earlier commands have no deadlines and no checkpoint.
 OF_VERSION_ONE = ("older",)
 ENDED_ILL = ("aborted", "waiting")
 
 
 class Difference(Exception):
-    """The program doesn't do what it has to."""
+    """The program behaves differently than required."""
 
 
 def demand(holds, text):
@@ -148,7 +147,7 @@ class Place:
         self.words = [shell, "--root", self.root, "--size", str(SIZE), *self.children.words]
 
     def begin(self, scene):
-        """Serves what comes before a scene: its replies."""
+        """Serves the commands before a scene. Returns their replies."""
         lines = self.serve(text_of(SCENES[scene][0]))
         if scene in OF_VERSION_ONE:
             with open(self.file, "r+b") as file:
@@ -165,29 +164,29 @@ class Place:
         return traces.run(self.words, None, text_of(commands), os.path.join(self.folder, "trace"), ERRORS, inject)
 
     def table(self):
-        return self.standing()[0]
+        return self.stored_table()[0]
 
-    def told(self):
-        return told(self.table())
+    def rows_and_version(self):
+        return rows_and_version(self.table())
 
-    def standing(self):
+    def stored_table(self):
         """The table of the file, and its payloads."""
         if not os.path.exists(self.file):
             return model.Table(), []
         with open(self.file, "rb") as file:
             content = file.read()
-        return model.standing(content), journal.current(content)[0]
+        return model.stored_table(content), journal.current(content)[0]
 
 
-# ---- what has to come of a failure
+# ---- the required results of a failure
 
-def told(table):
+def rows_and_version(table):
     """A table's rows, and the version of its area."""
     return table.version, table.listing()
 
 
 def name_of(call):
-    """The name that a call is about: that of a file in the folder, `.` for the folder, or None for none of it."""
+    """The name that a call is about: that of a file in the folder, `.` for the folder, or None for anything else."""
     for path in call.paths():
         name = os.path.basename(path.removesuffix("(deleted)").removesuffix("/."))
         if name:
@@ -196,10 +195,11 @@ def name_of(call):
 
 
 def outcome(call, is_serving, clients):
-    """What has to come of a call that fails: before the commands or while they are served, where these descriptors are those of clients
-    of side channels. None where the call is none of the program's own."""
+    """The required result of a call that fails: before the commands or while they are served, given the descriptors of clients of side
+    channels. None if the call is not one of the program's own.
+    """
     name = name_of(call)
-    # What a start is short of for a moment is waited for.
+    # A start waits for a resource that is short for a moment.
     is_reply = call.name == "write" and call.descriptor() == 1
     if is_serving and not is_reply and call.error in SHORTAGES and (call.name in STARTS or call.name in TRIED_AGAIN and name not in OWN):
         return "same"
@@ -219,32 +219,31 @@ def outcome(call, is_serving, clients):
         return None
     if call.name == "close" or call.name == "unlink" and name.startswith(("in-", "out-", "err-")):
         return "same"
-    # At a start it is told which programs can't be run, and what killed starts left is looked for.
+    # A start logs which programs cannot be run, and looks for leftovers of killed programs.
     if not is_serving and (name in PROGRAMS or name.startswith(("in-", "out-", "err-", "side-"))):
         return "same"
-    # A program that may not be read may still be run.
+    # A program that cannot be read may still be run.
     if name in PROGRAMS and call.error == "EACCES" and call.name != "statx":
         return "same"
-    # Whether there is room behind what a child wrote is asked for the want of room alone. It counts for a filter's output, and
-    # where something was written; the backend, of stage 2, writes nothing.
+    # The write that probes for free space after a child's output only detects that there is none. It counts for a filter's output, and if
+    # something was written; the backend, stage 2, writes nothing.
     if name.startswith(("out-", "err-")) and call.name in ("statx", "pwrite64"):
         is_lost = call.name == "pwrite64" and call.error != "EIO" and not name.endswith("-2")
         return "stage" if is_lost else "same"
-    # Locks are tried for a second. Where there is no lock of a folder, that of the lock's file decides. And that file's second
-    # lock has to be refused.
+    # Locks are tried for a second. If folders cannot be locked, the lock file decides. A second lock on that file must be refused.
     if call.name == "flock" and name in OWN and (call.error == "EAGAIN" or name == "r"):
         return "same"
     if name in OPTIONS:
         return "file"
     if name in OWN:
         return "dead" if is_serving else "disk"
-    # The name of a socket is freed before it is bound, and goes when the child was finished.
+    # The name of a socket is freed before it is bound, and removed when the child has ended.
     return "unbound" if call.name == "unlink" else "stage"
 
 
 @dataclass
 class Failure:
-    """A call that is let fail, by its name, its number and its error."""
+    """A call that fails, by its name, its number and its error."""
     call: object
     error: str
 
@@ -257,7 +256,7 @@ class Failure:
 
 @dataclass
 class Ended:
-    """How a run ended in which a call failed: that call, how many commands were answered before it, and what is to come of it."""
+    """The result of a run with a failed call: that call, the number of replies before it, and the required result."""
     lines: list
     errors: str
     status: int
@@ -267,7 +266,7 @@ class Ended:
 
 
 def failed_in(done, calls):
-    """How a run ended, by its calls."""
+    """The result of a run, from its calls."""
     answered, clients, is_serving = 0, set(), False
     for call in calls:
         if call.is_injected:
@@ -290,7 +289,7 @@ def failed_in(done, calls):
 
 
 def is_finishing(calls, failed):
-    """Whether a call that takes a socket's name away comes behind its child's end."""
+    """Whether a call that removes a socket's name follows its child's end."""
     before = calls[:calls.index(failed)]
     return any(call.name == "bind" and name_of(call) == name_of(failed) for call in before)
 
@@ -298,14 +297,14 @@ def is_finishing(calls, failed):
 # ---- one run
 
 def check_replies(end, usual):
-    """The replies, what is on standard error and the status, as they have to be."""
-    told = {"disk": DISK_FAULT, "dead": DISK_FAULT, "read": "spool: read\n", "write": "spool: write\n"}
+    """The required replies, standard error and status."""
+    logs = {"disk": DISK_FAULT, "dead": DISK_FAULT, "read": "spool: read\n", "write": "spool: write\n"}
     if end.outcome == "file":
-        told["file"] = f"spool: file {end.call.paths()[0]}\n"
-    errors = {told.get(end.outcome, "")}
+        logs["file"] = f"spool: file {end.call.paths()[0]}\n"
+    errors = {logs.get(end.outcome, "")}
     if end.outcome in ("file", "disk") and end.call.error == "ENOMEM":
         errors.add("spool: memory\n")
-    status = 1 if end.outcome in told else 0
+    status = 1 if end.outcome in logs else 0
     demand(end.errors in errors and end.status == status, f"it ended with {end.status} and {end.errors!r}: {end.lines}")
     before, later = usual[:end.answered], usual[end.answered + 1:]
     wanted = {
@@ -313,21 +312,22 @@ def check_replies(end, usual):
         "dead": [*before, "error disk", *["error dead"] * len(later)],
     }
     if end.outcome not in ("stage", "blind"):
-        demand(end.lines == wanted[end.outcome], f"it answered {end.lines}, not {wanted[end.outcome]}")
+        demand(end.lines == wanted[end.outcome], f"it replied {end.lines}, not {wanted[end.outcome]}")
     else:
-        demand(len(end.lines) == len(usual) and all(line.startswith("ok") for line in end.lines), f"it answered {end.lines}")
+        demand(len(end.lines) == len(usual) and all(line.startswith("ok") for line in end.lines), f"it replied {end.lines}")
 
 
 def check_stage(end, table):
-    """One job of two ended ill, and the other one was printed."""
+    """One job of two failed, and the other one was printed."""
     ill = [job for job in table.jobs.values() if job.phase in ENDED_ILL]
     well = [job for job in table.jobs.values() if job.phase == "completed"]
     demand(len(ill) == 1 and len(well) == 1, f"the jobs are {table.jobs_reply()}")
 
 
 def check_file(place, end, commands, kept, first):
-    """The file holds what was answered, and at most what was under way. Before the commands it may be as it was first."""
-    table, payloads = place.standing()
+    """The file has everything that was acknowledged, and at most the command in progress besides. Before the commands it may be unchanged.
+    """
+    table, payloads = place.stored_table()
     answered = len(commands) if end.outcome in ("same", "stage", "blind") else end.answered
     tables = [found for found, _ in kept[answered:answered + 2]]
     if end.outcome in ("file", "disk"):
@@ -340,7 +340,7 @@ def check_file(place, end, commands, kept, first):
         check_stage(end, table)
         return
     begins = payloads[:len(before)] == before
-    demand(told(table) in tables or is_round and begins, f"the file has {table.jobs_reply()}, in version {table.version}")
+    demand(rows_and_version(table) in tables or is_round and begins, f"the file has {table.jobs_reply()}, in version {table.version}")
 
 
 def check_again(place, before):
@@ -353,14 +353,14 @@ def check_again(place, before):
 
 
 def check(shell, folder, scene, kept, failure):
-    """One run in which a call fails. Gives whether it did: calls that wait for children differ from run to run."""
+    """One run with a failing call. Returns whether it failed: calls that wait for children differ from run to run."""
     earlier, commands = SCENES[scene]
     place = Place(shell, folder)
     place.begin(scene)
     if not earlier:
         shutil.rmtree(place.root)
         os.mkdir(place.root)
-    before, first = place.children.stages(), place.told()
+    before, first = place.children.stages(), place.rows_and_version()
     done, calls = place.traced(commands, failure.inject())
     end = failed_in(done, calls)
     if end and end.outcome:
@@ -372,23 +372,23 @@ def check(shell, folder, scene, kept, failure):
 
 
 def usual(shell, folder, scene):
-    """The calls of a scene without a failure, and for each number of its commands the table in the file, told, and its payloads."""
+    """The calls of a scene without a failure, and for each number of its commands the table in the file, as rows, and its payloads."""
     earlier, commands = SCENES[scene]
     kept = []
     for number in range(len(commands) + 1):
         place = Place(shell, os.path.join(folder, f"{scene}{number}"))
         lines = place.begin(scene) if earlier else []
-        demand(lines == replies_to(earlier), f"{scene}: before it, it answered {lines}")
+        demand(lines == replies_to(earlier), f"{scene}: before it, it replied {lines}")
         done, calls = place.traced(commands[:number])
         demand(done.stdout.decode().splitlines() == replies_to(commands[:number]) and not done.returncode, f"{scene}: {done}")
-        table, payloads = place.standing()
-        kept.append((told(table), payloads))
+        table, payloads = place.stored_table()
+        kept.append((rows_and_version(table), payloads))
         shutil.rmtree(place.folder)
     return calls, kept
 
 
 def failures(calls):
-    """The calls that are let fail, each with each error."""
+    """The calls that fail, each with each error."""
     is_serving = False
     for call in calls:
         if call.name == "read" and call.descriptor() == 0:
@@ -407,7 +407,7 @@ def main():
         sys.exit(f"no program {shell}: run `rt run` in crates/spool_shell first")
     if not traces.may_trace():
         sys.exit(2)
-    # In memory, where a sync takes no time.
+    # A folder in memory: a sync takes no time there.
     folder = tempfile.mkdtemp(prefix="calls-", dir="/dev/shm" if os.path.isdir("/dev/shm") else None)
     passed = 0
     try:
@@ -423,7 +423,7 @@ def main():
                     except (Difference, model.Fault, AssertionError, subprocess.TimeoutExpired) as difference:
                         pool.shutdown(cancel_futures=True)
                         raise Difference(f"{scene}: {failure}: {difference!r}, in {folder}/{scene[0]}{number}") from None
-            demand(done > len(tasks) * 9 // 10, f"{scene}: only {done} of {len(tasks)} calls could be let fail")
+            demand(done > len(tasks) * 9 // 10, f"{scene}: only {done} of {len(tasks)} calls could be made to fail")
             print(f"{scene}: {done} of {len(tasks)}")
             passed += done
     except Difference as difference:

@@ -1,11 +1,11 @@
-"""A replicated volume on this machine, and two hosts that have mounted it: what tests/failover.py tries the service on.
+"""A replicated volume on this machine, and two hosts that have mounted it, for tests/failover.py.
 
-The volume is one of GlusterFS with three bricks (Debian's packages glusterfs-server and glusterfs-client). All of it runs in
-namespaces of its own: the bricks in one network, and each host in another that leads there alone. So nothing of it is reached from
-outside, and nothing is left when the script ends: its processes end with it.
+The volume is one of GlusterFS with three bricks (Debian's packages glusterfs-server and glusterfs-client). All of it runs in namespaces of
+its own: the bricks in one network, and each host in another that connects only to them. So none of it can be reached from outside, and none
+of it remains when the script ends: its processes end with it.
 
-A host is a mount of the volume, by a client process of its own, as on two machines. What a host's service prints goes to a folder
-that isn't on the volume: the printers.
+A host is a mount of the volume, by a client process of its own, as on two machines. The pages that a host's service prints are in a folder
+that is not on the volume: the printers.
 """
 import os
 import shutil
@@ -17,11 +17,11 @@ import time
 
 from service_parts import Difference, until
 
-# The bricks' address, which is reached within these namespaces alone: the system refuses bricks of the address 127.0.0.1.
+# The bricks' address, which is reached only within these namespaces: the system refuses bricks with the address 127.0.0.1.
 BRICKS = "10.77.0.1"
 NAME = "spool"
 
-# How a host mounts it: it reads what the volume has, and nothing that it kept itself.
+# How a host mounts the volume: reads are served by the volume, not from the host's cache.
 MOUNT = ["--direct-io-mode=enable", "--attribute-timeout=0", "--entry-timeout=0"]
 
 INSIDE = "FAILOVER_INSIDE"
@@ -33,7 +33,7 @@ PROGRAMS = {
 
 
 def lacks():
-    """What isn't here that a volume wants, in words; nothing where all is."""
+    """The requirements of a volume that are missing here, as text; empty if none is."""
     missing = [f"{program} (Debian's package {package})" for program, package in PROGRAMS.items() if not shutil.which(program)]
     if missing:
         return missing[0]
@@ -49,16 +49,16 @@ NAMESPACES = ["unshare", "--mount", "--net", "--pid", "--fork", "--kill-child", 
 
 
 def go_inside():
-    """Runs this script again in namespaces of its own, unless it is there already."""
+    """Runs this script again in namespaces of its own, unless it is in them already."""
     if INSIDE not in os.environ:
         sys.stdout.flush()
-        # The first process of the namespaces is a shell, which waits for whatever ends there.
+        # The first process of the namespaces is a shell, which reaps all processes that end there.
         words = [*NAMESPACES, "sh", "-c", '"$@"; exit $?', "sh", sys.executable, *sys.argv]
         os.execvpe("unshare", words, {**os.environ, INSIDE: "1", "SERVICE_LONGEST": "60"})
 
 
 def run(*words, within=None):
-    """A program that has to end well: what it writes. It may run in the network of a host."""
+    """Runs a program that must succeed, and returns its output. It may run in the network of a host."""
     words = [*(["nsenter", f"--net=/proc/{within}/ns/net"] if within else []), *words]
     done = subprocess.run(words, capture_output=True, text=True, timeout=120)
     if done.returncode:
@@ -67,7 +67,7 @@ def run(*words, within=None):
 
 
 def processes(*words):
-    """The processes of which the command line has these words."""
+    """The processes whose command line has these words."""
     found = []
     for name in filter(str.isdigit, os.listdir("/proc")):
         try:
@@ -115,7 +115,7 @@ class Host:
             return False
 
     def kill_client(self):
-        """The mount's client is gone: the host has the folder no more."""
+        """Kills the mount's client: the host loses access to the folder."""
         os.kill(self.client, signal.SIGKILL)
         until("the end of a client", lambda: not processes("--volfile-id=" + NAME, self.path))
 
@@ -124,7 +124,7 @@ class Host:
         self.mount()
 
     def cut(self):
-        """The host is on the network no more, as where its cable is drawn or it has no power: nobody is told."""
+        """Takes the host off the network, as if its cable were pulled or its power were off: no other process is notified."""
         run("ip", "link", "set", self.link, "down")
 
     def mend(self):
@@ -139,7 +139,7 @@ class Volume:
         self.path = tempfile.mkdtemp(prefix="v-")
         for name in ("lib", "log", "local", *(f"brick{number}" for number in range(3))):
             os.mkdir(self.at(name))
-        # The system's own folders of the programs, for these namespaces alone.
+        # The system folders of the programs, for these namespaces only.
         run("mount", "-t", "tmpfs", "tmpfs", "/run")
         os.makedirs("/var/lib/glusterd", exist_ok=True)
         os.makedirs("/var/log/glusterfs", exist_ok=True)
@@ -178,20 +178,20 @@ class Volume:
         until("the end of a brick", lambda: self.brick(number) is None)
 
     def start_bricks(self):
-        """Those that were killed."""
+        """Starts the bricks that were killed."""
         run("gluster", "--mode=script", "volume", "start", NAME, "force")
         until("the bricks", lambda: None not in self.bricks())
 
     def heal(self):
-        """Waits until each brick has what it missed, and what a client left half done that died is settled."""
+        """Waits until each brick has all changes, and the half-finished writes of a dead client are resolved."""
         end = time.time() + 180
         while not (self.answers("volume", "heal", NAME) and self.is_whole()):
             if end < time.time():
-                raise Difference("the volume isn't healed within 180 s")
+                raise Difference("the volume is not healed within 180 s")
             time.sleep(0.5)
 
     def is_whole(self):
-        """Whether no brick misses anything. It takes the system's command a second."""
+        """Whether all bricks have all changes. The system's command takes a second."""
         done = subprocess.run(["gluster", "--mode=script", "volume", "heal", NAME, "info", "summary"], capture_output=True, text=True)
         counts = [line.split(":")[1].strip() for line in done.stdout.splitlines() if line.startswith("Total Number of entries")]
         return done.returncode == 0 and counts == ["0"] * 3
@@ -203,6 +203,6 @@ class Volume:
 
 
 def seconds_until(is_so, began, longest=60):
-    """How long it took from a moment on until this is so."""
+    """The time from a moment until the condition is true."""
     until("it", is_so, longest)
     return time.monotonic() - began

@@ -1,9 +1,9 @@
-/* The system's clock in fast motion, for the program that this library is loaded into.
+/* Speeds up the realtime clock of the program that loads this library.
  *
- * LD_PRELOAD names the library that is made of this file. FAST_CLOCK has three numbers, `BEGAN FROM FASTER`: at the system's second
- * BEGAN the program's clock tells FROM, and since then it goes FASTER times as fast. The clock by which a program counts how
- * long something takes goes as ever. A poll that would wait longer than the looks at children are apart, since something is to
- * come due, waits as much shorter.
+ * Compile this file as a shared library and name it in LD_PRELOAD. FAST_CLOCK contains three numbers, `BEGAN FROM FASTER`: at the
+ * system's second BEGAN the program's clock shows FROM, and from then on it runs FASTER times as fast. Other clocks, such as the
+ * monotonic clock, are not changed. A call of epoll_wait with a timeout above 64 ms, the longest pause between two checks of the
+ * children, waits for something that is due, so its timeout is divided by FASTER.
  */
 #define _GNU_SOURCE
 #include <stdio.h>

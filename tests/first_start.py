@@ -1,19 +1,19 @@
 #!/usr/bin/env python3
-"""Starts several shells at once on a fresh folder, and looks for what each had answered: first_start.py [SHELL] [--trials N] [--folders DIR..]
+"""Starts several shells at once on a fresh folder, whose jobs must all survive: first_start.py [SHELL] [--trials N] [--folders DIR..]
 
-SHELL is the program, and crates/spool_shell/out/spool_shell (made by `rt run` in that folder) where none is given. A
-trial starts 2, 4 or 8 of them together in one fresh folder, a hundred trials for each number or N, with spools of several
-sizes. Each DIR is one mount of the same volume, as another host has it: the programs take turns over them, and the fresh
-folder is in all (tests/failover.py gives two). Each makes the queue, if need be, and ten jobs whose titles tell program and number. In every second trial the
-input of all stays open until each program has answered or ended, so exactly one of them has to own the folder. In the
-others it ends at once, so one may own the folder after another.
+SHELL is the program; the default is crates/spool_shell/out/spool_shell (built by `rt run` in that crate). A trial starts 2, 4 or 8 of them
+together in one fresh folder, a hundred trials for each number or N, with spools of several sizes. Each DIR is one mount of the same volume,
+as another host has it: the programs are distributed over them, and the fresh folder is in all (tests/failover.py gives two). Each program
+creates the queue, if necessary, and ten jobs whose titles contain program and number. In every second trial the input of all stays open
+until each program has replied or ended, so exactly one of them must own the folder. In the others it ends at once, so one may own the
+folder after another.
 
-Each program either answers all its commands, or ends with status 1, answers nothing, and writes `spool: disk` and its
-cause `owned` on standard error. One more start has to list exactly the jobs that were answered, each by its number and with its title,
-and nothing but the spool's file and that of its lock is in the folder.
+Each program either replies to all its commands, or ends with status 1, sends no reply, and writes `spool: disk` and its cause `owned` to
+standard error. One more start must list exactly the jobs that were acknowledged, each by its number and with its title, and the folder must
+have only the spool's file and its lock file.
 
-The last line is `300 of 300`, or of 3 N, with status 0, or the first difference, with status 1. Its folder stays then, and is
-named.
+The last line is `300 of 300`, or of 3 N, with status 0, or the first difference, with status 1. Its folder is kept then, and its path is
+printed.
 """
 import argparse
 import os
@@ -39,10 +39,10 @@ TRIALS = given.trials  # for each of these counts
 JOBS = 10
 SECONDS = 60  # a trial that takes longer hangs
 
-# The spool's bytes for so many programs, all of whose jobs have room; None is the default.
+# The spool's size in bytes for each number of programs, with room for all their jobs; None is the default.
 SIZES = {2: (4_096, 10_000, 65_536, None), 4: (8_192, 65_537, 300_000, None), 8: (16_384, 40_001, 1_000_000, None)}
 
-# Waits for a line of its input, and then is the program.
+# Waits for a line of its input, and then runs the program.
 GATE = 'read -r open && exec "$@"'
 
 QUEUE = "queue lab spoolfile:/out application/octet-stream abort-job\n"
@@ -50,7 +50,7 @@ LISTED = re.compile(r'job (\d+) lab 4 job-incoming "ann" 0 0 "(.*)"')
 
 
 class Difference(Exception):
-    """A program doesn't do what it has to."""
+    """A program behaves differently than required."""
 
 
 def title(program, number):
@@ -73,7 +73,7 @@ class Program:
         self.replies = []
 
     def give(self, text):
-        """Hands the text over, unless the program has ended."""
+        """Writes the text to it, unless the program has ended."""
         try:
             self.child.stdin.write(text)
             self.child.stdin.flush()
@@ -87,13 +87,13 @@ class Program:
             pass
 
     def has_answered(self):
-        """Whether it answers, else it has ended."""
+        """Whether it replies; otherwise it has ended."""
         line = self.child.stdout.readline()
         self.replies += [line] if line else []
         return bool(line)
 
     def end(self):
-        """Its last replies, its complaints and its status."""
+        """Its last replies, its error messages and its status."""
         self.replies += self.child.stdout.readlines()
         self.complaints = self.child.stderr.read()
         self.status = self.child.wait()
@@ -101,7 +101,7 @@ class Program:
         self.child.stderr.close()
 
     def jobs(self):
-        """The numbers that it was answered, with the titles that it gave."""
+        """The job numbers in its replies, with the titles that it sent."""
         if self.status == 1 and self.complaints == "spool: disk\nspool: cause: owned\n" and not self.replies:
             return []
         queue, *created = [line.rstrip("\n") for line in self.replies] or [""]
@@ -115,7 +115,7 @@ class Program:
 
 
 def started(root, count, size, held):
-    """So many programs that were started together, once all have ended."""
+    """The given number of programs, started together, after all have ended."""
     programs = [Program(seen_by(name, root), name, size) for name in range(count)]
     try:
         for program in programs:
@@ -139,7 +139,7 @@ def started(root, count, size, held):
 
 
 def seen_by(number, root):
-    """The folder as the host of this number has it: the hosts take turns."""
+    """The folder as the host of this number has it: the hosts alternate."""
     folder = given.folders[number % len(given.folders)]
     return os.path.join(folder, os.path.basename(root)) if folder else root
 
@@ -156,7 +156,7 @@ def listing(root):
 
 
 def trial(root, count, size, held):
-    """Programs in one folder, and what it has afterwards."""
+    """Programs in one folder, and its contents afterwards."""
     answered = sorted(job for program in started(root, count, size, held) for job in program.jobs())
     listed = listing(root)
     if not answered or listed != answered:

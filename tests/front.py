@@ -1,21 +1,22 @@
 #!/usr/bin/env python3
-"""Runs the front as a person and a script do: front.py [--long] [--list] [SERVICE FRONT [TEST..]]
+"""Runs the front end, as users and scripts do: front.py [--long] [--list] [SERVICE FRONT [TEST..]]
 
-SERVICE and FRONT are the programs, and crates/spool_service/out/spool_service and crates/spool_front/out/spool_front (made by
-`rt run` in those folders) where none are given. What is decided after a lost reply is proved over values; here sockets are lost.
-Each TEST is the name of a function below; without one all are run. --list prints their names.
+SERVICE and FRONT are the programs; the defaults are crates/spool_service/out/spool_service and crates/spool_front/out/spool_front (built by
+`rt run` in those crates). The decisions after a lost reply are proved over values; here real connections are lost. Each TEST is the name of
+a function below; without one all are run. --list prints their names.
 
-| Test | What it tries |
+| Test | Tests |
 |---|---|
-| played_* | a service that is played: each loss, each refusal, and each status of a submission |
-| submits_*, status_*, acts_* | each word over a running service |
+| played_* | a simulated service: each loss, each refusal, and each status of a submission |
+| submits_*, status_*, acts_* | each task with a running service |
 | status_page_in_a_browser | the page, as Chromium reads it (Debian's package chromium) |
-| refuses_memory | each allocation of a submission is refused in turn: the status is true |
+| refuses_memory | each allocation of a submission is refused in turn: the status is correct |
 | kills | a service that is killed while documents are submitted: each is accepted once (60 of them, 1,000 with --long) |
-| fits_terminals | what is shown on a terminal of 40 to 200 columns |
+| fits_terminals | the output on a terminal of 40 to 200 columns |
 | lp_scripts | lines of scripts that were written for CUPS |
 
-The last line is `N of N`, and status 0; or how many failed, with status 1. The folder of a test that failed stays, and is named.
+The last line is `N of N`, and status 0; or the number that failed, with status 1. The folder of a test that failed is kept, and its path is
+printed.
 """
 import json
 import os
@@ -30,7 +31,7 @@ import unicodedata
 from front_parts import Front, Played, number_of
 from service_parts import TYPE, Client, Folder, Skipped, holds, patient_client, run_test, same, until
 
-# ---- a service that is played
+# ---- a simulated service
 
 
 def shown(size, state="4 job-incoming", media="", token="TOKEN"):
@@ -48,8 +49,8 @@ CLOSED = "ok type application/octet-stream stages 1\n"
 SENDS = [('create "q" ', "ok job 5\n"), ("send 5 3", "ok bytes 3\n")]
 
 
-def played(folder, connections, status, told="", patience=3):
-    """Submits three bytes to a service that is played."""
+def played(folder, connections, status, output="", patience=3):
+    """Submits three bytes to a simulated service."""
     service = Played(folder, connections)
     front = Front(folder, patience)
     folder.write("doc", "abc")
@@ -57,7 +58,7 @@ def played(folder, connections, status, told="", patience=3):
     service.end()
     same("status", ended.returncode, status)
     text = ended.stdout.decode() + ended.stderr.decode()
-    holds(f"told {text!r}, without {told!r}", told in text)
+    holds(f"printed {text!r}, without {output!r}", output in text)
 
 
 def played_accepted(folder):
@@ -74,30 +75,30 @@ def played_refused_create(folder):
 
 def played_refused_send(folder):
     steps = [SENDS[0], ("send 5 3", "error 7 TooLong\n"), ("cancel 5", "ok\n")]
-    played(folder, [steps], 1, "spool: error 7 TooLong, job 5 canceled\n")
+    played(folder, [steps], 1, "spool: error 7 TooLong; job 5 was canceled\n")
 
 
 def played_refused_close(folder):
-    played(folder, [SENDS + [("close 5 ", "error 5 NoJob\n"), ("cancel 5", "error 5 NoJob\n")]], 1, "error 5 NoJob, job 5 isn't printed")
+    played(folder, [SENDS + [("close 5 ", "error 5 NoJob\n"), ("cancel 5", "error 5 NoJob\n")]], 1, "error 5 NoJob; job 5 is not printed")
 
 
 def played_other_size(folder):
     steps = [SENDS[0], ("send 5 3", "ok bytes 9\n"), ("cancel 5", "ok\n")]
-    played(folder, [steps], 1, "job 5 canceled")
+    played(folder, [steps], 1, "job 5 was canceled")
 
 
-def played_put_off(folder):
+def played_retried(folder):
     steps = [('create "q" ', "error full\n"), SENDS[0], ("send 5 3", "error memory\n"), SENDS[1], ("close 5 ", "error full\n"), ("close 5 ", CLOSED)]
     played(folder, [steps], 0, "q-5")
 
 
 def played_full_for_good(folder):
     steps = [SENDS[0]] + [("send 5 3", "error full\n")] * 21 + [("cancel 5", "ok\n")]
-    played(folder, [steps], 1, "error full, job 5 canceled")
+    played(folder, [steps], 1, "error full; job 5 was canceled")
 
 
 def played_lost_create(folder):
-    # It was made: the job with the token is gone on with.
+    # It was created: the front end continues with the job that has the token.
     second = [("jobs", LISTED), ("job 5", shown(0)), SENDS[1], ("close 5 ", CLOSED)]
     played(folder, [[('create "q" ', None)], second], 0, "q-5")
 
@@ -108,14 +109,14 @@ def played_create_not_done(folder):
 
 
 def played_find_without_an_answer(folder):
-    # A listing that fails doesn't tell that the job isn't there: it is asked for again.
+    # A listing that fails does not show that the job does not exist: it is requested again.
     second = [("jobs", "error busy\n")]
     third = [("jobs", "error memory\n"), ("jobs", LISTED), ("job 5", shown(0)), SENDS[1], ("close 5 ", CLOSED)]
     played(folder, [[('create "q" ', None)], second, third], 0, "q-5")
 
 
 def played_foreign_jobs(folder):
-    # A job of another token, of another user and one that has ended are none of its own.
+    # A job with another token, a job of another user and a job that has ended are not its own.
     rows = 'job 5 q 4 job-incoming "ann" 0 0 "t"\njob 6 q 4 job-incoming "bob" 0 0 "t"\njob 7 q 9 job-completed-successfully "ann" 0 0 "t"\nok 3\n'
     second = [("jobs", rows), ("job 5", shown(0, token="0" * 32)), *SENDS, ("close 5 ", CLOSED)]
     played(folder, [[('create "q" ', None)], second], 0, "q-5")
@@ -129,12 +130,12 @@ def played_lost_send(folder):
 
 def played_lost_send_other_size(folder):
     second = [("job 5", shown(2)), ("cancel 5", "ok\n")]
-    played(folder, [[SENDS[0], ("send 5 3", None)], second], 1, "job 5 canceled")
+    played(folder, [[SENDS[0], ("send 5 3", None)], second], 1, "job 5 was canceled")
 
 
 def played_lost_send_job_gone(folder):
     for reply in ("error job\n", shown(0, "7 canceled")):
-        played(folder, [[SENDS[0], ("send 5 3", None)], [("job 5", reply)]], 1, "somebody has ended the job")
+        played(folder, [[SENDS[0], ("send 5 3", None)], [("job 5", reply)]], 1, "the job was ended before the document was complete")
 
 
 def played_lost_close(folder):
@@ -143,50 +144,50 @@ def played_lost_close(folder):
     played(folder, [lost, [("job 5", shown(3, "3 none", "a/b"))]], 0, "q-5")
     played(folder, [lost, [("job 5", shown(3, "9 job-completed-successfully", "a/b"))]], 0, "q-5")
     played(folder, [lost, [("job 5", shown(3, "8 no-filter", "a/b"))]], 4, "job 5")
-    played(folder, [lost, [("job 5", shown(3, "7 canceled"))]], 1, "somebody has ended the job")
+    played(folder, [lost, [("job 5", shown(3, "7 canceled"))]], 1, "the job was ended before the document was complete")
     played(folder, [lost, [("job 5", "error job\n")]], 3, "job 5")
 
 
 def played_close_not_incoming(folder):
-    # Somebody ended the job, or an earlier close was served: `job` tells which.
+    # Somebody ended the job, or an earlier close was served: `job` shows which.
     steps = SENDS + [("close 5 ", "error 6 NotIncoming\n")]
     played(folder, [steps + [("job 5", shown(3, "3 none", "a/b"))]], 0, "q-5")
     played(folder, [steps + [("job 5", shown(3, "7 canceled"))]], 1, "job 5")
 
 
 def played_dead_at_close(folder):
-    # After `error disk` a close may have been done, so it is asked again on a new connection.
+    # After `error disk` a close may have been executed, so the front end asks again on a new connection.
     second = [("job 5", shown(3, "3 none", "a/b"))]
     played(folder, [SENDS + [("close 5 ", "error disk\n")], second], 0, "q-5")
 
 
 def played_dead_for_good(folder):
-    # A spool that is dead answers what is asked, and does nothing: that comes to an end.
-    look = [("job 5", shown(3)), ("close 5 ", "error dead\n")]
-    played(folder, [SENDS + [("close 5 ", "error dead\n")]] + [look] * 10, 3, "job 5", patience=1)
+    # A dead spool replies to queries, and changes nothing: the front end gives up.
+    retry = [("job 5", shown(3)), ("close 5 ", "error dead\n")]
+    played(folder, [SENDS + [("close 5 ", "error dead\n")]] + [retry] * 10, 3, "job 5", patience=1)
 
 
 def played_lost_order(folder):
-    # A command that isn't said again: its reply tells whether it was done, or nothing does.
+    # A command that is not repeated: only its reply shows whether it was executed.
     service = Played(folder, [[("cancel 7", None)], [("cancel 8", "ok\n")], [("accept", None)]])
     front = Front(folder, 1)
-    told = front.fails("spool", "cancel", "7", "8", status=3)
-    holds(f"told {told!r}", told.startswith("spool: job 7: ") and "job 8" not in told)
+    output = front.fails("spool", "cancel", "7", "8", status=3)
+    holds(f"printed {output!r}", output.startswith("spool: job 7: ") and "job 8" not in output)
     front.fails("spool", "queue", "accept", "q", status=3)
     service.end()
 
 
-def played_nobody(folder):
+def played_without_a_service(folder):
     played(folder, [SENDS + [("close 5 ", None)]], 3, "job 5", patience=1)
-    played(folder, [[SENDS[0], ("send 5 3", None)]], 1, "nobody serves", patience=1)
+    played(folder, [[SENDS[0], ("send 5 3", None)]], 1, "cannot reach the service", patience=1)
     same("status with no service", Front(folder, 1).run("spool", "submit", "q", folder.at("doc")).returncode, 1)
 
 
-# ---- each word over a running service
+# ---- each task with a running service
 
 
 def office(folder, more=""):
-    """A service with a queue that prints at once, and its front."""
+    """A service with a queue that prints at once, and its front end."""
     folder.start()
     client = Client(folder)
     folder.queue(client, "q")
@@ -263,13 +264,13 @@ def submits_and_waits(folder):
     until("a second job", lambda: len(client.states()) == 2)
     until("that it is accepted", lambda: not client.state(2).startswith("4"))
     same("cancel", client.ask("cancel 2\n"), "ok")
-    told = child.communicate(timeout=20)[1].decode()
-    same(f"status, which told {told!r}", child.returncode, 5)
-    holds(f"told {told!r}", "job 2 is canceled" in told)
+    output = child.communicate(timeout=20)[1].decode()
+    same(f"status, with the output {output!r}", child.returncode, 5)
+    holds(f"printed {output!r}", "job 2 was canceled" in output)
 
 
-def submits_and_cannot_say_so(folder):
-    """The status tells what became of the job, also where its number can't be told."""
+def submits_without_standard_output(folder):
+    """The status shows the outcome of the job, even if its number is not known."""
     client, front = office(folder)
     folder.write("a", "a")
     with open("/dev/full", "w") as full:
@@ -280,7 +281,7 @@ def submits_and_cannot_say_so(folder):
 
 
 def submits_and_loses_the_service(folder):
-    """A job that is accepted, and whose end can't be waited for."""
+    """A job that is accepted, and whose end cannot be waited for."""
     client, front = office(folder)
     folder.write("a", "a")
     folder.queue(client, "slow", 60)
@@ -288,9 +289,9 @@ def submits_and_loses_the_service(folder):
     child = front.start("spool", "submit", "slow", folder.at("a"), "--wait")
     until("that it is accepted", lambda: client.states() and not client.state(1).startswith("4"))
     folder.kill()
-    told = child.communicate(timeout=20)[1].decode()
-    same(f"status, which told {told!r}", child.returncode, 3)
-    holds(f"told {told!r}", "it isn't known how job 1 ends: nobody serves" in told)
+    output = child.communicate(timeout=20)[1].decode()
+    same(f"status, with the output {output!r}", child.returncode, 3)
+    holds(f"printed {output!r}", "cannot determine the outcome of job 1: cannot reach the service" in output)
 
 
 def submits_and_is_refused(folder):
@@ -304,17 +305,18 @@ def submits_and_is_refused(folder):
     front.fails("spool", "submit", status=2)
     front.fails("spool", "bogus", status=2)
     front.says("spool", "--help")
+    holds("the version", front.says("spool", "--version").startswith("spool (Cegmandi) "))
 
 
-def submits_what_is_too_long(folder):
+def submits_a_document_that_is_too_long(folder):
     folder.size = 100_000_000
     client, front = office(folder)
-    told = front.fails("spool", "submit", "q", "-", text=b"x" * 16_777_217)
-    same("told", told, "spool: error 7 TooLong, job 1 canceled\n")
+    output = front.fails("spool", "submit", "q", "-", text=b"x" * 16_777_217)
+    same("the error", output, "spool: error 7 TooLong; job 1 was canceled\n")
     same("state", client.state(1), "7 canceled")
 
 
-def submits_what_cannot_be_printed(folder):
+def submits_an_unprintable_document(folder):
     folder.two_stages(0)
     client, front = office(folder)
     same("queue", client.ask("queue p slow:/0 c/d retry-current-job 0 0\n"), "ok")
@@ -343,14 +345,14 @@ def status_check(folder):
     client, front = office(folder)
     front.environment |= {"SPOOL_TYPES": folder.at("types"), "SPOOL_CONVS": folder.at("convs"), "SPOOL_PROGRAMS": folder.at("programs")}
     folder.queue(client, "b", target="a/b")
-    same("check", front.says("spool", "check"), f"{folder.socket} serves\nqueue b prints a/b\nqueue q prints {TYPE}\n")
+    same("check", front.says("spool", "check"), f"service {folder.socket} is running\nqueue b prints a/b\nqueue q prints {TYPE}\n")
     folder.queue(client, "d", target="c/d")
     same("disable", client.ask("disable b\n"), "ok")
     same("reject", client.ask("reject q\n"), "ok")
-    told = front.says("spool", "check", status=1).splitlines()[1:]
-    same("check", told, ["queue b is stopped", "queue d prints nothing: no chain of filters leads to c/d", "queue q takes no jobs"])
+    output = front.says("spool", "check", status=1).splitlines()[1:]
+    same("check", output, ["queue b is stopped", "queue d cannot print: no chain of filters converts to c/d", "queue q rejects jobs"])
     missing = front.fails("spool", "check", environment={"SPOOL_CONVS": folder.at("missing")})
-    same("told", missing, f"spool: file {folder.at('missing')}\n")
+    same("the error", missing, f"spool: cannot read {folder.at('missing')}\n")
 
 
 def status_check_of_programs(folder):
@@ -362,20 +364,20 @@ def status_check_of_programs(folder):
     folder.write("good", "#!/bin/sh\n", 0o755)
     lines = [("backend", "a", "missing"), ("backend", "b", "empty"), ("filter", "c", "plain"), ("filter", "d", "good"), ("filter", "e", "spool")]
     folder.write("listed", "".join(f"{kind} {name} {folder.at(file)}\n" for kind, name, file in lines) + f"side {folder.at('good')}\r\n")
-    told = front.says("spool", "check", status=1, environment={"SPOOL_PROGRAMS": folder.at("listed")}).splitlines()
+    output = front.says("spool", "check", status=1, environment={"SPOOL_PROGRAMS": folder.at("listed")}).splitlines()
     wanted = [
-        "filter c can't be run: not executable",
-        "filter e can't be run: no file",
-        "backend a can't be run: not there",
-        "backend b can't be run: neither a script nor a program",
-        "side program can't be run: a carriage return at its end",
-        f"{folder.socket} serves",
+        "filter c cannot be run: not executable",
+        "filter e cannot be run: not a regular file",
+        "backend a cannot be run: file not found",
+        "backend b cannot be run: neither a script nor an ELF program",
+        "side program cannot be run: the line ends with a carriage return",
+        f"service {folder.socket} is running",
         f"queue q prints {TYPE}",
     ]
-    same("check", told, wanted)
+    same("check", output, wanted)
     folder.write("unread", "filter\n")
     missing = front.fails("spool", "check", environment={"SPOOL_PROGRAMS": folder.at("unread")})
-    same("told", missing, f"spool: file {folder.at('unread')}\n")
+    same("the error", missing, f"spool: {folder.at('unread')} is invalid\n")
 
 
 def status_of_two_services(folder):
@@ -393,9 +395,9 @@ def status_of_two_services(folder):
         same("jobs of the first", client.states(), {})
         same("status over all", len(json.loads(front.says("spool", "status", "--json", *sockets))), 1)
         holds("the job of the second", '"queue":"z"' in front.says("spool", "status", str(job), "--json", *sockets).replace(" ", ""))
-        # A number alone doesn't tell whose job it is.
+        # A number alone does not show the job's user.
         for words in (["cancel", str(job)], ["watch"], ["queue", "add", "new", "slow:/0"]):
-            holds(f"{words}", "asked of one" in front.fails("spool", *words, *sockets))
+            holds(f"{words}", "exactly one --socket" in front.fails("spool", *words, *sockets))
         holds("no queue", "no service has this queue" in front.fails("spool", "submit", "none", folder.at("a"), *sockets))
         Client(other).create("z")
         same("cancel -a", front.says("cancel", "-a", *sockets), "")
@@ -424,7 +426,7 @@ def status_page_in_a_browser(folder):
     """Debian's package chromium shows the page: its cells, and no markup of a title."""
     browser = shutil.which("chromium")
     if not browser:
-        raise Skipped("chromium isn't installed")
+        raise Skipped("chromium is not installed")
     client, front = office(folder)
     client.create("q", "<script>document.title='run'</script><b>bold</b>")
     front.says("spool", "page", folder.at("page.html"))
@@ -475,14 +477,16 @@ def acts_on_queues(folder):
     holds("twice", "error 2 QueueExists" in front.fails("spool", "queue", "add", "new", "slow:/0", "--media", "a/b"))
 
 
-# ---- without memory
+# ---- out of memory
 
 
 def refuses_memory(folder):
-    """Each allocation of a submission is refused in turn, and its status is true: accepted once, never, or not known. What isn't done is
-    told as memory, the words too, and a variable that finds no memory isn't taken for one that isn't there."""
+    """Each allocation of a submission is refused in turn, and its status is correct: accepted once, never, or not known. A submission that
+    failed is reported as out of memory. The same applies to the arguments, and a variable that cannot be read for lack of memory is not
+    treated as unset.
+    """
     if not shutil.which("gcc"):
-        raise Skipped("gcc isn't installed (Debian's package gcc)")
+        raise Skipped("gcc is not installed (Debian's package gcc)")
     library = folder.at("count_allocations.so")
     source = os.path.join(os.path.dirname(os.path.abspath(__file__)), "count_allocations.c")
     subprocess.run(["gcc", "-O2", "-shared", "-fPIC", "-o", library, source], check=True)
@@ -495,14 +499,14 @@ def refuses_memory(folder):
         title = f"document-{refused:06d}"
         more = {"LD_PRELOAD": library, "REFUSED": str(refused), "COUNTED": counted}
         ended = front.run("spool", "submit", "q", "-", "--title", title, text=text, environment=more)
-        told = ended.stderr.decode()
+        output = ended.stderr.decode()
         ends.setdefault(ended.returncode, []).append(refused)
-        holds(f"allocation {refused}, status {ended.returncode}: {told!r}", ended.returncode in (0, 1, 3))
-        holds(f"allocation {refused}, status 1: {told!r}", ended.returncode != 1 or "memory" in told)
+        holds(f"allocation {refused}, status {ended.returncode}: {output!r}", ended.returncode in (0, 1, 3))
+        holds(f"allocation {refused}, status 1: {output!r}", ended.returncode != 1 or "memory" in output)
         closed = [row for row in client.listing("jobs\n") if title in row and row.split()[4] != "job-incoming" and row.split()[3] != "7"]
         if ended.returncode != 3:
-            same(f"jobs that were closed, where allocation {refused} was refused: {told!r}", len(closed), 1 if ended.returncode == 0 else 0)
-        holds(f"in whose name, where allocation {refused} was refused: {closed}", all(row.split()[5] == '"ann"' for row in closed))
+            same(f"closed jobs, when allocation {refused} was refused: {output!r}", len(closed), 1 if ended.returncode == 0 else 0)
+        holds(f"the job's user, when allocation {refused} was refused: {closed}", all(row.split()[5] == '"ann"' for row in closed))
         if " refused " not in folder.read("counted"):
             break
         os.remove(counted)
@@ -514,8 +518,8 @@ def refuses_memory(folder):
 
 
 def kills(folder):
-    """Documents are submitted while the service is killed again and again. Each that was accepted is there once, and none twice."""
-    # No job that has ended is forgotten before it is looked at.
+    """Documents are submitted while the service is killed again and again. Each accepted document becomes one job, and none becomes two."""
+    # No ended job is purged before it is checked.
     folder.words = ["--keep", "100000"]
     client, front = office(folder)
     client.close()
@@ -555,9 +559,9 @@ def kills(folder):
         if words[4] != "job-incoming" and not (words[3] == "7"):
             jobs.setdefault(line.split('"')[3], []).append((words[1], int(words[6])))
     print(f"  {index} documents, {starts[0]} kills: {sum(1 for ended in statuses.values() if ended[0] == 0)} accepted")
-    for title, (status, size, told) in statuses.items():
+    for title, (status, size, output) in statuses.items():
         found = jobs.get(title, [])
-        holds(f"{title}, status {status}: {told!r}", status in (0, 1, 3))
+        holds(f"{title}, status {status}: {output!r}", status in (0, 1, 3))
         if status == 0:
             same(f"jobs of {title}", [size for _, size in found], [size])
         if status == 1:
@@ -585,7 +589,7 @@ def fits_terminals(folder):
     folder.write("a", "a")
     text, status = front.on_terminal("spool", "submit", "q", folder.at("a"), "--wait")
     same("status", status, 0)
-    holds(f"its way is told: {text!r}", "bytes sent" in text and "done" in text)
+    holds(f"its progress is shown: {text!r}", "bytes sent" in text and "done" in text)
 
 
 # ---- scripts that were written for CUPS

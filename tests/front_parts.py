@@ -1,5 +1,7 @@
-"""What the tests of the front share: its program by each of its names, a service that a test plays itself, and a terminal.
-tests/front.py says how they are run."""
+"""The shared parts of the tests of the front end. tests/front.py describes how to run them.
+
+They are its program by each of its names, a service that a test simulates, and a terminal.
+"""
 import os
 import pty
 import select
@@ -11,7 +13,7 @@ from service_parts import HERE, LONGEST, Difference, same
 
 BUILT = os.path.join(HERE, "..", "crates", "spool_front", "out", "spool_front")
 
-# The names by which the program is called.
+# The names under which the program is run.
 NAMES = ["spool", "lp", "lpr", "lpstat", "cancel", "lpq", "lprm"]
 
 
@@ -33,27 +35,27 @@ class Front:
         return [os.path.join(self.bin, words[0]), *words[1:]]
 
     def run(self, *words, text=b"", environment=None):
-        """Runs the program by its name and words."""
+        """Runs the program under this name with these arguments."""
         env = {**self.environment, **(environment or {})}
         return subprocess.run(self.command(words), input=text, capture_output=True, env=env, timeout=LONGEST * 4)
 
     def says(self, *words, status=0, text=b"", environment=None):
-        """What it prints, where it ends with a status."""
+        """Its output, if it ends with `status`."""
         ended = self.run(*words, text=text, environment=environment)
-        same(f"status of {words}, which told {ended.stderr!r}", ended.returncode, status)
+        same(f"status of {words}, with the output {ended.stderr!r}", ended.returncode, status)
         return ended.stdout.decode()
 
     def fails(self, *words, status=1, text=b"", environment=None):
-        """What it tells on standard error, where it ends with a status."""
+        """Its standard error, if it ends with `status`."""
         ended = self.run(*words, text=text, environment=environment)
-        same(f"status of {words}, which told {ended.stderr!r}", ended.returncode, status)
+        same(f"status of {words}, with the output {ended.stderr!r}", ended.returncode, status)
         return ended.stderr.decode()
 
     def start(self, *words, **more):
         return subprocess.Popen(self.command(words), stdin=subprocess.DEVNULL, stdout=subprocess.PIPE, stderr=subprocess.PIPE, env=self.environment, **more)
 
     def on_terminal(self, *words, columns=80):
-        """What it writes on a terminal of so many columns, and its status."""
+        """Its output on a terminal of `columns` columns, and its status."""
         ours, theirs = pty.openpty()
         env = {**self.environment, "COLUMNS": str(columns)}
         child = subprocess.Popen(self.command(words), stdin=theirs, stdout=theirs, stderr=theirs, env=env)
@@ -63,7 +65,7 @@ class Front:
             ready, _, _ = select.select([ours], [], [], LONGEST)
             if not ready:
                 child.kill()
-                raise Difference(f"{words} says nothing for {LONGEST} s")
+                raise Difference(f"{words} writes nothing for {LONGEST} s")
             try:
                 piece = os.read(ours, 65_536)
             except OSError:
@@ -76,15 +78,16 @@ class Front:
 
 
 def number_of(text):
-    """The job of `request id is QUEUE-N (1 file(s))`."""
+    """The job number in `request id is QUEUE-N (1 file(s))`."""
     words = text.split()
     same("the request", words[:3], ["request", "id", "is"])
     return int(words[3].rsplit("-", 1)[1])
 
 
 class Played:
-    """A service that a test plays: for each connection a list of steps. A step is a beginning of the command that is to come, and
-    the reply, or None where the connection is closed in place of one. Behind its last list nobody serves any more."""
+    """A service that a test simulates: for each connection a list of steps. A step is the prefix of the expected command, and the reply, or
+    None if the connection is closed instead. After the last list no connection is served.
+    """
 
     def __init__(self, folder, connections):
         self.heard = []
@@ -128,14 +131,14 @@ class Played:
             if reply is None:
                 return
             line.sendall(reply.replace("TOKEN", self.token).encode())
-        # Nothing more is to be said.
+        # No more commands are expected.
         rest = stream.read()
         if rest:
-            raise Difference(f"said {rest[:100]!r} behind the last reply")
+            raise Difference(f"said {rest[:100]!r} after the last reply")
 
     def end(self):
         self.thread.join(LONGEST)
         if self.fault:
-            raise Difference(f"the service that was played: {self.fault!r}")
+            raise Difference(f"the simulated service: {self.fault!r}")
         if self.thread.is_alive():
-            raise Difference("not all was said that was to be")
+            raise Difference("not all expected commands were sent")

@@ -1,13 +1,13 @@
 #!/usr/bin/env python3
-"""Measures the gate from nothing: gate_minutes.py [MINUTES]
+"""Measures the processor time of the gate from scratch: gate_minutes.py [MINUTES]
 
-Runs `rt ci --anew` in a clean clone of what is committed, so that nothing is taken from earlier runs, and prints a table
-by crate: the processor minutes of its proof, of its tests and of its edits. The last line is `N processor minutes`, with
-status 0, or says that these are more than MINUTES (150 where no word is given), or that the gate failed, with status 1.
+It runs `rt ci` in a clean clone of the committed state, with `--anew` if this toolchain has that option, so that no results of earlier runs
+are used, and prints a table by crate: the processor minutes of its proof, of its tests and of its edits. The last line is `N processor
+minutes`, with status 0, or says that these are more than MINUTES (default 150), or that the gate failed, with status 1.
 
-The sum is what the system counted for the gate and all that it started. The table is made of looks at the running
-provers, so its parts may lack half a second for each of them. Nothing else that wants the processors should run beside
-it: two provers on one core slow each other down. On four processors it takes some fifty minutes.
+The sum is the time that the system counted for the gate and all processes that it started. The table comes from polls of the running
+provers, so its parts may lack half a second for each of them. Do not run other heavy work at the same time: two provers on one core slow
+each other down. On four processors it takes about fifty minutes.
 """
 import os
 import re
@@ -30,7 +30,7 @@ def used(process):
 
 
 def work_of(process):
-    """The crate and the part of the gate that a prover works on, or None where it is no prover."""
+    """The crate and the part of the gate that a prover works on, or None if it is no prover."""
     with open(f"/proc/{process}/cmdline", encoding="utf-8", errors="replace") as file:
         words = file.read().split("\0")
     if not words[0].endswith("/rattle") or "--crate-name" not in words:
@@ -41,24 +41,24 @@ def work_of(process):
     return crate, "tests" if "--test" in words else "proof"
 
 
-class Looks:
-    """What was seen of the provers: the newest processor seconds of each, by its number and start."""
+class Polls:
+    """The provers so far: the newest processor seconds of each, by its process number and start."""
 
     def __init__(self):
         self.seconds, self.works = {}, {}
 
-    def look(self):
+    def poll(self):
         for process in filter(str.isdigit, os.listdir("/proc")):
             try:
                 seconds, start = used(process)
                 key = process, start
-                # A prover may begin as the program that starts it.
+                # A process may still show the program that starts the prover.
                 if not self.works.get(key):
                     self.works[key] = work_of(process)
                 if self.works[key]:
                     self.seconds[key] = seconds
             except (OSError, IndexError):
-                # It ended meanwhile.
+                # It has ended meanwhile.
                 continue
 
     def table(self):
@@ -70,35 +70,41 @@ class Looks:
         return minutes
 
 
-def gate(folder, looks):
-    """Runs the gate in a folder. Its status, what it printed, and the processor seconds of all that it started."""
+def words_of_gate():
+    """The command that runs the gate from scratch. A toolchain that reuses earlier results has the option `--anew`; others reuse none."""
+    helped = subprocess.run(["rt", "help"], capture_output=True, text=True, check=False)
+    return ["rt", "ci", "--anew"] if "--anew" in helped.stdout + helped.stderr else ["rt", "ci"]
+
+
+def gate(folder, polls):
+    """Runs the gate in a folder. Returns its status, its output, and the processor seconds of all processes that it started."""
     log = os.path.join(folder, "gate.log")
     with open(log, "w", encoding="utf-8") as file:
-        begun = subprocess.Popen(["rt", "ci", "--anew"], cwd=os.path.join(folder, "clone"), stdout=file, stderr=file)
+        begun = subprocess.Popen(words_of_gate(), cwd=os.path.join(folder, "clone"), stdout=file, stderr=file)
     done = threading.Event()
 
-    def go_on_looking():
+    def keep_polling():
         while not done.is_set():
-            looks.look()
+            polls.poll()
             time.sleep(0.5)
 
-    looking = threading.Thread(target=go_on_looking)
-    looking.start()
+    polling = threading.Thread(target=keep_polling)
+    polling.start()
     _, status, usage = os.wait4(begun.pid, 0)
     done.set()
-    looking.join()
+    polling.join()
     with open(log, encoding="utf-8", errors="replace") as file:
         return os.waitstatus_to_exitcode(status), file.read(), usage.ru_utime + usage.ru_stime
 
 
 def main():
     most = float(sys.argv[1]) if len(sys.argv) > 1 else 150.0
-    looks, start = Looks(), time.monotonic()
+    polls, start = Polls(), time.monotonic()
     with tempfile.TemporaryDirectory() as folder:
         subprocess.run(["git", "clone", "--quiet", TOP, os.path.join(folder, "clone")], check=True)
-        status, text, seconds = gate(folder, looks)
+        status, text, seconds = gate(folder, polls)
     print(f"{'crate':24}{'proof':>8}{'tests':>8}{'edits':>8}{'sum':>8}")
-    minutes = looks.table()
+    minutes = polls.table()
     for crate, row in sorted(minutes.items(), key=lambda it: -sum(it[1].values())):
         print(f"{crate:24}" + "".join(f"{row[part]:8.1f}" for part in PARTS) + f"{sum(row.values()):8.1f}")
     sums = [sum(row[part] for row in minutes.values()) for part in PARTS]
@@ -109,7 +115,7 @@ def main():
         print("\n".join(text.splitlines()[-20:]))
         print("the gate failed")
     elif seconds / 60 > most:
-        print(f"{seconds / 60:.0f} processor minutes, and {most:.0f} are the most")
+        print(f"{seconds / 60:.0f} processor minutes, more than the limit of {most:.0f}")
     else:
         print(f"{seconds / 60:.0f} processor minutes")
     sys.exit(1 if status or seconds / 60 > most else 0)

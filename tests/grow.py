@@ -1,23 +1,24 @@
 #!/usr/bin/env python3
-"""Looks at spools, and makes them larger: grow.py [ADMIN [SHELL]]
+"""Runs `spool_admin look` and `spool_admin grow` on all kinds of spools, with kills and failures: grow.py [ADMIN [SHELL]]
 
-ADMIN is the program, and crates/spool_admin/out/spool_admin (made by `rt run` in that folder) where none is given; SHELL is
-crates/spool_shell/out/spool_shell likewise. The spools are files that tests/journal.py spells: of both versions, in either area, with
-queues, documents and jobs of each phase, one of them processing.
+ADMIN is the program; the default is crates/spool_admin/out/spool_admin (built by `rt run` in that crate). The default of SHELL is
+crates/spool_shell/out/spool_shell. The spools are files that tests/journal.py writes: of both versions, in either area, with queues,
+documents and jobs of each phase, one of them processing.
 
 - `look` prints what tests/spool_model.py finds in the file, and changes neither its bytes nor its times.
-- `grow` leaves a file of BYTES bytes, with the owner's mode, in which the next epoch has exactly the rows of the table after an
-  opening, with all documents. The shell serves it, and a spool that was full takes events again.
-- What it refuses it names, and the old file is as it was: a spool that is damaged or isn't there, one that a shell owns, BYTES that are
-  too few, a file with a second name, words that say nothing.
-- Under strace (Debian's package `strace`) it is killed at each of its system calls, and each fails once. The name leads to the old
-  spool or to the new one, whole, and the next `grow` goes well and leaves nothing else. From the calls it is seen what a power cut may
-  leave: the old file is never written to, the new one has no unsynced byte when it gets the name, and the folder is synced at the end.
+- `grow` leaves a file of BYTES bytes, with the owner's mode. Its next epoch has exactly the rows of the table after an opening, with all
+  documents. The shell serves it, and a spool that was full takes events again.
+- `grow` names the reason when it refuses, and the old file is unchanged: a spool that is damaged or does not exist, one that a shell owns,
+  BYTES that are too few, a file with a second name, invalid arguments.
+- Under strace (Debian's package `strace`) it is killed at each of its system calls, and each call fails once. The name refers to the old
+  spool or to the new one, complete, and the next `grow` succeeds and leaves nothing else. The calls also show that a power cut leaves one
+  of the two: the old file is never written to, the new one has no unsynced byte when it gets the name, and the folder is synced at the end.
 
-The last line is `N of N`, with status 0, or the first difference, with status 1: its folder stays then, and is named. Without
-strace, or where it may not trace, what wants it is left out.
+The last line is `N of N`, with status 0, or the first difference, with status 1: its folder is kept then, and its path is printed. If
+strace is missing or may not trace, the tests that need it are left out.
 """
 import os
+import re
 import shutil
 import stat
 import subprocess
@@ -35,12 +36,12 @@ UNFINISHED = "spool.disk.new"
 
 
 def names_in(root):
-    """The names in a folder, beside that of the lock's file, which stays."""
+    """The names in a folder, except that of the lock file, which remains."""
     return [name for name in os.listdir(root) if name != LOCK]
 
 
 class Place:
-    """A folder with a spool of these bytes, and the lock's file of an earlier program."""
+    """A folder with a spool of these bytes, and the lock file of an earlier program."""
 
     def __init__(self, folder, content=None):
         self.root = tempfile.mkdtemp(dir=folder)
@@ -61,10 +62,10 @@ class Place:
         same("the end of `grow`", administer("grow", self.root, str(size)), (0, "", ""))
 
     def refuses(self, fault, *words):
-        """The file, and its folder, are as they were."""
+        """The file and its folder are unchanged."""
         before, names = self.content(), names_in(self.root)
         same("the end", administer(*(words or ("grow", self.root, str(LARGER)))), (1, "", fault))
-        same("the file is as it was", self.content() == before, True)
+        same("the file is unchanged", self.content() == before, True)
         same("the names", names_in(self.root), names)
 
     def serve(self, *commands):
@@ -75,21 +76,21 @@ class Place:
 
 
 def is_grown(old, new, size=LARGER):
-    """The new bytes list the table that an opening of the old ones gives, in the next epoch."""
+    """The new bytes list the table that an opening of the old ones results in, in the next epoch."""
     it = model.opened(old)
     payloads, epoch = journal.current(new)
     return (len(new), payloads, epoch, journal.current_version(new)) == (size, it.table.listing(), it.epoch + 1, journal.NEWEST)
 
 
 def lists_grown(place, old):
-    """The shell answers as it does on the old file."""
+    """The shell replies as it does with the old file."""
     table = model.opened(old).table
-    same("what the shell lists", place.serve("jobs", "queues"), [*table.jobs_reply(), *table.queues_reply()])
+    same("the shell's listing", place.serve("jobs", "queues"), [*table.jobs_reply(), *table.queues_reply()])
 
 
-# ---- looking
+# ---- `look`
 
-def looked(file):
+def look_output(file):
     it = model.reading(file)
     half = len(file) // 2
     jobs = list(it.table.jobs.values())
@@ -102,26 +103,26 @@ def looked(file):
     return "".join(f"{word} {count}\n" for word, count in rows.items())
 
 
-def a_look_tells_what_there_is(folder):
+def look_prints_the_contents(folder):
     for file in (image(SIZE), image_of(), image_of(1), in_second_area(image_of()), image_of(size=8_193), image_of(epoch=2 ** 64 - 1)):
         place = Place(folder, file)
         times = os.stat(place.file).st_mtime_ns, os.stat(place.file).st_ctime_ns, os.stat(place.root).st_mtime_ns
-        same("what is shown", administer("look", place.root), (0, looked(file), ""))
-        same("the file is as it was", place.content() == file, True)
+        same("the output", administer("look", place.root), (0, look_output(file), ""))
+        same("the file is unchanged", place.content() == file, True)
         same("the times", (os.stat(place.file).st_mtime_ns, os.stat(place.file).st_ctime_ns, os.stat(place.root).st_mtime_ns), times)
 
 
-def a_look_at_no_spool(folder):
+def look_without_a_spool(folder):
     Place(folder, bytes(SIZE)).refuses("spool: not-a-spool\n")
     place = Place(folder, bytes(SIZE))
     place.refuses("spool: not-a-spool\n", "look", place.root)
     absent = Place(folder)
     same("no file", administer("look", absent.root), (1, "", "spool: disk\nspool: cause: absent\n"))
-    same("no spool is made", os.listdir(absent.root), [LOCK])
+    same("no spool is created", os.listdir(absent.root), [LOCK])
     same("no folder", administer("look", f"{absent.root}/none"), (1, "", "spool: disk\nspool: cause: absent\n"))
 
 
-# ---- growing
+# ---- `grow`
 
 def a_larger_file_has_the_table(folder):
     for file in (image(SIZE), image_of(), image_of(1), in_second_area(image_of()), in_second_area(image_of(1)), image_of(size=8_193)):
@@ -148,7 +149,7 @@ def a_full_spool_takes_events_again(folder):
     same("it takes events", [line.split()[0] for line in place.serve('create q ann "More" 1 50 ""', "checkpoint")], ["ok", "ok"])
 
 
-def what_was_left_unfinished_goes(folder):
+def leftovers_are_removed(folder):
     place = Place(folder, image_of())
     with open(os.path.join(place.root, UNFINISHED), "wb") as file:
         file.write(b"left" * 9_000)
@@ -157,9 +158,9 @@ def what_was_left_unfinished_goes(folder):
     same("the table", is_grown(image_of(), place.content()), True)
 
 
-# ---- what is refused
+# ---- refusals
 
-def what_is_refused(folder):
+def refusals(folder):
     Place(folder, image_of(size=LARGER + 1)).refuses("spool: smaller\n")
     Place(folder, image_of(epoch=2 ** 64 - 1)).refuses("spool: epoch-end\n")
     damaged = in_second_area(image(SIZE, [spelled(Q.event()), b"\xFF"]))
@@ -173,7 +174,7 @@ def what_is_refused(folder):
 
 
 def a_listing_that_does_not_fit(folder):
-    """Rows are longer than the events that led to them, so even an area of the same length may be too short."""
+    """Rows are longer than the events that created them, so even an area of the same length may be too short."""
     events = [Q.event()]
     while len(image(SIZE, [spelled(event) for event in events])) == SIZE and model.reading(image(SIZE, [*map(spelled, events)])).gate < SIZE // 2 - 60:
         events.append(of_q(len(events)).event())
@@ -202,16 +203,18 @@ def a_running_shell_keeps_it(folder):
     place.grow()
 
 
-def words_that_say_nothing(folder):
+def invalid_arguments(folder):
     place = Place(folder, image_of())
     root = place.root
     for words in ((), ("look",), ("grow",), ("grow", root), ("look", root, "8192"), ("grow", root, "4095"), ("grow", root, "1073741825"),
                   ("grow", root, "x"), ("shrink", root), ("look", ""), ("grow", root, "8192", "1"), ("--size", "8192", root)):
-        status, shown, told = administer(*words)
-        same(f"the end of {words}", (status, shown, told.startswith("error: ")), (2, "", True))
-    same("the file is as it was", place.content() == image_of(), True)
-    status, shown, told = administer("--help")
-    same("the help", (status, "DIR" in shown and "BYTES" in shown, told), (0, True, ""))
+        status, shown, errors = administer(*words)
+        same(f"the end of {words}", (status, shown, errors.startswith("error: ")), (2, "", True))
+    same("the file is unchanged", place.content() == image_of(), True)
+    status, shown, errors = administer("--help")
+    same("the help", (status, "DIR" in shown and "BYTES" in shown, errors), (0, True, ""))
+    status, shown, errors = administer("--version")
+    same("the version", (status, re.fullmatch(r"spool_admin \(Cegmandi\) \d+\.\d+\.\d+\n", shown) is not None, errors), (0, True, ""))
 
 
 # ---- kills, failures and cuts
@@ -237,8 +240,8 @@ def is_old_or_new(place, what):
     same(f"{what}: the names", set(names_in(place.root)) <= known, True)
 
 
-def goes_on(place, what):
-    """The next `grow` goes well, whatever the one before left."""
+def next_succeeds(place, what):
+    """The next `grow` succeeds, whatever the one before left."""
     is_old_or_new(place, what)
     old = place.content()
     place.grow()
@@ -257,7 +260,7 @@ def it_is_killed_at_each_call(folder):
         place = Place(folder, image_of())
         (status, _, _), _ = traced(place, f"{call.name}:signal=KILL:when={call.number}")
         same(f"the status, killed at {call}", status in (-9, 137), True)
-        goes_on(place, f"killed at {call}")
+        next_succeeds(place, f"killed at {call}")
         shutil.rmtree(place.root)
 
 
@@ -268,10 +271,10 @@ def each_call_fails_once(folder):
         if not begun or call.name not in ERRORS:
             continue
         place = Place(folder, image_of())
-        (status, shown, told), _ = traced(place, f"{call.name}:error={ERRORS[call.name]}:when={call.number}")
-        same(f"the end, where {call} fails", (status in (0, 1), shown, told.startswith("spool: ") == (status == 1)), (True, "", True))
-        same(f"the new file, where {call} fails and all went well", status == 1 or is_grown(image_of(), place.content()), True)
-        goes_on(place, f"failed at {call}")
+        (status, shown, errors), _ = traced(place, f"{call.name}:error={ERRORS[call.name]}:when={call.number}")
+        same(f"the end, when {call} fails", (status in (0, 1), shown, errors.startswith("spool: ") == (status == 1)), (True, "", True))
+        same(f"the new file, when {call} fails and `grow` succeeds", status == 1 or is_grown(image_of(), place.content()), True)
+        next_succeeds(place, f"failed at {call}")
         shutil.rmtree(place.root)
 
 
@@ -293,8 +296,8 @@ def a_power_cut_leaves_the_old_or_the_new(folder):
     same("it got its name, and the folder was synced", (named, kept), (True, True))
 
 
-PLAIN = [a_look_tells_what_there_is, a_look_at_no_spool, a_larger_file_has_the_table, a_full_spool_takes_events_again,
-         what_was_left_unfinished_goes, what_is_refused, a_listing_that_does_not_fit, a_running_shell_keeps_it, words_that_say_nothing]
+PLAIN = [look_prints_the_contents, look_without_a_spool, a_larger_file_has_the_table, a_full_spool_takes_events_again,
+         leftovers_are_removed, refusals, a_listing_that_does_not_fit, a_running_shell_keeps_it, invalid_arguments]
 TRACED = [it_is_killed_at_each_call, each_call_fails_once, a_power_cut_leaves_the_old_or_the_new]
 
 run_all("grow-", PLAIN, TRACED)

@@ -1,14 +1,13 @@
 #!/usr/bin/env python3
-"""Writes spools of any bytes, and looks at what the shell says of them and leaves: images.py [SHELL [TEST..]]
+"""Writes spools with arbitrary bytes, and checks the shell's replies and the resulting files: images.py [SHELL [TEST..]]
 
-SHELL is the program, and crates/spool_shell/out/spool_shell (made by `rt run` in that folder) where none is given. The files are
-spelled by tests/journal.py, a second writer of the formats. A file that no spool writes has to be refused, `spool: damaged PLACE`
-with the place of the gate, and stays as it is. Of any other one the replies, the standard error, the status and the bytes that
-are left have to be those that are wanted here: of headers, gates and records, of the rows of a listing, of areas of either
-version, and of what commands, checkpoints and openings leave.
+SHELL is the program; the default is crates/spool_shell/out/spool_shell (built by `rt run` in that crate). The files are written by
+tests/journal.py, a second encoder of the formats. A file that no spool writes must be refused with `spool: damaged PLACE`, the place of the
+gate, and stays unchanged. For any other file the replies, the standard error, the status and the resulting bytes must be the expected ones:
+for headers, gates and records, for the rows of a listing, for areas of either version, and after commands, checkpoints and openings.
 
-Each TEST is the name of a function below; without one all are run. The last line is `N of N`, with status 0, or the first
-difference, with status 1. The folder of that test stays then, and is named.
+Each TEST is the name of a function below; without one all are run. The last line is `N of N`, with status 0, or the first difference, with
+status 1. The folder of that test is kept then, and its path is printed.
 """
 import os
 import sys
@@ -21,7 +20,7 @@ from stories import (CREATE, FIRST, FIRST_ROWS, GREATEST, GREATEST_NUMBER, LAB, 
                      of_q, run, same, spelled)
 
 
-# ---- files that are no spool, or are damaged
+# ---- files that are not spools, or are damaged
 
 def zeros_are_no_spool(folder):
     Spool(folder, bytes(198)).is_refused("not-a-spool")
@@ -59,7 +58,7 @@ def an_empty_spool(folder):
 def one_header_is_the_newest(folder):
     half = 99
     second = journal.area(half, 2, [Head(0, 5).payload()])
-    # Of two open headers the higher epoch counts. The other area may hold anything behind its header.
+    # Of two open headers the one with the higher epoch counts. The other area may contain anything after its header.
     for first in (journal.area(half, 1, [clock(3)]), journal.area(half, 1, [b"\x7f"])):
         for content in (first + second, second + first):
             spool = Spool(folder, content.ljust(198, b"\0"))
@@ -80,14 +79,14 @@ def a_header_of_another_form_is_damage(folder):
 
 
 def any_closed_gate(folder):
-    # The record of the clock at 1000, and behind it a gate at 30.
+    # The record of the clock at 1000, followed by a gate at 30.
     for closed in (0x00, 0x01, 0x07, 0x5A, 0xA4, 0xA6, 0xFF):
         spool = Spool(folder, image(198, [clock(1_000)], closed=closed))
         spool.says(("clock 1001", "ok"))
         same("the file", spool.content(), image(198, [clock(1_000), clock(1_001)]))
         same("the next record", spool.content()[30:45].hex(), "a5000000090b00000000000003e900")
         same("the rows", spool.listing(), [Head(0, 1_001)])
-    # What lies behind it counts for nothing.
+    # Bytes after it do not count.
     behind = image(198, [clock(1_000)])[:30] + b"\0" + journal.record(clock(9)) + b"\xA5\xFF"
     same("the rows", Spool(folder, behind.ljust(198, b"\0")).listing(), [Head(0, 1_000)])
 
@@ -106,15 +105,15 @@ def a_refused_event_is_damage(folder):
 def a_record_of_another_length_is_damage(folder):
     story = Story(folder, *FIRST)
     story.refuses(cancel(1)[:-1], cancel(1) + b"\0", start(0), hold(1, 4_000_000_000_001), clock(4_000_000_000_001))
-    # It leaves its area, which ends at 99.
+    # It extends beyond its area, which ends at 99.
     before = image(198, FIRST)
     for length in (12, 13, GREATEST):
         record = b"\xA5" + journal.number(length, 4)
         Spool(folder, (before[:82] + record).ljust(198, b"\0")).is_refused("damaged 82")
 
 
-def a_started_job_wants_seven_bytes(folder):
-    # The gate behind its start is at 92, and the area ends at 98, or at 99.
+def a_start_needs_seven_bytes(folder):
+    # The gate after its start is at 92, and the area ends at 98, or at 99.
     started = FIRST + (start(1),)
     Spool(folder, image(196, started)).is_refused("damaged 92")
     spool = Spool(folder, image(198, started))
@@ -170,7 +169,7 @@ def jobs_in_their_order(folder):
 
 def rows_out_of_place_are_damage(folder):
     head, job, piece = Head(1, 1_000), of_q(1, media="a/b", size=2, phase=waiting()), Piece(1, b"hi")
-    # Each list ends with the row or the event that is out of place. A document that is short is told at the closed gate.
+    # Each list ends with the row or the event that is out of place. A document that is too short is reported at the closed gate.
     for place, rows in (
         (16, [Q]),
         (30, [clock(1_001), head]),
@@ -189,7 +188,7 @@ def rows_out_of_place_are_damage(folder):
 def a_listing_is_its_table(folder):
     head, job, piece = Head(1, 1_000), of_q(1, media="a/b", size=2, phase=waiting()), Piece(1, b"hi")
     story = Story(folder, head, Q, job, piece, clock(1_001), size=400)
-    same("where its document lies", story.spool().content()[138:140], b"hi")
+    same("the place of its document", story.spool().content()[138:140], b"hi")
     spool = story.spool()
     spool.says(("jobs", ['job 1 q 3 none "u" 2 0 ""', "ok 1"]), ("queues", QUEUES))
     same("the document", spool.printed(1), b"hi")
@@ -197,7 +196,7 @@ def a_listing_is_its_table(folder):
     story.spool().says((CREATE, "ok job 2"))
 
 
-def pieces_make_the_document(folder):
+def pieces_form_the_document(folder):
     size = 400_000
     whole = b"a" * 65_536 + b"b"
     first = of_lab(1, media="a/b", size=4, phase=waiting())
@@ -222,22 +221,22 @@ def pieces_make_the_document(folder):
     same("the document", spool.printed(2), whole)
 
 
-# ---- areas of version 1, and moments by which jobs are to start
+# ---- areas of version 1, and start deadlines
 
 CREATE_BY = 'createby q u "" 1 50 "" 2000'
 NO_CHECKPOINT = "error 17 NeedsCheckpoint"
 WAITS = 'job 1 q 3 none "u" 0 0 ""'
 
 
-def a_made_area_of_version_one(folder):
-    # As the program makes an area, but for the version.
+def a_new_area_of_version_one(folder):
+    # As the program creates an area, except for the version.
     empty = bytes.fromhex("a5010000000000000001000000000000")
     same("the header", image(198, version=1)[:16], empty)
     root = Spool(folder, b"")
     os.remove(root.file)
     root.says(("jobs", "ok 0"), words=("--size", "4096"))
     made = root.content()
-    same("what is made", made, bytes.fromhex("a5020000000000000001000000000000").ljust(4_096, b"\0"))
+    same("the created file", made, bytes.fromhex("a5020000000000000001000000000000").ljust(4_096, b"\0"))
     spool = Spool(folder, made[:1] + b"\1" + made[2:])
     spool.says((QUEUE, "ok"), (CREATE, "ok job 1"), ("close 1 f.x", "ok type a/b stages 1"), (CREATE_BY, NO_CHECKPOINT),
                ("jobs", [WAITS, "ok 1"]), words=spool.options(types="a/b x\n"))
@@ -255,7 +254,7 @@ def a_made_area_of_version_one(folder):
 
 
 def a_moment_needs_the_newer_version_first(folder):
-    # Whatever else is to be refused: the queue isn't there, takes no jobs, or there is no number left.
+    # Even if something else is wrong too: the queue does not exist, accepts no jobs, or no number is left.
     spool = Spool(folder, image(400, version=1))
     spool.says((CREATE_BY, NO_CHECKPOINT), (CREATE, "error 1 NoQueue"), ("checkpoint", "ok"), (CREATE_BY, "error 1 NoQueue"))
     spool = Spool(folder, image(600, [Q.event()], version=1))
@@ -263,7 +262,7 @@ def a_moment_needs_the_newer_version_first(folder):
                (CREATE_BY, "error 4 NotAccepting"), ("accept q", "ok"), (CREATE_BY, "ok job 1"))
     spool = Spool(folder, image(400, [Q.event(), of_q(GREATEST_NUMBER).event()], version=1))
     spool.says((CREATE_BY, NO_CHECKPOINT), (CREATE, "error 9 NoNumberLeft"), ("checkpoint", "ok"), (CREATE_BY, "error 9 NoNumberLeft"))
-    # A full spool refuses it as any other one, and so does one whose line can't be read before either.
+    # A full spool refuses it with the same error. A command that cannot be parsed gets its own error instead.
     spool = Spool(folder, image(46, version=1))
     spool.says((CREATE_BY, NO_CHECKPOINT), ("checkpoint", "error full"), (CREATE_BY, NO_CHECKPOINT),
                (CREATE_BY + "0000000000", "error syntax"), (CREATE_BY.removesuffix(" 2000"), "error syntax"),
@@ -279,14 +278,14 @@ def rows_of_each_version(folder):
         story.takes(job)
         story.lists(head, Q, job)
         same("the replies", story.spool().lines(["jobs"]), [WAITS, "ok 1"])
-    # A moment, and what is none.
+    # A moment, and words that are not one.
     story = Story(folder, head, Q)
     timed = replace(job, by=2_000)
     same("its bytes", timed.payload()[48:].hex(), "0100000000000007d0")
     story.refuses(timed.payload()[:-1], timed.payload() + b"\0", replace(job, by=4_000_000_000_001))
     story.refuses(job.payload()[:-1] + b"\2", job.payload() + b"\0", job.payload()[:-1] + b"\1")
     for by in (0, 999, 1_000, 2_000, 4_000_000_000_000):
-        # One that was over before its listing was written stays until the clock tells the time again.
+        # A deadline that had passed before its listing was written remains until the time is set again.
         again = Story(folder, head, Q, replace(job, by=by))
         again.lists(head, Q, replace(job, by=by))
 
@@ -318,7 +317,7 @@ def areas_of_both_versions(folder):
             spool = Spool(folder, first + second if base == 0 else second + first)
             is_old = new_epoch < old_epoch
             spool.says((CREATE_BY, NO_CHECKPOINT if is_old else "ok job 2"))
-            # A checkpoint takes the other area.
+            # A checkpoint writes the other area.
             same("the rows", spool.listing(), [Head(1, 7), Q, old] if is_old else [Head(2, 8), Q, new, of_q(2, by=2_000)])
             versions = {journal.version_of(area) for area in journal.halves(spool.content())}
             same("the versions", versions, {1, 2} if is_old else {2})
@@ -327,13 +326,13 @@ def areas_of_both_versions(folder):
 def a_first_checkpoint_writes_the_newer_version(folder):
     rows = [Head(3, 40), Q, of_q(1, media="a/b", phase=waiting(until(50))), of_q(3, size=5), Piece(3, b"hello")]
     story = Story(folder, *rows, version=1)
-    # What was there goes over as it is, with each event that version 1 has.
+    # Its contents are carried over unchanged, with each event that version 1 has.
     story.takes(Queue("p").event(), send(3, b"!"), clock(60), hold(1))
     spool = story.spool()
     wanted = [Head(3, 60), Queue("p"), Q, of_q(1, media="a/b", phase=waiting(held())), of_q(3, size=6), Piece(3, b"hello!")]
     before = spool.content()
     same("the rows", spool.listing(), wanted)
-    # The old area is as it was, and the new one takes its place.
+    # The old area is unchanged, and the new one replaces it.
     same("the old area", journal.halves(spool.content())[0], journal.halves(before)[0])
     same("the new header", journal.halves(spool.content())[1][:16].hex(), "a5020000000000000002000000000000")
     spool.says((CREATE_BY, "ok job 4"))
@@ -349,7 +348,7 @@ def a_reopening_keeps_the_older_version(folder):
         same("the file", spool.content(), image(SIZE, started + (REOPEN,), version=1))
 
 
-# ---- what checkpoints, commands and openings leave
+# ---- the results of checkpoints, commands and openings
 
 def a_listing_of_an_empty_table(folder):
     spool = Spool(folder, image(198))
@@ -377,8 +376,8 @@ def a_listing_in_pieces(folder):
 
 
 def room_for_one_reopening(folder):
-    # The rows of the listing take 13, 31 and 49 bytes. An area of 130 bytes has no room for them and a reopening, and one of
-    # 131 just that.
+    # The rows of the listing take 13, 31 and 49 bytes. An area of 130 bytes has no room for them and a reopening, and one of 131 has
+    # exactly that.
     waits = ['job 1 q 3 none "u" 0 0 ""', "ok 1"]
     same("the bytes of the rows", [len(row.payload()) for row in FIRST_ROWS], [13, 31, 49])
     spool = Spool(folder, image(260, FIRST))
@@ -436,13 +435,13 @@ def a_reopening_takes_the_last_bytes(folder):
 
 
 def documents_on_the_disk(folder):
-    # The records of the queue, the job and its first bytes have 26, 23 and 19 bytes, and a document's bytes lie 14 behind the
-    # gate of their record.
+    # The records of the queue, the job and its first bytes have 26, 23 and 19 bytes, and a document's bytes are 14 bytes after the gate of
+    # their record.
     spool = Spool(folder, image(1_024))
     spool.says((QUEUE, "ok"), (CREATE, "ok job 1"), (CREATE, "ok job 2"), (b"send 1 5\nhello\n", "ok bytes 5"),
                (b"send 2 5\nother\n", "ok bytes 5"), (b"send 1 4\n you\n", "ok bytes 9"))
     for place, part in ((102, b"hello"), (121, b"other"), (140, b" you")):
-        same("what lies there", spool.content()[place:place + len(part)], part)
+        same("the bytes there", spool.content()[place:place + len(part)], part)
     rows = [Head(2), Q, of_q(1, size=9), Piece(1, b"hello you"), of_q(2, size=5), Piece(2, b"other")]
     for _ in range(2):
         same("the rows", spool.listing(), rows)
@@ -481,7 +480,7 @@ def a_listing_of_each_phase(folder):
     story = Story(folder, *rows, send(1, b"de"), close(1))
     job = of_q(1, size=5, media="a/b", phase=waiting())
     story.lists(head, queue, job, piece)
-    # Its attempt is lost at an opening, whether that is in the journal or not.
+    # Its attempt is lost at an opening, whether the journal has that or not.
     tried = replace(job, attempts=1)
     waits = [head, queue, replace(tried, phase=waiting(not_before=1_030)), piece]
     for begun in ([head, queue, job, piece, start(1)], [head, queue, replace(tried, phase=processing(1)), piece]):

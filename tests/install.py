@@ -1,21 +1,22 @@
 #!/usr/bin/env python3
-"""Installs the programs, and takes them away again: install.py [--chroot DIR]
+"""Installs the programs, and removes them again: install.py [--chroot DIR]
 
-What install.sh does to files is tried with stand-ins for the programs, in fresh folders; what the installed programs do, with those that
-are built (`rt run` in the folder of each).
+The script tests the effect of install.sh on files with substitutes for the programs, in fresh folders. It tests the installed programs with
+those that are built (`rt run` in the folder of each).
 
-1. `shellcheck` finds nothing in install.sh and the completion (Debian's package shellcheck).
-2. What is put is what the list tells, with its modes; links lead to `spool`; the unit names what is there, for each PREFIX. What was there
-   before is untouched, and a removal leaves exactly that.
-3. A file that isn't install.sh's stops it before it does anything; one that was changed is kept, and told; a second install replaces the
-   first, also with --lp. Where it is killed at any moment --remove takes away what is there.
-4. Words that aren't its own are refused.
-5. The completion gives tasks, options, queues and jobs.
+1. `shellcheck` reports nothing about install.sh and the completion (Debian's package shellcheck).
+2. The installed files are those of the manifest, with the right modes. The links refer to `spool`, and the unit names only files that
+   exist, for each PREFIX. Files that existed before are unchanged, and a removal leaves exactly these.
+3. A file that install.sh did not install makes it fail before it changes anything. A file that was changed is kept and reported. A second
+   install replaces the first one, also with --lp. If an install is killed at any moment, --remove removes its files.
+4. Invalid arguments are refused.
+5. The completion offers tasks, options, queues and jobs.
 6. The installed programs print a letter, from a folder of their own.
-7. So they do in a fresh Debian, made by debootstrap (as root; Debian's package debootstrap, and some minutes; --chroot names a folder where
-   one was made before, which is used as it is and left so).
+7. The same in a fresh Debian, which debootstrap creates (as root; Debian's package debootstrap; this takes some minutes). --chroot names a
+   folder with an existing one, which is used instead and not removed.
 
-What can't be had is left out, and said to be. The last line is `N checks, 0 failed`, with status 0, or names how many failed, with status 1.
+Parts whose requirements are missing are skipped, and reported as `left out`. The last line is `N checks, 0 failed`, with status 0, or has
+the number that failed, with status 1.
 """
 import os
 import random
@@ -38,7 +39,7 @@ LEFT_OUT = []
 
 
 def check(holds, fault):
-    """Counts a check, and notes its fault."""
+    """Counts a check and, if it fails, adds its message to FAULTS."""
     global COUNT
     COUNT += 1
     if not holds:
@@ -46,7 +47,7 @@ def check(holds, fault):
 
 
 def sources(folder):
-    """A copy of what install.sh takes, with stand-ins for the programs."""
+    """Copies the files that install.sh installs, with substitutes for the programs. Returns the path of the script."""
     folder.mkdir()
     for name in ("docs", "completions", "examples"):
         shutil.copytree(ROOT / name, folder / name, ignore=shutil.ignore_patterns("__pycache__"))
@@ -69,7 +70,7 @@ def ran(script, *words, below=None):
 
 
 def seen(folder):
-    """All below a folder: each path with what it is."""
+    """The paths below a folder: for each its kind, and its contents."""
     found = {}
     for path in sorted(folder.rglob("*")):
         name = "/" + str(path.relative_to(folder))
@@ -82,8 +83,8 @@ def seen(folder):
     return found
 
 
-def told(folder, prefix):
-    """The paths that the list of an install tells, by kind."""
+def listed_paths(folder, prefix):
+    """The paths in the manifest of an install, each with its kind."""
     lines = (folder / prefix.strip("/") / "lib/cegmandi/manifest").read_text().splitlines()
     return {line.split()[2]: line.split()[0] for line in lines}
 
@@ -97,8 +98,8 @@ def checked_by_shellcheck():
         check(run.returncode == 0, f"shellcheck of {name}: {run.stdout}")
 
 
-def put(script, room, prefix, words):
-    """One install into a folder that has something already, and its removal."""
+def installs(script, room, prefix, words):
+    """One install into a folder that has other files, and its removal."""
     below = room / ("root" + prefix.replace("/", "-") + "".join(words))
     old = below / prefix.strip("/") / "bin"
     old.mkdir(parents=True)
@@ -109,22 +110,22 @@ def put(script, room, prefix, words):
     run = ran(script, *words, prefix, below=below)
     check(run.returncode == 0, f"{prefix}: install.sh ends with {run.returncode}: {run.stderr}")
     there = seen(below)
-    put_there(below, prefix, words, before, there)
+    fits_manifest(below, prefix, words, before, there)
     unit_fits(below, prefix, there)
     run = ran(script, *words, prefix, below=below)
-    check(run.returncode == 0 and seen(below) == there, f"{prefix}: a second install is another one: {run.stderr}")
+    check(run.returncode == 0 and seen(below) == there, f"{prefix}: a second install differs: {run.stderr}")
     run = ran(script, "--remove", prefix, below=below)
-    check(run.returncode == 0 and not run.stderr and not run.stdout, f"{prefix}: --remove tells {run.stdout}{run.stderr}")
+    check(run.returncode == 0 and not run.stderr and not run.stdout, f"{prefix}: --remove printed {run.stdout}{run.stderr}")
     check(seen(below) == before, f"{prefix}: left after --remove: {sorted(set(seen(below)) ^ set(before))}")
-    check(ran(script, "--remove", prefix, below=below).returncode == 1, f"{prefix}: --remove twice isn't refused")
+    check(ran(script, "--remove", prefix, below=below).returncode == 1, f"{prefix}: a second --remove is not refused")
 
 
-def put_there(below, prefix, words, before, there):
-    """What is put is what is listed, with its modes, and the links lead to spool."""
+def fits_manifest(below, prefix, words, before, there):
+    """The installed files are those of the manifest, with the right modes, and the links refer to spool."""
     new = {path for path in there if path not in before}
-    listed = told(below, prefix)
-    check(new == {*listed, f"{prefix}/lib/cegmandi/manifest"}, f"{prefix}: put and not listed, or listed and not there: {sorted(new ^ set(listed))}")
-    check(all(there[path] == before[path] for path in before), f"{prefix}: what was there has changed")
+    listed = listed_paths(below, prefix)
+    check(new == {*listed, f"{prefix}/lib/cegmandi/manifest"}, f"{prefix}: installed and not listed, or listed and missing: {sorted(new ^ set(listed))}")
+    check(all(there[path] == before[path] for path in before), f"{prefix}: another file has changed")
     for path in sorted(new):
         if there[path][0] == "file":
             runs = "/bin/" in path or "/sbin/" in path or path.endswith((".sh", ".py", "/spool_tools", "/with-cups-env", "/as-pages"))
@@ -132,48 +133,48 @@ def put_there(below, prefix, words, before, there):
     folder = f"{prefix}/bin" if words else f"{prefix}/lib/cegmandi/bin"
     for name in LINKS:
         path = below / folder.strip("/") / name
-        check(path.is_symlink() and path.resolve() == (below / prefix.strip("/") / "bin/spool").resolve(), f"{path} doesn't lead to spool")
+        check(path.is_symlink() and path.resolve() == (below / prefix.strip("/") / "bin/spool").resolve(), f"{path} does not refer to spool")
     pages = {it.name for it in (ROOT / "docs/man").iterdir()}
-    check({Path(it).name for it in there if "/share/man/" in it and there[it][0] == "file"} == pages, f"{prefix}: the man pages aren't all there")
+    check({Path(it).name for it in there if "/share/man/" in it and there[it][0] == "file"} == pages, f"{prefix}: man pages are missing")
 
 
 def unit_fits(below, prefix, there):
-    """The unit and the programs file name what is there."""
+    """The unit and the programs file name only files that exist."""
     unit = there[f"{prefix}/lib/systemd/system/cegmandi.service"][2].decode()
     etc = "/etc/cegmandi" if prefix in ("/usr", "/usr/local") else f"{prefix}/etc/cegmandi"
     for word in unit.replace("=", " ").split():
         if word.startswith(("/usr", "/etc", "/opt")):
-            check(word in there, f"{prefix}: the unit names {word}, which isn't there")
+            check(word in there, f"{prefix}: the unit names {word}, which does not exist")
     for line in there[f"{etc}/programs"][2].decode().splitlines():
         words = line.split()
         if words and words[0] in ("filter", "backend", "side"):
             path = next(it for it in words if it.startswith("/"))
-            check(path in there or not path.startswith(prefix), f"{prefix}: the programs file names {path}, which isn't there")
+            check(path in there or not path.startswith(prefix), f"{prefix}: the programs file names {path}, which does not exist")
 
 
 def refused(script, room):
-    """A foreign file stops it; a changed one is kept, and told."""
+    """If a foreign file exists, nothing is installed. A changed file is kept and reported."""
     below = room / "refused"
     (below / "usr/local/sbin").mkdir(parents=True)
     foreign = below / "usr/local/sbin/spool_admin"
     foreign.write_text("another one\n")
     before = seen(below)
     run = ran(script, "/usr/local", below=below)
-    check(run.returncode == 1 and "/usr/local/sbin/spool_admin is there already" in run.stderr, f"a foreign file: {run.stderr}")
-    check(seen(below) == before, "a foreign file: something was done")
+    check(run.returncode == 1 and "/usr/local/sbin/spool_admin already exists" in run.stderr, f"a foreign file: {run.stderr}")
+    check(seen(below) == before, "a foreign file: something has changed")
     foreign.unlink()
-    check(ran(script, "/usr/local", below=below).returncode == 0, "it doesn't install")
+    check(ran(script, "/usr/local", below=below).returncode == 0, "nothing is installed")
     changed = [below / "etc/cegmandi/programs", below / "usr/local/share/man/man1/spool.1"]
     for path in changed:
         path.write_text("changed\n")
     run = ran(script, "/usr/local", below=below)
-    check(run.returncode == 1 and "spool.1 is there already" in run.stderr, f"a changed page: {run.stderr}")
+    check(run.returncode == 1 and "spool.1 already exists" in run.stderr, f"a changed page: {run.stderr}")
     changed[1].unlink()
     run = ran(script, "/usr/local", below=below)
-    check(run.returncode == 0 and run.stdout.count("kept, since it is there") == 1, f"a changed programs file: {run.stdout}{run.stderr}")
+    check(run.returncode == 0 and run.stdout.count("kept, because it exists") == 1, f"a changed programs file: {run.stdout}{run.stderr}")
     changed[1].write_text("changed\n")
     run = ran(script, "--remove", "/usr/local", below=below)
-    check(run.returncode == 0 and "kept, since it was changed" in run.stdout, f"a changed page at the removal: {run.stdout}")
+    check(run.returncode == 0 and "kept, because it was changed" in run.stdout, f"a changed page at the removal: {run.stdout}")
     files = {path for path, what in seen(below).items() if what[0] != "folder"}
     check(files == {"/etc/cegmandi/programs", "/usr/local/share/man/man1/spool.1"}, f"left: {sorted(files)}")
 
@@ -185,15 +186,15 @@ def wrong_words(script, room):
         run = ran(script, *words, below=below)
         check(run.returncode == status and not seen(below), f"{words}: {run.returncode}, {run.stderr}")
     run = ran(script, "/usr", below=room / "absent")
-    check(run.returncode == 1 and not (room / "absent").exists(), "a DESTDIR that isn't there is made")
+    check(run.returncode == 1 and not (room / "absent").exists(), "a DESTDIR that does not exist is created")
     shutil.move(script.parent / "crates/spool_admin/out/spool_admin", room / "away")
     run = ran(script, "/usr", below=below)
-    check(run.returncode == 1 and "rt run" in run.stderr and not seen(below), f"a program that isn't built: {run.stderr}")
+    check(run.returncode == 1 and "rt run" in run.stderr and not seen(below), f"a program that is not built: {run.stderr}")
     shutil.move(room / "away", script.parent / "crates/spool_admin/out/spool_admin")
 
 
 def killed(script, room):
-    """It is killed at random moments, and what is there is taken away."""
+    """Installs are killed at random moments, and --remove removes their files."""
     below = room / "killed"
     below.mkdir()
     begun = time.monotonic()
@@ -220,10 +221,10 @@ COMPLETED = {
     "spool queue accept h": {"hall"},
     "spool cancel ": {"1", "22"},
     "spool status -q ": {"lab", "hall"},
-    "spool --": {"--help"},
+    "spool --": {"--help", "--version"},
 }
 
-# A stand-in for the program, and for its time limit.
+# Substitutes for the program and for `timeout`.
 BASH = """
 source "$1"
 compopt() { :; }
@@ -240,7 +241,7 @@ printf '%s\\n' "${COMPREPLY[@]}"
 def completion():
     for line, wanted in COMPLETED.items():
         run = subprocess.run(["bash", "-c", BASH, "bash", ROOT / "completions/spool.bash", line], capture_output=True, text=True)
-        check(set(run.stdout.split()) == wanted, f"`{line}` is completed by {run.stdout.split()} {run.stderr}")
+        check(set(run.stdout.split()) == wanted, f"`{line}` is completed to {run.stdout.split()} {run.stderr}")
 
 
 def unbuilt():
@@ -249,14 +250,14 @@ def unbuilt():
 
 
 def prints(room):
-    """The installed programs print a letter, in a folder of their own."""
+    """The installed programs print a letter, from a folder of their own."""
     if unbuilt():
-        LEFT_OUT.append(f"printing, since these aren't built: {' '.join(unbuilt())}")
+        LEFT_OUT.append(f"printing, because these programs are not built: {' '.join(unbuilt())}")
         return
     prefix = room / "own"
     prefix.mkdir()
     run = ran(ROOT / "install.sh", str(prefix))
-    check(run.returncode == 0, f"the built programs aren't installed: {run.stderr}")
+    check(run.returncode == 0, f"the built programs are not installed: {run.stderr}")
     office = room / "office"
     run = subprocess.run([prefix / "share/doc/cegmandi/examples/office/print.sh", office], capture_output=True, text=True)
     letter = office / "letter.prn"
@@ -267,20 +268,20 @@ def prints(room):
 
 
 def fresh_debian(room):
-    """A folder with a fresh Debian, or None."""
+    """A folder with a fresh Debian, or None if it cannot be created."""
     if os.geteuid() or not shutil.which("debootstrap"):
         LEFT_OUT.append("a fresh Debian (as root; Debian's package debootstrap)")
         return None
     folder = room / "debian"
     run = subprocess.run(["debootstrap", "--variant=minbase", DEBIAN, folder], capture_output=True, text=True)
     if run.returncode:
-        LEFT_OUT.append(f"a fresh Debian, which can't be had: {run.stdout.strip().splitlines()[-1:]}")
+        LEFT_OUT.append(f"a fresh Debian, which debootstrap cannot create: {run.stdout.strip().splitlines()[-1:]}")
         return None
     return folder
 
 
 def prints_in_debian(room, given):
-    """The same in a fresh Debian, as its own programs would be found there."""
+    """The same in a fresh Debian, installed below /usr/local."""
     if unbuilt():
         return
     debian = given or fresh_debian(room)
@@ -292,13 +293,13 @@ def prints_in_debian(room, given):
     shutil.rmtree(office, ignore_errors=True)
     run = subprocess.run(["chroot", debian, "/usr/local/share/doc/cegmandi/examples/office/print.sh", "/root/office"], capture_output=True, text=True)
     letter = office / "letter.prn"
-    check(letter.exists() and letter.read_bytes() == LETTER, f"in Debian no letter: {run.stdout}{run.stderr}")
+    check(letter.exists() and letter.read_bytes() == LETTER, f"in Debian: no letter: {run.stdout}{run.stderr}")
     if (debian / "usr/local/bin/spool").exists():
         run = subprocess.run(["chroot", debian, "/usr/local/bin/spool", "--help"], capture_output=True, text=True)
-        check("submit" in run.stdout + run.stderr, f"in Debian spool tells {run.stdout}{run.stderr}")
+        check("submit" in run.stdout + run.stderr, f"in Debian: spool printed {run.stdout}{run.stderr}")
     shutil.rmtree(office, ignore_errors=True)
     run = ran(ROOT / "install.sh", "--remove", "/usr/local", below=debian)
-    check(run.returncode == 0 and not run.stdout and not list((debian / "usr/local").rglob("*spool*")), f"in Debian --remove leaves something: {run.stdout}")
+    check(run.returncode == 0 and not run.stdout and not list((debian / "usr/local").rglob("*spool*")), f"in Debian: --remove leaves files: {run.stdout}")
 
 
 def main():
@@ -310,7 +311,7 @@ def main():
     script = sources(room / "sources")
     checked_by_shellcheck()
     for prefix, more in (("/usr/local", []), ("/usr", ["--lp"]), ("/opt/cegmandi", [])):
-        put(script, room, prefix, more)
+        installs(script, room, prefix, more)
     refused(script, room)
     wrong_words(script, room)
     killed(script, room)

@@ -1,17 +1,16 @@
-"""A spool's bytes: how events, rows, records and areas are spelled, and what a file of them says.
+"""The bytes of a spool: encodes events, rows, records and areas, and decodes the file of a spool.
 
-This is a second spelling, written from the tables of codes and not from the program's code, so that the tests can make a
-spool's file of any bytes and read what the program left of it. Numbers are big-endian. A text is its length in 2 bytes, then
-its bytes. A list of texts is their number, then the texts.
+This is a second encoder, written from the tables of codes and not from the program's code, so that the tests can create a spool's file with
+any bytes and read the file that the program left. Numbers are big-endian. A text is its length in 2 bytes, then its bytes. A list of texts
+is their number, then the texts.
 
-A spool's file has two areas of the same length. An area is a header and records, the last with a closed gate behind it:
+A spool's file has two areas of the same length. An area is a header and records, the last followed by a closed gate:
 
     header   gate, version, epoch in 8 bytes, 6 zeros
     record   gate, length of the payload in 4 bytes, payload
 
-A gate is open where it is A5. The payload is an event or a row of a listing. The version is 2, or 1 in an area that an older
-program wrote: there a job has no moment by which it is to start, its row has no place for one, and no event brings one, or takes
-a job away.
+A gate is open if it is A5. The payload is an event or a row of a listing. The version is 2, or 1 in an area that an older program wrote: a
+job has no start deadline there, its row has no field for one, and no event sets one or removes a job.
 """
 import io
 from dataclasses import dataclass
@@ -119,8 +118,8 @@ class Queue:
     def payload(self, version=NEWEST):
         state = number(self.accepting, 1) + number(self.stopped, 1) + text(self.message)
         pairs = b"".join(text(name) + text(value) for name, value in self.attributes)
-        told = texts(self.reasons, 1) + number(len(self.attributes), 1) + pairs
-        return b"\x41" + self.fields() + text(self.info) + text(self.location) + state + told
+        reported = texts(self.reasons, 1) + number(len(self.attributes), 1) + pairs
+        return b"\x41" + self.fields() + text(self.info) + text(self.location) + state + reported
 
 
 @dataclass(frozen=True)
@@ -138,7 +137,7 @@ class Job:
     pages: int = 0
     size: int = 0
     phase: bytes = incoming()
-    by: int | None = None  # the moment by which it is to start
+    by: int | None = None  # the start deadline
 
     def event(self):
         """The event that creates it."""
@@ -189,7 +188,7 @@ def send(job, data):
 
 
 def close(job, filters=(), media="a/b"):
-    """Filters of None: no chain of filters leads to the queue's type."""
+    """Filters of None: no chain of filters converts to the queue's type."""
     return b"\x07" + number(job, 4) + text(media) + (b"\0" if filters is None else b"\1" + texts(filters, 1))
 
 
@@ -214,7 +213,7 @@ def start(job):
 
 
 def stage(job, attempt, at, code, *effects):
-    """The end of a stage whose child exited with this code, or of another exit, spelled."""
+    """The end of a stage whose child exited with this code, or of another exit, already encoded."""
     ended = code if isinstance(code, bytes) else b"\0" + number(code, 1)
     counts = number(0, 4) + number(len(effects), 2)
     return b"\x0D" + number(job, 4) + number(attempt, 4) + number(at, 1) + ended + counts + b"".join(effects)
@@ -277,19 +276,19 @@ def header(epoch, gate=OPEN, version=NEWEST):
 
 
 def area(length, epoch, payloads, gate=OPEN, closed=0, version=NEWEST):
-    """An area of this length: its records, and a closed gate behind them. It is cut where it is longer."""
+    """An area of this length: its records, and a closed gate after them. It is truncated if it is longer."""
     written = header(epoch, gate, version) + b"".join(map(record, payloads)) + bytes([closed])
     return written[:length].ljust(length, b"\0")
 
 
 def image(size, payloads=(), epoch=1, closed=0, version=NEWEST):
-    """A spool's file: the first area has these payloads, and the other one is as it was made."""
+    """A spool's file: the first area has these payloads, and the other one is as it was created."""
     half = size // 2
     return (area(half, epoch, payloads, closed=closed, version=version) + bytes(half)).ljust(size, b"\0")
 
 
 def places(payloads):
-    """Where the gate of each record is, and the one behind the last."""
+    """The offset of the gate of each record, and of the gate after the last record."""
     found = [HEADER]
     for payload in payloads:
         found.append(found[-1] + FRAME + len(payload))
@@ -307,7 +306,7 @@ def epoch_of(half):
 
 
 def version_of(half):
-    """The version that the header of an area tells."""
+    """The version in the header of an area."""
     return half[1]
 
 
@@ -327,7 +326,7 @@ def payloads_of(half):
 
 
 def current_base(file, size):
-    """Where the area of an open file begins that has the higher epoch."""
+    """The offset of the area with the higher epoch in an open file."""
     def epoch_at(base):
         file.seek(base)
         return epoch_of(file.read(HEADER))
@@ -336,7 +335,7 @@ def current_base(file, size):
 
 
 def current_payloads(file, size):
-    """The payloads of that area. The file may be too long for the memory."""
+    """The payloads of that area. The file may be larger than the memory."""
     base = current_base(file, size)
     return payloads_between(file, base, base + size // 2)
 
@@ -356,10 +355,10 @@ def current_version(file):
     return version_of(current_half(file))
 
 
-# ---- rows that are read back
+# ---- decoded rows
 
 class Reader:
-    """Takes the fields of a payload in turn."""
+    """Decodes the fields of a payload in order."""
 
     def __init__(self, payload):
         self.rest = payload
@@ -391,7 +390,7 @@ class Reader:
         return kind + self.take({2: 1, 3: 0, 4: 0, 5: 1}[kind[0]])
 
     def moment(self):
-        """A moment, or None where none is told."""
+        """A moment, or None if there is none."""
         return self.number(8) if self.number(1) else None
 
 
@@ -414,7 +413,7 @@ def read_job(reader, version):
 
 
 def read_row(payload, version=NEWEST):
-    """The row of a listing that a payload is, in an area of this version."""
+    """The row of a listing in a payload, for an area of this version."""
     reader = Reader(payload)
     kind = reader.number(1)
     if kind == 0x40:

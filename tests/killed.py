@@ -1,22 +1,21 @@
 #!/usr/bin/env python3
-"""Kills the shell at random moments, and looks whether the spool still has what was answered: killed.py [SHELL] [SEED]
+"""Kills the shell at random moments, and checks that the spool has everything that was acknowledged: killed.py [SHELL] [SEED]
 
-It runs SHELL, or else crates/spool_shell/out/spool_shell (made by `rt run` in that folder), with `--root`, fifty times.
-A word of digits is the seed.
+It runs SHELL, or else crates/spool_shell/out/spool_shell (built by `rt run` in that crate), with `--root`, fifty times. A word of digits is
+the seed.
 
-Each run begins with ten lives that are killed while they make the spool, of 4,096 bytes to 4 MiB, within the time that
-a whole making takes. Such a life gets a folder that is fresh, or has what a killed one left unfinished. A life after it
-has to make or open the spool there, with what was answered.
+Each run begins with ten lives of the shell that are killed while they create the spool, of 4,096 bytes to 4 MiB, within the time that the
+creation takes. Such a life gets a fresh folder, or one that a killed life left unfinished. A life after it must create or open the spool
+there, with everything that was acknowledged.
 
-Several lives follow in the last of these folders, in half of the runs on a spool of version 1, which a checkpoint makes a newer
-one. A life gets one command at a time, and is killed after some reply, inside the text of a command, or with a command under
-way. One command in five is a checkpoint, some jobs are to start by a moment, behind which a clock cancels them, and some that
-have ended are purged. The next life's `jobs` has to list exactly what was answered, and beside it at most the command that was
-under way. The documents of the jobs that haven't ended have to be on the disk, and the version has to be that of the table,
-which this script reads by itself.
+Several lives follow in the last of these folders, in half of the runs with a spool of version 1, which a checkpoint converts to a newer
+one. A life gets one command at a time, and is killed after some reply, inside the text of a command, or while a command is in progress. One
+command in five is a checkpoint, a clock cancels some jobs after their start deadlines, and some ended jobs are purged. The `jobs` command
+of the next life must list exactly the acknowledged jobs, and at most the one of the command in progress besides. The documents of the jobs
+that have not ended must be on the disk, and the version must be that of the table, which this script reads itself.
 
-What has to be listed is told by a table of this script's own. The last line is `50 of 50`, with status 0, or the first
-difference, with status 1.
+The script computes the expected listing from a table of its own. The last line is `50 of 50`, with status 0, or the first difference, with
+status 1.
 """
 import copy
 import os
@@ -35,12 +34,12 @@ shell = os.path.abspath(next((word for word in sys.argv[1:] if not word.isdigit(
 RUNS = 50
 MAKINGS = 10
 LIVES = 4
-ROOM = 500_000  # a spool of so many bytes has room for these lives
+ROOM = 500_000  # a spool of this many bytes has room for these lives
 TYPE = "application/octet-stream"
 FIRST = ("queue", "lab")
 
 
-# A header and a gate's record, and the payloads that have bytes of a document: a piece of a listing and a send.
+# A header and a gate's record, and the payloads that contain bytes of a document: a piece of a listing and a send.
 HEADER = struct.Struct(">BBQ6x")
 RECORD = struct.Struct(">BI")
 PART = struct.Struct(">BII")
@@ -49,7 +48,7 @@ PARTS = (0x43, 0x06)
 
 
 class Lost(Exception):
-    """The spool doesn't hold what it has to."""
+    """The contents of the spool differ from the required ones."""
 
 
 class Job:
@@ -57,12 +56,12 @@ class Job:
         self.title = title
         self.by = by
         self.document = ""
-        # Its state and reason, or nothing once it was purged.
+        # Its state and reason, or None once it was purged.
         self.shown = "4 job-incoming"
 
 
 class Table:
-    """The queues and jobs that the answered commands made."""
+    """The queues and jobs that the acknowledged commands created."""
 
     def __init__(self):
         self.queues = []
@@ -71,7 +70,7 @@ class Table:
         self.version = 2
 
     def listing(self):
-        """What `jobs` answers."""
+        """The reply to `jobs`."""
         lines = [
             f'job {n} lab {job.shown} "ann" {len(job.document)} 0 "{job.title}"'
             for n, job in enumerate(self.jobs, 1)
@@ -80,7 +79,7 @@ class Table:
         return lines + [f"ok {len(lines)}"]
 
     def documents(self):
-        """The documents of the jobs that haven't ended."""
+        """The documents of the jobs that have not ended."""
         return {n: job.document for n, job in enumerate(self.jobs, 1) if job.shown and not job.shown.startswith("7")}
 
     def after(self, command):
@@ -116,7 +115,7 @@ class Table:
         return "ok"
 
     def tell(self, moment):
-        """The clock tells a moment, and cancels what waits behind its own."""
+        """Sets the time, and cancels waiting jobs whose deadline has passed."""
         self.now = max(self.now, moment)
         for job in self.jobs:
             if job.shown == "3 none" and job.by is not None and job.by < self.now:
@@ -170,7 +169,7 @@ def new_job(table, chance):
 
 
 class Life:
-    """A running shell. A spool that it makes has so many bytes."""
+    """A running shell. A spool that it creates has `size` bytes."""
 
     def __init__(self, root, size=4_194_304):
         words = [shell, "--root", ".", "--size", str(size)]
@@ -198,7 +197,7 @@ class Life:
         return lines
 
     def kill(self):
-        """SIGKILL, as a crash would. It gives what was written until then and not read: replies and complaints."""
+        """SIGKILL, as in a crash. Returns the output that was not read until then: replies and error messages."""
         self.child.kill()
         self.child.wait()
         left = self.child.stdout.read(), self.child.stderr.read()
@@ -212,7 +211,7 @@ class Life:
 
 
 def on_disk(root):
-    """The version of the spool's current area, and the documents that it has, by the numbers of their jobs."""
+    """The version of the spool's current area, and its documents, by the numbers of their jobs."""
     with open(os.path.join(root, "spool.disk"), "rb") as it:
         disk = it.read()
     headers = [(HEADER.unpack_from(disk, base), base) for base in (0, len(disk) // 2)]
@@ -229,7 +228,7 @@ def on_disk(root):
 
 
 def grow_old(root, tables):
-    """Makes a spool one of version 1, where it was made. It has no moments yet, so the byte in its header says all."""
+    """Converts a spool to version 1, if it was created. It has no deadlines yet, so the byte in its header is all that differs."""
     path = os.path.join(root, "spool.disk")
     if os.path.exists(path):
         with open(path, "r+b") as file:
@@ -240,7 +239,7 @@ def grow_old(root, tables):
 
 
 def of_disk(root, tables):
-    """Those of the tables that have the version of the disk, which has their documents."""
+    """The tables whose version and documents are those on the disk."""
     version, found = on_disk(root)
     tables = [table for table in tables if table.version == version]
     if not tables:
@@ -252,7 +251,7 @@ def of_disk(root, tables):
 
 
 def recognised(listed, tables):
-    """The tables that are listed so: several where a queue, a clock or a checkpoint was under way, which `jobs` doesn't list."""
+    """The tables with this listing: several if a queue, a clock or a checkpoint was in progress, which `jobs` does not list."""
     found = [table for table in tables if table.listing() == listed]
     if not found:
         raise Lost(f"listed {listed}, answered {tables[0].listing()}")
@@ -260,7 +259,7 @@ def recognised(listed, tables):
 
 
 def live(root, tables, chance):
-    """One life: the tables that the next life may find."""
+    """One life. Returns the tables that the next life may find."""
     life = Life(root)
     try:
         found = of_disk(root, recognised(life.jobs(), tables))
@@ -287,7 +286,7 @@ def live(root, tables, chance):
 
 
 def whole_making():
-    """The seconds that a life takes until its spool is made and it answers."""
+    """The seconds until a life has created its spool and replies."""
     with tempfile.TemporaryDirectory() as root:
         start = time.perf_counter()
         life = Life(root)
@@ -299,7 +298,7 @@ def whole_making():
 
 
 def making(root, size, seconds):
-    """A life that makes a spool and gets one command, if it lives so long: the tables that the next life may find."""
+    """A life that creates a spool and gets one command, if it lives long enough. Returns the tables that the next life may find."""
     life = Life(root, size)
     try:
         life.give(text_of(*FIRST))
@@ -312,8 +311,8 @@ def making(root, size, seconds):
     return [after] if replies else [Table(), after]
 
 
-def look(root, tables):
-    """A life that has to make or open the spool, with what was answered."""
+def check_opened(root, tables):
+    """A life that must create or open the spool, with everything that was acknowledged."""
     life = Life(root)
     try:
         recognised(life.jobs(), tables)
@@ -326,7 +325,7 @@ def look(root, tables):
 
 
 def makings(folder, longest, chance):
-    """Lives that are killed while they make a spool: the last one's folder, and the tables that the next may find."""
+    """Lives that are killed while they create a spool. Returns the last one's folder, and the tables that the next life may find."""
     root = None
     for turn in range(MAKINGS):
         if root is None:
@@ -336,13 +335,13 @@ def makings(folder, longest, chance):
         size = int(4_096 * 1_024 ** chance.random())
         tables = making(root, max(size, ROOM) if last else size, chance.random() * longest)
         if not last and (os.path.exists(os.path.join(root, "spool.disk")) or chance.random() < 0.5):
-            look(root, tables)
+            check_opened(root, tables)
             root = None
     return root, tables
 
 
 def run(seed, longest):
-    """Lives in one folder, and before them lives that make a spool, none longer than these seconds."""
+    """Lives in one folder, after lives that create a spool, none longer than these seconds."""
     chance = random.Random(seed)
     with tempfile.TemporaryDirectory() as folder:
         root, tables = makings(folder, longest, chance)

@@ -1,20 +1,20 @@
 #!/usr/bin/env python3
-"""Runs everything in the large over the built programs: large.py [--shell PROGRAM] [--tools PROGRAM] [--free] [PART..]
+"""Runs the built programs with huge inputs, and with too little memory: large.py [--shell PROGRAM] [--tools PROGRAM] [--free] [PART..]
 
-A body that says that there is no memory, that takes some, loses something or takes a time that grows with the square, from
-some size on, meets any contract. So here is all that there may be much of: 10,000 jobs, 64 queues at once, 16 stages, 200
-attempts, documents, outputs and standard error at their limits and beyond, a spool of 1 GiB up to its end, each value of a
-command at its limit, files of thousands of lines, input in the smallest and in large pieces, twice the size in twice the
-time, and too little memory. What is wanted is computed here, from the formats.
+A body that reports out of memory without cause, allocates, loses something or takes quadratic time beyond some size can still meet any
+contract. So this script tests every quantity at its upper range: 10,000 jobs, 64 queues at once, 16 stages, 200 attempts, documents,
+outputs and standard error at their limits and beyond, a spool of 1 GiB up to its end, each value of a command at its limit, files of
+thousands of lines, input in the smallest and in large pieces, twice the size in twice the time, and too little memory. The expected results
+are computed here, from the formats.
 
-It runs crates/spool_shell/out/spool_shell and crates/spool_tools/out/spool_tools (made by `rt run` in these folders), or the
-programs that the words name. Each PART is one of those below; without one all are run.
-A part is run with as much memory as it likes, and then in an address space of twice what it is known to need (NEEDS), where
-it has to work too. With `--free` the latter is left out, as for a program that was built with checks, which wants terabytes.
+It runs crates/spool_shell/out/spool_shell and crates/spool_tools/out/spool_tools (built by `rt run` in these crates), or the programs that
+the arguments name. Each PART is one of those below; without one all are run. A part is run with unlimited memory, and then in an address
+space of twice its known requirement (NEEDS). It must work in both. With `--free` the second run is left out, for a program that was built
+with checks, which needs terabytes.
 
-A line for each part has its seconds and the greatest memory of a program in it. The last line is `none`, with status 0, or
-`N failed`, with status 1. It takes some minutes and 1 GiB of disk or memory: its files lie in a new folder of /dev/shm where
-that has 4 GiB free, and else where temporary files do, where it takes far longer. They are removed.
+A line for each part has its seconds and the peak memory of a program in it. The last line is `none`, with status 0, or `N failed`, with
+status 1. It takes some minutes and 1 GiB of disk or memory: its files are in a new folder of /dev/shm if that has 4 GiB free. Otherwise
+they are in the folder for temporary files, and it takes far longer. They are removed.
 """
 import argparse
 import os
@@ -35,9 +35,8 @@ from large_run import LONGEST, LONGEST_CHECKED, Difference, Place, Programs, ado
 HERE = os.path.dirname(os.path.abspath(__file__))
 CRATES = os.path.join(HERE, "..", "crates")
 
-# Each part, and the KiB of address space that its programs were seen to need, or 8,000 where that is less and the children
-# are `sh`, `env` and `cat`, and 32,000 where they are Python. Those without a number limit the memory themselves, or look at
-# the time alone.
+# Each part, and the KiB of address space that its programs were measured to need; at least 8,000 if the children are `sh`, `env` and `cat`,
+# and 32,000 if they are Python. Parts without a number limit the memory themselves, or check only the time.
 NEEDS = [
     (large_tables.jobs_and_queues, 57_000),
     (large_children.queues_at_once, 8_000),
@@ -79,7 +78,7 @@ def words_given():
 
 
 def run_part(part, programs, limit):
-    """Runs a part in a place of its own, and tells how it went. Answers whether nothing differed."""
+    """Runs a part in a folder of its own, and prints its result. Returns whether there was no difference."""
     begun = time.monotonic()
     place = Place(programs, limit)
     name = part.__name__ if limit is None else f"{part.__name__} in {limit:,} KiB"
@@ -90,8 +89,8 @@ def run_part(part, programs, limit):
         fault = difference
     finally:
         place.remove()
-    told = f"{name}: {time.monotonic() - begun:.1f} s, {place.memory:,} KiB"
-    print(told if fault is None else f"{told}: FAILED: {fault}", flush=True)
+    line = f"{name}: {time.monotonic() - begun:.1f} s, {place.memory:,} KiB"
+    print(line if fault is None else f"{line}: FAILED: {fault}", flush=True)
     return fault is None
 
 
@@ -107,7 +106,7 @@ def main():
         if name not in known:
             sys.exit(f"no part {name}: they are {', '.join(known)}")
     adopt()
-    # A part that is ended early removes its folder too.
+    # A part that is ended early also removes its folder.
     signal.signal(signal.SIGTERM, lambda *_: sys.exit(143))
     failed = 0
     for part, need in NEEDS:

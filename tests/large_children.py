@@ -1,6 +1,4 @@
-"""Parts of tests/large.py: many children at once, long chains, many attempts, the longest documents and outputs, and all
-that a child may say on standard error.
-"""
+"""Parts of tests/large.py: many children at once, long chains, many attempts, and the longest documents, outputs and standard error."""
 import os
 
 from journal import COMPLETED, Head, Job, Queue, aborted, current_payloads
@@ -22,16 +20,16 @@ def ask_jobs(script, jobs):
 
 
 def same_file(place, name, wanted):
-    """Compares a file that was printed, which is far too long to be told."""
+    """Compares a printed file, which is far too long to be shown."""
     found = place.read(name) if os.path.exists(place.at(name)) else None
     if found != wanted:
         at = next((at for at, (one, other) in enumerate(zip(found or b"", wanted)) if one != other), None)
         length = None if found is None else len(found)
-        same(f"the printed file {name}: its length, and where it differs first", (length, at), (len(wanted), None))
+        same(f"the printed file {name}: its length, and the first difference", (length, at), (len(wanted), None))
 
 
 def bytes_of(seed, length):
-    """Bytes of all kinds, others for each seed."""
+    """Bytes of all kinds, different ones for each seed."""
     turn = bytes((seed * 7 + at * at * 3 + at // 256) % 256 for at in range(4_099))
     return (turn * (length // len(turn) + 1))[:length]
 
@@ -54,7 +52,7 @@ def queues_at_once(place):
     script = Script()
     for turn in documents:
         script.ask(f"queue q{turn:02} spoolfile:{place.at('printed')}-{turn} {TYPE} abort-job", "ok")
-    # The numbers of the jobs go against the names of their queues.
+    # The numbers of the jobs are in the opposite order of the names of their queues.
     numbers = {number: QUEUES - number for number in range(1, QUEUES + 1)}
     for number, turn in numbers.items():
         script.ask(f'create q{turn:02} ann "" 1 50 ""', f"ok job {number}")
@@ -65,7 +63,7 @@ def queues_at_once(place):
     place.print_all(script, "--size", str(1 << 25))
     for turn, document in documents.items():
         same_file(place, f"printed-{turn}", document)
-    same("what is left", sorted(os.listdir(place.at("spool"))), ["spool.disk", "spool.lock"])
+    same("the remaining files", sorted(os.listdir(place.at("spool"))), ["spool.disk", "spool.lock"])
     ask_devices_at_once(place)
 
 
@@ -92,15 +90,15 @@ def ask_devices_at_once(place):
 STAGES = 16
 ATTEMPTS = 13
 
-# A filter that passes its document on, with its own stage behind it.
+# A filter that passes its document on, followed by its own stage.
 PASSES = 'echo "$# $1 $2 $3 $4 $5 $SPOOL_ATTEMPT $SPOOL_STAGE" >>"$0.ran"\ncat ${6:+"$6"}\necho "stage $SPOOL_STAGE"\n'
 
-# A backend that wants to be called again until the last attempt, and then prints.
+# A backend that asks to be called again until the last attempt, and then prints.
 AT_LAST = f'[ "$SPOOL_ATTEMPT" -ge {ATTEMPTS} ] || exit 7\ncat >"$0.printed"\n'
 
 
 def stages_and_attempts(place):
-    """A job of 15 filters and a backend, thirteen times: 208 rounds, each with the output of the stage before."""
+    """A job of 15 filters and a backend, thirteen times: 208 rounds, each with the output of the previous stage."""
     place.script("filter", "passes", PASSES)
     place.script("backend", "last", AT_LAST)
     place.list_programs()
@@ -121,7 +119,7 @@ def stages_and_attempts(place):
         for attempt in range(1, ATTEMPTS + 1)
         for stage in range(1, STAGES)
     ]
-    same("what the filters were given", place.read("filter-passes.ran").decode().splitlines(), wanted)
+    same("the input of the filters", place.read("filter-passes.ran").decode().splitlines(), wanted)
 
 
 TURNS = 200
@@ -132,7 +130,7 @@ PRINTS_LAST = f'echo "$SPOOL_ATTEMPT" >>"$0.ran"\n[ "$SPOOL_ATTEMPT" -ge {TURNS}
 
 
 def many_attempts(place):
-    """Two jobs that are tried 200 times, each in its policy's way: one until its limit, and one until it prints."""
+    """Two jobs that are tried 200 times, each by its policy: one until its limit, and one until it prints."""
     place.script("backend", "fails", FAILS)
     place.script("backend", "prints", PRINTS_LAST)
     place.list_programs()
@@ -160,7 +158,7 @@ MANY = 8
 
 
 def long_documents(place):
-    """Documents of 16,777,216 bytes on eight queues at once, typed by their last bytes, and not a byte more."""
+    """Documents of 16,777,216 bytes on eight queues at once, whose types are detected from their last bytes, and not a byte more."""
     place.tool("backend", "spoolfile")
     place.list_programs()
     place.write("types", f"a/tail string({DOCUMENT - 5},TAIL!)\n".encode())
@@ -177,7 +175,7 @@ def long_documents(place):
     script.ask("checkpoint", "ok")
     for number in documents:
         script.ask(f"close {number} page", "ok type a/tail stages 1")
-    # One byte less: its last bytes stand elsewhere. It fits with one byte, and doesn't with two.
+    # One byte less: its last bytes are at another offset. It fits with one byte more, and does not with two.
     script.ask('create q1 ann "" 1 50 ""', f"ok job {MANY + 1}")
     script.document(MANY + 1, documents[1][1:])
     script.send(MANY + 1, b"xy", "error 7 TooLong")
@@ -191,12 +189,12 @@ def long_documents(place):
         same_file(place, f"printed-{number}", document)
 
 
-# A filter whose output is the document and then as many bytes as the title says.
+# A filter whose output is the document and then the number of bytes in the title.
 ADDS = 'cat "$6"\nhead -c "$3" /dev/zero\n'
 
 
 def long_outputs(place):
-    """An output of 16,777,216 bytes goes on to the next stage. One byte more is lost, and so are 48 MiB."""
+    """An output of 16,777,216 bytes is passed to the next stage. One byte more is lost, and so are 48 MiB."""
     place.script("filter", "adds", ADDS)
     place.tool("backend", "spoolfile")
     place.list_programs()
@@ -221,12 +219,12 @@ def long_outputs(place):
 
 # ---- standard error
 
-# What is said may be longer than a document, so it lies in a file that the title names.
+# The text may be longer than a document, so it is in a file that the title names.
 SAYS = 'cat "$3" >&2\n'
 
 
 class Says:
-    """Queues of a backend that says a text on standard error: what each says, and what becomes of its queue and job."""
+    """Queues of a backend that writes a text to standard error: the text of each, and the outcome of its queue and job."""
 
     def __init__(self, place):
         self.place = place
@@ -234,7 +232,7 @@ class Says:
         self.jobs = []
         self.queues = []
         self.rows = []
-        self.told = []
+        self.dropped = []
         place.script("backend", "says", SAYS)
         place.list_programs()
 
@@ -251,16 +249,16 @@ class Says:
         self.queues.append(f"queue {queue} 3 accepting {TYPE} abort-job 30 5 {kept} {quoted(message)}")
         shown = Queue(queue, "says:/x", TYPE, message=message, reasons=sorted(reasons), attributes=sorted(attributes))
         self.rows.append(shown.payload())
-        self.told.append(dropped)
+        self.dropped.append(dropped)
 
-    def look(self):
-        """Prints all of it in one round, and compares the queues, the jobs and what the journal has of the dropped."""
+    def check(self):
+        """Prints all of it in one round, and compares the queues, the jobs and the journal's number of dropped effects."""
         count = len(self.jobs)
         self.script.ask("round", f"ok started {count} finished {count}")
         ask_jobs(self.script, self.jobs)
         self.script.ask("queues", *self.queues, f"ok {count}")
         self.place.print_all(self.script, "--size", str(1 << 24))
-        self.look_at_dropped()
+        self.check_dropped()
         script = Script()
         script.ask("checkpoint", "ok")
         self.place.print_all(script)
@@ -269,12 +267,12 @@ class Says:
         for number, row in enumerate(self.rows, 1):
             same(f"the row of queue {number}", found[number], row)
 
-    def look_at_dropped(self):
-        """How many effects were dropped of each stage, as its event in the journal has it."""
+    def check_dropped(self):
+        """The number of dropped effects of each stage, as its event in the journal has it."""
         stages = [payload for payload in rows_of(self.place) if payload[0] == 0x0D]
         found = {int.from_bytes(stage[1:5], "big"): int.from_bytes(stage[12:16], "big") for stage in stages}
-        wanted = {number: dropped or 0 for number, dropped in enumerate(self.told, 1)}
-        same("how many effects were dropped", found, wanted)
+        wanted = {number: dropped or 0 for number, dropped in enumerate(self.dropped, 1)}
+        same("the number of dropped effects", found, wanted)
 
 
 MOST = 16_384
@@ -287,19 +285,19 @@ def effects_at_their_limits(place):
     full = b"".join(b"INFO: " + b"%02d" % turn + b"x" * 998 + b"\n" for turn in range(16))
     left = MOST - 16 * 1_004
     says.add(full + b"INFO: " + b"y" * (left - 4) + b"\n", message="y" * (left - 4))
-    # From the first that doesn't fit all are dropped, also those that would.
+    # From the first one that does not fit all are dropped, also those that would fit.
     says.add(full + b"INFO: " + b"y" * (left - 3) + b"\nPAGE: 1 5\nINFO: z\n", message="15" + "x" * 998, dropped=3)
     says.add(full + b"INFO: " + b"y" * (left - 5) + b"\nPAGE: 1 5\n", message="y" * (left - 5), dropped=1)
     says.add(b"PAGE: 1 1\n" * 1_820 + b"PAGE: total 0\n" + b"PAGE: 1 1\n", pages=1_820, dropped=2)
     names = [f"r{turn:02}" for turn in range(65)]
     say_reasons(says, names)
     say_attributes(says, names)
-    # A line keeps its first 1,023 bytes.
+    # The first 1,023 bytes of a line are read.
     says.add(b"INFO: " + b"m" * 1_016 + b"!\n", message="m" * 1_016 + "!")
     says.add(b"INFO: " + b"m" * 1_017 + b"!\n", message="m" * 1_017)
     says.add(b"PAGE: 1 4294967295\nPAGE: 1 4294967296\n", pages=4_294_967_295)
     says.add(b"PAGE: total 4294967290\nPAGE: 1 9\n", pages=4_294_967_295)
-    says.look()
+    says.check()
 
 
 def say_reasons(says, names):
@@ -321,7 +319,7 @@ def say_attributes(says, names):
     says.add(said(pairs[:64]), attributes=pairs[:64])
     says.add(said(pairs), attributes=pairs[:64])
     says.add(said(pairs + [("r00", "again")]), attributes=[("r00", "again"), *pairs[1:64]])
-    # The value that a line has room for, beside `ATTR: a=`; and names of 127 and 128 bytes.
+    # The longest value that fits into a line with `ATTR: a=`; and names of 127 and 128 bytes.
     says.add(said([("a", "v" * 1_015)]), attributes=[("a", "v" * 1_015)])
     says.add(said([("a", "v" * 1_016)]), attributes=[("a", "v" * 1_015)])
     says.add(said([("n" * 127, "1"), ("n" * 128, "2")]), attributes=[("n" * 127, "1")])
@@ -331,22 +329,22 @@ HEARD = 1_048_576
 
 
 def loud_children(place):
-    """3 MiB of standard error: what ends with byte 1,048,576 counts, and what comes behind it doesn't."""
+    """3 MiB of standard error: lines that end by byte 1,048,576 count, and later ones do not."""
     says = Says(place)
     late = b"STATE: +late\nINFO: late\n" + b"DEBUG: on and on\n" * 130_000
 
     def heard(end):
-        """A text whose first part ends so, just where no more is read."""
+        """A text whose first part ends like this, exactly at the last byte that is read."""
         early = b"STATE: +early\n"
         lines = b"DEBUG: on and on\n" * ((HEARD - len(early) - len(end) - 1) // 17)
         return early + lines + b"d" * (HEARD - len(early) - len(lines) - len(end) - 1) + b"\n" + end
 
     says.add(heard(b"STATE: +last\n") + late, reasons=["early", "last"])
-    # The line that is cut counts as far as it is read.
+    # The line at the limit counts as far as it is read.
     says.add(heard(b"INFO: half") + b" is lost\n" + late, reasons=["early"], message="half")
     says.add(heard(b"\nINFO:") + b" lost\n" + late, reasons=["early"])
     # 104,857 whole lines and six bytes of one: 1,820 have room.
     says.add(b"PAGE: 1 1\n" * 314_573, pages=1_820, dropped=104_857 - 1_820)
     says.add(b"x" * (3 * HEARD))
     says.add(b"\n" * (3 * HEARD))
-    says.look()
+    says.check()

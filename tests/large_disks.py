@@ -1,7 +1,7 @@
-"""Parts of tests/large.py: a spool of a gibibyte, used up to the end of each of its areas.
+"""Parts of tests/large.py: a spool of a gibibyte, filled up to the end of each of its areas.
 
-Its journal is written by this module, with holes in the place of most bytes, so that the file takes some mebibytes. The
-jobs in it have ended, but for a few that lie all over it and are printed.
+This module writes its journal, with holes in place of most bytes, so that the file takes some mebibytes. The jobs in it have ended, except
+for a few that are distributed over the whole area and are printed.
 """
 import os
 
@@ -13,20 +13,20 @@ SIZE = 1 << 30
 HALF = SIZE // 2
 SENDS = 16
 
-# So many bytes are left at the area's end for the commands.
+# The bytes that are left at the area's end for the commands.
 LEFT = 150_000
 
-# The jobs that haven't ended, each on a queue of its own, and the bytes of their documents.
+# The jobs that have not ended, each on a queue of its own, and the bytes of their documents.
 ALIVE = 8
 LENGTH = 70_000
 
-# The payload of the end of a stage that told no effects, and of a start.
+# The payload of the end of a stage without effects, and of a start.
 START = 5
 STAGE = 18
 
 
 class Area:
-    """An area that is written from its header on: where its next record goes."""
+    """An area that is written from its header on, and the offset of its next record."""
 
     def __init__(self, file, base, epoch):
         self.file = file
@@ -43,14 +43,14 @@ class Area:
         self.at += FRAME + len(payload)
 
     def add_holes(self, job):
-        """A send whose bytes are zeros that nobody writes."""
+        """A send whose bytes are zeros, which are holes in the file."""
         head = record(send(job, bytes(SEND)))[:-SEND]
         self.put(self.at, head)
         self.at += len(head) + SEND
 
 
 def created(queue, number):
-    """The event that makes a job."""
+    """The event that creates a job."""
     return Job(number, queue, "ann").event()
 
 
@@ -59,7 +59,7 @@ def queue_name(turn):
 
 
 def fill(area):
-    """Fills an area with jobs up to its end, and gives what `jobs` lists of them."""
+    """Fills an area with jobs up to its end. Returns the listing of `jobs`."""
     jobs, turn = [], 0
     while area.end - area.at > LEFT + 2 * (SEND + 100):
         number = len(jobs) + 1
@@ -86,7 +86,7 @@ def uri_of(place, name):
 
 
 def make_spool(place, base):
-    """Makes the spool with the area at `base` filled; its listing of the queues is there in the second area alone."""
+    """Creates the spool with the area at `base` filled, which begins with a listing of the queues if it is the second one."""
     names = ["lab", *map(queue_name, range(ALIVE))]
     with open(place.at("spool", "spool.disk"), "wb") as file:
         file.truncate(SIZE)
@@ -109,7 +109,7 @@ def listing(jobs):
 
 
 def print_the_living(script, area, jobs):
-    """One round prints all that haven't ended, from all over the area."""
+    """One round prints all jobs that have not ended, from all over the area."""
     script.ask("round", f"ok started {ALIVE} finished {ALIVE}")
     area.at += ALIVE * (FRAME + START + FRAME + STAGE)
     for turn, (queue, size, shown) in enumerate(jobs):
@@ -117,7 +117,7 @@ def print_the_living(script, area, jobs):
 
 
 def fill_to_the_last_byte(script, area, jobs):
-    """A job whose document ends just where the area has room for a record of seven bytes, which no event gets."""
+    """A job whose document ends exactly where the area has room for a record of seven bytes, too few for any event."""
     number = len(jobs) + 1
     script.ask('create alive0 ann "" 1 50 ""', f"ok job {number}")
     area.at += FRAME + len(created("alive0", number))
@@ -137,7 +137,7 @@ def fill_to_the_last_byte(script, area, jobs):
 
 
 def used_to_the_end(place, base):
-    """Uses a spool whose area at `base` is all but full up to its end, then changes areas, and opens it again each time."""
+    """Fills a spool whose area at `base` is nearly full up to its end, then switches areas, and opens it again each time."""
     place.fresh_spool()
     area, jobs = make_spool(place, base)
     script = Script()
@@ -155,7 +155,7 @@ def used_to_the_end(place, base):
     script.ask("checkpoint", "ok")
     change_areas(script, jobs)
     place.print_all(script)
-    look_again(place, jobs, document)
+    check_again(place, jobs, document)
     same("the length of the file", os.path.getsize(place.at("spool", "spool.disk")), SIZE)
 
 
@@ -165,7 +165,7 @@ def listed_queues():
 
 
 def change_areas(script, jobs):
-    """In the other area: the document that was begun is closed, and a job is made."""
+    """In the other area: the open document is closed, and a job is created."""
     number = len(jobs)
     script.ask(f"close {number} page", f"ok type {TYPE} stages 1")
     jobs[-1] = (*jobs[-1][:2], "3 none")
@@ -176,8 +176,8 @@ def change_areas(script, jobs):
     ask_jobs(script, listing(jobs))
 
 
-def look_again(place, jobs, document):
-    """What was answered is there, and is printed."""
+def check_again(place, jobs, document):
+    """The acknowledged jobs exist, and are printed."""
     script = Script()
     ask_jobs(script, listing(jobs))
     script.ask("round", "ok started 2 finished 2")
@@ -198,11 +198,11 @@ def look_again(place, jobs, document):
 
 
 def gibibyte_made(place):
-    """The program makes a spool of 1 GiB, and goes on in its second area. A byte more, and one below 4,096, is refused."""
+    """The program creates a spool of 1 GiB, and continues in its second area. A byte more, and one below 4,096, is refused."""
     for size in ("4095", str(SIZE + 1)):
         ran = place.run([place.programs.shell, "--root", "spool", "--size", size])
         same(f"the status of --size {size}", (ran.status, ran.output), (2, b""))
-    same("what was made", os.listdir(place.at("spool")), [])
+    same("the created files", os.listdir(place.at("spool")), [])
     script = Script()
     script.ask(f"queue lab spoolfile:/out {TYPE} abort-job", "ok")
     script.ask("checkpoint", "ok")
@@ -217,7 +217,7 @@ def gibibyte_made(place):
 
 
 def gibibyte_file(place):
-    """A spool of 1 GiB in a file, with the first area full up to its end, and then with the second one."""
+    """A spool of 1 GiB in a file, with the first area filled up to its end, and then with the second one."""
     place.tool("backend", "spoolfile")
     place.list_programs()
     for base in (0, HALF):
@@ -225,7 +225,7 @@ def gibibyte_file(place):
 
 
 def gibibyte_in_memory(place):
-    """A spool of 1 GiB in memory takes sends until its first area is full, and goes on in the second one."""
+    """A spool of 1 GiB in memory takes sends until its first area is full, and continues in the second one."""
     script = Script()
     script.ask(f"queue lab spoolfile:/out {TYPE} abort-job", "ok")
     at = HEADER + FRAME + len(Queue("lab", "spoolfile:/out", TYPE).event())

@@ -7,21 +7,21 @@ BAD = 1_000
 
 
 def direct_cost(number):
-    """The cost of the one conversion that leads from a type to the target."""
+    """The cost of the one conversion from a type to the target."""
     return number % 20
 
 
-# By the type in the middle it costs so much, in two conversions.
+# Through the type in the middle it has this cost, in two conversions.
 AROUND = 5 + 7
 
 
 def filters_of(number):
-    """The filters of the chain that costs least, and of two that cost the same the shorter one."""
+    """The filters of the cheapest chain, and of two with the same cost those of the shorter one."""
     return [f"direct{number}"] if direct_cost(number) <= AROUND else ["inward", "outward"]
 
 
 def write_rules(place):
-    """Types that are known by the end of a name, each with two ways to the target, and lines that can't be read."""
+    """Types that are known by the end of a name, each with two chains to the target, and lines that cannot be read."""
     types, convs = [], []
     for number in range(LINES):
         types.append(f"t/t{number} s{number} priority({number % 201})")
@@ -35,18 +35,18 @@ def write_rules(place):
 
 
 def warnings():
-    """What is told of the lines that can't be read."""
-    told = []
+    """The warnings about the lines that cannot be read."""
+    lines = []
     for first, kinds in ((LINES, ("UnknownRule", "BadType")), (2 * LINES + 1, ("BadNumber", "BadLine"))):
-        told += [f"spool: warning {first + turn + 1} {kinds[turn % 2]}\n" for turn in range(BAD)]
-    return "".join(told).encode()
+        lines += [f"spool: warning {first + turn + 1} {kinds[turn % 2]}\n" for turn in range(BAD)]
+    return "".join(lines).encode()
 
 
 PASSES = 'echo "$PRINTER $CONTENT_TYPE $SPOOL_STAGE" >>"$0.ran"\ncat ${6:+"$6"}\n'
 
 
 def long_files(place):
-    """5,000 types, 10,001 conversions and 10,000 programs, and a thousand lines of each file that can't be read."""
+    """5,000 types, 10,001 conversions and 10,000 programs, and a thousand lines of each file that cannot be read."""
     write_rules(place)
     place.tool("backend", "spoolfile")
     place.script("filter", "inward", PASSES)
@@ -75,7 +75,7 @@ def long_files(place):
     ran = [(job, number, stage) for job, number in enumerate(chosen, 1) for stage in range(len(filters_of(number)))]
     wanted = [f"q{job} t/t{number} {stage + 1}" for job, number, stage in ran]
     found = place.read("filter-inward.ran").decode().splitlines()
-    same("what the programs were given", sorted(found), sorted([*wanted, "last t/t0 1"]))
+    same("the arguments of the programs", sorted(found), sorted([*wanted, "last t/t0 1"]))
 
 
 ASKS = """
@@ -94,13 +94,13 @@ with open(sys.argv[0] + "." + os.environ["PRINTER"], "wb") as file:
 
 
 def long_queries(place):
-    """What a device's URI may say: an id of 1,000 bytes and one more, and 64 options and one more."""
+    """The contents of a device's URI: an id of 1,000 bytes and one more, and 64 options and one more."""
     place.write("asks", ASKS.encode())
     place.lines.append(f"backend a /bin/sh {place.at('wrapper')}")
     place.write("wrapper", f'exec python3 -ES {place.at("asks")}\n'.encode())
     place.lines.append(f"side {place.programs.tools} side-end")
     place.list_programs()
-    # Of 64 options the last sets the state. With one more all have their defaults.
+    # The last of 64 options sets the state. With one more option all have their defaults.
     options = "&".join(f"o{n}=v" for n in range(62)) + "&id=x"
     queries = {
         "id=" + "i" * 1_000: b"i" * 1_000 + b" \x01",

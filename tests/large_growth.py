@@ -1,7 +1,7 @@
-"""Parts of tests/large.py: twice as much takes at most twice the time. Only ratios are looked at, of the best of three runs,
-in seconds of the processor, so that what else runs on the machine counts little.
+"""Parts of tests/large.py: twice the input takes at most twice the time.
 
-The spools are made by bench/opening.py, byte by byte.
+Only ratios are checked, of the best of three runs, in processor seconds, so that other load on the machine has little effect.
+bench/opening.py writes the spools, byte by byte.
 """
 import os
 import sys
@@ -12,23 +12,23 @@ from large_run import TYPE, Difference, Script
 sys.path.insert(0, os.path.join(os.path.dirname(os.path.abspath(__file__)), "..", "bench"))
 import opening
 
-# Half as many as there are: of what is listed or made, and of what is opened, which takes far less time.
+# Half of the greatest counts: of items to list or create, and of items to open, which takes far less time.
 HALF = 20_000
 HALF_OPENED = 50_000
 
 RUNS = 3
 
-# How often the three runs are made at most: again where something else may have slowed one of them, so up to three times
+# The greatest number of sets of three runs: they are repeated if other load may have slowed one of them, so it may take up to three times
 # as long.
 AGAIN = 3
 
-# Seconds that don't count: the start of a program, and what a clock of the processor leaves out. A scan over 40,000 rows
-# for each of them takes half a second and more.
+# Seconds that do not count: the start of a program, and the error of the processor clock. A scan over 40,000 rows for each of them takes
+# half a second and more.
 FLOOR = 0.04
 
 
 def keeps_pace(what, seconds, half=HALF):
-    """Whether twice as much takes at most twice the time: `seconds` runs a size and tells the time."""
+    """Whether twice the input takes at most twice the time: `seconds` runs a size and returns the time."""
     best = {half: [], 2 * half: []}
     for _ in range(AGAIN):
         for size, times in best.items():
@@ -58,12 +58,12 @@ def rows(size):
 
 
 def listed_rows(size):
-    """What `jobs` shows of these rows."""
+    """The output of `jobs` for these rows."""
     return [f'job {number} lab 3 none "ann" 0 0 "A title"' for number in range(1, size - 1)]
 
 
 def openings_grow(place):
-    """An opening of 100,000 rows, with moments or without, or of 100,000 events of three kinds."""
+    """An opening of 100,000 rows, with deadlines or without, or of 100,000 events of three kinds."""
     for kind in (opening.rows, opening.timed_rows, opening.clocks, opening.jobs, opening.sends):
         keeps_pace(f"an opening of {kind.__name__}", over_spool(place, kind), HALF_OPENED)
 
@@ -95,7 +95,7 @@ def listings_grow(place):
 
 
 def commands_grow(place):
-    """Commands about 40,000 jobs: made, sent, closed, held, released and canceled, in memory."""
+    """Commands for 40,000 jobs: created, sent, closed, held, released and canceled, in memory."""
 
     def script_of(size, *commands):
         script = Script()
@@ -119,7 +119,7 @@ def commands_grow(place):
 
 
 def files_grow(place):
-    """A file of 40,000 types, and one of 40,000 conversions, with a document that the last of them is for."""
+    """A file of 40,000 types, and one of 40,000 conversions, with a document that needs the last of them."""
 
     def types(size):
         place.write("types", "".join(f"t/t{number} s{number}\n" for number in range(size)).encode())
@@ -147,7 +147,7 @@ HALF_SAID = 500_000
 
 
 def reports_grow(place):
-    """A mebibyte or so on standard error, in lines of each kind."""
+    """About a mebibyte on standard error, in lines of each kind."""
     kinds = [b"PAGE: 1 2\n", b"STATE: +media-empty,toner-low\n", b"DEBUG: " + 60 * b"x" + b"\n", b"y\n"]
     place.script("backend", "says", SAYS)
     place.list_programs()

@@ -4,14 +4,14 @@ from dataclasses import replace
 from journal import Job, Queue
 from large_run import TYPE, Script, quoted, same
 
-# How many bytes a line may have before its line feed.
+# The greatest number of bytes of a line before its line feed.
 LINE = 4_096
 
 DOCUMENT = 16_777_216
 
 
 class Asked(Script):
-    """Commands that make queues and jobs, and count them."""
+    """Commands that create queues and jobs, and count them."""
 
     def __init__(self):
         super().__init__()
@@ -24,20 +24,20 @@ class Asked(Script):
         self.queues.append((name, f'queue {name} 3 accepting {target} abort-job {interval} {limit} none ""'))
 
     def queue(self, taken, name, uri="spoolfile:/out", target=TYPE, interval="30", limit="5"):
-        """A queue that is taken, or its words aren't a command."""
+        """A queue that is accepted, or a line that is not a command."""
         self.ask(f"queue {name} {uri} {target} abort-job {interval} {limit}", "ok" if taken else "error syntax")
         if taken:
             self.keep_queue(name, target, int(interval), int(limit))
 
     def job(self, reply="ok", user="ann", title="", copies="1", priority="50", options="", by=None):
-        """A job that is taken, or answered otherwise. It may be one that is to start by a moment."""
+        """A job that is accepted, or refused with an error. It may have a start deadline."""
         number = len(self.jobs) + 1
         words = f"lab {user} {quoted(title)} {copies} {priority} {quoted(options)}"
         self.ask(f"create {words}" if by is None else f"createby {words} {by}", f"ok job {number}" if reply == "ok" else reply)
         if reply == "ok":
             self.jobs.append(f'job {number} lab 4 job-incoming "{user}" 0 0 {quoted(title)}')
 
-    def look(self):
+    def check_listings(self):
         self.ask("jobs", *self.jobs, f"ok {len(self.jobs)}")
         self.ask("queues", *(line for _, line in sorted(self.queues)), f"ok {len(self.queues)}")
 
@@ -94,12 +94,12 @@ def ask_jobs(script):
 
 
 def ask_options(script):
-    """Options at their limit, as they are given and as they are printed."""
+    """Options at their limit, as commands have them and as they are printed."""
     for length in (2_047, 2_048):
         script.job(options="o=" + "v" * (length - 2))
     script.job("error syntax", options="o=" + "v" * 2_047)
     script.job(options=" ".join(f"o{n:03}=v" for n in range(292)))
-    # A blank is printed with a backslash: with the name 1,022 of them are 2,046 bytes then.
+    # A blank is printed with a backslash: with the name, 1,022 of them are 2,046 bytes then.
     script.job(options="o='x" + " " * 1_022 + "'")
     script.job(options="o='xy" + " " * 1_022 + "'")
     script.job("error options", options="o='xyz" + " " * 1_022 + "'")
@@ -133,7 +133,7 @@ def ask_moments(script):
 
 
 def ask_lines(script):
-    """Lines of 4,095 to 4,097 bytes: of blanks behind a command, of a name, and remarks of any length."""
+    """Lines of 4,095 to 4,097 bytes: blanks after a command, a long name, and comments of any length."""
     for length in (LINE - 1, LINE, LINE + 1):
         reply = "ok rounds 1" if length <= LINE else "error syntax"
         script.ask("drain 1".ljust(length), reply)
@@ -148,7 +148,7 @@ def ask_lines(script):
     script.ask(head + "n" * (LINE + 1 - len(head)), "error syntax")
     script.ask(head + "n" * (LINE - len(head)), f"ok type {TYPE} stages 1")
     script.jobs[-1] = script.jobs[-1].replace("4 job-incoming", "3 none")
-    # A send's line may be as long, and its bytes aren't part of it.
+    # A send's line may be as long, and its bytes are not part of it.
     script.job()
     number = len(script.jobs)
     for length in (LINE, LINE + 1):
@@ -158,13 +158,13 @@ def ask_lines(script):
 
 
 def commands_at_their_limits(place):
-    """Names, URIs, types, numbers, titles, options, notes and lines at their limits: each taken or refused by its rule."""
+    """Names, URIs, types, numbers, titles, options, notes and lines at their limits: each accepted or refused by its rule."""
     script = Asked()
     ask_queues(script)
     ask_notes(script)
     ask_jobs(script)
     ask_lines(script)
-    script.look()
+    script.check_listings()
     place.serve(script)
     again = Script()
     again.wanted = script.wanted[-len(script.jobs) - len(script.queues) - 2 :]
@@ -174,7 +174,7 @@ def commands_at_their_limits(place):
     ask_moments(moments)
     place.fresh_spool()
     place.serve(moments)
-    look_for_what_is_not_listed(place)
+    check_unlisted_values(place)
 
 
 def longest_document(place):
@@ -188,8 +188,8 @@ def longest_document(place):
     place.serve(script, "--size", "67108864", root=False)
 
 
-def look_for_what_is_not_listed(place):
-    """Whether the longest values are in the journal as they were given, which is all that shows copies and options."""
+def check_unlisted_values(place):
+    """Whether the longest values are in the journal unchanged, which is the only way to see copies and options."""
     place.fresh_spool()
     options = "o=" + "v" * 2_046
     script = Script()

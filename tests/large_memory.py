@@ -1,5 +1,7 @@
-"""Parts of tests/large.py: too little memory. Each command works, or is answered `error memory` and changes nothing; or the
-program ends with `spool: memory`. What was acknowledged is there when the spool is opened with enough of it.
+"""Parts of tests/large.py: too little memory.
+
+Each command works, or gets `error memory` and changes nothing; or the program ends with `spool: memory`. Everything that was acknowledged
+is in the spool when it is opened with enough memory.
 """
 import signal
 
@@ -10,7 +12,7 @@ JOBS = 4_000
 TITLE = "t" * 255
 OPTIONS = "o=" + "v" * 2_046
 
-# So many KiB of address space are too few for the jobs. With the last of them the program has hardly begun.
+# Sizes of the address space in KiB that are too small for the jobs. With the last of them the program can hardly start.
 SCARCE = (24_000, 16_000, 10_000, 6_000)
 
 REFUSED = b"error memory"
@@ -22,14 +24,14 @@ class Reader:
     def __init__(self, ran):
         self.lines = ran.output.split(b"\n")[:-1]
         self.at = 0
-        # Whether a command had no memory.
+        # Whether a command ran out of memory.
         self.met = False
 
     def ended(self):
         return self.at == len(self.lines)
 
     def is_served(self, *wanted):
-        """Whether the next command has these replies. Else it was refused for want of memory, and has changed nothing."""
+        """Whether the next command has these replies. Otherwise it was refused because memory ran out, and has changed nothing."""
         if self.lines[self.at] == REFUSED:
             self.at += 1
             self.met = True
@@ -41,7 +43,7 @@ class Reader:
 
 
 class Table:
-    """The jobs that were answered."""
+    """The jobs that were acknowledged."""
 
     def __init__(self, shown=()):
         self.shown = list(shown)
@@ -51,7 +53,7 @@ class Table:
         return [*lines, f"ok {len(lines)}"]
 
     def may_be(self):
-        """What may be listed after a run that ended early: the last command may have been served without its reply."""
+        """The listings that are possible after a run that ended early: the last command may have been executed without its reply."""
         yield self.listed()
         yield Table([*self.shown, "4 job-incoming"]).listed()
         for number in CANCELED:
@@ -59,7 +61,7 @@ class Table:
                 yield Table([*self.shown[: number - 1], "7 canceled", *self.shown[number:]]).listed()
 
 
-# What is canceled: a job before the listings and the checkpoint, and one after them.
+# The jobs that are canceled: one before the listings and the checkpoint, and one after them.
 CANCELED = (1, 2)
 
 
@@ -74,7 +76,7 @@ def script_of_jobs():
 
 
 def replies_of_jobs(reader, table):
-    """Reads the replies to that script as far as they go, and keeps what was answered."""
+    """Reads the replies to that script as far as they exist, and stores the acknowledged jobs."""
     yield reader.is_served("ok")
     for _ in range(JOBS):
         served = reader.is_served(f"ok job {len(table.shown) + 1}")
@@ -96,12 +98,12 @@ def cancel(reader, table, number):
     return served
 
 
-# Where the stack finds no room in the address space, the system ends the program. No proof speaks of the stack.
+# If the stack does not fit into the address space, the system ends the program. No proof covers the stack.
 NO_STACK = -signal.SIGSEGV
 
 
 def scarce_run(place, script, limit, *words):
-    """A run in so many KiB, which may end with `spool: memory`, or for want of a stack."""
+    """A run in an address space of `limit` KiB, which may end with `spool: memory`, or because the stack has no room."""
     enough, place.limit = place.limit, limit
     ran = place.run([place.programs.shell, "--root", "spool", *words], script.pieces())
     place.limit = enough
@@ -111,23 +113,23 @@ def scarce_run(place, script, limit, *words):
 
 
 def found_afterwards(place):
-    """What `jobs` lists with enough memory."""
+    """The output of `jobs` with enough memory."""
     ran = place.run([place.programs.shell, "--root", "spool"], [b"jobs\n"])
     same("the end", (ran.status, ran.errors), (0, b""))
     return ran.output.decode().splitlines()
 
 
 def opened_scarcely(place, limit, wanted):
-    """An opening with as little memory shows all, or ends with `spool: memory`, or answers so."""
+    """An opening with as little memory lists all jobs, ends with `spool: memory`, or replies with that error."""
     script = Script()
     script.ask("jobs")
     ran = scarce_run(place, script, limit)
     if ran.status == 0 and ran.output != REFUSED + b"\n":
-        same("what is listed", ran.output.decode().splitlines(), wanted)
+        same("the listing", ran.output.decode().splitlines(), wanted)
 
 
 def served_scarcely(place, limit):
-    """Makes jobs with so little memory, and looks at what is there afterwards. Answers whether memory was missing."""
+    """Creates jobs with this little memory, and checks the spool afterwards. Returns whether memory ran out."""
     ran = scarce_run(place, script_of_jobs(), limit, "--size", str(1 << 26))
     reader, table = Reader(ran), Table()
     replies = replies_of_jobs(reader, table)
@@ -138,9 +140,9 @@ def served_scarcely(place, limit):
     wanted = table.listed()
     if ran.status:
         wanted = found if found in table.may_be() else wanted
-    same(f"what is there after a run in {limit} KiB", found, wanted)
+    same(f"the jobs after a run in {limit} KiB", found, wanted)
     opened_scarcely(place, limit, wanted)
-    same("what is there still", found_afterwards(place), wanted)
+    same("the jobs afterwards", found_afterwards(place), wanted)
     return reader.met or ran.status != 0
 
 
@@ -151,21 +153,21 @@ def too_little_memory(place):
         place.fresh_spool()
         met.append(served_scarcely(place, limit))
     if not any(met):
-        raise Difference(f"memory was never missing, not even in {SCARCE[-1]} KiB")
+        raise Difference(f"memory never ran out, not even in {SCARCE[-1]} KiB")
 
 
 MANY = 8
 LENGTH = 1_048_576
 
-# Those that are closed with too little memory.
+# The jobs that are closed with too little memory.
 LATER = range(5, MANY + 1)
 
-# So many KiB are too few to hold a document twice. With the last of them no child can be started.
+# Sizes in KiB that are too small to hold a document twice. With the last of them no child can be started.
 SCARCE_ROUNDS = (6_000, 5_200, 5_000, 4_600, 4_200)
 
 
 def scarce_rounds(place):
-    """Eight long documents are closed and printed with too little memory, and then with enough: each is whole in the end."""
+    """Eight long documents are closed and printed with too little memory, and then with enough: each is complete in the end."""
     place.tool("backend", "spoolfile")
     place.list_programs()
     for limit in SCARCE_ROUNDS:
@@ -188,7 +190,7 @@ def scarce_rounds(place):
 
 
 def close_and_print(place, script, limit):
-    """Which of the jobs were closed, by what was answered."""
+    """The jobs that were closed, according to the replies."""
     ran = scarce_run(place, script, limit, "--programs", "programs")
     replies = ran.output.split(b"\n")[:-1]
     closed = {}
@@ -212,7 +214,7 @@ def finish_printing(place, closed):
         if found[number - 1] == "4":
             script.ask(f"close {number} page", f"ok type {TYPE} stages 1")
     place.print_all(script)
-    # What was printed already starts nothing more, so how many start is no matter.
+    # Jobs that were printed already start nothing more, so any number of starts is correct.
     place.run([place.programs.shell, "--root", "spool", "--programs", "programs"], [b"drain 9\n"])
     script = Script()
     ask_jobs(script, [listed(number, f"q{number}", DONE, LENGTH) for number in range(1, MANY + 1)])

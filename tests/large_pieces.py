@@ -1,14 +1,14 @@
-"""A part of tests/large.py: input that comes in the smallest and in large pieces."""
+"""A part of tests/large.py: input that arrives in the smallest and in large pieces."""
 from large_run import SEND, TYPE, Script, same_lines
 
 MEBIBYTE = 1 << 20
 
-# How many bytes are written one by one.
+# The number of bytes that are written singly.
 SINGLE = 150_000
 
 
 def script_of(length):
-    """A script of so many bytes or more: jobs with documents of all lengths, and remarks."""
+    """A script of at least `length` bytes: jobs with documents of all lengths, and comments."""
     script = Script()
     script.ask(f"queue lab spoolfile:/out {TYPE} abort-job", "ok")
     number, written = 0, 0
@@ -37,6 +37,6 @@ def serve_in_pieces(place, script, length):
 
 
 def input_in_pieces(place):
-    """Scripts whose text comes byte by byte, and in pieces of a mebibyte through a pipe that holds as much."""
+    """Scripts whose text arrives in single bytes, and in pieces of a mebibyte through a pipe of the same capacity."""
     serve_in_pieces(place, script_of(SINGLE), 1)
     serve_in_pieces(place, script_of(40 * MEBIBYTE), MEBIBYTE)

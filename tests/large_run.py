@@ -1,8 +1,8 @@
-"""Runs the built programs for tests/large.py: a place for each part, and scripts with the replies that they have to get.
+"""Runs the built programs for tests/large.py: a folder for each part, and scripts with their expected replies.
 
-The greatest memory of a program is the `ru_maxrss` that its end tells (getrusage(2)). The kernel counts the pages of
-whoever starts a program as its own, so each is started by a small shell, which ends at once; this script is made its
-parent then (PR_SET_CHILD_SUBREAPER of prctl(2)) and waits for it.
+The peak memory of a program is the `ru_maxrss` that is returned at its end (getrusage(2)). The kernel counts the pages of the process that
+starts a program as the program's own, so a small shell starts each program and ends at once. Then this script becomes its parent
+(PR_SET_CHILD_SUBREAPER of prctl(2)) and waits for it.
 """
 import ctypes
 import itertools
@@ -13,29 +13,28 @@ import subprocess
 import tempfile
 import threading
 
-# How many seconds a run of a program may take, and one that was built with checks.
+# The greatest number of seconds for a run of a program, and of one that was built with checks.
 LONGEST = 120
 LONGEST_CHECKED = 3_600
 
-# The files of a part lie in memory where so many bytes are free there: each event is synced twice, which takes a disk
-# some milliseconds.
+# The files of a part are in memory if this many bytes are free there: each event is synced twice, which takes a disk some milliseconds.
 MEMORY = "/dev/shm"
 ROOMY = 4 << 30
 
-# Starts a program with at most so many KiB of address space, and tells its number in a file. The program waits for a line on
-# its standard input, which comes when this shell is gone: else the shell might be told of its end.
-START = 'ulimit -v "$1"; told=$2; shift 2; exec 3<&0; { read -r go <&3; exec "$@" <&3 3<&-; } & echo $! >"$told"'
+# Starts a program with at most the given KiB of address space, and writes its process number to a file. The program waits for a line on its
+# standard input, which it gets when this shell has ended: otherwise the shell might receive its end.
+START = 'ulimit -v "$1"; started=$2; shift 2; exec 3<&0; { read -r line <&3; exec "$@" <&3 3<&-; } & echo $! >"$started"'
 
 SUBREAPER = 36
 
 SEND = 65_536
 
-# The type of a document of which no rule tells another.
+# The type of a document if no rule gives another one.
 TYPE = "application/octet-stream"
 
 
 class Difference(Exception):
-    """A program did something else than it had to."""
+    """A program behaved differently than required."""
 
 
 def same(what, found, wanted):
@@ -44,13 +43,13 @@ def same(what, found, wanted):
 
 
 def shown(value):
-    """A value, or what is left of it where it is long."""
+    """A value, truncated if it is long."""
     text = repr(value)
     return text if len(text) <= 300 else f"{text[:200]} .. {text[-60:]} ({len(text)} characters)"
 
 
 def same_lines(what, found, wanted):
-    """Compares bytes, and tells the first line that differs."""
+    """Compares bytes, and reports the first line that differs."""
     if found == wanted:
         return
     ours, theirs = wanted.split(b"\n"), found.split(b"\n")
@@ -65,18 +64,18 @@ def quoted(text):
 
 
 def pieces_of(document):
-    """The pieces in which a document is sent."""
+    """The pieces of a document, each for one `send`."""
     return [document[at : at + SEND] for at in range(0, len(document), SEND)]
 
 
 def adopt():
-    """Makes this script the parent of what its children leave behind."""
+    """Makes this script the parent of the processes that its children leave."""
     if ctypes.CDLL(None).prctl(SUBREAPER, 1, 0, 0, 0):
         raise OSError("prctl refuses PR_SET_CHILD_SUBREAPER")
 
 
 class Ran:
-    """A run that has ended: what it wrote, its status, the seconds of the processor, and its greatest memory in KiB."""
+    """A run that has ended: its output, its status, its processor seconds, and its peak memory in KiB."""
 
     def __init__(self, output, errors, status, usage):
         self.output = output
@@ -87,7 +86,7 @@ class Ran:
 
 
 def write_pieces(file, pieces):
-    """Writes each piece by calls of its own, until nobody reads any more."""
+    """Writes each piece by calls of its own, until the reader has closed the pipe."""
     try:
         with file:
             for piece in pieces:
@@ -105,15 +104,15 @@ def read_into(file, found):
 
 
 def run(words, folder, pieces=(), limit=None, longest=LONGEST):
-    """Runs a program in a folder, on these pieces of standard input, in an address space of so many KiB."""
-    told = os.path.join(folder, "started")
+    """Runs a program in a folder, with these pieces as standard input, in an address space of `limit` KiB."""
+    started = os.path.join(folder, "started")
     most = "unlimited" if limit is None else str(limit)
     pipe = subprocess.PIPE
     starter = subprocess.Popen(
-        ["/bin/sh", "-c", START, "sh", most, told, *words], cwd=folder, stdin=pipe, stdout=pipe, stderr=pipe, bufsize=0
+        ["/bin/sh", "-c", START, "sh", most, started, *words], cwd=folder, stdin=pipe, stdout=pipe, stderr=pipe, bufsize=0
     )
     same("the start of a program", starter.wait(), 0)
-    with open(told) as file:
+    with open(started) as file:
         number = int(file.read())
     too_long = threading.Timer(longest, os.kill, (number, signal.SIGKILL))
     too_long.start()
@@ -126,7 +125,7 @@ def run(words, folder, pieces=(), limit=None, longest=LONGEST):
         read_into(starter.stdout, output)
         _, status, usage = os.wait4(number, 0)
     except BaseException:
-        # Nobody reads its output any more.
+        # The reader of its output has closed the pipe.
         os.kill(number, signal.SIGKILL)
         raise
     finally:
@@ -137,7 +136,7 @@ def run(words, folder, pieces=(), limit=None, longest=LONGEST):
 
 
 class Script:
-    """Commands, and the replies that they have to get."""
+    """Commands, and their expected replies."""
 
     def __init__(self):
         self.given = []
@@ -152,7 +151,7 @@ class Script:
         self.wanted.append(reply.encode() + b"\n")
 
     def pieces(self):
-        """The text of the commands, in pieces of a mebibyte or so."""
+        """The text of the commands, in pieces of about a mebibyte."""
         held, length = [], 0
         for piece in self.given:
             held.append(piece)
@@ -163,7 +162,7 @@ class Script:
         yield b"".join(held)
 
     def document(self, number, document):
-        """Sends a document, in as many pieces as it takes."""
+        """Sends a document in pieces."""
         size = 0
         for piece in pieces_of(document):
             size += len(piece)
@@ -171,7 +170,7 @@ class Script:
 
 
 class Programs:
-    """The built programs, and how many seconds they may run."""
+    """The built programs, and the greatest number of seconds that they may run."""
 
     def __init__(self, shell, tools, longest=LONGEST):
         self.shell = shell
@@ -180,12 +179,12 @@ class Programs:
 
 
 class Place:
-    """The folder of a part, in which its programs run, in an address space of so many KiB."""
+    """The folder of a part and of its programs, which run in an address space of `limit` KiB."""
 
     def __init__(self, programs, limit=None):
         self.programs = programs
         self.limit = limit
-        # The greatest memory of a program so far, in KiB.
+        # The peak memory of a program so far, in KiB.
         self.memory = 0
         self.folder = tempfile.mkdtemp(prefix="spool-large-", dir=roomy_folder())
         os.mkdir(self.at("spool"))
@@ -206,16 +205,16 @@ class Place:
         shutil.rmtree(self.folder)
 
     def fresh_spool(self):
-        """Takes the spool away."""
+        """Removes the spool."""
         shutil.rmtree(self.at("spool"))
         os.mkdir(self.at("spool"))
 
     def tool(self, kind, name):
-        """Lists one of the small tools as a program."""
+        """Adds one of the small tools to the programs file."""
         self.lines.append(f"{kind} {name} {self.programs.tools} {name}")
 
     def script(self, kind, name, text):
-        """Lists a program of `sh`. It need not be one that can be run: files in memory mostly may not."""
+        """Adds a program in `sh` to the programs file. Its file need not be executable: files in memory often cannot be."""
         self.write(f"{kind}-{name}", text.encode())
         self.lines.append(f"{kind} {name} /bin/sh {self.at(f'{kind}-{name}')}")
 
@@ -228,24 +227,25 @@ class Place:
         return ran
 
     def serve(self, script, *words, root=True, status=0, errors=b""):
-        """Serves a script over the spool of this place, or over one in memory, and compares the replies. What is told of stages
-        that failed is left out."""
+        """Serves a script over the spool of this folder, or over one in memory, and compares the replies. Log lines about failed stages are
+        ignored.
+        """
         folder = ["--root", "spool"] if root else []
         ran = self.run([self.programs.shell, *folder, *words], script.pieces())
         same_lines("replies", ran.output, b"".join(script.wanted))
-        told = b"".join(line for line in ran.errors.splitlines(True) if not line.startswith(b"spool: job "))
-        same("the end", (ran.status, told), (status, errors))
+        log = b"".join(line for line in ran.errors.splitlines(True) if not line.startswith(b"spool: job "))
+        same("the end", (ran.status, log), (status, errors))
         return ran
 
     def print_all(self, script, *words, **how):
-        """Serves a script with the programs and files of this place."""
+        """Serves a script with the programs and files of this folder."""
         there = [name for name in ("types", "convs", "programs") if os.path.exists(self.at(name))]
         files = [word for name in there for word in (f"--{name}", name)]
         return self.serve(script, *files, *words, **how)
 
 
 def roomy_folder():
-    """A folder in memory, where there is room, or none."""
+    """A folder in memory, if there is room, or None."""
     try:
         with open("/proc/meminfo") as lines:
             available = next(1024 * int(line.split()[1]) for line in lines if line.startswith("MemAvailable:"))

@@ -1,7 +1,7 @@
-"""Parts of tests/large.py: tables with as many queues and jobs as an office ever has, listed, checkpointed and opened again.
+"""Parts of tests/large.py: tables with more queues and jobs than an office needs, listed, checkpointed and opened again.
 
-The table is told by this module's own rules, and so are the rows of a checkpoint, which are read from the file: a listing
-shows no options, copies or priorities.
+This module computes the table by its own rules, and reads the rows of a checkpoint from the file: a listing shows no options, copies or
+priorities.
 """
 import journal
 from large_run import TYPE, Script, quoted, same
@@ -11,12 +11,12 @@ JOBS = 10_000
 NOW = 1_000_000
 SIZE = 1 << 27
 
-# A type that no filter leads to.
+# A type that no filter converts to.
 ELSEWHERE = "application/x-elsewhere"
 
 
 class Queue:
-    """A queue as it is asked for."""
+    """A queue as the command creates it."""
 
     def __init__(self, turn):
         self.name = f"q{turn:02}" + "-" * (turn * 2 - 4 if turn > 2 else 0)
@@ -45,7 +45,7 @@ class Queue:
 
 
 def title_of(number):
-    """A title of 0 to 255 bytes, with all that has to be escaped."""
+    """A title of 0 to 255 bytes, with all characters that must be escaped."""
     return ('"\\ä' * 63)[: number % 189] + "t" * (number % 4)
 
 
@@ -58,7 +58,7 @@ def options_of(number):
 
 
 def document_of(number):
-    """A document: mostly a short one, and now and then one of more than a piece."""
+    """A document: usually a short one, and sometimes one of more than a piece."""
     if number % 4:
         return b""
     length = {0: 65_536, 1: 65_537, 2: 131_073}.get(number // 4 % 500, number % 50)
@@ -66,7 +66,7 @@ def document_of(number):
 
 
 class Job:
-    """A job as it is asked for, and what becomes of it."""
+    """A job as the command creates it, and its outcome."""
 
     def __init__(self, number, queues):
         self.number = number
@@ -77,9 +77,9 @@ class Job:
         self.priority = number % 100 + 1
         self.options = options_of(number)
         self.document = document_of(number)
-        # The moment by which it is to start, if there is one: it is over, is now, or comes.
+        # The start deadline, if any: it has passed, is now, or is in the future.
         self.by = {0: NOW - 1, 1: NOW, 2: NOW + number, 3: 4_000_000_000_000}.get(number % 6)
-        # Incoming, closed, held, held until a moment that is over or isn't, canceled before or after it was closed.
+        # Incoming, closed, held, held until a moment that has passed or has not, canceled before or after it was closed.
         self.kind = number // 64 % 7
 
     def ask(self, script):
@@ -132,7 +132,7 @@ class Job:
         return journal.waiting({1: journal.FREE, 2: journal.held(), 3: until(NOW + self.number), 4: until(NOW)}[self.kind])
 
     def rows(self):
-        """Its row, and the pieces of its document where it hasn't ended."""
+        """Its row, and the pieces of its document if it has not ended."""
         asked = (self.number, self.queue.name, self.user, self.title, self.copies, self.priority, self.options)
         media = None if self.kind in (0, 5) else TYPE
         yield journal.Job(*asked, media, size=len(self.document), phase=self.phase(), by=self.by).payload()
@@ -149,7 +149,7 @@ def ask_queues(script, queues):
     script.ask("queues", *(queue.listed() for queue in queues), f"ok {len(queues)}")
 
 
-def look_at_rows(place, queues, jobs):
+def check_rows(place, queues, jobs):
     """Whether the file's current area has exactly the rows of the table."""
     wanted = [journal.Head(len(jobs), NOW).payload()] + [queue.row() for queue in queues] + [row for job in jobs for row in job.rows()]
     with open(place.at("spool", "spool.disk"), "rb") as file:
@@ -168,7 +168,7 @@ def jobs_and_queues(place):
     for asked in queues + jobs:
         asked.ask(script)
     script.ask("queue more spoolfile:/out a/b abort-job", "error 3 TooManyQueues")
-    # It goes back, and cancels those that wait behind their moments all the same.
+    # The clock moves back, and cancels the jobs that wait after their deadlines all the same.
     script.ask("clock 0", "ok")
     size = ("--size", str(SIZE))
     ask_jobs(script, jobs)
@@ -181,7 +181,7 @@ def jobs_and_queues(place):
         script.ask("checkpoint", "ok")
         ask_jobs(script, jobs)
         place.serve(script)
-        look_at_rows(place, queues, jobs)
+        check_rows(place, queues, jobs)
     script = Script()
     script.ask('create q00 ann "" 1 50 ""', f"ok job {JOBS + 1}")
     script.ask("cancel 10000", "error 10 JobEnded" if jobs[-1].shown()[0] in "78" else "ok")

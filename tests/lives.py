@@ -1,26 +1,27 @@
 #!/usr/bin/env python3
-"""Two hundred lives of one spool, with real children: lives.py [SHELL] [SEED]
+"""Runs two hundred lives of one spool, with real children and kills at random moments: lives.py [SHELL] [SEED]
 
-It runs SHELL, or else crates/spool_shell/out/spool_shell (made by `rt run` in that folder), with `--root`, again and again in
-one folder. A word of digits is the seed.
+It runs SHELL, or else crates/spool_shell/out/spool_shell (built by `rt run` in that crate), with `--root`, again and again in one folder. A
+word of digits is the seed.
 
-Each life gets commands at random: new jobs for four queues, one of each error policy, some of them to be started by a moment,
-rounds and drains with children of the system, cancels, purges, clocks and checkpoints. The spool is one of version 1 at first, or of
-the newest one, as the seed says. A life is killed at a random moment, whatever is under way, and the next one opens what is left. Some jobs have two stages, a filter and a backend. A backend ends as its job and its attempt say: well, with a fault,
-or with a wish to be tried again.
+Each life of the shell gets commands at random: new jobs for four queues, one of each error policy, some of them with a start deadline,
+rounds and drains with real children, cancels, purges, clocks and checkpoints. The spool has version 1 at first, or the newest one, as the
+seed determines. A life is killed at a random moment, whatever is in progress, and the next one opens the spool. Some jobs have two stages,
+a filter and a backend. A backend ends as its job and its attempt determine: with success, with a failure, or with a request to be tried
+again.
 
-Each child first takes a copy of the spool's file, and then writes its job, its attempt and its stage into one file, which it
-syncs before it does anything else. So this script sees, when the children of a killed life have ended too:
+Each child first copies the spool's file, and then writes its job, its attempt and its stage into one file, which it syncs before it does
+anything else. So this script can check the following after the children of a killed life have ended too:
 
-- No job, attempt and stage comes twice, in all lives.
-- None was begun before the start of its attempt was in the spool's file: the copy has it.
-- No job whose end was answered, or was listed, begins again or is listed in another way.
-- No job begins an attempt behind a clock that was answered, if it waited and was to start by an earlier moment.
-- Every job that was answered is listed in all later lives, until it is purged, and no cancel that was answered is lost.
-- No job whose purge was answered is listed again.
+- No job, attempt and stage occurs twice, in all lives.
+- No stage began before the start of its attempt was in the spool's file: the copy has it.
+- No job whose end was acknowledged or listed begins again or is listed differently.
+- No job begins an attempt after a clock that was acknowledged, if it waited and its start deadline had passed.
+- Every acknowledged job is listed in all later lives, until it is purged, and no acknowledged cancel is lost.
+- No job whose purge was acknowledged is listed again.
 
-A kill leaves what the system holds, so it shows nothing of a power cut. The last line is `200 of 200`, with status 0, or the
-first difference, with status 1. The folder stays then, and is named. It takes some minutes.
+A kill does not lose data in the system's cache, so this shows nothing about a power cut. The last line is `200 of 200`, with status 0, or
+the first difference, with status 1. The folder is kept then, and its path is printed. It takes some minutes.
 """
 import os
 import random
@@ -41,12 +42,12 @@ shell = os.path.abspath(next((word for word in sys.argv[1:] if not word.isdigit(
 LIVES = 200
 SIZE = 1_048_576
 LONGEST = 0.6  # the seconds after its first reply within which a life is killed
-OPENING = 0.2  # this part of the lives is killed within so many seconds of their start, many of them while they open
-LEAST = 200  # fewer stages in all lives would show too little
+OPENING = 0.2  # this share of the lives is killed within this many seconds of their start, many of them while they open
+LEAST = 200  # fewer stages in all lives would test too little
 
 QUEUES = {"abort": "abort-job", "later": "retry-job", "again": "retry-current-job", "stops": "stop-printer"}
 
-# A child: its copy, its line, and then its work. The word says how long it takes and how it ends.
+# A child: its copy, its line, and then its work. The argument determines how long it takes and how it ends.
 CHILD = """#!/bin/sh
 cp "{root}/spool.disk" "{folder}/seen-$1-$SPOOL_ATTEMPT-$SPOOL_STAGE"
 echo "$1 $SPOOL_ATTEMPT $SPOOL_STAGE" >>"{folder}/begun"
@@ -67,11 +68,11 @@ CREATE, START, ROW = 0x05, 0x0C, 0x42
 
 
 class Difference(Exception):
-    """A promise is broken, or the program doesn't answer as it has to."""
+    """A promise is broken, or the program does not reply as it must."""
 
 
 class Folder:
-    """The spool's folder, the programs of its children, and what these wrote."""
+    """The spool's folder, the programs of its children, and their output."""
 
     def __init__(self):
         self.path = tempfile.mkdtemp(prefix="spool-lives-")
@@ -101,16 +102,16 @@ class Folder:
             return [tuple(map(int, line.split())) for line in file]
 
     def wait_for_children(self):
-        """Until no child of a killed life is there any more."""
+        """Waits until no child of a killed life runs any more."""
         for _ in range(1_000):
             if not any(self.path in words for words in commands_of_others()):
                 return
             time.sleep(0.01)
-        raise Difference("a child doesn't end")
+        raise Difference("a child does not end")
 
 
 def commands_of_others():
-    """What other processes were called with."""
+    """The command lines of other processes."""
     for name in os.listdir("/proc"):
         if name.isdigit() and int(name) != os.getpid():
             try:
@@ -121,7 +122,7 @@ def commands_of_others():
 
 
 def attempts_in(content):
-    """How many attempts a spool's file has of each job: those of its row, and the starts behind it."""
+    """The number of attempts that a spool's file has for each job: those in its row, and the starts after it."""
     found, version = {}, journal.current_version(content)
     for payload in journal.current(content)[0]:
         if payload[0] == ROW:
@@ -146,7 +147,7 @@ class Life:
         self.killer.start()
 
     def asks(self, text):
-        """The lines of the reply to a command; none where it was killed first."""
+        """The lines of the reply to a command; none if it was killed first."""
         try:
             self.child.stdin.write(text)
             self.child.stdin.flush()
@@ -161,7 +162,7 @@ class Life:
         return lines
 
     def end(self):
-        """Waits until it was killed, and gives what it complained of."""
+        """Waits until it was killed, and returns its error messages."""
         if self.killer is None:
             self.child.kill()
         self.child.wait()
@@ -175,21 +176,21 @@ class Life:
 
 
 class Story:
-    """What was answered in all lives."""
+    """The acknowledged commands and jobs of all lives."""
 
     def __init__(self, folder, chance):
         self.folder = folder
         self.chance = chance
-        self.answered = 0  # the highest number that was answered
+        self.answered = 0  # the highest job number in a reply
         self.canceled = set()
-        self.purged = set()  # those of which a purge was answered
-        self.purging = set()  # these, and those of which one was asked
-        self.ended = {}  # with the count of begun stages when its end was seen
-        self.shown = {}  # of those that were listed as ended, how
+        self.purged = set()  # the jobs whose purge was acknowledged
+        self.purging = set()  # these, and the jobs whose purge was requested
+        self.ended = {}  # with the number of begun stages when its end was seen
+        self.shown = {}  # for jobs that were listed as ended, their state
         self.moment = 0
-        self.by = {}  # of the jobs that are to start by a moment, that moment
-        self.late = 0  # how many of them were listed as canceled behind a clock that was answered
-        self.looked = 0  # the begun stages that were looked at
+        self.by = {}  # for jobs with a start deadline, that moment
+        self.late = 0  # the number of jobs that were listed as canceled after a clock that was acknowledged
+        self.checked = 0  # the begun stages that were checked
 
     def sees_end(self, number):
         self.ended.setdefault(number, len(self.folder.begun()))
@@ -200,7 +201,7 @@ class Story:
         listed = {number: words[0] for number, words in shown.items()}
         for number in range(1, self.answered + 1):
             if number not in listed and number not in self.purging:
-                raise Difference(f"job {number} was answered and isn't listed")
+                raise Difference(f"job {number} was acknowledged and is not listed")
         for number in self.purged & set(listed):
             raise Difference(f"job {number} was purged and is in state {listed[number]}")
         for number in self.canceled & set(listed):
@@ -231,10 +232,10 @@ class Story:
         if not all(line.startswith("spool: job ") for line in complaints.splitlines()):
             raise Difference(f"it wrote {complaints!r}")
         self.folder.wait_for_children()
-        self.looks()
+        self.check_stages()
 
     def acts(self, life, listed):
-        """One command or a few; whether their replies came."""
+        """One command or a few. Returns whether their replies arrived."""
         chance = self.chance.random()
         if chance < 0.35:
             return self.makes_a_job(life)
@@ -245,14 +246,14 @@ class Story:
         if chance < 0.78 and listed:
             return self.purges(life, self.chance.choice(list(listed)))
         if chance < 0.86:
-            return self.tells_the_time(life) and bool(life.asks("enable stops\n"))
+            return self.sets_the_clock(life) and bool(life.asks("enable stops\n"))
         if chance < 0.92:
             return bool(life.asks("checkpoint\n"))
         lines = life.asks("jobs\n")
         return bool(lines) and bool(self.hears_jobs(lines))
 
-    def tells_the_time(self, life):
-        """The clock goes on. What waits then and was to start before is canceled, and is seen to have ended."""
+    def sets_the_clock(self, life):
+        """The clock advances. Jobs that wait then, and whose deadline has passed, are canceled and checked to have ended."""
         before = life.asks("jobs\n")
         if not before:
             return False
@@ -294,7 +295,7 @@ class Story:
         return bool(replies)
 
     def purges(self, life, number):
-        """One that isn't answered may have been done. Then the next one finds no job."""
+        """A command without a reply may have been executed. Then the next one finds no job."""
         was_asked = number in self.purging
         self.purging.add(number)
         replies = life.asks(f"purge {number}\n")
@@ -305,12 +306,12 @@ class Story:
             self.purging.discard(number)
         return bool(replies)
 
-    def looks(self):
-        """At what the children of the life have begun."""
+    def check_stages(self):
+        """The stages that the children of the life have begun."""
         begun = self.folder.begun()
         if len(set(begun)) != len(begun):
             raise Difference(f"begun twice: {sorted(key for key in set(begun) if begun.count(key) > 1)}")
-        for place, (number, attempt, stage) in enumerate(begun[self.looked:], self.looked):
+        for place, (number, attempt, stage) in enumerate(begun[self.checked:], self.checked):
             if place >= self.ended.get(number, place + 1):
                 raise Difference(f"job {number} had ended, and attempt {attempt} begins stage {stage}")
             seen = self.folder.at(f"seen-{number}-{attempt}-{stage}")
@@ -319,7 +320,7 @@ class Story:
             if attempts.get(number, 0) != attempt:
                 raise Difference(f"attempt {attempt} at job {number} begins stage {stage}, and the file has {attempts.get(number, 0)} starts")
             os.remove(seen)
-        self.looked = len(begun)
+        self.checked = len(begun)
 
 
 def main():
@@ -339,11 +340,11 @@ def main():
             story.live()
     except Difference as difference:
         sys.exit(f"life {turn + 1} of `lives.py {seed}` in {folder.path}: {difference}")
-    if story.looked < LEAST or not story.canceled or not story.late or not story.purged:
-        told = f"{len(story.canceled)} jobs, {story.late} of them for being late, and purged {len(story.purged)}"
-        sys.exit(f"`lives.py {seed}` began {story.looked} stages and canceled {told}, which shows too little")
+    if story.checked < LEAST or not story.canceled or not story.late or not story.purged:
+        counts = f"{len(story.canceled)} jobs, {story.late} of them canceled after their deadline, and purged {len(story.purged)}"
+        sys.exit(f"`lives.py {seed}` began {story.checked} stages and canceled {counts}, which tests too little")
     shutil.rmtree(folder.path)
-    print(f"{story.looked} stages of {story.answered} jobs, {len(story.ended)} of them ended, {story.late} for being late")
+    print(f"{story.checked} stages of {story.answered} jobs, {len(story.ended)} of them ended, {story.late} canceled after their deadline")
     print(f"{len(story.purged)} of them were purged")
     print(f"{LIVES} of {LIVES}")
 

@@ -1,20 +1,19 @@
 #!/usr/bin/env python3
-"""Tries the wrong bodies that the gate leaves out: tests/more_edits.py [--beside N] [CRATE..].
+"""Tries the wrong bodies that the gate leaves out: more_edits.py [--parallel N] [CRATE..]
 
-The gate tries the edits in crates/NAME/must-fail. All others are in crates/NAME/more-edits, in the same form. This script
-tries those of the named crates, or of all, in copies of them with what the checks kept in out/. N crates are tried side by
-side, or 2. One that fails stops no other.
+The gate tries the edits in crates/NAME/must-fail. All others are in crates/NAME/more-edits, in the same form. This script tries those of
+the named crates, or of all, in copies of the crates with the check results in out/. N crates (default 2) are tried in parallel. An edit
+that is not refused stops no other crate.
 
-A function is proved by its own body and the contracts of what it calls. So edits in the bodies of different functions are
-tried together, by one check: an edit is refused where a goal of a function that it edits isn't proved. A function that is
-told only since it calls one that isn't proved doesn't count. All other edits are tried alone: one outside a body, one of
-which no function of its own is told, and those whose check didn't reach the prover. There any goal counts.
+A function is proved from its own body and the contracts of the functions that it calls. So edits in the bodies of different functions are
+tried together, by one check: an edit is refused if a goal of a function that it edits is not proved. A function that is reported only
+because it calls an unproved one does not count. All other edits are tried alone: an edit outside a body, edits whose functions are not
+reported, and edits whose check did not reach the prover. Any unproved goal counts for these.
 
-It prints a line for each crate once it is done: how many edits it has, how many of these were refused, how many were
-refused only since a proof names what the edit took away (name/limit), how many weren't refused, how many are bad (they
-can't be applied, read or tried), the processor minutes, and how many checks were made of several edits and of one. Then
-comes what the check said of each edit that no clause refused. The last line is `N edits refused`, with status 0, or tells
-how many weren't, with status 1.
+It prints a line for each crate once it is done: the number of its edits, how many of these were refused, how many were refused only because
+a proof names something that the edit removed (name/limit), how many were not refused, how many are bad (they cannot be applied, read or
+tried), the processor minutes, and the numbers of checks of several edits and of one. Then it prints the output of the check for each edit
+that no clause refused. The last line is `N edits refused`, with status 0, or says how many were not, with status 1.
 """
 import argparse
 import os
@@ -38,23 +37,24 @@ COLUMNS = (REFUSED, WEAKLY, MISSED, BAD)
 FUNCTION = re.compile(r"( *)(?:pub(?:\([a-z]+\))? )?(?:const )?(?:unsafe )?fn (\w+)")
 CYCLE = re.compile(r" *#\[cycle\((\w+)\)\]")
 OWNER = re.compile(r" *impl(?:<.*?>)? (\w+)")
-# What a check says: a goal that isn't proved, and after the goals of a function the function itself; and a goal that the
-# answer written for it doesn't prove, by the folder of the function's proof.
+# The output of a check: a goal that is not proved, and after the goals of a function the function itself; and a goal that its answer does
+# not prove, by the folder of the function's proof.
 GOAL = re.compile(r"note: (?:\./)?(src/\S+?):(\d+):\d+: it is not proved")
-TOLD = re.compile(r"fn (.+?): (.*)")
+FUNCTION_END = re.compile(r"fn (.+?): (.*)")
 ANSWER = re.compile(r"(?:\./)?proofs/(\S+)/(?:Answers|Invariants)\.antt:\d+:\d+: error")
-# Of an edit that is tried alone any of these refuses it,
+# Any of these refuses an edit that is tried alone,
 FAILURE = re.compile(r"note: \S+:\d+:\d+:|\S+:\d+:\d+: error")
-# but not a proof that names what the edit took away, or one that cites such a proof,
+# but not a proof that names something that the edit removed, or one that cites such a proof,
 NAMES = re.compile(r"(\./)?proofs/.*(has no field|is not in scope|has no `|was not admitted)")
-# nor a text of src/ or specs/ that can't be read: an edit that makes a statement false names the goal before what is wrong.
+# nor a text of src/ or specs/ that cannot be read: if an edit makes a statement false, the goal is named before the error.
 UNREAD = re.compile(r"(\./)?(src|specs)/\S+?:\d+:\d+: error: (?!`[^`]*`: )")
 
 
 @dataclass(frozen=True)
 class Function:
-    """A function of a source file: the type that it is a method of, where it is no trait's; its cycle, if it is in one; its
-    first line, that on which its body opens, and its last."""
+    """A function of a source file: the type that it is a method of, unless it belongs to a trait; its cycle, if it is in one; its first
+    line, the first line of its body, and its last line.
+    """
 
     path: str
     owner: str
@@ -65,14 +65,14 @@ class Function:
     last: int
 
     def place(self):
-        """What no two edits of one check share. Functions of one cycle have one proof."""
+        """The key that the edits of one check must not share. Functions of one cycle have one proof."""
         return (self.path, self.cycle or self.first)
 
-    def has_goal(self, told, path, line):
-        return self.path == path and self.first <= line <= self.last and self.name in told.split("::")
+    def has_goal(self, function, path, line):
+        return self.path == path and self.first <= line <= self.last and self.name in function.split("::")
 
     def has_proof(self, folder):
-        """Whether its proof is in this folder: a method's is in that of its type, wherever the type is declared."""
+        """Whether its proof is in this folder: a method's proof is in the folder of its type, wherever the type is declared."""
         if self.owner:
             return f"/{folder}".endswith(f"/{self.owner}/{self.name}")
         module = self.path.removeprefix("src/").removesuffix(".rt")
@@ -81,7 +81,7 @@ class Function:
 
 @dataclass
 class Edit:
-    """An edit: the lines that it makes, by their file and number, and the functions whose bodies have them."""
+    """An edit: the lines that it writes, by their file and number, and the functions whose bodies contain them."""
 
     name: str
     lines: dict
@@ -94,7 +94,7 @@ class Edit:
 
 @dataclass
 class Tried:
-    """What the edits of a crate came to: the kind of each with what was said, processor seconds, the checks made."""
+    """The results of a crate's edits: the kind of each with the output, processor seconds, the number of checks."""
 
     crate: str
     kinds: dict = field(default_factory=dict)
@@ -148,7 +148,7 @@ def copy_to(room, crate, lower):
 
 
 def cycle_of(lines, first):
-    """The cycle of functions that an attribute above a function's first line names, if one does."""
+    """The cycle of functions that an attribute above a function's first line names, if any."""
     for line in reversed(lines[:first]):
         cycle = CYCLE.match(line)
         if cycle or not line.strip():
@@ -166,7 +166,7 @@ def owner_of(lines, first, indent):
 
 
 def functions_of(path, lines):
-    """The functions of a file, as rt fmt lays them out: what is not theirs stands no deeper than their first line."""
+    """The functions of a file, as rt fmt formats them: code outside a function is indented no deeper than its first line."""
     found = []
     for first, line in enumerate(lines):
         head = FUNCTION.match(line)
@@ -200,7 +200,7 @@ def read_edit(path, folder):
 
 
 def groups_of(edits):
-    """The edits in groups, of which no two edits touch the same function; one outside the bodies is a group of its own."""
+    """The edits in groups, so that no two edits of a group touch the same function; an edit outside the bodies is a group of its own."""
     groups, alone = [], [[it] for it in edits if not it.is_in_bodies]
     for edit in (it for it in edits if it.is_in_bodies):
         free = (group for group in groups if not any(edit.places() & it.places() for it in group))
@@ -213,21 +213,21 @@ def groups_of(edits):
 
 
 def check(folder, result):
-    """Checks the crate in this folder, adds what it took, and gives the status and what it said."""
-    with tempfile.TemporaryFile("w+", errors="replace") as told:
+    """Checks the crate in this folder, adds the time and the check to `result`, and returns the status and the output."""
+    with tempfile.TemporaryFile("w+", errors="replace") as log:
         words = ["rt", "check", "--jobs", "1"]
-        begun = subprocess.Popen(words, cwd=folder, stdin=subprocess.DEVNULL, stdout=told, stderr=told)
+        begun = subprocess.Popen(words, cwd=folder, stdin=subprocess.DEVNULL, stdout=log, stderr=log)
         _, status, used = os.wait4(begun.pid, 0)
-        # Popen isn't to wait once more.
+        # Popen must not wait once more.
         begun.returncode = os.waitstatus_to_exitcode(status)
-        told.seek(0)
-        output = told.read()
+        log.seek(0)
+        output = log.read()
     result.seconds += used.ru_utime + used.ru_stime
     return begun.returncode, output
 
 
 def check_edited(folder, edits, result):
-    """Checks the crate with these edits over what the check of the crate itself kept, and puts the crate back."""
+    """Checks the crate with these edits on top of the results for the crate itself, and restores the crate."""
     lines = {place: text for edit in edits for place, text in edit.lines.items()}
     before = {path: (folder / path).read_text(encoding="utf-8") for path, _ in lines}
     for path, text in before.items():
@@ -248,48 +248,50 @@ def reached_prover(status, output):
 
 
 def failures(output):
-    """The goals that aren't proved: the function that the check tells of each, and its file and line; and the folders of
-    the proofs with an answer that proves its goal no more, though it finds the names that it has."""
+    """The goals that are not proved: the function that the check reports for each, and its file and line; and the folders of the proofs
+    with an answer that no longer proves its goal, although all names in it exist.
+    """
     found, waiting = [], []
     for line in output.splitlines():
-        goal, told = GOAL.match(line), TOLD.match(line)
+        goal, end = GOAL.match(line), FUNCTION_END.match(line)
         if goal:
             waiting.append((goal[1], int(goal[2])))
-        elif told:
-            found += [(told[1], *it) for it in waiting if told[2] != "proved"]
+        elif end:
+            found += [(end[1], *it) for it in waiting if end[2] != "proved"]
             waiting = []
     answers = [ANSWER.match(it) for it in output.splitlines() if not NAMES.match(it)]
     return found, {it[1] for it in answers if it}
 
 
-def told_of(group, output):
-    """The edits that a check of them all refuses: it tells of a function that they edit."""
+def refused_by(group, output):
+    """The edits that a check of all of them refuses: it reports a function that they edit."""
     goals, folders = failures(output)
     edited = {it for edit in group for it in edit.functions}
-    told = {it for it in edited for goal in goals if it.has_goal(*goal)}
+    refused = {it for it in edited for goal in goals if it.has_goal(*goal)}
     for folder in folders:
         found = [it for it in edited if it.has_proof(folder)]
-        told.update(found if len(found) == 1 else [])
-    return [edit for edit in group if not told.isdisjoint(edit.functions)]
+        refused.update(found if len(found) == 1 else [])
+    return [edit for edit in group if not refused.isdisjoint(edit.functions)]
 
 
 def kind_alone(status, output):
-    """The kind of an edit that was tried alone, and what was said of it."""
+    """The kind of an edit that was tried alone, and the output."""
     lines = output.splitlines()
     if status == 0:
         return MISSED, "NOT REFUSED: the crate is still proved with this edit"
     if not reached_prover(status, output):
         unread = [it for it in lines if UNREAD.match(it)] or lines[:6]
         return BAD, "\n    ".join(["BAD EDIT: it did not reach the prover:", *unread])
-    told = [it for it in lines if FAILURE.match(it)]
-    if told and all(NAMES.match(it) for it in told):
-        return WEAKLY, f"refused only because a proof names what the edit took away: {told[0]}"
+    found = [it for it in lines if FAILURE.match(it)]
+    if found and all(NAMES.match(it) for it in found):
+        return WEAKLY, f"refused only because a proof names something that the edit removed: {found[0]}"
     return REFUSED, ""
 
 
 def try_group(folder, group, result):
-    """Tries these edits together, and those alone of which no function of their own is told. A group that doesn't reach
-    the prover is tried in halves."""
+    """Tries these edits together, and then alone those whose functions were not reported. A group that does not reach the prover is tried
+    in halves.
+    """
     if not group:
         return
     status, output = check_edited(folder, group, result)
@@ -302,9 +304,9 @@ def try_group(folder, group, result):
         try_group(folder, group[: len(group) // 2], result)
         try_group(folder, group[len(group) // 2 :], result)
         return
-    told = told_of(group, output)
+    refused = refused_by(group, output)
     for edit in group:
-        if edit in told:
+        if edit in refused:
             result.kinds[edit.name] = (REFUSED, "")
         else:
             try_group(folder, [edit], result)
@@ -324,7 +326,7 @@ def tried(crate, lower):
         status, output = check(folder, result)
         if status:
             last = "\n    ".join(output.splitlines()[-6:])
-            result.kinds |= {it.name: (BAD, f"NOT TRIED: the crate itself isn't proved:\n    {last}") for it in edits}
+            result.kinds |= {it.name: (BAD, f"NOT TRIED: the crate itself is not proved:\n    {last}") for it in edits}
             return result
         subprocess.run(["cp", "-a", folder / "out", folder / "kept"], check=True)
         for group in groups_of(edits):
@@ -332,8 +334,8 @@ def tried(crate, lower):
     return result
 
 
-def tell(results):
-    """Prints what was said of each edit that no clause refused, and the last line; returns the status."""
+def report(results):
+    """Prints the output for each edit that no clause refused, and the last line; returns the status."""
     failed = count = 0
     for result in results:
         for name, (kind, text) in result.kinds.items():
@@ -350,7 +352,7 @@ def tell(results):
 
 def main():
     words = argparse.ArgumentParser(description="Tries the wrong bodies that the gate leaves out.")
-    words.add_argument("--beside", type=int, default=2, metavar="N", help="how many crates are tried side by side")
+    words.add_argument("--parallel", type=int, default=2, metavar="N", help="the number of crates that are tried in parallel")
     words.add_argument("crates", nargs="*", metavar="CRATE")
     given = words.parse_args()
     lower = uses()
@@ -358,15 +360,15 @@ def main():
     crates = list(dict.fromkeys(given.crates)) or with_edits
     lacking = [it for it in crates if it not in with_edits]
     if lacking:
-        print(f"more_edits: {lacking[0]} is no crate with a folder more-edits")
+        print(f"more_edits: {lacking[0]} is not a crate with a folder more-edits")
         return 1
     print(heads(), flush=True)
     results = []
-    with ThreadPoolExecutor(max(1, given.beside)) as pool:
+    with ThreadPoolExecutor(max(1, given.parallel)) as pool:
         for ended in as_completed([pool.submit(tried, crate, lower) for crate in crates]):
             results.append(ended.result())
             print(results[-1].row(), flush=True)
-    return tell(results)
+    return report(results)
 
 
 if __name__ == "__main__":

@@ -1,22 +1,22 @@
 #!/usr/bin/env python3
-"""Prints with real programs, as an office would: office.py
+"""Runs the examples of examples/office with real programs: office.py
 
 It runs the built programs, crates/spool_shell/out/spool_shell, crates/spool_service/out/spool_service and
 crates/spool_tools/out/spool_tools:
 
 1. examples/office/print.sh prints a letter through a filter into a file, whose bytes are compared.
-2. Two backends `meet` find each other, so the children of a round run at once; and `sideask` learns the device's id by
-   the side channel.
-3. The same letter goes by the backend `appsocket` to a printer that listens on the loopback address. One that resets the
-   connection is not told as printed: the letter is printed again, once the printer takes it.
-4. examples/office/serve.sh runs the office as a service, with six queues, of which one prints a letter.
-5. A document of all bytes goes through CUPS's own backend `socket` to such a printer. Where that backend isn't installed
-   (Debian's package `cups`) this part is left out, and said to be.
-6. Documents of many kinds get their types by examples/office/types, mostly by their bytes.
-7. examples/office/pages.sh prints a page on six kinds of printers, whose files begin as they are to. Where CUPS's filters aren't installed
-   (Debian's package `cups-filters`) this part is left out, and said to be.
+2. Two backends `meet` find each other, so the children of a round run at once; and `sideask` reads the device's id through the side
+   channel.
+3. The backend `appsocket` sends the same letter to a printer that listens on the loopback address. If the printer resets the connection,
+   the letter does not count as printed: it is printed again, once the printer accepts it.
+4. examples/office/serve.sh runs a service with six queues, and one of them prints a letter.
+5. CUPS's own backend `socket` sends a document of all bytes to such a printer. If that backend is not installed (Debian's package `cups`),
+   this part is skipped, and the output says so.
+6. The types of many kinds of documents are detected with examples/office/types, mostly from their bytes.
+7. examples/office/pages.sh prints a page on six kinds of printers, and the first bytes of their files are compared. If CUPS's filters are
+   not installed (Debian's package `cups-filters`), this part is skipped, and the output says so.
 
-The last line is `N checks, 0 failed`, with status 0, or names how many failed, with status 1.
+The last line is `N checks, 0 failed`, with status 0, or says how many failed, with status 1.
 """
 import os
 import socket
@@ -36,7 +36,7 @@ TOOLS = os.path.join(ROOT, "crates/spool_tools/out/spool_tools")
 SOCKET = "/usr/lib/cups/backend/socket"
 FILTERS = [f"/usr/lib/cups/filter/{name}" for name in ("texttopdf", "pdftopdf", "pdftops", "gstoraster", "gstopxl")]
 
-# How the page begins that each kind of printer is sent.
+# The first bytes of the page for each kind of printer.
 PAGES = {
     "pdf": b"%PDF",
     "ps": b"%!PS",
@@ -110,11 +110,11 @@ def serve_an_office(room):
     check("the replies of the service", ran.stdout.decode(), SERVED)
     with open(os.path.join(folder, "hall"), "rb") as file:
         check("the letter that the service printed", file.read(), 2 * LETTER)
-    check("what is left in its folder", sorted(os.listdir(os.path.join(folder, "spool"))), ["spool.disk", "spool.lock"])
+    check("the remaining files", sorted(os.listdir(os.path.join(folder, "spool"))), ["spool.disk", "spool.lock"])
 
 
 def served(room, name, programs, script):
-    """The status, the replies and what was said of a script that is served in a fresh folder."""
+    """The status, the replies and the standard error of a script that is served in a fresh folder."""
     folder = os.path.join(room, name)
     os.mkdir(folder)
     listed = os.path.join(room, name + ".programs")
@@ -141,15 +141,15 @@ ok 2
 
 
 def ask_the_device(room):
-    told = os.path.join(room, "told")
-    script = f"queue lab sideask:{told}?id=MFG%3AX%3B application/octet-stream abort-job\n"
+    answer = os.path.join(room, "answer")
+    script = f"queue lab sideask:{answer}?id=MFG%3AX%3B application/octet-stream abort-job\n"
     script += 'create lab ann "" 1 50 ""\nsend 1 1\nx\nclose 1 x\nround\njobs\n'
     programs = f"backend sideask {TOOLS} sideask\nside {TOOLS} side-end\n"
     status, replies, said = served(room, "sideask", programs, script)
     wanted = 'ok started 1 finished 1\njob 1 lab 9 job-completed-successfully "ann" 1 0 ""\nok 1\n'
-    check("the one that asks", (status, replies[-len(wanted) :], said), (0, wanted, ""))
-    with open(told, "rb") as file:
-        check("what the device told", file.read(), b"MFG:X;")
+    check("the backend that asks", (status, replies[-len(wanted) :], said), (0, wanted, ""))
+    with open(answer, "rb") as file:
+        check("the id of the device", file.read(), b"MFG:X;")
 
 
 def first_script(room):
@@ -172,7 +172,7 @@ ok 1
 
 
 class Printer:
-    """A printer that listens on the loopback address, resets so many connections, and takes all of one."""
+    """A printer that listens on the loopback address, resets `resets` connections, and accepts one completely."""
 
     def __init__(self, resets=0):
         self.resets, self.calls = resets, 0
@@ -205,7 +205,7 @@ class Printer:
 def print_letter_to_printer(room):
     printer = Printer()
     print_letter(room, "network", f"127.0.0.1:{printer.port}")
-    check("the letter that the printer took", printer.got(), 2 * LETTER)
+    check("the letter that the printer received", printer.got(), 2 * LETTER)
 
 
 def print_again_after_a_reset(room):
@@ -216,8 +216,8 @@ def print_again_after_a_reset(room):
     status, replies, said = served(room, "reset", programs, script)
     wanted = 'job 1 net 9 job-completed-successfully "ann" 5 0 "Twice"\nok 1\n'
     check("a job whose printer resets once", (status, replies[-len(wanted) :], said), (0, wanted, ""))
-    check("what the printer took at last", printer.got(), b"paper")
-    check("how often the printer was called", printer.calls, 2)
+    check("the bytes that the printer accepted finally", printer.got(), b"paper")
+    check("the number of connections to the printer", printer.calls, 2)
 
 
 def print_to_socket(room):
@@ -244,7 +244,7 @@ def print_to_socket(room):
     check("the status of the run to the socket", (ran.returncode, ran.stderr), (0, b""))
     done = b'job 1 net 9 job-completed-successfully "ann" 51200 200 "Bytes"\nok 1\n'
     check("the end of the job to the socket", ran.stdout[-len(done) :], done)
-    check("what the printer took", printer.got(), page)
+    check("the bytes that the printer received", printer.got(), page)
 
 
 def type_documents():
@@ -275,7 +275,7 @@ def print_pages(room):
 def main():
     for program in (SHELL, SERVICE, TOOLS):
         if not os.path.isfile(program):
-            print(f"office.py wants the built program {program}: run rt all check, or rt ci")
+            print(f"office.py needs the built program {program}: run rt all check, or rt ci")
             return 1
     with tempfile.TemporaryDirectory(prefix="office-", dir="/tmp") as room:
         print_letter_to_file(room)
@@ -289,10 +289,10 @@ def main():
         if os.path.isfile(SOCKET):
             print_to_socket(room)
         else:
-            print(f"left out: {SOCKET} isn't there (Debian's package cups)")
+            print(f"left out: {SOCKET} is missing (Debian's package cups)")
         missing = [path for path in FILTERS if not os.path.isfile(path)]
         if missing:
-            print(f"left out: {missing[0]} isn't there (Debian's package cups-filters)")
+            print(f"left out: {missing[0]} is missing (Debian's package cups-filters)")
         else:
             print_pages(room)
     print(f"{checks} checks, {failed} failed")

@@ -1,16 +1,16 @@
 #!/usr/bin/env python3
-"""Lists the places of the code that answer out of memory by themselves, or may ask for more than there is: out_of_memory.py
+"""Shows that the code reports out of memory only after a refused allocation, and allocates only what its input needs: out_of_memory.py
 
-No clause can see why memory was missing, so a body that answers out of memory where none was refused would be proved. The
-answer may therefore come only from a growth that was refused: through `?`, through a `From` of that error, through an arm of a match whose
-pattern names out of memory, or from one of the calls of PASSED_ON, whose only fault it is. This script looks for every other
-place in src/ that makes such an answer.
+No contract clause can say why memory ran out, so a body that reports out of memory without a refused allocation would be proved. Therefore
+the error may come only from an allocation that was refused: through `?`, through a `From` of that error, through an arm of a match whose
+pattern names out of memory, or from one of the calls of PASSED_ON, which have no other error. This script finds every other place in src/
+that creates such an error.
 
-A growth can be refused by a body that asks for more than there can be, as `reserve(usize::MAX)`. So it looks at what is asked
-for too. A capacity or a count of items is what the input or the table has: one with a number, a constant or a sum in it
-stands in CAPACITIES. A great number that stands elsewhere in a body is in NUMBERS, and a great constant is in CONSTANTS.
+An allocation is refused if a body requests more than can exist, as `reserve(usize::MAX)`. So the script checks the requested amounts too. A
+capacity or a count of items is a number from the input or the table; one that contains a number, a constant or a sum must be listed in
+CAPACITIES. Every other large number in a body must be listed in NUMBERS, and every large constant in CONSTANTS.
 
-Crates of tests aren't looked at. The last line is `none`, with status 0, or `N places`, with status 1.
+Crates of tests are not checked. The last line is `none`, with status 0, or `N places`, with status 1.
 """
 import os
 import re
@@ -18,14 +18,14 @@ import sys
 
 top = os.path.join(os.path.dirname(os.path.abspath(__file__)), "..")
 
-# The crates that serve tests alone, and those whose names end in _tests.
+# The crates that only tests use, in addition to those whose names end in _tests.
 OF_TESTS = {"disk_images", "spool_scripts"}
 
-# A program whose library is another crate. Both are looked up in the tables under the library's name.
+# A program whose library is another crate. Both are listed in the tables under the library's name.
 LIBRARIES = {"spool_shell": "spool_runtime", "spool_tools": "builtin_stages"}
 
-# The functions with an arm, an `else` or a `map_err` for a call whose only fault is out of memory, and how many of these
-# they have. Whoever adds one here has looked at that call.
+# The functions with an arm, an `else` or a `map_err` for a call whose only error is out of memory, and how many of these they have. Check
+# that call before you add one here.
 PASSED_ON = {
     ("child_pipeline", "insert"): 1,
     ("command_lines", "push_count"): 1,
@@ -34,7 +34,7 @@ PASSED_ON = {
     ("command_lines", "push_rules"): 1,
     ("command_lines", "push_sizes"): 1,
     ("device_uri", "options"): 1,
-    # Counts of jobs that are held past the greatest usize: no memory holds so many.
+    # Numbers of held jobs that exceed the greatest usize: no memory can hold that many.
     ("job_table", "reserve"): 2,
     ("front_words", "mistake"): 2,
     ("front_words", "read_words"): 1,
@@ -61,7 +61,7 @@ PASSED_ON = {
     ("service_texts", "push_queue_news"): 1,
     ("service_texts", "push_ranks"): 1,
     ("service_texts", "push_state"): 1,
-    # The replies are in memory, so that nothing else can be wanted.
+    # The replies are in memory, so no other error is possible.
     ("service_loop", "serve"): 1,
     ("spool_areas", "collect"): 1,
     ("spool_areas", "new_window"): 1,
@@ -81,7 +81,7 @@ PASSED_ON = {
     ("spool_engine", "take_piece"): 1,
     ("spool_admin", "no_task"): 1,
     ("spool_admin", "read_words"): 2,
-    # The text is written into memory, so that nothing else can be wanted; an error of the system whose kind says so.
+    # The text is written into memory, so no other error is possible; and an error of the system whose kind says so.
     ("spool_front", "close_line"): 1,
     ("spool_front", "from"): 1,
     ("spool_front", "hold_line"): 2,
@@ -100,8 +100,8 @@ PASSED_ON = {
     ("spool_service", "read_words"): 1,
 }
 
-# The capacities and counts with a number, a constant or a sum in them, of each function. Each asks for a few items, or for
-# no more than the input or the table has.
+# The capacities and counts with a number, a constant or a sum in them, of each function. Each requests a few items, or at most the number
+# in the input or the table.
 CAPACITIES = {
     ("child_pipeline", "insert"): ["1"],
     ("command_lines", "words_of"): ["MOST_WORDS"],
@@ -115,7 +115,7 @@ CAPACITIES = {
     ("event_codec", "texts_at"): ["(count as usize).min(bytes.len() / 2)"],
     ("filter_args", "environment_of_stage"): ["14"],
     ("filter_args", "words"): ["6"],
-    # 64 KiB, for as long as a spool is opened.
+    # 64 KiB, while a spool is opened.
     ("gate_journal", "new"): ["BLOCK_LEN"],
     ("split_rows", "end_row"): ["1"],
     ("split_rows", "finish"): ["1"],
@@ -129,16 +129,16 @@ CAPACITIES = {
     ("service_loop", "new"): ["MOST_CLIENTS", "MOST_CLIENTS", "MOST_LISTED"],
     ("service_loop", "reserve"): ["1"],
     ("spool_core", "drive_all"): ["1"],
-    # 576 KiB, for as long as a checkpoint lasts.
+    # 576 KiB, during a checkpoint.
     ("spool_core", "prepare"): ["BLOCK_ROOM"],
-    # In room that is there.
+    # In reserved room.
     ("spool_core", "put_zeros"): ["block.len() + count"],
-    # 64 KiB, for as long as a document is sent.
+    # 64 KiB, while a document is sent.
     ("spool_front", "new"): ["PIECE"],
     ("spool_runtime", "reserve"): ["1"],
 }
 
-# The great numbers in bodies: bounds of loops, of counts and of fields. None is a capacity.
+# The large numbers in bodies: bounds of loops, of counts and of fields. None is a capacity.
 NUMBERS = {
     ("backend_codes", "unless_spent"): ["u32::MAX"],
     ("front_texts", "count"): ["4_294_967_295"],
@@ -147,7 +147,7 @@ NUMBERS = {
     ("job_table", "is_untyped"): ["u32::MAX"],
     ("mime_rules", "int_bytes"): ["16_777_216"],
     ("mime_rules", "most"): ["4_294_967_295"],
-    ("service_loop", "note_signs"): ["u32::MAX"],
+    ("service_loop", "note_readiness"): ["u32::MAX"],
     ("service_loop", "read_of"): ["u32::MAX"],
     ("service_loop", "write_to"): ["u32::MAX"],
     ("service_loop", "serve"): ["u64::MAX"],
@@ -166,7 +166,6 @@ NUMBERS = {
     ("spool_runtime", "attend"): ["u64::MAX"],
     ("spool_runtime", "counted"): ["u64::MAX"],
     ("spool_runtime", "read_at_most"): ["u64::MAX"],
-    ("spool_runtime", "spool_command"): ["4194304"],
     ("spool_service", "bound_options"): ["1_000_000"],
     ("builtin_stages", "connect_seconds_of"): ["u32::MAX"],
     ("builtin_stages", "end_seconds_of"): ["u32::MAX"],
@@ -178,7 +177,7 @@ NUMBERS = {
     ("whole_writes", "write_whole"): ["u64::MAX"],
 }
 
-# The great constants: limits of what is read, the numbers of fields, and how far a turn moves on.
+# The large constants: limits on input, the numbers of fields, and how far a step advances.
 CONSTANTS = {
     ("child_pipeline", "MOST_ERRORS"): 1,
     ("command_lines", "GREATEST"): 1,
@@ -204,21 +203,23 @@ CONSTANTS = {
     ("spool_types", "LONGEST_DOCUMENT"): 1,
 }
 
-# What says out of memory, as a value.
+# Expressions that evaluate to out of memory.
 SAYS = re.compile(r"\b(?:Memory|NoMemory|OutOfMemory|AllocError|AllocFailed)\b")
 
 # A pattern that names it.
 NAMES = re.compile(r"Memory|AllocError")
 
-# A call that takes memory for a number of items, and which of its arguments is that number.
+# A call that allocates a number of items, and which of its arguments is that number.
 TAKES = re.compile(r"\b(with_capacity|reserve|reserve_exact|try_reserve|from_elem|resize|repeat)\(|\bvec!(\[)")
 FIRST = ("resize", "reserve", "reserve_exact", "try_reserve")
 
-# What isn't a number of things that are there: a number, a constant, a sum or a product.
+# An amount other than a number of existing items: a number, a constant, a sum or a product.
 MADE = re.compile(r"\b\d|\b[A-Z][A-Z0-9_]+\b|[*+]|<<|pow\(|mul\(|add\(|shl\(|sum\(|product\(")
 
 # A number above a million, or one that may be.
 GREAT = re.compile(r"\b[ui](?:8|16|32|64|128|size)::(?:MAX|MIN)\b|<<|\bpow\(|\bshl\(|!0\w*\b|\b0x[0-9A-Fa-f_]{6,}|\b\d[\d_]{6,}\w*")
+# Character and string literals: a number in one of them is text.
+TEXT = re.compile(r"'(?:[^'\\]|\\.)'|\"(?:[^\"\\]|\\.)*\"")
 
 CONSTANT = re.compile(r"^\s*(?:pub(?:\([a-z]+\))? )?(?:const|static) (\w+): [^=]*=(.*)$")
 FUNCTION = re.compile(r"^\s*(?:pub(?:\([a-z]+\))? )?(?:const )?(?:unsafe )?fn (\w+)")
@@ -243,7 +244,7 @@ def crates():
 
 
 def sources():
-    """The source files that aren't tests, as crate, path and lines without remarks."""
+    """The source files that are not tests, as crate, path and lines without comments."""
     for crate in crates():
         if crate in OF_TESTS or crate.endswith("_tests"):
             continue
@@ -274,7 +275,7 @@ def bodies(crate, path, lines):
 
 
 def passes_on(code):
-    """Whether all that says out of memory on this line is a pattern, or comes from one that names it."""
+    """Whether each out of memory on this line is a pattern, or comes from one that names it."""
     pattern, arrow, _ = code.partition("=>")
     if arrow:
         return bool(NAMES.search(pattern))
@@ -296,7 +297,7 @@ def in_arms(lines):
 
 
 def answers(function):
-    """The lines of a function that answer out of memory by themselves."""
+    """The lines of a function that create an out of memory error."""
     if function.name == "from" and SAYS.search(function.head):
         return []
     inside = in_arms(function.lines)
@@ -308,7 +309,7 @@ def answers(function):
 
 
 def arguments(text, at):
-    """The arguments of a call behind its opening bracket, and whether they are parted by semicolons."""
+    """The arguments of a call after its opening bracket, and whether they are separated by semicolons."""
     depth, parts, semicolons = 0, [""], 0
     for sign in text[at:]:
         if sign in ")]}" and depth == 0:
@@ -323,7 +324,7 @@ def arguments(text, at):
 
 
 def capacities(function):
-    """What a function asks memory for, where it isn't a number of things that are there: each with its line."""
+    """The amounts that a function requests other than numbers of existing items, each with its line."""
     text = "\n".join(function.lines)
     for found in TAKES.finditer(text):
         words, semicolons = arguments(text, found.end())
@@ -335,23 +336,24 @@ def capacities(function):
 
 
 def great_numbers(function):
-    """The great numbers of a function that aren't in a capacity: each with its line."""
+    """The large numbers of a function that are not in a capacity, each with its line."""
     for number, code in enumerate(function.lines):
-        for found in GREAT.findall(code):
+        for found in GREAT.findall(TEXT.sub('""', code)):
             yield number, found
 
 
 def great_constants(crate, path, lines):
-    """The great constants of a file, as crate and name, each with its place."""
+    """The large constants of a file, as crate and name, each with its place."""
     for number, line in enumerate(lines, 1):
         found = CONSTANT.match(line)
-        if found and GREAT.search(found[2]):
+        if found and GREAT.search(TEXT.sub('""', found[2])):
             yield (LIBRARIES.get(crate, crate), found[1]), f"{os.path.relpath(path, top)}:{number}: {line.strip()}"
 
 
 def compared(found, table, what):
-    """What the code has and a table hasn't, and the other way round, a line each. Both map a key to a list of texts; what is
-    found has a place before each text."""
+    """The differences between the code and a table, a line each. Both map a key to a list of texts; each text of the code follows its
+    place.
+    """
     for key, places in sorted(found.items()):
         if sorted(text for _, text in places) != sorted(table.get(key, [])):
             yield from (f"{place}: {what}: {text}" for place, text in places)
@@ -360,7 +362,7 @@ def compared(found, table, what):
 
 
 def gone():
-    """The crates of the tables that aren't there: they are told once, and not row by row."""
+    """The crates in the tables that do not exist: they are reported once, and not row by row."""
     there = {LIBRARIES.get(crate, crate) for crate in crates()}
     return {crate for table in (PASSED_ON, CAPACITIES, NUMBERS, CONSTANTS) for crate, _ in table if crate not in there}
 

@@ -1,13 +1,15 @@
-"""A filter and a backend that tell which stages ran, with the files that name them: what the scripts share that print by real
-children (tests/any_image.py, tests/cuts.py, tests/failing_calls.py and tests/refused_memory.py)."""
+"""A filter and a backend that record which stages ran, and the files that name them.
+
+The scripts that print with real children share them: tests/any_image.py, tests/cuts.py, tests/failing_calls.py and tests/refused_memory.py.
+"""
 import os
 import re
 
-# What the shell tells of stages and of programs, which is no fault.
+# The shell's log lines about stages and programs, which are not errors of the shell.
 NOTICE = re.compile(r"spool: (?:job \d+|filter|backend|side program)\b.*\n")
 
-# A filter that hands on what it is given, with effects of each kind, and a backend that ends with the last part of its URI. Each
-# adds a line to the file `ran`, by one write: the job, the attempt and the stage.
+# A filter that passes on its input, with effects of each kind, and a backend that ends with the last part of its URI. Each adds a line to
+# the file `ran`, by one write: the job, the attempt and the stage.
 FILTER = """#!/bin/sh
 echo "$1 $SPOOL_ATTEMPT $SPOOL_STAGE" >> FOLDER/ran
 cat >&2 <<'END'
@@ -32,12 +34,12 @@ PROGRAMS = "filter f FOLDER/f\nfilter g FOLDER/f\nbackend s FOLDER/s\n"
 
 
 def faults_in(errors):
-    """What is on standard error, but for what is told of stages and of programs."""
+    """Standard error without the log lines about stages and programs."""
     return NOTICE.sub("", errors)
 
 
 class Children:
-    """The programs in a folder. A further line of the file of programs may be given."""
+    """The programs in a folder. A further line of the programs file may be given."""
 
     def __init__(self, folder, line=""):
         self.ran = os.path.join(folder, "ran")
@@ -48,11 +50,11 @@ class Children:
             with open(path, "w", encoding="utf-8") as file:
                 file.write(text.replace("FOLDER", folder))
             os.chmod(path, 0o700)
-            # The words of the shell that name the file.
+            # The arguments of the shell that name the files.
             self.words += [f"--{name}", path] if len(name) > 1 else []
 
     def stages(self):
-        """The stages that were run since this was asked the last time, each a job, an attempt and a stage."""
+        """The stages that ran since the last call, each a job, an attempt and a stage."""
         if not os.path.exists(self.ran):
             return []
         with open(self.ran, encoding="ascii") as file:

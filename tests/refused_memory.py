@@ -1,24 +1,24 @@
 #!/usr/bin/env python3
 """Refuses each allocation of the running shell in turn, with real children on a real file: refused_memory.py [SHELL] [--every N]
 
-SHELL is the program, and crates/spool_shell/out/spool_shell (made by `rt run` in that folder) where none is given. It runs over the
-library of tests/count_allocations.c, which is compiled with gcc, and serves one script, command by command: two queues, two jobs
-with documents and options, of which one is to start by a moment, `round`, `checkpoint`, `drain 3`. Its first allocation is refused, in a further run the second, and so
-on until none is, or with `--every N` each Nth. The children get their memory as ever.
+SHELL is the program; the default is crates/spool_shell/out/spool_shell (built by `rt run` in that crate). It runs with the library of
+tests/count_allocations.c, which is compiled with gcc, and serves one script, command by command: two queues, two jobs with documents and
+options, one of them with a start deadline, `round`, `checkpoint`, `drain 3`. Its first allocation is refused, in a further run the second,
+and so on until none is, or with `--every N` each Nth. The allocations of the children are not refused.
 
-- A command of one event, or a checkpoint, that is answered `error memory` leaves each byte of the file, and given again it has its
-  reply. The table in the file, which the model of tests/spool_model.py reads, is the one behind the commands that were answered.
-- A round or a drain that is answered `error memory` is given again until one is idle: a stage whose end had no memory isn't started
-  a second time. In the round itself all went its way for one of the two queues at least. Only where there was no memory for one
-  of the lists that a pass reserves before all else did it do nothing at all; that may be so for LISTS allocations of a round at most.
-- A stage that finds no memory in the launcher ends as one that couldn't be started or whose end isn't known, so one job at most
-  ends in another way than without a refusal.
-- A program that ends does so with `spool: memory` and status 1, and had answered nothing wrong. The file has what was answered, and
-  at most the command that was under way.
+- A command of one event, or a checkpoint, that gets `error memory` leaves each byte of the file unchanged, and gets its reply when it is
+  repeated. The table in the file, which the model of tests/spool_model.py reads, is the one after the acknowledged commands.
+- A round or a drain that gets `error memory` is repeated until one is idle: a stage whose end could not be stored is not started a second
+  time. In the round itself everything worked for at least one of the two queues. Only if memory ran out for one of the lists that a pass
+  reserves first did it do nothing at all; that may be so for at most LISTS allocations of a round.
+- A stage that runs out of memory in the launcher ends as one that could not be started or whose end is not known, so at most one job ends
+  differently than without a refusal.
+- A program that ends does so with `spool: memory` and status 1, and has sent no wrong reply. The file has everything that was acknowledged,
+  and at most the command in progress besides.
 - The spool is opened again and the jobs are printed to their end: no stage of an attempt runs twice, and no job that had ended.
 
-The last line is `N passed`, with status 0, or the first difference, with status 1: its folder is kept and named then. It takes a
-minute or two.
+The last line is `N passed`, with status 0, or the first difference, with status 1: its folder is kept then, and its path is printed. It
+takes a minute or two.
 """
 import concurrent.futures
 import os
@@ -37,10 +37,10 @@ SECONDS = 60
 AT_ONCE = 4
 SIZE = 16_384
 
-# How many allocations of a round are those of its lists.
+# The greatest number of allocations of a round that are those of its lists.
 LISTS = 5
 
-# The commands, each with its reply. The spool is made while the first waits.
+# The commands, each with its reply. The spool is created while the first waits.
 SCRIPT = [
     ("jobs\n", "ok 0"),
     ("queue lab s:/0 a/b retry-job\n", "ok"),
@@ -61,13 +61,13 @@ JOBS = (1, 2)
 MEMORY = "error memory"
 IDLE = "ok started 0 finished 0"
 
-# How a job of this script ends, also where the launcher found no memory: in a filter, or in the backend.
+# How a job of this script ends, also if the launcher ran out of memory: in a filter, or in the backend.
 ENDED_WELL = "completed"
 ENDED_ILL = ("aborted", "waiting")
 
 
 class Difference(Exception):
-    """The program doesn't do what it has to."""
+    """The program behaves differently than required."""
 
 
 def demand(holds, text):
@@ -76,11 +76,11 @@ def demand(holds, text):
 
 
 class Ended(Exception):
-    """The program ended in place of a reply."""
+    """The program ended instead of replying."""
 
 
 class Run:
-    """A run in a folder of its own, in which an allocation is refused."""
+    """A run with a refused allocation, in a folder of its own."""
 
     def __init__(self, shell, library, room, refused):
         self.room = room
@@ -111,7 +111,7 @@ class Run:
         return line.rstrip("\n")
 
     def end(self):
-        """What it wrote behind the last reply, its standard error and its status."""
+        """Its output after the last reply, its standard error and its status."""
         try:
             self.process.stdin.close()
         except BrokenPipeError:
@@ -128,18 +128,18 @@ class Run:
             return file.read()
 
     def table(self):
-        """The table of the file as it stands, and that of none where it isn't there."""
+        """The table of the file as it is now, or an empty one if the file does not exist."""
         file = self.bytes()
-        return model.standing(file) if file else model.Table()
+        return model.stored_table(file) if file else model.Table()
 
     def count(self):
-        """How many allocations it made, and whether one was refused."""
+        """The number of its allocations, and whether one was refused."""
         with open(self.log, encoding="utf-8", errors="replace") as file:
             lines = [line.split(" ", 2) for line in file]
         return int(lines[-1][0]), any(words[1] == "refused" for words in lines)
 
     def take_stages(self):
-        """The stages that were started since the last time."""
+        """The stages that were started since the last call."""
         stages = self.children.stages()
         self.started += stages
         return stages
@@ -153,19 +153,19 @@ def is_through(job, before):
 
 
 def check_hindered(run, before):
-    """Of a round that found no memory: all went its way for one of the queues. Whether it did nothing at all."""
+    """After a round that ran out of memory: everything worked for one of the queues. Returns whether it did nothing at all."""
     stages = run.take_stages()
     table = run.table()
     if not stages and table.listing() == before.listing():
         return True
     stage = {number: before.jobs[number].stage for number in JOBS}
     through = [number for number in JOBS if is_through(table.jobs[number], stage[number])]
-    demand(through, f"a round without memory got no job through its stage: {table.jobs_reply()}, started {stages}")
+    demand(through, f"a round that ran out of memory ended no stage: {table.jobs_reply()}, started {stages}")
     return False
 
 
 def serve_rounds(run, text):
-    """Rounds until one is idle, after a first one. Whether that did nothing."""
+    """Rounds until one is idle, after a first one. Returns whether that did nothing."""
     before = run.table()
     run.take_stages()
     got = run.give(text)
@@ -174,25 +174,26 @@ def serve_rounds(run, text):
         got = run.give("round\n")
         while text != "round\n" and got not in (MEMORY, IDLE):
             got = run.give("round\n")
-    demand(got.startswith("ok "), f"{text!r} is answered {got!r}")
+    demand(got.startswith("ok "), f"{text!r} got the reply {got!r}")
     return is_idle
 
 
 def serve_event(run, text, reply):
-    """A command of one event, or a checkpoint, which is given twice where it finds no memory."""
+    """A command of one event, or a checkpoint, which is repeated if it runs out of memory."""
     before = run.bytes()
     got = run.give(text)
     if got == MEMORY:
-        demand(run.bytes() == before or text == "jobs\n", f"{text!r} was answered {MEMORY}, and the file has changed")
+        demand(run.bytes() == before or text == "jobs\n", f"{text!r} got the reply {MEMORY}, and the file has changed")
         got = run.give(text)
-    demand(got == reply, f"{text!r} is answered {got!r}, not {reply!r}")
+    demand(got == reply, f"{text!r} got the reply {got!r}, not {reply!r}")
 
 
 # ---- one run
 
 def check_end(run):
-    """Serves the script, as far as the program goes: how many commands were answered, whether a round did nothing, and whether the
-    program went on to the end of its input."""
+    """Serves the script, as far as the program runs. Returns how many commands got replies, whether a round did nothing, and whether the
+    program continued to the end of its input.
+    """
     answered, idle = 0, False
     try:
         run.begin()
@@ -215,8 +216,9 @@ def check_end(run):
 
 
 def check_tables(run, tables, answered, is_whole):
-    """The table in the file is that behind the answered commands, or behind the next one too where it ended there. Rounds are
-    looked at for the jobs alone."""
+    """The table in the file is the one after the acknowledged commands, or also after the next one if the program ended there. For rounds
+    only the jobs are compared.
+    """
     first_round = next(at for at, (text, _) in enumerate(SCRIPT) if text in ROUNDS)
     if answered >= first_round:
         return
@@ -225,11 +227,11 @@ def check_tables(run, tables, answered, is_whole):
 
 
 def check_jobs(table):
-    """Two jobs, of which one at most ended ill."""
+    """At most one of the two jobs failed."""
     jobs = [table.jobs[number] for number in JOBS]
     well = [job for job in jobs if job.phase == ENDED_WELL]
     ill = [job for job in jobs if job.phase in ENDED_ILL]
-    demand(len(well) + len(ill) == len(jobs) and len(ill) <= 1, f"the jobs have ended so: {table.jobs_reply()}")
+    demand(len(well) + len(ill) == len(jobs) and len(ill) <= 1, f"the jobs have ended with {table.jobs_reply()}")
 
 
 def check_again(shell, run):
@@ -244,7 +246,7 @@ def check_again(shell, run):
 
 
 def check(shell, tables, run):
-    """One run. Gives whether something was refused, and whether a round did nothing."""
+    """One run. Returns whether an allocation was refused, and whether a round did nothing."""
     answered, idle, is_whole = check_end(run)
     run.take_stages()
     check_tables(run, tables, answered, is_whole)
@@ -257,19 +259,19 @@ def check(shell, tables, run):
 
 
 def usual(shell, library, room):
-    """How many allocations a run makes, and the tables before and behind each command."""
+    """The number of allocations of a run, and the tables before and after each command."""
     run = Run(shell, library, room, 0)
     run.begin()
     tables = [model.Table()]
     for text, reply in SCRIPT:
         got = run.give(text)
-        demand(got == reply, f"{text!r} is answered {got!r}, not {reply!r}")
+        demand(got == reply, f"{text!r} got the reply {got!r}, not {reply!r}")
         tables.append(run.table())
-    demand(run.end() == ("", "", 0), "the usual run ends ill")
+    demand(run.end() == ("", "", 0), "the run without a refusal fails")
     stages = sorted(run.take_stages())
-    demand(stages == [(job, 1, stage) for job in JOBS for stage in (1, 2)], f"the usual run starts {stages}")
+    demand(stages == [(job, 1, stage) for job in JOBS for stage in (1, 2)], f"the run without a refusal starts {stages}")
     check_jobs(run.table())
-    demand(all(run.table().jobs[number].phase == ENDED_WELL for number in JOBS), "the usual run leaves jobs")
+    demand(all(run.table().jobs[number].phase == ENDED_WELL for number in JOBS), "the run without a refusal leaves jobs")
     count, _ = run.count()
     shutil.rmtree(room)
     return count, tables
@@ -282,14 +284,15 @@ def main():
     shell = os.path.abspath(words[0] if words else BUILT)
     if not os.path.exists(shell):
         sys.exit(f"no program {shell}: run `rt run` in crates/spool_shell first")
-    # In memory, where a sync takes no time.
+    # A folder in memory: a sync takes no time there.
     folder = tempfile.mkdtemp(prefix="no-", dir="/dev/shm" if os.path.isdir("/dev/shm") else None)
     library = os.path.join(folder, "count.so")
     subprocess.run(["gcc", "-shared", "-fPIC", "-O1", "-o", library, SOURCE], check=True)
     passed, idle = 0, 0
     try:
         count, tables = usual(shell, library, os.path.join(folder, "0"))
-        # All files are written before a run begins: one that another run is forked beside is busy, and can't be run.
+        # All files are written before a run begins: a file that is open for writing while another run forks is busy, and cannot be
+        # executed.
         made = {number: Run(shell, library, os.path.join(folder, str(number)), number) for number in range(1, count + 1, every)}
         with concurrent.futures.ThreadPoolExecutor(AT_ONCE) as pool:
             runs = {number: pool.submit(check, shell, tables, run) for number, run in made.items()}

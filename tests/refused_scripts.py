@@ -1,24 +1,23 @@
 #!/usr/bin/env python3
 """Refuses each allocation of a script over a disk and children in memory: refused_scripts.py [SCRIPTS] [--every N]
 
-SCRIPTS is the program of the stored scripts, and crates/spool_scripts/out/spool_scripts (made by `rt run` in that folder) where none
-is given. It runs over the library of tests/count_allocations.c, which is compiled with gcc, and serves one script: two queues, two
-jobs with documents and options, of which one is to start by a moment, `round`, `checkpoint`, `drain 3`. The first allocation behind
-that of the disk is refused, in a further run the second, and so on until none is, or with `--every N` each Nth. Then the spool is
-opened again.
+SCRIPTS is the program of the stored scripts; the default is crates/spool_scripts/out/spool_scripts (built by `rt run` in that crate). It
+runs with the library of tests/count_allocations.c, which is compiled with gcc, and serves one script: two queues, two jobs with documents
+and options, one of them with a start deadline, `round`, `checkpoint`, `drain 3`. The first allocation after that of the disk is refused, in
+a further run the second, and so on until none is, or with `--every N` each Nth. Then the spool is opened again.
 
-The program tells one difference at a time from what is wanted. So what came of a script is found by wanting what was told last.
+The program reports one difference from the expected output at a time. So the result of a script is found by expecting the last report.
 
-- A command of one event, or a checkpoint, that is answered `error memory` did nothing: all that follows is as without that command.
-  Given again it has its reply, and all that follows is as ever.
-- Behind a round or a drain that is answered `error memory` a stage of one of the two jobs has ended. Only where there was no memory
-  for the lists of a pass did none, for LISTED allocations at most. Further rounds start no stage a second time, and one job at most
-  ends in another way than without a refusal.
-- A run that ends for want of memory may have acknowledged the events of one command without its reply. What further runs of the
-  same engine answer is as after that command, or as without it.
+- A command of one event, or a checkpoint, that gets `error memory` did nothing: the rest is as without that command. When it is repeated it
+  gets its reply, and the rest is as without a refusal.
+- After a round or a drain that gets `error memory` a stage of one of the two jobs has ended. Only if memory ran out for the lists of a pass
+  did none, for at most LISTED allocations. Further rounds start no stage a second time, and at most one job ends differently than without a
+  refusal.
+- A run that ends because memory ran out may have acknowledged the events of one command without its reply. Further runs of the same engine
+  reply as after that command, or as without it.
 
-The last line is `N passed`, with status 0, or the first difference, with status 1: its folder is kept and named then. It takes a
-minute or two.
+The last line is `N passed`, with status 0, or the first difference, with status 1: its folder is kept then, and its path is printed. It
+takes a minute or two.
 """
 import argparse
 import concurrent.futures
@@ -36,14 +35,14 @@ SOURCE = os.path.join(HERE, "count_allocations.c")
 SECONDS = 60
 AT_ONCE = 4
 
-# How many differences a script may have, each of a line.
+# The greatest number of differences of a script, each of a line.
 MOST_LOOKS = 1_000
 
-# The length of the disk: nothing else of the program takes just so many bytes.
+# The length of the disk: no other allocation of the program has exactly this size.
 SIZE = 20_011
 
-# How many allocations of a round may be those of its lists: the queues that start nothing, twice, the jobs, those of them of which no
-# child runs, and those that are chosen.
+# The greatest number of allocations of a round that are those of its lists: the queues that start nothing, twice, the jobs, the jobs
+# without a running child, and the chosen jobs.
 LISTED = 5
 
 TYPES = "a/a x\n"
@@ -74,18 +73,18 @@ CUT = "# reopen"
 RUN = "# run"
 
 MEMORY = "error memory"
-NO_RUN = "a run found no memory"
+NO_RUN = "a run ran out of memory"
 FIRST_WAY = ", at once"
 DIFFERS = re.compile(r"case differs at line (\d+)( of its account)?: wanted (.*), got (.*)" + FIRST_WAY)
 ELSEWHERE = re.compile(r"case (ok|differs at line .*)")
-# What serves the script found no memory, or the opening did: then nothing is served.
+# The program that serves the script ran out of memory, or the opening did: then nothing is served.
 NO_WRITER = "the writer failed"
-NO_HARNESS = re.compile(r"case (finds no memory|can't be opened: Memory|can't be opened: NoMemory)")
+NO_HARNESS = re.compile(r"case (runs out of memory|cannot be opened: Memory|cannot be opened: NoMemory)")
 ORDER = re.compile(r"job (\d+) attempt (\d+) stage (\d+) behind \d+")
 
 
 class Difference(Exception):
-    """The program doesn't do what it has to."""
+    """The program behaves differently than required."""
 
 
 def demand(holds, text):
@@ -94,19 +93,19 @@ def demand(holds, text):
 
 
 @dataclass
-class Told:
-    """What came of a script."""
+class Result:
+    """The result of a script."""
 
     replies: list
     account: list
 
     def stages(self):
-        """The stages that were ordered."""
+        """The stages in the orders."""
         return [found.groups() for found in map(ORDER.fullmatch, self.account) if found]
 
     def without_run(self):
-        """The same, where no run had ended."""
-        return Told(self.replies, [line for line in self.account if line != NO_RUN])
+        """The same without the ends of runs."""
+        return Result(self.replies, [line for line in self.account if line != NO_RUN])
 
 
 def unescaped(text):
@@ -114,7 +113,7 @@ def unescaped(text):
 
 
 def mend(lines, place, got):
-    """What is wanted next, where this line was told in that place: nothing follows an empty one."""
+    """The next expected output, after this line was reported in this position: an empty line means that nothing follows."""
     if not got:
         return lines[:place]
     later = lines.index(got, place + 1) if got in lines[place + 1:] else None
@@ -130,7 +129,7 @@ class Bench:
         self.folder = folder
 
     def case(self, script):
-        """A folder with the case of a script, but for what is wanted."""
+        """A folder with the case of a script, without the expected output."""
         room = tempfile.mkdtemp(dir=self.folder)
         os.mkdir(os.path.join(room, "cases"))
         children = "\n\n".join([CHILD] * CHILDREN)
@@ -138,7 +137,7 @@ class Bench:
         return room
 
     def serve(self, room, wanted, refused):
-        """What the program says of the case, where this is wanted, and how many allocations it made."""
+        """The program's output for the case, with this expected output, and the number of its allocations."""
         write_case(room, replies="".join(f"{line}\n" for line in wanted.replies), account="".join(f"{line}\n" for line in wanted.account))
         log = os.path.join(room, "counted")
         environment = {"LD_PRELOAD": self.library, "REFUSED": str(refused), "FROM": str(SIZE), "COUNTED": log}
@@ -149,29 +148,30 @@ class Bench:
         os.remove(log)
         return done.stdout.split("\n")[0], count
 
-    def told(self, script, refused=0, first=Told([], [])):
-        """What comes of a script with an allocation refused; nothing where it wasn't served for want of memory. The search begins
-        with what is known of it."""
+    def result_of(self, script, refused=0, first=Result([], [])):
+        """The result of a script with an allocation refused; None if it was not served because memory ran out. The search begins with the
+        known part of it.
+        """
         room = self.case(script)
-        told = Told(list(first.replies), list(first.account))
+        result = Result(list(first.replies), list(first.account))
         for _ in range(MOST_LOOKS):
-            line, _ = self.serve(room, told, refused)
+            line, _ = self.serve(room, result, refused)
             found = DIFFERS.fullmatch(line)
             if not found:
                 demand(ELSEWHERE.fullmatch(line) or NO_HARNESS.fullmatch(line), f"{line!r} in {room}")
                 shutil.rmtree(room)
-                return None if NO_HARNESS.fullmatch(line) or NO_WRITER in told.account else told
+                return None if NO_HARNESS.fullmatch(line) or NO_WRITER in result.account else result
             place, got = int(found[1]) - 1, unescaped(found[4])
             if found[2]:
-                told.account = mend(told.account, place, got)
+                result.account = mend(result.account, place, got)
             else:
-                told.replies = mend(told.replies, place, got)
+                result.replies = mend(result.replies, place, got)
         raise Difference(f"no end of differences, in {room}")
 
     def count(self, script):
-        """How many allocations a script makes, served once."""
+        """The number of allocations of a script that is served once."""
         room = self.case(script)
-        _, count = self.serve(room, Told(["no reply"], []), 0)
+        _, count = self.serve(room, Result(["no reply"], []), 0)
         shutil.rmtree(room)
         return count
 
@@ -193,7 +193,7 @@ def in_runs(commands):
 
 
 def with_rounds(place):
-    """The script with the jobs listed behind a command, and with further rounds."""
+    """The script with the jobs listed after a command, and with further rounds."""
     return in_one_run([*STORY[: place + 1], "jobs", *AGAIN, *STORY[place + 1:]])
 
 
@@ -205,8 +205,8 @@ def given_twice(place):
     return [*STORY[: place + 1], *STORY[place:]]
 
 
-def with_line(told, place, line):
-    return Told([*told.replies[:place], line, *told.replies[place:]], told.account)
+def with_line(result, place, line):
+    return Result([*result.replies[:place], line, *result.replies[place:]], result.account)
 
 
 def job_lines(replies):
@@ -214,74 +214,74 @@ def job_lines(replies):
 
 
 def pages_in(replies):
-    """How many pages each listed job has: one for each stage that was ended."""
+    """The number of pages of each listed job: one for each stage that was ended."""
     return [int(re.fullmatch(r'job .* "\w+" \d+ (\d+) ".*"', line)[1]) for line in job_lines(replies)]
 
 
-# ---- what has to come of them
+# ---- the required results
 
 class Trial:
-    """All that is tried of the script in one form, and what comes of it with nothing refused."""
+    """All trials of the script in one form, and its result without a refusal."""
 
     def __init__(self, bench):
         self.bench = bench
-        self.usual = bench.told(in_one_run(STORY))
-        self.runs = bench.told(in_runs(STORY), first=self.usual)
-        self.shorter = [bench.told(in_one_run(without(place)), first=self.usual) for place in range(len(STORY))]
-        self.before = {place: bench.told(STORY[:place] + ["jobs"], first=self.usual) for place in ROUNDS}
-        self.rounds = {place: bench.told(with_rounds(place), first=self.usual) for place in ROUNDS}
+        self.usual = bench.result_of(in_one_run(STORY))
+        self.runs = bench.result_of(in_runs(STORY), first=self.usual)
+        self.shorter = [bench.result_of(in_one_run(without(place)), first=self.usual) for place in range(len(STORY))]
+        self.before = {place: bench.result_of(STORY[:place] + ["jobs"], first=self.usual) for place in ROUNDS}
+        self.rounds = {place: bench.result_of(with_rounds(place), first=self.usual) for place in ROUNDS}
         demand(all(line.startswith("ok") for line in self.usual.replies[: len(STORY)]), f"usually {self.usual.replies}")
         demand(self.runs == self.usual, f"in runs {self.runs}, not {self.usual}")
 
-    def check_stages(self, told):
-        """No stage was ordered twice, and one job at most ended in another way than usual."""
-        stages = told.stages()
+    def check_stages(self, result):
+        """No stage was ordered twice, and at most one job ended differently than usual."""
+        stages = result.stages()
         demand(len(stages) == len(set(stages)), f"a stage was ordered twice: {stages}")
         usual = job_lines(self.usual.replies)[-2:]
-        other = [line for line in job_lines(told.replies)[-2:] if line not in usual]
-        demand(len(other) <= 1, f"more than one job ended in another way: {other}")
+        other = [line for line in job_lines(result.replies)[-2:] if line not in usual]
+        demand(len(other) <= 1, f"more than one job ended differently: {other}")
 
     def one_run(self, refused):
-        """A script in one run. Whether something was refused that this form is about."""
-        told = self.bench.told(in_one_run(STORY), refused, self.usual)
-        if told is None or NO_RUN in told.account:
+        """A script in one run. Returns whether an allocation was refused that this form tests."""
+        result = self.bench.result_of(in_one_run(STORY), refused, self.usual)
+        if result is None or NO_RUN in result.account:
             return False
-        replies = told.replies[: len(STORY)]
+        replies = result.replies[: len(STORY)]
         if MEMORY not in replies:
-            self.check_stages(told)
-            return told != self.usual
+            self.check_stages(result)
+            return result != self.usual
         place = replies.index(MEMORY)
         if place in ROUNDS:
             return False
         wanted = with_line(self.shorter[place], place, MEMORY)
-        demand(told == wanted, f"{STORY[place]!r} was answered {MEMORY}, and then came {told}, not {wanted}")
-        again = self.bench.told(in_one_run(given_twice(place)), refused, with_line(self.usual, place, MEMORY))
-        demand(again == with_line(self.usual, place, MEMORY), f"{STORY[place]!r} given again: {again}")
+        demand(result == wanted, f"{STORY[place]!r} got the reply {MEMORY}, followed by {result}, not {wanted}")
+        again = self.bench.result_of(in_one_run(given_twice(place)), refused, with_line(self.usual, place, MEMORY))
+        demand(again == with_line(self.usual, place, MEMORY), f"{STORY[place]!r} repeated: {again}")
         return True
 
     def rounds_again(self, place, refused):
-        """A round or a drain with further ones: whether no stage ended by it, and nothing where it had its memory."""
-        told = self.bench.told(with_rounds(place), refused, self.rounds[place])
-        if told is None or told.replies[place:place + 1] != [MEMORY]:
+        """A round or a drain with further ones: whether no stage was ended by it, and None if it had its memory."""
+        result = self.bench.result_of(with_rounds(place), refused, self.rounds[place])
+        if result is None or result.replies[place:place + 1] != [MEMORY]:
             return None
-        self.check_stages(told)
+        self.check_stages(result)
         before = pages_in(self.before[place].replies)
-        return pages_in(told.replies)[: len(before)] == before
+        return pages_in(result.replies)[: len(before)] == before
 
     def further_runs(self, refused):
-        """A script in a run for each command. Whether a run ended."""
-        told = self.bench.told(in_runs(STORY), refused, self.runs)
-        if told is None or NO_RUN not in told.account:
+        """A script in a run for each command. Returns whether a run ended."""
+        result = self.bench.result_of(in_runs(STORY), refused, self.runs)
+        if result is None or NO_RUN not in result.account:
             return False
         usual = self.usual
-        done = [Told([*usual.replies[:place], *usual.replies[place + 1:]], usual.account) for place in range(len(STORY))]
-        done += [Told(usual.replies[:place], usual.account) for place in range(len(STORY), len(usual.replies))]
-        demand(told.without_run() in [*done, *self.shorter], f"a run ended, and then came {told}")
+        done = [Result([*usual.replies[:place], *usual.replies[place + 1:]], usual.account) for place in range(len(STORY))]
+        done += [Result(usual.replies[:place], usual.account) for place in range(len(STORY), len(usual.replies))]
+        demand(result.without_run() in [*done, *self.shorter], f"a run ended, followed by {result}")
         return True
 
 
 def tried(pool, task, numbers, *words):
-    """What comes of a trial for each number."""
+    """The results of a trial for each number."""
     runs = {number: pool.submit(task, *words, number) for number in numbers}
     done = []
     for number, run in runs.items():
@@ -293,7 +293,7 @@ def tried(pool, task, numbers, *words):
 
 
 def all_passed(bench, every):
-    """How many refusals were seen in each form."""
+    """The number of refusals that were seen in each form."""
     trial = Trial(bench)
     with concurrent.futures.ThreadPoolExecutor(AT_ONCE) as pool:
         numbers = range(1, bench.count(in_one_run(STORY)) + 1, every)
@@ -302,11 +302,11 @@ def all_passed(bench, every):
         for place in ROUNDS:
             numbers = range(1, bench.count(with_rounds(place)) + 1, every)
             seen = [idle for idle in tried(pool, trial.rounds_again, numbers, place) if idle is not None]
-            demand(sum(seen) <= LISTED, f"{sum(seen)} refusals kept both queues where they were in {STORY[place]!r}")
+            demand(sum(seen) <= LISTED, f"{sum(seen)} refusals kept both queues unchanged in {STORY[place]!r}")
             rounds += len(seen)
         numbers = range(1, bench.count(in_runs(STORY)) + 1, every)
         runs = sum(tried(pool, trial.further_runs, numbers))
-    demand(events and rounds and runs, f"refused {events}, {rounds} and {runs} times: in each form some have to be")
+    demand(events and rounds and runs, f"refused {events}, {rounds} and {runs} times: in each form some must be")
     return events, rounds, runs
 
 
@@ -315,7 +315,7 @@ def main():
     words.add_argument("scripts", nargs="?", default=BUILT)
     words.add_argument("--every", type=int, default=1)
     asked = words.parse_args()
-    # In memory, where files cost nothing.
+    # A folder in memory: files cost little there.
     folder = tempfile.mkdtemp(prefix="refused-", dir="/dev/shm" if os.path.isdir("/dev/shm") else None)
     library = os.path.join(folder, "count.so")
     subprocess.run(["gcc", "-shared", "-fPIC", "-O1", "-o", library, SOURCE], check=True)

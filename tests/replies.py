@@ -1,21 +1,20 @@
 #!/usr/bin/env python3
-"""Serves the stored scripts as one who waits for each reply: replies.py [SHELL]
+"""Serves the stored scripts to a client that waits for each reply before the next command: replies.py [SHELL]
 
-SHELL is the program, and crates/spool_shell/out/spool_shell (made by `rt run` in that folder) where none is given.
+SHELL is the program; the default is crates/spool_shell/out/spool_shell (built by `rt run` in that crate).
 
-A writer of commands may wait for the reply to one before it writes the next. No clause says when a reply comes, and a script
-from a file is answered at its end just as well. So this gives the program a command of crates/spool_scripts/data only once
-the reply to the last one was read; a send is given with its bytes. The replies have to be those that are stored, and each
-has to come within SECONDS.
+A client may wait for the reply to a command before it writes the next. No contract clause says when a reply is written, and a script from a
+file gets correct replies even if they are all written at its end. So this script sends each command of crates/spool_scripts/data only after
+the reply to the last one was read; a send is written with its bytes. The replies must be the stored ones, and each must arrive within
+SECONDS.
 
-A line has one reply line. `jobs` and `queues` have more, up to a line `ok N`. Empty lines and remarks have none. At `# reopen`
-the input ends, and the program is started again on the same folder. What stands behind the last line feed is given with the
-end of the input.
+A command has a reply of one line. `jobs` and `queues` have more, up to a line `ok N`. Empty lines and comments have none. At `# reopen` the
+input ends, and the program is started again on the same folder. Text after the last line feed is written with the end of the input.
 
-A spool that is shorter than the program makes one is written before.
+A spool that is shorter than the program creates one is written before.
 
-The scripts whose children, disk or limits are made up aren't served. The last line is `all N scripts`, with status 0, or `N
-differ`, with status 1.
+Scripts whose children, disk or limits are simulated are not served. The last line is `all N scripts`, with status 0, or `N differ`, with
+status 1.
 """
 import concurrent.futures
 import os
@@ -38,11 +37,11 @@ AT_ONCE = 8
 
 
 class Difference(Exception):
-    """A reply isn't what it has to be, or doesn't come."""
+    """A reply is not the expected one, or does not arrive."""
 
 
 class Program:
-    """The program, with what it has written so far."""
+    """The program, with its output so far."""
 
     def __init__(self, words):
         pipe = subprocess.PIPE
@@ -59,14 +58,14 @@ class Program:
             raise Difference(f"it ended before {text[:60]!r}") from None
 
     def read_on(self, until):
-        """Takes more of what is written, until a moment."""
+        """Reads more of the output, until a moment."""
         ready, _, _ = select.select([self.process.stdout], [], [], max(0, until - time.monotonic()))
         more = os.read(self.process.stdout.fileno(), 65_536) if ready else b""
         self.text += more
         return bool(more)
 
     def read_lines(self, number):
-        """So many lines of what is written."""
+        """The next `number` lines of the output."""
         until = time.monotonic() + SECONDS
         while self.text.count(b"\n") < number and self.read_on(until):
             pass
@@ -75,12 +74,12 @@ class Program:
         return lines[:number]
 
     def read_rest(self):
-        """What is written until the end of its output, which has to come."""
+        """The output up to its end, which must occur."""
         until = time.monotonic() + SECONDS
         while self.read_on(until):
             pass
         if time.monotonic() >= until:
-            raise Difference("it doesn't end with its input")
+            raise Difference("it does not end with its input")
         return stored_scripts.lines_of(self.text)
 
     def end(self):
@@ -92,7 +91,7 @@ class Program:
 
 
 def serve_part(words, part, stored):
-    """Serves a part of a script, and gives the stored replies that are left."""
+    """Serves a part of a script, and returns the stored replies that are left."""
     program = Program(words)
     try:
         for text, is_answered, command in stored_scripts.commands(part):
@@ -116,7 +115,7 @@ def serve_part(words, part, stored):
 
 
 def serve(name, root):
-    """Serves a script over a new spool in a folder that isn't there yet, and says what differs."""
+    """Serves a script over a new spool in a folder that does not exist yet, and returns the difference."""
     words = [shell, *stored_scripts.words_of(name, root)]
     stored = stored_scripts.lines_of(stored_scripts.stored_file(name, "replies"))
     try:
@@ -132,7 +131,7 @@ def serve(name, root):
 def main():
     names = stored_scripts.names()
     with tempfile.TemporaryDirectory() as room, concurrent.futures.ThreadPoolExecutor(AT_ONCE) as pool:
-        # Numbers, since the folder of a spool has 64 bytes at most, and names are long.
+        # Numbers, because the folder of a spool has 64 bytes at most, and names are long.
         roots = [os.path.join(room, str(number)) for number in range(len(names))]
         differing = [line for line in pool.map(serve, names, roots) if line]
     for line in differing:

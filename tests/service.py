@@ -1,25 +1,25 @@
 #!/usr/bin/env python3
 """Runs the service with real clients and children: service.py [--long] [--list] [SERVICE [TEST..]]
 
-SERVICE is the program, and crates/spool_service/out/spool_service (made by `rt run` in that folder) where none is given. No clause
-can say what a socket, a child or a clock does, so these are the tests of the loop. Each TEST is the name of a function of
-the files beside this one, or of one of these files; without one all are run. --list prints their names.
+SERVICE is the program; the default is crates/spool_service/out/spool_service (built by `rt run` in that crate). No contract clause
+describes sockets, children or the clock, so these are the tests of the loop. Each TEST is the name of a function in the files next to this
+one, or of one of these files; without one all are run. --list prints their names.
 
-| File | What it tries |
+| File | Tests |
 |---|---|
-| service_words.py | the words of the service alone (`job`, `wait`, `watch`, `shutdown`), its socket, and its end |
-| service_clients.py | clients that stall, flood, never read, come too many, and are cut at each byte |
+| service_words.py | the commands that only the service has (`job`, `wait`, `watch`, `shutdown`), its socket, and its end |
+| service_clients.py | clients that stall, flood, never read, are too many, and are cut off at each byte |
 | service_children.py | children that are slow, hang and are ended, how many run at once, and a full folder |
 | service_crashes.py | a service that is killed, also at random, and the files that a power cut leaves |
-| service_office.py | the clock, the housekeeping, a day of an office in fast motion, and thousands of jobs |
+| service_office.py | the clock, the maintenance, a day of an office in fast motion, and thousands of jobs |
 
-The backends are small programs of sh in a fresh folder for each test. Some tests take long by what they are, and have fewer
-turns unless --long is given, or SERVICE_LONG is set: with it the service is killed 1,000 times, prints 10,000 jobs, and has 2,000
-files of power cuts; that takes an hour or more, and else some five to seven minutes. What wants root, strace, gcc or the built
-spool_shell is left out where that isn't there, and told as `left out`. Times are told, not judged.
+The backends are small programs of sh in a fresh folder for each test. Some tests take long, and are shorter unless --long is given, or
+SERVICE_LONG is set: with it the service is killed 1,000 times, prints 10,000 jobs, and has 2,000 files of power cuts. That takes an hour or
+more, and otherwise about five to seven minutes. Tests that need root, strace, gcc or the built spool_shell are skipped if that is missing,
+and reported as `left out`. Times are printed and not checked.
 
-The last line is `N of N`, with what was left out, and status 0; or how many failed, with status 1. The folder of a test that failed
-stays then, and is named.
+The last line is `N of N`, with the number left out, and status 0; or the number that failed, with status 1. The folder of a test that
+failed is kept then, and its path is printed.
 """
 import os
 import sys

@@ -1,11 +1,11 @@
-"""Tests of children: what one of them does holds up neither clients nor other queues. See tests/service.py."""
+"""Tests of children: no child delays clients or other queues. See tests/service.py."""
 import os
 import subprocess
 import time
 
-from service_parts import Client, Skipped, holds, listings, same, timed, told, until
+from service_parts import Client, Skipped, holds, listings, print_times, same, timed, until
 
-# A backend that writes its process's number and hangs, with a child of its own.
+# A backend that writes its process number and hangs, with a child of its own.
 HANGS = """#!/bin/sh
 echo $$ >>FOLDER/pids
 sleep 1000 &
@@ -13,14 +13,14 @@ echo $! >>FOLDER/pids
 wait
 """
 
-# The same, and SIGTERM doesn't end it.
+# The same, and SIGTERM does not end it.
 STAYS = """#!/bin/sh
 trap '' TERM
 echo $$ >>FOLDER/pids
 while :; do sleep 1; done
 """
 
-# A backend that tells when it begins and ends.
+# A backend that reports its start and its end.
 BOUNDED = """#!/bin/sh
 echo "begins $PRINTER" >>FOLDER/turns
 sleep 0.1
@@ -39,7 +39,7 @@ def a_job_prints_while_a_slow_one_does(folder):
     fast = client.submit("fast", "fast\n")
     client.until_state(fast, "9")
     print(f"  a job of another queue was printed {(time.time() - began) * 1000:.0f} ms after its create")
-    told("listings while a child runs", listings(client))
+    print_times("listings while a child runs", listings(client))
     work, began = folder.work(), time.time()
     time.sleep(1)
     print(f"  processor time while a child runs: {(folder.work() - work) / (time.time() - began):.0f} ms a second")
@@ -48,8 +48,8 @@ def a_job_prints_while_a_slow_one_does(folder):
     same("printed", folder.printed(), "fast\nslow\n")
 
 
-def no_more_than_two_at_once(folder):
-    """With --children 2 no third child runs, and each of eight queues has its turn."""
+def at_most_two_at_once(folder):
+    """With --children 2 no third child runs, and each of eight queues gets its turn."""
     folder.backend("bounded", BOUNDED)
     folder.start("--children", "2")
     client = Client(folder)
@@ -69,15 +69,15 @@ def no_more_than_two_at_once(folder):
         begun += [name] if word == "begins" else []
     turns = [[at for at, other in enumerate(begun) if other == name] for name in names]
     print(f"  at most {most} children ran at once; first turns {[turn[0] for turn in turns]}")
-    same("how many are left", running, 0)
-    holds("no more than two ran at once", most <= 2)
+    same("the number of remaining jobs", running, 0)
+    holds("at most two ran at once", most <= 2)
     same("the jobs of each queue", [len(turn) for turn in turns], [4] * 8)
     # Each queue has had a turn before any has its third.
     holds("all queues have their turn", max(turn[0] for turn in turns) < min(turn[2] for turn in turns))
 
 
 def a_child_that_hangs(folder):
-    """It holds neither a hundred jobs beside it nor a client, and `end` ends it with all that it has started."""
+    """It delays neither a hundred jobs of other queues nor a client, and `end` ends it with all processes that it has started."""
     folder.backend("hangs", HANGS)
     folder.start()
     client = Client(folder)
@@ -89,7 +89,7 @@ def a_child_that_hangs(folder):
     began = time.time()
     jobs = [client.submit(f"q{number % 4}", f"{number}\n") for number in range(100)]
     client.until_ended(jobs, "9", 120)
-    print(f"  100 jobs beside it were printed in {time.time() - began:.2f} s")
+    print(f"  100 jobs of other queues were printed in {time.time() - began:.2f} s")
     same("printed", len(folder.printed().split()), 100)
     same("it hangs", (client.state(stuck)[0], client.state(next_one)[0]), ("5", "3"))
     pids = started(folder, 2)
@@ -98,14 +98,14 @@ def a_child_that_hangs(folder):
     same("of no job", client.ask("end 999999\n"), "error job")
     same("its end", client.ask(f"end {stuck}\n"), "ok")
     print(f"  its job ended {timed(lambda: client.until_state(stuck, '8')):.2f} s later")
-    until("all that it had started is gone", lambda: not any(is_there(pid) for pid in pids), 5)
+    until("all processes that it had started have ended", lambda: not any(is_there(pid) for pid in pids), 5)
     client.until_state(next_one, "5")
     same("another end", client.ask(f"end {next_one}\n"), "ok")
     client.until_state(next_one, "8")
 
 
 def a_child_of_a_canceled_job(folder):
-    """It keeps its queue until it has ended, and is ended by `end` as well."""
+    """It blocks its queue until it has ended, and is ended by `end` as well."""
     folder.backend("hangs", HANGS)
     folder.start()
     client = Client(folder)
@@ -119,10 +119,10 @@ def a_child_of_a_canceled_job(folder):
     same("the next one waits", client.state(second)[0], "3")
     same("end", client.ask(f"end {first}\n"), "ok")
     client.until_state(second, "5")
-    same("what had been started is gone", [pid for pid in pids if is_there(pid)], [])
+    same("all processes that it had started have ended", [pid for pid in pids if is_there(pid)], [])
     same("the canceled one", client.state(first), "7 canceled")
-    same("purge behind its end", client.ask(f"purge {first}\n"), "ok")
-    same("an end of what was purged", client.ask(f"end {first}\n"), "error job")
+    same("purge after its end", client.ask(f"purge {first}\n"), "ok")
+    same("an end of a purged job", client.ask(f"end {first}\n"), "error job")
     same("the other end", client.ask(f"end {second}\n"), "ok")
 
 
@@ -137,22 +137,22 @@ def a_child_that_ignores_its_end(folder):
     began = time.time()
     same("end", client.ask(f"end {job}\n"), "ok")
     same("again", client.ask(f"end {job}\n"), "ok")
-    told("listings meanwhile", listings(other))
+    print_times("listings meanwhile", listings(other))
     client.until_state(job, "8")
     took = time.time() - began
     print(f"  it ended {took:.1f} s after it was asked to")
     holds("ten seconds later", 9 < took < 15)
-    same("it is gone", [pid for pid in pids if is_there(pid)], [])
+    same("it has ended", [pid for pid in pids if is_there(pid)], [])
 
 
 def started(folder, count):
-    """The numbers of the processes that a backend has written down."""
+    """The process numbers that a backend has written."""
     until("its processes", lambda: len(folder.read("pids").split()) >= count)
     return [int(word) for word in folder.read("pids").split()]
 
 
 def is_there(pid):
-    """Whether a process runs. One that has ended and that nobody has waited for doesn't."""
+    """Whether a process runs. A process that has ended and that no parent has waited for does not."""
     try:
         with open(f"/proc/{pid}/stat") as file:
             return file.read().rsplit(") ", 1)[1][0] != "Z"
@@ -160,7 +160,7 @@ def is_there(pid):
         return False
 
 
-# A backend that asks ten times for its device's state, with a little time between.
+# A backend that asks ten times for its device's state, with a short delay between.
 ASKS = """#!/usr/bin/python3 -ES
 import os, socket, time
 line = socket.socket(socket.AF_UNIX, socket.SOCK_STREAM)
@@ -194,7 +194,7 @@ def with_side_channels(folder):
 
 
 def a_child_with_a_side_channel(folder):
-    """It is ended too, though its session is begun by another process."""
+    """It is ended too, although another process starts its session."""
     with_side_channels(folder)
     folder.backend("hangs", HANGS)
     folder.start()
@@ -204,11 +204,11 @@ def a_child_with_a_side_channel(folder):
     pids = started(folder, 2)
     same("end", client.ask(f"end {job}\n"), "ok")
     client.until_state(job, "8")
-    until("all that it had started is gone", lambda: not any(is_there(pid) for pid in pids), 5)
+    until("all processes that it had started have ended", lambda: not any(is_there(pid) for pid in pids), 5)
 
 
 def a_child_that_asks_while_it_runs(folder):
-    """The side channels are served beside the clients: a child that waits for an answer doesn't hang."""
+    """The side channels are served together with the clients: a child that waits for an answer does not hang."""
     with_side_channels(folder)
     folder.backend("asks", ASKS)
     folder.start()
@@ -220,7 +220,7 @@ def a_child_that_asks_while_it_runs(folder):
 
 
 def few_descriptors(folder):
-    """Where the system has few descriptors for it, fewer children run at once, and no job loses an attempt."""
+    """If the system has few descriptors for the service, fewer children run at once, and no job loses an attempt."""
     folder.limit_descriptors(64)
     folder.start()
     client = Client(folder)
@@ -229,7 +229,7 @@ def few_descriptors(folder):
         folder.queue(client, name, 0.3, "abort-job")
     jobs = [client.submit(name) for _ in range(3) for name in names]
     until("all have ended", lambda: all(state[0] in "789" for state in client.states().values()), 120)
-    same("those that weren't printed", [job for job, state in client.states().items() if state[0] != "9"], [])
+    same("jobs that were not printed", [job for job, state in client.states().items() if state[0] != "9"], [])
     same("their attempts", {client.fields(job)["attempts"] for job in jobs}, {"1"})
 
 
@@ -238,7 +238,7 @@ def a_full_folder(folder):
     root = folder.at("spool")
     mounted = subprocess.run(["mount", "-t", "tmpfs", "-o", "size=24m", "none", root], capture_output=True, text=True)
     if mounted.returncode:
-        raise Skipped("a file system of its own (it wants root, and may not mount one)")
+        raise Skipped("a file system of its own (it needs root, and may not mount one)")
     try:
         folder.start()
         client = Client(folder)
@@ -246,12 +246,12 @@ def a_full_folder(folder):
         folder.queue(client, "other", policy="retry-job")
         client.until_state(client.submit("q", "before\n"), "9")
         fill(os.path.join(root, "filler"))
-        # Room that was seen counts as there for a moment.
+        # Free space that was seen is relied on for a moment.
         time.sleep(0.2)
         jobs = [client.submit(name, f"{name}\n") for name in ("q", "other", "q", "other")]
         time.sleep(10 if folder.is_long else 3)
         same("they wait", [(client.state(job), client.fields(job)["attempts"]) for job in jobs], [("3 none", "0")] * 4)
-        told("listings meanwhile", listings(client))
+        print_times("listings meanwhile", listings(client))
         os.remove(os.path.join(root, "filler"))
         print(f"  printed {timed(lambda: client.until_ended(jobs)):.2f} s after there was room again")
         same("each by one attempt", [client.fields(job)["attempts"] for job in jobs], ["1"] * 4)
@@ -274,7 +274,7 @@ def fill(path):
 
 TESTS = [
     a_job_prints_while_a_slow_one_does,
-    no_more_than_two_at_once,
+    at_most_two_at_once,
     a_child_that_hangs,
     a_child_of_a_canceled_job,
     a_child_that_ignores_its_end,

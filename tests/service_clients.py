@@ -1,5 +1,4 @@
-"""Tests of clients: what one of them does, or leaves undone, holds nobody else up, and costs the service no more than its place.
-See tests/service.py."""
+"""Tests of clients: no client delays another one, and each uses at most the memory of its slot. See tests/service.py."""
 import random
 import resource
 import select
@@ -8,10 +7,10 @@ import socket
 import threading
 import time
 
-from service_parts import Client, Difference, LONGEST, at_once, holds, listings, patient_client, same, told, until
+from service_parts import Client, Difference, LONGEST, at_once, holds, listings, patient_client, print_times, same, until
 
-# How many places there are.
-PLACES = 64
+# The number of slots.
+SLOTS = 64
 
 BUSY = "error busy"
 
@@ -25,7 +24,7 @@ def a_client_that_stalls_in_a_send(folder):
     folder.queue(client, "q")
     job = client.create("q")
     client.say(b"send %d 60000\n" % job + b"y" * 30_000)
-    told("listings beside it", listings(other))
+    print_times("listings meanwhile", listings(other))
     other.until_state(other.submit("q", "other\n"), "9")
     client.close()
     time.sleep(0.2)
@@ -38,21 +37,21 @@ def a_client_that_never_reads(folder):
     client, other = Client(folder), Client(folder)
     for name in range(20):
         folder.queue(other, f"q{name}")
-    client.line.settimeout(2)
+    client.connection.settimeout(2)
     sent = 0
     try:
         while sent < 40_000_000:
-            sent += client.line.send(b"queues\n" * 1_000)
+            sent += client.connection.send(b"queues\n" * 1_000)
     except TimeoutError:
         pass
     print(f"  it could send {sent} bytes")
-    holds("it was held up", sent < 2_000_000)
-    told("listings beside it", listings(other))
+    holds("it had to wait", sent < 2_000_000)
+    print_times("listings meanwhile", listings(other))
     # It has lost nothing: once it reads, it gets each reply.
-    client.line.settimeout(LONGEST)
-    client.line.shutdown(socket.SHUT_WR)
+    client.connection.settimeout(LONGEST)
+    client.connection.shutdown(socket.SHUT_WR)
     got = []
-    while piece := client.line.recv(1_000_000):
+    while piece := client.connection.recv(1_000_000):
         got.append(piece)
     replies = b"".join(got)
     print(f"  its replies, read in the end: {len(replies)} bytes; memory of the service {folder.memory()} kB")
@@ -60,18 +59,18 @@ def a_client_that_never_reads(folder):
 
 
 def a_client_that_reads_slowly(folder):
-    """It always leaves something unread. Of what it has taken nothing is kept."""
+    """It always leaves some bytes unread. The service frees the replies that it has read."""
     folder.start()
     client, other = Client(folder), Client(folder)
     for name in range(50):
         folder.queue(other, f"q{name:02}")
-    client.line.setsockopt(socket.SOL_SOCKET, socket.SO_RCVBUF, 4_096)
+    client.connection.setsockopt(socket.SOL_SOCKET, socket.SO_RCVBUF, 4_096)
     stop = threading.Event()
 
     def ask():
         try:
             while not stop.is_set():
-                client.line.send(b"queues\n" * 100)
+                client.connection.send(b"queues\n" * 100)
         except OSError:
             pass
 
@@ -80,12 +79,12 @@ def a_client_that_reads_slowly(folder):
     time.sleep(0.5)
     before, got, began = folder.memory(), 0, time.time()
     while got < 20_000_000 and time.time() - began < 15:
-        got += len(client.line.recv(20_000))
+        got += len(client.connection.recv(20_000))
     after, took = folder.memory(), time.time() - began
     stop.set()
-    client.line.shutdown(socket.SHUT_RDWR)
+    client.connection.shutdown(socket.SHUT_RDWR)
     thread.join()
-    # Under an address sanitizer what was let go is kept for a while, so memory is only told.
+    # Under an address sanitizer freed memory is kept for a while, so the memory is only printed.
     print(f"  it took {got} bytes in {took:.1f} s; memory before {before} kB, after {after} kB")
 
 
@@ -99,7 +98,7 @@ def a_flood(folder):
             flooder.say(b"cancel 999999\n" * 200)
             got = 0
             while got < 200:
-                got += flooder.line.recv(65_536).count(b"\n")
+                got += flooder.connection.recv(65_536).count(b"\n")
             done[0] += 200
 
     thread = threading.Thread(target=flood)
@@ -107,7 +106,7 @@ def a_flood(folder):
     try:
         began = time.time()
         times = listings(other, 100)
-        told(f"listings beside {done[0] / (time.time() - began):.0f} commands/s of another client", times)
+        print_times(f"listings during {done[0] / (time.time() - began):.0f} commands/s of another client", times)
     finally:
         stop.set()
         thread.join()
@@ -120,31 +119,31 @@ def a_client_that_leaves_while_it_waits(folder):
     job = client.create("q")
     time.sleep(0.2)
     before = folder.descriptors()
-    others = [Client(folder) for _ in range(PLACES - 1)]
+    others = [Client(folder) for _ in range(SLOTS - 1)]
     for other in others:
         other.say(f"wait {job}\n")
-    until("all have a place", lambda: folder.descriptors() == before + PLACES - 1)
+    until("all have a slot", lambda: folder.descriptors() == before + SLOTS - 1)
     for other in others:
         other.close()
-    until("their places are free", lambda: folder.descriptors() == before, 5)
+    until("their slots are free", lambda: folder.descriptors() == before, 5)
     same("another one", Client(folder).ask(f"job {job}\n"), f"job {job}")
 
 
 def an_end_of_text(folder):
     folder.start()
     client = Client(folder)
-    # A line without its line feed is no command: whoever sent it may have been killed.
+    # A line without its line feed is no command: its sender may have been killed.
     client.say("queues\nqueues\nshutdown")
-    client.line.shutdown(socket.SHUT_WR)
+    client.connection.shutdown(socket.SHUT_WR)
     same("both are answered", (client.reply(), client.reply(), client.is_closed()), ("ok 0", "ok 0", True))
-    same("it serves on", Client(folder).ask("queues\n"), "ok 0")
+    same("it continues to serve", Client(folder).ask("queues\n"), "ok 0")
 
 
-# ---- cut at each byte
+# ---- cut off at each byte
 
 
 def conversation(job):
-    """The commands about a job that is to be made, each with its replies."""
+    """The commands about a new job, each with its replies."""
     row = f'job {job} q 3 none "u" 24 0 "t"'
     return [
         ('create q u "t" 1 50 ""\n', [f"ok job {job}"]),
@@ -160,7 +159,7 @@ def conversation(job):
 
 
 def cut_at_each_byte(folder):
-    """A conversation in two pieces, with another client's command between them, has its replies wherever it is cut."""
+    """A session in two pieces, with another client's command between them, gets its replies wherever it is split."""
     folder.start()
     client, other = Client(folder), Client(folder)
     folder.queue(other, "q")
@@ -182,12 +181,12 @@ def text_of(said):
     return "".join(text for text, _ in said)
 
 
-# What is so of the job after each of the commands: its state, and the bytes of its document.
+# The state of the job after each of the commands, and the bytes of its document.
 AFTER = [None, ("4", "0"), ("4", "12"), ("4", "24"), ("4", "24"), ("4", "24"), ("4", "24"), ("3", "24"), ("7", "24"), ("7", "24")]
 
 
-def left_at_each_byte(folder):
-    """A client that leaves within a command has done nothing by it, and what it was answered is there."""
+def disconnected_at_each_byte(folder):
+    """A client that disconnects within a command has changed nothing by it, and its acknowledged changes are in the spool."""
     folder.start()
     other = Client(folder)
     folder.queue(other, "q")
@@ -195,7 +194,7 @@ def left_at_each_byte(folder):
     time.sleep(0.2)
     cut, job, before = 0, 1, folder.descriptors()
     while cut <= len(text_of(conversation(job))):
-        whole = leave_at(folder, job, cut)
+        whole = disconnect_at(folder, job, cut)
         until("its descriptor is closed", lambda: folder.descriptors() <= before)
         state = found(other, job)
         same(f"left at byte {cut}", state, AFTER[whole])
@@ -203,8 +202,10 @@ def left_at_each_byte(folder):
     print(f"  {cut} cuts")
 
 
-def leave_at(folder, job, cut):
-    """A client says so many bytes, takes the replies that it is owed, and leaves. How many of its commands were whole."""
+def disconnect_at(folder, job, cut):
+    """A client sends the first `cut` bytes, reads the replies that it is owed, and disconnects. Returns how many of its commands were
+    complete.
+    """
     client, said, whole, length = Client(folder), conversation(job), 0, 0
     client.say(text_of(said)[:cut])
     for text, lines in said:
@@ -241,14 +242,14 @@ def fifty_clients_at_once(folder):
 
     began = time.time()
     at_once([lambda number=number: print_one(number) for number in range(50)])
-    told("jobs accepted from clients at once", times)
+    print_times("jobs accepted from clients at once", times)
     print(f"  all were printed after {time.time() - began:.2f} s")
     same("printed", sorted(folder.printed().split(), key=int), [str(number) for number in range(50)])
 
 
 def the_65th_connection(folder):
     folder.start()
-    clients = [Client(folder) for _ in range(PLACES)]
+    clients = [Client(folder) for _ in range(SLOTS)]
     for client in clients:
         same("a reply", client.ask("queues\n"), "ok 0")
     late = Client(folder)
@@ -256,22 +257,22 @@ def the_65th_connection(folder):
     clients[5].close()
     time.sleep(0.2)
     late = Client(folder)
-    same("a place that is free again", late.ask("queues\n"), "ok 0")
+    same("a slot that is free again", late.ask("queues\n"), "ok 0")
     time.sleep(10.2)
     for client in clients[:5] + clients[6:]:
         if client is not clients[40]:
             same("a reply", client.ask("queues\n"), "ok 0")
     same("a reply", late.ask("queues\n"), "ok 0")
     another = Client(folder)
-    same("the 65th, beside one idle for 10 s", another.ask("queues\n"), "ok 0")
+    same("the 65th, with a client idle for 10 s", another.ask("queues\n"), "ok 0")
     same("the idle one", clients[40].is_closed(), True)
     same("another one", clients[0].ask("queues\n"), "ok 0")
 
 
-def those_who_listen_stay(folder):
-    """One that waits for a job, or watches, and takes what it is told, doesn't go for another one."""
+def waiting_clients_stay_connected(folder):
+    """A client that waits for a job, or watches, and reads its replies, is not disconnected for another one."""
     folder.start()
-    clients = [Client(folder) for _ in range(PLACES)]
+    clients = [Client(folder) for _ in range(SLOTS)]
     folder.queue(clients[0], "q")
     job = clients[0].create("q")
     waiting, watching, silent = clients[20], clients[30], clients[40]
@@ -283,31 +284,31 @@ def those_who_listen_stay(folder):
             same("a reply", len(client.listing("queues\n")), 1)
     another = Client(folder)
     same("the 65th", len(another.listing("queues\n")), 1)
-    same("the one that said nothing", silent.is_closed(), True)
+    same("the silent client", silent.is_closed(), True)
     late = Client(folder)
     same("one more", (late.reply(), late.is_closed()), (BUSY, True))
     same("cancel", clients[0].ask(f"cancel {job}\n"), "ok")
-    same("the one that waits", waiting.reply().split()[:2], ["job", str(job)])
-    same("the one that watches", watching.reply().split()[:2], ["job", str(job)])
+    same("the waiting client", waiting.reply().split()[:2], ["job", str(job)])
+    same("the watching client", watching.reply().split()[:2], ["job", str(job)])
 
 
-def a_crowd_at_the_door(folder):
-    """Those who came while the service was stopped are all answered, though they are more than it lets in at a time."""
+def more_clients_than_slots(folder):
+    """Clients that connect while the service is stopped all get replies, although they are more than it admits at a time."""
     folder.start()
-    clients = [Client(folder) for _ in range(PLACES)]
+    clients = [Client(folder) for _ in range(SLOTS)]
     for client in clients:
         same("a reply", client.ask("queues\n"), "ok 0")
-    # Until it has nothing to do, and would sleep for good.
+    # Until it has nothing to do, and would sleep without a timeout.
     time.sleep(2)
     folder.running.send_signal(signal.SIGSTOP)
-    late = [Client(folder) for _ in range(2 * PLACES)]
+    late = [Client(folder) for _ in range(2 * SLOTS)]
     folder.running.send_signal(signal.SIGCONT)
     for client in late:
-        same("one for whom there is no place", (client.reply(), client.is_closed()), (BUSY, True))
-    same("one who is there", clients[0].ask("queues\n"), "ok 0")
+        same("a client without a slot", (client.reply(), client.is_closed()), (BUSY, True))
+    same("an admitted client", clients[0].ask("queues\n"), "ok 0")
 
 
-def clients_that_come_and_go(folder):
+def clients_that_connect_and_disconnect(folder):
     folder.start()
     first = Client(folder)
     same("a reply", first.ask("queues\n"), "ok 0")
@@ -325,7 +326,7 @@ def clients_that_come_and_go(folder):
 
 
 def a_thousand_connections(folder):
-    """Each of a thousand that come at once, and stay, is served or told that there is no place."""
+    """Each of a thousand clients that connect at once, and stay, is served or gets `error busy`."""
     soft, hard = resource.getrlimit(resource.RLIMIT_NOFILE)
     resource.setrlimit(resource.RLIMIT_NOFILE, (min(4_096, hard), hard))
     folder.start()
@@ -338,20 +339,20 @@ def a_thousand_connections(folder):
     took = time.time() - began
     counts = {reply: replies.count(reply) for reply in sorted(set(replies))}
     print(f"  {counts} in {took:.2f} s; descriptors {folder.descriptors()}, memory {folder.memory()} kB")
-    same("served, or told", set(counts) <= {"ok 0", BUSY}, True)
-    holds("as many as there are places were served", counts["ok 0"] >= PLACES)
-    holds("its descriptors", folder.descriptors() <= before + PLACES)
-    # Nobody was idle for ten seconds and had to go.
-    same("and no more", counts["ok 0"] == PLACES or 10 < took, True)
+    same("served, or refused", set(counts) <= {"ok 0", BUSY}, True)
+    holds("at least one client for each slot was served", counts["ok 0"] >= SLOTS)
+    holds("its descriptors", folder.descriptors() <= before + SLOTS)
+    # No client was idle for ten seconds, so none was disconnected.
+    same("and no more", counts["ok 0"] == SLOTS or 10 < took, True)
     for client in clients:
         client.close()
-    until("a place for the next one", lambda: patient_client(folder).ask("queues\n") == "ok 0")
+    until("a slot for the next one", lambda: patient_client(folder).ask("queues\n") == "ok 0")
     until("the descriptors", lambda: folder.descriptors() <= before + 1)
     resource.setrlimit(resource.RLIMIT_NOFILE, (soft, hard))
 
 
 def clients_beyond_the_descriptors(folder):
-    """One for whom the service has no descriptor comes in once it has, and the others are served meanwhile."""
+    """If the service has no descriptor for a client, it admits the client once it has one, and serves the others meanwhile."""
     folder.limit_descriptors(32)
     folder.start()
     first = Client(folder)
@@ -360,7 +361,7 @@ def clients_beyond_the_descriptors(folder):
         other.say("queues\n")
     time.sleep(0.3)
     same("the first one", first.ask("queues\n"), "ok 0")
-    holds("it is told, and not on and on", 1 <= folder.log().count("a client can't be let in") <= 5)
+    holds("it is logged, and not repeatedly", 1 <= folder.log().count("cannot accept a client") <= 5)
     for other in others:
         same("a reply", other.reply(), "ok 0")
         other.close()
@@ -368,21 +369,21 @@ def clients_beyond_the_descriptors(folder):
 
 
 def say_if_there(client, text):
-    """Says something to a service that may have closed the line."""
+    """Sends a command to a service that may have closed the connection."""
     try:
         client.say(text)
     except ConnectionError:
         pass
 
 
-# ---- two hundred, each of which does something else in turn
+# ---- two hundred clients, each with different actions in turn
 
 
-def comes_and_goes(folder, chance):
+def connects_and_disconnects(folder, chance):
     Client(folder).close()
 
 
-def asks_and_goes(folder, chance):
+def asks_and_disconnects(folder, chance):
     client = Client(folder)
     reply = client.ask(chance.choice(["queues\n", "jobs\n", "job 1\n", "nonsense\n", "watch\n"]))
     holds("it was answered", reply != "")
@@ -398,19 +399,19 @@ def stalls(folder, chance):
 
 def never_reads(folder, chance):
     client = Client(folder)
-    client.line.setblocking(False)
+    client.connection.setblocking(False)
     for _ in range(2_000):
-        if not select.select([], [client.line], [], 0.05)[1]:
+        if not select.select([], [client.connection], [], 0.05)[1]:
             break
-        client.line.send(b"jobs\nqueues\n" * 50)
+        client.connection.send(b"jobs\nqueues\n" * 50)
     client.close()
 
 
 def floods(folder, chance):
     client = Client(folder)
     client.say(b"cancel 999999\n" * chance.randrange(1, 400))
-    client.line.shutdown(socket.SHUT_WR)
-    while client.line.recv(65_536):
+    client.connection.shutdown(socket.SHUT_WR)
+    while client.connection.recv(65_536):
         pass
     client.close()
 
@@ -429,16 +430,17 @@ def waits_for_ever(folder, chance):
     client.close()
 
 
-KINDS = [comes_and_goes, asks_and_goes, stalls, never_reads, floods, is_cut, waits_for_ever]
+KINDS = [connects_and_disconnects, asks_and_disconnects, stalls, never_reads, floods, is_cut, waits_for_ever]
 
 
 def two_hundred_clients(folder):
-    """They come and go, stall, flood, never read and are cut, more of them than there are places. One beside them is served as
-    if it were alone, and its jobs are printed."""
+    """They connect and disconnect, stall, flood, never read and are cut off, more of them than there are slots. Another client is served as
+    if it were alone, and its jobs are printed.
+    """
     folder.start()
     good = Client(folder)
     folder.queue(good, "q")
-    # A job that waits for ever, for which others wait, and of which no cut command is to speak.
+    # A job that waits for ever, that other clients wait for, and that no cut command may affect.
     same("the first job", good.create("q"), 1)
     time.sleep(0.2)
     before, stop, turns = folder.descriptors(), threading.Event(), []
@@ -449,7 +451,7 @@ def two_hundred_clients(folder):
             try:
                 chance.choice(KINDS)(folder, chance)
             except (OSError, Difference):
-                # It was told that there is no place, or the line was closed on it.
+                # It got `error busy`, or its connection was closed.
                 time.sleep(0.01)
             turns.append(seed)
 
@@ -457,21 +459,21 @@ def two_hundred_clients(folder):
     for thread in threads:
         thread.start()
     try:
-        times, jobs = beside_others(good, 60 if folder.is_long else 6)
+        times, jobs = measured_with_others(good, 60 if folder.is_long else 6)
     finally:
         stop.set()
         for thread in threads:
             thread.join()
-    told(f"listings beside {len(turns)} turns of 200 others", times)
+    print_times(f"listings during {len(turns)} turns of 200 others", times)
     print(f"  memory {folder.memory()} kB")
     good.until_ended(jobs, "9", 60)
     same("each was printed once", sorted(folder.printed().split(), key=int), [str(n) for n in range(len(jobs))])
     until("the descriptors", lambda: folder.descriptors() == before)
-    same("the job of which nobody said anything", good.state(1), "4 job-incoming")
+    same("the job that no command named", good.state(1), "4 job-incoming")
 
 
-def beside_others(client, seconds):
-    """How long each listing of a client takes for so long, and which jobs it made meanwhile."""
+def measured_with_others(client, seconds):
+    """The time of each listing of a client during `seconds` seconds, and the jobs that it created meanwhile."""
     times, jobs, end = [], [], time.time() + seconds
     while time.time() < end:
         times += listings(client, 5)
@@ -488,12 +490,12 @@ TESTS = [
     a_client_that_leaves_while_it_waits,
     an_end_of_text,
     cut_at_each_byte,
-    left_at_each_byte,
+    disconnected_at_each_byte,
     fifty_clients_at_once,
     the_65th_connection,
-    those_who_listen_stay,
-    a_crowd_at_the_door,
-    clients_that_come_and_go,
+    waiting_clients_stay_connected,
+    more_clients_than_slots,
+    clients_that_connect_and_disconnect,
     a_thousand_connections,
     clients_beyond_the_descriptors,
     two_hundred_clients,

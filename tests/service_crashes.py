@@ -26,7 +26,7 @@ def killed_and_started_again(folder):
 
 
 def ends_as_its_queue_says(folder):
-    """A job whose attempt is lost with the service goes on or ends as the policy of its queue says."""
+    """A job whose attempt is lost with the service is tried again or ends as the policy of its queue says."""
     folder.start()
     client = Client(folder)
     policies = {"abort-job": "8 attempt-lost", "retry-job": "9", "retry-current-job": "9", "stop-printer": "3 none"}
@@ -45,12 +45,13 @@ def ends_as_its_queue_says(folder):
 
 
 class Gone(Exception):
-    """The line to the service was lost."""
+    """The connection to the service was lost."""
 
 
 class Submitter:
-    """A client that makes a job of each title once, whatever line is lost on the way: what was never closed is given up or gone on
-    with."""
+    """A client that creates exactly one job for each title, whatever connection is lost: a job that was never closed is abandoned or
+    continued.
+    """
 
     queue = "q"
 
@@ -66,7 +67,7 @@ class Submitter:
             raise Gone from None
 
     def submit(self, title):
-        """Makes the job, and gives its number."""
+        """Creates the job, and returns its number."""
         self.title, self.text = title, title + "\n"
         self.job, self.sent, self.at, self.is_closed = None, 0, None, False
         while not self.is_closed:
@@ -79,7 +80,7 @@ class Submitter:
     def step(self):
         if self.client is None:
             self.client = patient_client(self.folder)
-            self.look_again()
+            self.find_outcome()
         elif self.job is None:
             self.at = "create"
             reply = self.ask(f'create {self.queue} u "{self.title}" 1 50 ""\n')
@@ -95,8 +96,8 @@ class Submitter:
             holds("close", self.ask(f"close {self.job} f\n").startswith("ok type"))
             self.is_closed = True
 
-    def look_again(self):
-        """Behind a lost line: what became of the last command."""
+    def find_outcome(self):
+        """After a lost connection: the outcome of the last command."""
         if self.at is None:
             return
         self.lost[self.at] += 1
@@ -111,7 +112,7 @@ class Submitter:
 
 
 def killed_at_random(folder):
-    """Documents beside a service that is killed again and again: each is accepted once, and printed once or again."""
+    """Documents are sent to a service that is killed again and again: each is accepted once, and printed once or again."""
     kills, folder.words = [0], ["--quiet", "--keep", "1000000"]
     wanted = 1_000 if folder.is_long else 40
     folder.start()
@@ -123,7 +124,7 @@ def killed_at_random(folder):
             folder.kill()
             kills[0] += 1
             folder.launch()
-            # One in four may be killed while it opens its spool.
+            # One service in four may be killed while it opens its spool.
             if random.randrange(4):
                 until("the service", lambda: stop.is_set() or folder.serves())
 
@@ -158,13 +159,13 @@ def check_printed(folder, titles, what):
 
 # ---- power cuts
 
-# A service's calls beside those that tests/cuts.py knows of a shell.
+# A service's calls in addition to those that tests/cuts.py knows for a shell.
 SOCKET_WRITES = ("write", "writev", "sendto", "sendmsg")
 NAMES = (*cuts.NAMES, "writev", "sendto", "sendmsg")
 
 
 class Tracing(cuts.Tracing):
-    """The steps of a service: a reply is what is written to a client."""
+    """The steps of a service: a write to a client is a reply."""
 
     def take_call(self, call):
         if call.name in SOCKET_WRITES and any(path.startswith(("socket:", "UNIX")) for path in call.files[:1]):
@@ -173,15 +174,15 @@ class Tracing(cuts.Tracing):
             super().take_call(call)
 
 
-class World(cuts.World):
-    """The folder in which the service runs under strace, and then the shell opens what a cut leaves."""
+class ServiceRunFolder(cuts.RunFolder):
+    """A folder for a service that runs under strace, and then for the shell, which opens the files that a cut leaves."""
 
     def __init__(self, shell, folder):
         super().__init__(shell, folder.path)
         self.room = folder
 
     def traced_service(self):
-        """The steps of a service that prints, keeps house and is asked to end."""
+        """The steps of a service that prints, does its maintenance and is shut down."""
         folder, trace = self.room, self.room.at("trace")
         folder.words, folder.size = [*self.children.words, "--keep", "2"], cuts.SIZE
         names = "trace=" + ",".join(f"?{name}" for name in NAMES)
@@ -201,7 +202,7 @@ class World(cuts.World):
 
 
 def kill_children(process):
-    """Kills what a process has started: strace leaves it running when it is killed itself."""
+    """Kills the processes that a process has started: strace leaves them running when it is killed itself."""
     try:
         with open(f"/proc/{process}/task/{process}/children") as file:
             for child in file.read().split():
@@ -211,7 +212,7 @@ def kill_children(process):
 
 
 def converse(folder):
-    """Two clients whose jobs take a filter each. Of those that have ended no more than two are kept."""
+    """Two clients whose jobs have one filter each. At most two ended jobs are kept."""
     first, second = Client(folder), Client(folder)
     folder.queue(first, "hall", 0, "retry-job", "s", "a/b", 1)
     folder.queue(second, "lab", 6, "retry-current-job", "s", "a/b", 1)
@@ -230,24 +231,24 @@ def converse(folder):
 
 
 def power_cuts(folder):
-    """Each file that a power cut may leave has the table after some of the events, with all that were acknowledged."""
+    """Each file that a power cut may leave has the table after a prefix of the events, including all that were acknowledged."""
     if not os.path.exists(cuts.BUILT):
         raise Skipped("the built spool_shell, which opens the files (`rt run` in crates/spool_shell)")
     if not traces.may_trace():
-        raise Skipped("strace (Debian's package strace), or leave to trace")
-    world = World(os.path.abspath(cuts.BUILT), folder)
-    steps = world.traced_service()
+        raise Skipped("strace (Debian's package strace), or the permission to trace")
+    run_folder = ServiceRunFolder(os.path.abspath(cuts.BUILT), folder)
+    steps = run_folder.traced_service()
     kinds = [step.kind for step in steps]
     print(f"  {len(steps)} steps: " + ", ".join(f"{kinds.count(kind)} {kind}" for kind in sorted(set(kinds))))
     holds("replies, starts and syncs were seen", {"reply", "start", "sync", "write"} <= set(kinds))
     seed, count = random.randrange(1 << 32), 2_000 if folder.is_long else 150
     try:
-        cuts.cuts(world, list(cuts.moments_of(steps, b"")), seed, count)
+        cuts.cuts(run_folder, list(cuts.moments_of(steps, b"")), seed, count)
     except cuts.Difference as difference:
         raise Difference(f"seed {seed}: {difference}") from None
     controls = cuts.CONTROLS if folder.is_long else cuts.CONTROLS[:1]
     for control in controls:
-        tries = cuts.is_seen(world, steps, control, seed)
+        tries = cuts.is_seen(run_folder, steps, control, seed)
         holds(f"{control.__name__} is seen to lose", tries is not None)
         print(f"  {control.__name__}: seen at cut {tries}")
 

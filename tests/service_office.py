@@ -1,4 +1,4 @@
-"""Tests of a service over a long time: its clock, its housekeeping, a day of an office, and thousands of jobs. See tests/service.py."""
+"""Tests of a service over a long time: its clock, its maintenance, a day of an office, and thousands of jobs. See tests/service.py."""
 import os
 import random
 import shutil
@@ -8,10 +8,10 @@ from dataclasses import dataclass
 
 from service_parts import Client, Difference, HERE, Skipped, at_once, holds, patient_client, same, until
 
-# ---- the clock and the housekeeping
+# ---- the clock and the maintenance
 
 
-def the_clock_is_told_where_it_matters(folder):
+def the_clock_is_announced_only_if_needed(folder):
     folder.start()
     client = Client(folder)
     folder.queue(client, "q")
@@ -31,8 +31,8 @@ def the_clock_is_told_where_it_matters(folder):
     print(f"  processor time of an idle service in 4 s: {folder.work() - work:.0f} ms")
 
 
-def a_moment_that_goes_by(folder):
-    """A job that is to start by a moment is canceled behind it, and one that was in time is printed."""
+def a_deadline_that_passes(folder):
+    """A waiting job is canceled after its start deadline, and one that was in time is printed."""
     folder.start()
     client = Client(folder)
     folder.queue(client, "q")
@@ -44,12 +44,12 @@ def a_moment_that_goes_by(folder):
     client.until_state(in_time, "9")
     same("before its moment", client.state(late)[0], "4")
     client.until_state(late, "7")
-    print(f"  it was canceled {time.time() - moment:.2f} s behind its moment")
+    print(f"  it was canceled {time.time() - moment:.2f} s after its deadline")
     holds("not before", moment <= time.time())
 
 
-def a_clock_that_goes_back(folder):
-    """A system clock that tells less than the spool knows changes nothing, until it has caught up."""
+def a_clock_that_moves_back(folder):
+    """A system clock that is earlier than the spool's time changes nothing until it has caught up."""
     library = fast_clock(folder)
     folder.environment = {"LD_PRELOAD": library, "FAST_CLOCK": f"{time.time()} {DAWN} 1"}
     folder.start()
@@ -60,7 +60,7 @@ def a_clock_that_goes_back(folder):
     client.finish(job)
     client.until_state(job, "9")
     known = moment_of(client)
-    holds(f"it was told the time: {known}", DAWN + 2 <= known <= DAWN + 60)
+    holds(f"the log has the time: {known}", DAWN + 2 <= known <= DAWN + 60)
     folder.kill()
     folder.environment["FAST_CLOCK"] = f"{time.time()} {DAWN - 100_000} 1"
     folder.start()
@@ -72,12 +72,12 @@ def a_clock_that_goes_back(folder):
     before = folder.disk_time()
     time.sleep(3)
     same("nothing is written", folder.disk_time(), before)
-    same("it is held still", client.state(held)[0], "4")
-    same("the moment stays", moment_of(client), known)
+    same("it is still held", client.state(held)[0], "4")
+    same("the time is unchanged", moment_of(client), known)
 
 
 def moment_of(client):
-    """The moment that the engine knows: the last one until which a hold is over at once."""
+    """The engine's time: the last moment until which a hold ends at once."""
     low, high = 0, 4_000_000_000
     job = client.create("q")
     while low + 1 < high:
@@ -89,7 +89,7 @@ def moment_of(client):
 
 
 def fast_clock(folder):
-    """The library by which the system's clock goes otherwise."""
+    """The library that changes the system's clock."""
     if not shutil.which("gcc"):
         raise Skipped("a C compiler (Debian's package gcc)")
     library = folder.at("fast_clock.so")
@@ -98,7 +98,7 @@ def fast_clock(folder):
 
 
 def a_job_is_tried_again(folder):
-    """A printer that is away is tried again after its queue's interval, without a command."""
+    """A job whose printer is away is tried again after its queue's interval, without a command."""
     folder.backend("away", '#!/bin/sh\n[ -e FOLDER/there ] || exit 6\ncat "$6" >>FOLDER/printed\n')
     folder.start()
     client = Client(folder)
@@ -120,8 +120,8 @@ def old_jobs_are_purged(folder):
     same("one that was purged", client.ask(f"job {jobs[0]}\n"), "error job")
 
 
-def a_small_spool_goes_on(folder):
-    """What is printed on a spool that its journal fills again and again: the service makes room."""
+def a_small_spool_makes_room(folder):
+    """Jobs are printed on a spool whose journal fills again and again: the service makes room."""
     folder.size = 16_384
     folder.start("--keep", "5")
     client = Client(folder)
@@ -142,32 +142,32 @@ def a_small_spool_goes_on(folder):
         same("send", ask(f"send {job} 2\nx\n\n"), "ok bytes 2")
         same("close", ask(f"close {job} f\n").split()[:2], ["ok", "type"])
     until("all are printed", lambda: not any(state[0] in "35" for state in client.states().values()), 120)
-    took = [int(line.split()[-2]) for line in folder.log().splitlines() if "a checkpoint took" in line]
+    took = [int(line.split()[-2]) for line in folder.log().splitlines() if "checkpoint took" in line]
     print(f"  {count} jobs: {full[0]} replies were `error full`; {len(took)} checkpoints, {sum(took)} ms of {time.time() - began:.1f} s")
     same("printed", len(folder.printed().split()), count)
-    holds("checkpoints cost no more than a tenth of the time", sum(took[:-1]) * 10 < (time.time() - began) * 1_000)
+    holds("checkpoints take at most a tenth of the time", sum(took[:-1]) * 10 < (time.time() - began) * 1_000)
 
 
-# A moment that doesn't come.
+# A moment that is never reached.
 LATER = 4_000_000_000
 
 
 def checkpoints(folder):
-    return folder.log().count("a checkpoint took")
+    return folder.log().count("checkpoint took")
 
 
 def holds_until_checkpoint(folder, client, job):
-    """How many events are written until the next checkpoint."""
+    """The number of events that are written until the next checkpoint."""
     before = checkpoints(folder)
     for count in range(1, 10_000):
         same("hold", client.ask(f"hold {job} {LATER + count}\n"), "ok")
         if before < checkpoints(folder):
             return count
-    raise Difference("no checkpoint is made")
+    raise Difference("no checkpoint is written")
 
 
-def room_behind_a_restart(folder):
-    """What an earlier life has written counts too against the share of the journal that is to be free."""
+def room_after_a_restart(folder):
+    """Records of an earlier life also count against the share of the journal that must be free."""
     folder.size = 16_384
     folder.start()
     client = Client(folder)
@@ -185,15 +185,15 @@ def room_behind_a_restart(folder):
     for number in range(count * 6 // 10):
         same("hold", client.ask(f"hold {job} {LATER + number}\n"), "ok")
     until("a checkpoint", lambda: before < checkpoints(folder))
-    print(f"  {count} events between two checkpoints; behind a restart {checkpoints(folder) - before} more")
+    print(f"  {count} events between two checkpoints; after a restart {checkpoints(folder) - before} more")
 
 
 # ---- many jobs
 
 
 def thousands_of_jobs(folder):
-    """Memory and descriptors stay as they are, and so does the time of a job."""
-    # On a spool as large as one is without words: it has to be made room in meanwhile.
+    """Memory and descriptors do not grow, and neither does the time of a job."""
+    # On a spool of the default size: the service must make room in it meanwhile.
     count, parts, folder.size = 10_000 if folder.is_long else 400, 10, 4_194_304
     folder.words = ["--keep", "50", "--quiet"]
     folder.start()
@@ -212,7 +212,7 @@ def thousands_of_jobs(folder):
     print(f"  {count} jobs, by tenths: the second in {first[0]:.2f} s, the last in {last[0]:.2f} s; memory {first[1]} and {last[1]} kB")
     same("printed", len(folder.printed().split()), count)
     if not is_sanitized(folder.service):
-        holds("memory stays as it is", last[1] < first[1] + 1_024)
+        holds("memory does not grow", last[1] < first[1] + 1_024)
 
 
 def submit_some(folder, queue, count):
@@ -223,7 +223,7 @@ def submit_some(folder, queue, count):
 
 
 def is_sanitized(program):
-    """Whether a program was built with an address sanitizer, which keeps what was let go for a while."""
+    """Whether a program was built with an address sanitizer, which keeps freed memory for a while."""
     with open(program, "rb") as file:
         return b"__asan_" in file.read()
 
@@ -233,12 +233,12 @@ def is_sanitized(program):
 HOUR = 3_600
 DAY = 24 * HOUR
 
-# The second of the system's clock at which the day begins.
+# The start of the day, in seconds of the system's clock.
 DAWN = 1_800_000_000
 
 QUEUES = ["desk", "front", "hall", "lab", "post", "room"]
 
-# A backend that tells when it printed, by the system's clock. While there is a file `QUEUE.off` the printer is away.
+# A backend that records when it printed, by the system's clock. While a file `QUEUE.off` exists the printer is away.
 PRINTER = """#!/bin/sh
 [ -e FOLDER/$PRINTER.off ] && exit 6
 echo "$3 $PRINTER $(date +%s.%N)" >>FOLDER/pages
@@ -247,7 +247,7 @@ echo "$3 $PRINTER $(date +%s.%N)" >>FOLDER/pages
 
 @dataclass
 class Letter:
-    """A job of the day: when it is made, until when it is held, by when it is to start, and whether it is to be printed."""
+    """A job of the day: when it is created, until when it is held, its start deadline, and whether it must be printed."""
     title: str
     queue: str
     made: int
@@ -258,7 +258,7 @@ class Letter:
 
 
 class Day:
-    """A day in which the clock goes so many times as fast."""
+    """A day whose clock runs `faster` times as fast."""
 
     def __init__(self, folder, faster, library):
         self.folder, self.faster = folder, faster
@@ -294,7 +294,7 @@ class Day:
 
 
 def letters(count, chance):
-    """The jobs of a day, made from seven to seven. Some are held, some are to start by a moment, and some are too late."""
+    """The jobs of a day, created from seven to seven. Some are held, some have a start deadline, and some are too late for it."""
     found = []
     for number in range(count):
         made = 7 * HOUR + chance.randrange(12 * HOUR)
@@ -311,9 +311,10 @@ def letters(count, chance):
 
 
 def a_day_of_an_office(folder):
-    """Twenty-four hours of six queues in a minute, or in ten: the system's clock goes as much faster for the service, by a library
-    that LD_PRELOAD names. The printer of `lab` is away from nine to eleven, `hall` is disabled at noon for an hour, and the
-    service is killed at three in the morning and at three in the afternoon."""
+    """Twenty-four hours of six queues in one minute, or in ten: the system's clock is faster for the service, by a library in LD_PRELOAD.
+    The printer of `lab` is away from nine to eleven, `hall` is disabled at noon for an hour, and the service is killed at three in the
+    morning and at three in the afternoon.
+    """
     folder.backend("printer", PRINTER)
     day = Day(folder, 144 if folder.is_long else 1_440, fast_clock(folder))
     day.open()
@@ -334,7 +335,7 @@ def a_day_of_an_office(folder):
 def check_day(folder, day, made):
     states = patient_client(folder).states()
     wrong = [(letter, states[letter.job]) for letter in made if states[letter.job][0] != ("9" if letter.is_printed else "7")]
-    same("letters that ended otherwise", wrong, [])
+    same("letters that ended differently", wrong, [])
     pages = {}
     for line in folder.read("pages").splitlines():
         title, queue, real = line.split()
@@ -347,18 +348,18 @@ def check_day(folder, day, made):
     away = [letter for letter in made if letter.queue == "lab" and 9 * HOUR < letter.made < 10.9 * HOUR and letter.is_printed]
     same("printed while the printer was away", [one.title for one in away if min(pages[one.title]) < 10.9 * HOUR], [])
     again = sum(len(times) - 1 for times in pages.values())
-    print(f"  {len(made)} letters, {len(pages)} printed, {again} pages again; a held one was {late / 60:.1f} minutes late at the worst")
+    print(f"  {len(made)} letters, {len(pages)} printed, {again} pages again; a held one was {late / 60:.1f} minutes late at most")
     print(f"  the {len(away)} of the printer that was away were printed by {max([min(pages[one.title]) for one in away], default=0) / HOUR:.2f} h")
 
 
 TESTS = [
-    the_clock_is_told_where_it_matters,
-    a_moment_that_goes_by,
-    a_clock_that_goes_back,
+    the_clock_is_announced_only_if_needed,
+    a_deadline_that_passes,
+    a_clock_that_moves_back,
     a_job_is_tried_again,
     old_jobs_are_purged,
-    a_small_spool_goes_on,
-    room_behind_a_restart,
+    a_small_spool_makes_room,
+    room_after_a_restart,
     thousands_of_jobs,
     a_day_of_an_office,
 ]

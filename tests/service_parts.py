@@ -1,5 +1,7 @@
-"""What the tests of the service share, and its benchmark: clients, the folder of a test with its programs, and a service that
-runs there. tests/service.py says how they are run."""
+"""The shared parts of the tests of the service and its benchmark.
+
+They are clients, the folder of a test with its programs, and a service that runs there. tests/service.py describes how to run the tests.
+"""
 import os
 import shutil
 import signal
@@ -12,16 +14,16 @@ import time
 HERE = os.path.dirname(os.path.abspath(__file__))
 BUILT = os.path.join(HERE, "..", "crates", "spool_service", "out", "spool_service")
 
-# How long something is waited for that is to come, in seconds.
+# How long a test waits for an expected event, in seconds.
 LONGEST = float(os.environ.get("SERVICE_LONGEST", "30"))
 
-# Words before the program's own, as of `setarch`.
+# Words before the program's own arguments, such as `setarch`.
 BEFORE = os.environ.get("SERVICE_BEFORE", "").split()
 
-# The type of a document that no rule knows.
+# The type of a document that matches no rule.
 TYPE = "application/octet-stream"
 
-# A backend that sleeps so many seconds, as its URI says, and adds the document to a file.
+# A backend that sleeps for the seconds in its URI, and appends the document to a file.
 BACKEND = """#!/bin/sh
 sleep "${DEVICE_URI##*/}"
 cat "${6:--}" >>FOLDER/printed
@@ -29,11 +31,11 @@ cat "${6:--}" >>FOLDER/printed
 
 
 class Difference(Exception):
-    """Something isn't as it is to be."""
+    """A result is not the expected one."""
 
 
 class Skipped(Exception):
-    """What a test wants isn't there."""
+    """A requirement of a test is missing."""
 
 
 def same(what, found, wanted):
@@ -54,8 +56,8 @@ def until(what, is_so, longest=LONGEST):
         time.sleep(0.005)
 
 
-def told(name, seconds):
-    """Tells how long something took that was done some times."""
+def print_times(name, seconds):
+    """Prints how long an action took that was done several times."""
     seconds = sorted(seconds)
     middle, late, worst = seconds[len(seconds) // 2], seconds[len(seconds) * 99 // 100], seconds[-1]
     print(f"  {name}: {len(seconds)}, median {middle * 1000:.1f} ms, 99 of 100 {late * 1000:.1f} ms, worst {worst * 1000:.1f} ms")
@@ -69,7 +71,7 @@ def timed(what):
 
 
 def at_once(tasks):
-    """Runs these, each in a thread, and raises the first difference that one finds."""
+    """Runs these, each in a thread, and raises the first difference that one reports."""
     faults = []
 
     def run(task):
@@ -91,24 +93,24 @@ def at_once(tasks):
 
 class Client:
     def __init__(self, folder):
-        self.line = socket.socket(socket.AF_UNIX)
-        self.line.settimeout(LONGEST)
+        self.connection = socket.socket(socket.AF_UNIX)
+        self.connection.settimeout(LONGEST)
         self.held = b""
         try:
-            self.line.connect(folder.socket)
+            self.connection.connect(folder.socket)
         except OSError:
-            self.line.close()
+            self.connection.close()
             raise
 
     def say(self, text):
-        self.line.sendall(text if isinstance(text, bytes) else text.encode())
+        self.connection.sendall(text if isinstance(text, bytes) else text.encode())
 
     def reply(self):
-        """The next line that it is told."""
+        """The next line that it receives."""
         while b"\n" not in self.held:
-            piece = self.line.recv(65_536)
+            piece = self.connection.recv(65_536)
             if not piece:
-                raise Difference("the service closed the line")
+                raise Difference("the service closed the connection")
             self.held += piece
         line, self.held = self.held.split(b"\n", 1)
         return line.decode()
@@ -131,26 +133,26 @@ class Client:
             lines.append(line)
 
     def says_nothing(self, seconds=0.3):
-        """Whether it is told nothing for so long."""
+        """Whether it receives nothing for `seconds` seconds."""
         if self.held:
             return False
-        self.line.settimeout(seconds)
+        self.connection.settimeout(seconds)
         try:
-            self.held = self.line.recv(65_536)
+            self.held = self.connection.recv(65_536)
             return False
         except TimeoutError:
             return True
         finally:
-            self.line.settimeout(LONGEST)
+            self.connection.settimeout(LONGEST)
 
     def is_closed(self):
         try:
-            return self.line.recv(65_536) == b""
+            return self.connection.recv(65_536) == b""
         except ConnectionError:
             return True
 
     def close(self):
-        self.line.close()
+        self.connection.close()
 
     # ---- jobs
 
@@ -160,7 +162,7 @@ class Client:
         return {int(row[1]): f"{row[3]} {row[4]}" for row in rows}
 
     def fields(self, job):
-        """All fields of a job, by their names."""
+        """All fields of a job, by name."""
         return dict(line.split(" ", 1) for line in self.listing(f"job {job}\n"))
 
     def state(self, job):
@@ -198,7 +200,7 @@ class Client:
 
 
 def patient_client(folder, longest=60):
-    """A client of a service that is perhaps only starting."""
+    """A client of a service that may still be starting."""
     end = time.time() + longest
     while True:
         try:
@@ -214,7 +216,7 @@ def patient_client(folder, longest=60):
 class Folder:
     """The folder of a test: its programs, and the service."""
 
-    # The program, and whether the tests that take long are to be long.
+    # The program, and whether the long tests are run in full.
     service = BUILT
     is_long = False
 
@@ -224,7 +226,7 @@ class Folder:
         self.socket = self.at("spool", "spool.sock")
         self.running = None
         self.size = 16_777_216
-        # Words before the program's name, and behind its own.
+        # Words before the program's name, and after its own arguments.
         self.before = [*BEFORE]
         self.words = []
         self.environment = {}
@@ -240,7 +242,7 @@ class Folder:
         os.chmod(self.at(name), mode)
 
     def read(self, name):
-        """What a file has, which may not be there."""
+        """The contents of a file, which may not exist."""
         if not os.path.exists(self.at(name)):
             return ""
         with open(self.at(name)) as file:
@@ -255,7 +257,7 @@ class Folder:
     # ---- programs
 
     def program(self, kind, name, text):
-        """Writes a program, and lists it."""
+        """Writes a program, and adds it to the programs file."""
         file = f"{kind}-{name}"
         self.write(file, text, 0o755)
         self.lines.append(f"{kind} {name} {self.at(file)}\n")
@@ -265,7 +267,7 @@ class Folder:
         self.program("backend", name, text)
 
     def two_stages(self, seconds):
-        """Documents named `.x` go through a filter to queues of a/b: it sleeps so long."""
+        """Documents named `.x` are filtered for queues of a/b, by a filter that sleeps for `seconds` seconds."""
         self.program("filter", "first", f'#!/bin/sh\nsleep {seconds}\necho first >>FOLDER/stages\ncat "$6"\n')
         self.write("types", "a/a x\n")
         self.write("convs", "a/a a/b 10 first\n")
@@ -301,7 +303,7 @@ class Folder:
             return False
 
     def shut_down(self):
-        """Asks the service to end, and waits for that."""
+        """Shuts the service down, and waits for its end."""
         same("shutdown", Client(self).ask("shutdown\n"), "ok")
         same("status", self.running.wait(LONGEST), 0)
 
@@ -314,16 +316,16 @@ class Folder:
             self.kill()
 
     def remove(self):
-        # A child of a killed service goes on, and may write here meanwhile.
+        # A child of a killed service continues, and may write here meanwhile.
         shutil.rmtree(self.path, ignore_errors=True)
 
     def queue(self, client, name, seconds=0, policy="retry-current-job", scheme="slow", target=TYPE, interval=0):
         same("queue", client.ask(f"queue {name} {scheme}:/{seconds} {target} {policy} {interval} 0\n"), "ok")
 
-    # ---- what the system says of it
+    # ---- the system's figures about it
 
     def memory(self):
-        """The bytes of the service that are in memory, in KiB."""
+        """The resident memory of the service, in KiB."""
         with open(f"/proc/{self.running.pid}/status") as file:
             return next(int(line.split()[1]) for line in file if line.startswith("VmRSS"))
 
@@ -337,19 +339,19 @@ class Folder:
         return (int(fields[11]) + int(fields[12])) * 1000 / os.sysconf("SC_CLK_TCK")
 
     def disk_time(self):
-        """When the spool was written last."""
+        """When the spool was last written."""
         return os.stat(self.at("spool", "spool.disk")).st_mtime_ns
 
 
 def listings(client, count=50):
-    """How long each of so many listings takes."""
+    """The time of each of `count` listings."""
     return [timed(lambda: client.listing("queues\n")) for _ in range(count)]
 
 
 # ---- running tests
 
 def run_test(test):
-    """Runs a test in a folder of its own, and says what became of it: `passed`, `skipped` or `failed`."""
+    """Runs a test in a folder of its own, and returns the result: `passed`, `skipped` or `failed`."""
     print(test.__name__, flush=True)
     folder, ended = Folder(), "failed"
     try:

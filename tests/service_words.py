@@ -1,5 +1,6 @@
-"""Tests of what the service says: its own words, its socket and its end. See tests/service.py."""
+"""Tests of the commands that only the service has, its socket and its end. See tests/service.py."""
 import os
+import re
 import shutil
 import socket
 import stat
@@ -7,9 +8,9 @@ import subprocess
 import sys
 import time
 
-from service_parts import BEFORE, Client, LONGEST, Skipped, holds, listings, same, timed, told, until
+from service_parts import BEFORE, Client, LONGEST, Skipped, holds, listings, print_times, same, timed, until
 
-# ---- words of its own
+# ---- its own commands
 
 
 def one_job_with_all_its_fields(folder):
@@ -23,7 +24,7 @@ def one_job_with_all_its_fields(folder):
     wanted = [str(job), "q", '"u"', '"a title"', "1", "50", "4", "1", "9", "job-completed-successfully"]
     same("fields", [fields[name] for name in names], wanted)
     same("no job", client.ask("job 999\n"), "error job")
-    # A document is no word of the service, wherever it is cut.
+    # Bytes of a document are never a command of the service, wherever they are cut.
     data = "shutdown\njob 1\nround\nend 1\nwatch\nwait 1\n"
     other = client.create("q")
     for byte in f"send {other} {len(data)}\n{data}\n".encode():
@@ -32,7 +33,7 @@ def one_job_with_all_its_fields(folder):
     same("close", client.ask(f"close {other} f\n"), "ok type application/octet-stream stages 1")
     client.until_state(other, "9")
     same("printed", folder.printed(), "abc\n" + data)
-    # A word and commands in one piece are answered in their order.
+    # A command of the service and other commands in one piece get their replies in order.
     client.say(f"job 999\nqueues\njob 998\naccept q\njob {job}\n")
     replies = [client.reply() for _ in range(5)]
     same("in one piece", [line.split()[0] for line in replies], ["error", "queue", "ok", "error", "ok"])
@@ -44,16 +45,16 @@ def ended_row(job, queue="q", state="9 job-completed-successfully", size=2):
 
 
 def wait_for_a_job(folder):
-    """It is answered once the job has ended. Later commands of that client wait, and those of others don't."""
+    """It gets its reply once the job has ended. Later commands of that client wait, and those of others do not."""
     folder.start()
     client, other, third = Client(folder), Client(folder), Client(folder)
     folder.queue(client, "q", 1)
     job = client.submit("q")
     client.say(f"wait {job}\nqueues\n")
     third.say(f"wait {job}\n")
-    told("listings beside it", listings(other))
+    print_times("listings meanwhile", listings(other))
     same("the job", other.state(job)[0] in "35", True)
-    same("nothing is answered before", client.says_nothing(), True)
+    same("no reply comes before", client.says_nothing(), True)
     same("then its row", [client.reply(), client.reply()], [ended_row(job), "ok 1"])
     same("then the next command", client.reply().split()[0], "queue")
     same("another one that waits", [third.reply(), third.reply()], [ended_row(job), "ok 1"])
@@ -65,7 +66,7 @@ def wait_for_a_job(folder):
 
 
 def wait_that_ends_otherwise(folder):
-    """A wait is answered where its job is canceled or aborted, and forgotten where the client goes."""
+    """A wait gets its reply if its job is canceled or aborted, and is forgotten if the client disconnects."""
     folder.backend("fails", "#!/bin/sh\nsleep 0.5\nexit 1\n")
     folder.start()
     client, other = Client(folder), Client(folder)
@@ -82,12 +83,12 @@ def wait_that_ends_otherwise(folder):
     same("the canceled one", [other.reply(), other.reply()], [ended_row(second, state="7 canceled"), "ok 1"])
     same("the failed one", [other.reply(), other.reply()], [ended_row(failed, "f", "8 backend-failed"), "ok 1"])
     client.until_state(first, "9")
-    until("the descriptors of the one who went", lambda: folder.descriptors() <= before)
-    # The text may end behind a wait, which is answered all the same.
+    until("the descriptors of the disconnected client", lambda: folder.descriptors() <= before)
+    # The input may end after a wait, which still gets its reply.
     last = client.submit("q")
     client.say(f"wait {last}\n")
-    client.line.shutdown(socket.SHUT_WR)
-    same("behind the end of the text", [client.reply(), client.reply(), client.is_closed()], [ended_row(last), "ok 1", True])
+    client.connection.shutdown(socket.SHUT_WR)
+    same("after the end of the input", [client.reply(), client.reply(), client.is_closed()], [ended_row(last), "ok 1", True])
 
 
 def rows_of(lines, word):
@@ -100,13 +101,13 @@ def rows_of(lines, word):
     return rows
 
 
-def until_told(watcher, lines, last):
-    """Reads what a watch tells up to a line."""
+def read_until(watcher, lines, last):
+    """Reads the output of a watch up to a line."""
     while last not in lines:
         lines.append(watcher.reply())
 
 
-def watch_what_changes(folder):
+def watch_changes(folder):
     folder.start()
     client, watcher = Client(folder), Client(folder)
     folder.queue(client, "q")
@@ -121,21 +122,21 @@ def watch_what_changes(folder):
     rows = client.listing("jobs\n")
     same("purge", client.ask(f"purge {jobs[0]}\n"), "ok")
     lines = []
-    until_told(watcher, lines, f"gone job {jobs[0]}")
+    read_until(watcher, lines, f"gone job {jobs[0]}")
     last = {number: told_rows[-1] for number, told_rows in rows_of(lines, "job").items()}
     same("the last row of each job", sorted(last.values()), sorted(rows))
     order = "4359"
     for job in jobs:
         states = [order.index(row.split()[3]) for row in rows_of(lines, "job")[str(job)]]
         same(f"states of {job} in their order", states, sorted(states))
-    queues = {name: told_rows[-1] for name, told_rows in rows_of(lines, "queue").items()}
+    queues = {name: sent_rows[-1] for name, sent_rows in rows_of(lines, "queue").items()}
     same("the last row of each queue", sorted(queues.values()), client.listing("queues\n"))
     same("nothing was left out", "missed" in lines, False)
     same("then nothing", watcher.says_nothing(), True)
 
 
-def watch_that_nobody_reads(folder):
-    """It holds nobody up and takes no more memory: rows are left out, and that is told."""
+def watch_that_is_not_read(folder):
+    """It delays no other client and takes no more memory: rows are left out, and a line says so."""
     folder.start()
     client, watcher = Client(folder), Client(folder)
     folder.queue(client, "q")
@@ -150,13 +151,13 @@ def watch_that_nobody_reads(folder):
     while not watcher.says_nothing():
         lines.append(watcher.reply())
     same("cancel", client.ask(f"cancel {jobs[0]}\n"), "ok")
-    until_told(watcher, lines, ended_row(jobs[0], state="7 canceled", size=0).replace('"t"', f'"{title}"'))
-    print(f"  {len(lines)} lines were told")
-    same("rows were left out, which is told once", lines.count("missed"), 1)
+    read_until(watcher, lines, ended_row(jobs[0], state="7 canceled", size=0).replace('"t"', f'"{title}"'))
+    print(f"  {len(lines)} lines were sent")
+    same("rows were left out, which is reported once", lines.count("missed"), 1)
 
 
 def rounds_are_ticks(folder):
-    """A round and a drain are answered at once, whatever runs."""
+    """A round and a drain get their replies at once, whatever runs."""
     folder.start()
     client = Client(folder)
     folder.queue(client, "q", 3)
@@ -175,8 +176,8 @@ exit 1
 """
 
 
-def what_the_log_tells(folder):
-    """Each end of a stage, and why it failed. Never a document, nor the password of a URI."""
+def log_of_stages(folder):
+    """Each end of a stage is logged, and why it failed. Never a document, nor the password of a URI."""
     folder.backend("loud", LOUD)
     folder.start("--verbose")
     client = Client(folder)
@@ -189,9 +190,9 @@ def what_the_log_tells(folder):
     log = folder.log()
     wanted = ["1 attempt 1 stage 1 slow: started", "1 attempt 1 stage 1 slow: ended"]
     wanted += ["2 attempt 1 stage 1 loud: ended with status 1", "2 attempt 1 stage 1 loud: ERROR: no paper"]
-    same("lines that it lacks", [line for line in wanted if f"spool: job {line}\n" not in log], [])
-    same("lines that begin otherwise", [line for line in log.splitlines() if not line.startswith("spool: ")], [])
-    same("what is no one's business", [word for word in ("letter", "secret") if word in log], [])
+    same("missing lines", [line for line in wanted if f"spool: job {line}\n" not in log], [])
+    same("lines with another prefix", [line for line in log.splitlines() if not line.startswith("spool: ")], [])
+    same("secrets in the log", [word for word in ("letter", "secret") if word in log], [])
     os.remove(folder.at("log"))
     folder.start("--quiet")
     Client(folder).until_state(Client(folder).submit("q"), "9")
@@ -202,7 +203,7 @@ def what_the_log_tells(folder):
 # ---- its end
 
 
-def shutdown_finishes_what_runs(folder):
+def shutdown_finishes_running_jobs(folder):
     folder.start()
     client, other = Client(folder), Client(folder)
     folder.queue(client, "q", 1)
@@ -210,12 +211,12 @@ def shutdown_finishes_what_runs(folder):
     client.until_state(jobs[0], "5")
     began = time.time()
     same("shutdown", client.ask("shutdown\n"), "ok")
-    same("nobody is let in", is_let_in(folder), False)
-    same("who is there is served", other.ask("queues\n").split()[0], "queue")
+    same("no client is admitted", is_admitted(folder), False)
+    same("an admitted client is served", other.ask("queues\n").split()[0], "queue")
     same("status", folder.running.wait(LONGEST), 0)
-    print(f"  it ended {time.time() - began:.2f} s after it was told to")
+    print(f"  it ended {time.time() - began:.2f} s after the shutdown command")
     same("the socket", os.path.exists(folder.socket), False)
-    same("what ran was finished, and nothing else was begun", folder.printed(), "0\n")
+    same("the running job was finished, and no other was started", folder.printed(), "0\n")
     folder.start()
     client = Client(folder)
     client.until_state(jobs[1], "9")
@@ -224,19 +225,19 @@ def shutdown_finishes_what_runs(folder):
     print(f"  with nothing to do it ends in {timed(folder.shut_down):.2f} s")
 
 
-def is_let_in(folder):
-    """Whether one who comes now gets a reply."""
+def is_admitted(folder):
+    """Whether a new client gets a reply."""
     try:
         late = Client(folder)
-        late.line.settimeout(0.5)
+        late.connection.settimeout(0.5)
         late.say("queues\n")
-        return late.line.recv(100) != b""
+        return late.connection.recv(100) != b""
     except OSError:
         return False
 
 
 def shutdown_finishes_all_stages(folder):
-    """A job that is at its filter is finished by its backend too, and who waits or watches is told of it."""
+    """A job whose filter runs is finished by its backend too, and clients that wait or watch are notified."""
     folder.two_stages(1)
     folder.start()
     client, waiter, watcher = Client(folder), Client(folder), Client(folder)
@@ -248,7 +249,7 @@ def shutdown_finishes_all_stages(folder):
     same("shutdown", client.ask("shutdown\n"), "ok")
     same("the wait", [waiter.reply(), waiter.reply(), waiter.is_closed()], [ended_row(job), "ok 1", True])
     lines = []
-    until_told(watcher, lines, ended_row(job))
+    read_until(watcher, lines, ended_row(job))
     same("the watch", watcher.is_closed(), True)
     same("status", folder.running.wait(LONGEST), 0)
     same("printed", (folder.printed(), folder.read("stages")), ("x\n", "first\n"))
@@ -257,7 +258,7 @@ def shutdown_finishes_all_stages(folder):
 
 
 def shutdown_waits_a_minute(folder):
-    """A child that takes longer isn't waited for. Its job has lost the attempt."""
+    """A child that takes longer is not waited for. Its job has lost the attempt."""
     if not folder.is_long:
         raise Skipped("it takes a minute (--long)")
     folder.start()
@@ -269,7 +270,7 @@ def shutdown_waits_a_minute(folder):
     same("shutdown", client.ask("shutdown\n"), "ok")
     same("status", folder.running.wait(80), 0)
     took = time.time() - began
-    print(f"  it ended {took:.1f} s after it was told to")
+    print(f"  it ended {took:.1f} s after the shutdown command")
     holds("it waited for a minute", 58 < took < 70)
 
 
@@ -282,7 +283,7 @@ def the_mode_of_the_socket(folder):
     folder.kill()
     same("it is left by a kill", stat.S_ISSOCK(os.stat(folder.socket).st_mode), True)
     folder.start("--mode", "600")
-    same("as the words say", oct(os.stat(folder.socket).st_mode & 0o777), oct(0o600))
+    same("as the options say", oct(os.stat(folder.socket).st_mode & 0o777), oct(0o600))
     folder.kill()
     folder.socket = folder.at("elsewhere.sock")
     folder.start("--listen", folder.socket)
@@ -290,18 +291,18 @@ def the_mode_of_the_socket(folder):
 
 
 def refused_to_another_user(folder):
-    """Who may not open the socket can't print."""
+    """A user who may not open the socket cannot print."""
     if os.geteuid() or not shutil.which("setpriv"):
         raise Skipped("another user (as root, with setpriv of util-linux)")
-    # The folders let everybody in, so it is the socket that refuses.
+    # The folders are open to everybody, so it is the socket that refuses.
     os.chmod(folder.path, 0o755)
     os.chmod(folder.at("spool"), 0o755)
     folder.start()
-    same("usually", of_nobody(folder), "PermissionError")
+    same("usually", ask_as_nobody(folder), "PermissionError")
     same("the owner", Client(folder).ask("queues\n"), "ok 0")
     folder.kill()
     folder.start("--mode", "666")
-    same("where it may", of_nobody(folder), "ok 0")
+    same("with permission", ask_as_nobody(folder), "ok 0")
 
 
 ASKS = """
@@ -316,13 +317,20 @@ except OSError as fault:
 """
 
 
-def of_nobody(folder):
-    """What the user nobody is answered."""
+def ask_as_nobody(folder):
+    """The result of a command by the user nobody."""
     as_nobody = ["setpriv", "--reuid", "65534", "--regid", "65534", "--clear-groups"]
     python = shutil.which("python3", path="/usr/bin:/bin") or sys.executable
     ran = subprocess.run([*as_nobody, python, "-ES", "-c", ASKS, folder.socket], cwd="/", capture_output=True, text=True, timeout=60)
     same("the program of nobody", ran.stderr, "")
     return ran.stdout.strip()
+
+
+def version(folder):
+    for options in (["--version"], ["--root", folder.at("absent"), "--version"]):
+        ran = subprocess.run([*BEFORE, folder.service, *options], capture_output=True, text=True, timeout=60)
+        shown = re.fullmatch(r"spool_service \(Cegmandi\) \d+\.\d+\.\d+\n", ran.stdout) is not None
+        same("the version", (ran.returncode, shown, ran.stderr), (0, True, ""))
 
 
 def two_services(folder):
@@ -337,14 +345,15 @@ TESTS = [
     one_job_with_all_its_fields,
     wait_for_a_job,
     wait_that_ends_otherwise,
-    watch_what_changes,
-    watch_that_nobody_reads,
+    watch_changes,
+    watch_that_is_not_read,
     rounds_are_ticks,
-    what_the_log_tells,
-    shutdown_finishes_what_runs,
+    log_of_stages,
+    shutdown_finishes_running_jobs,
     shutdown_finishes_all_stages,
     shutdown_waits_a_minute,
     the_mode_of_the_socket,
     refused_to_another_user,
     two_services,
+    version,
 ]

@@ -1,23 +1,23 @@
 #!/usr/bin/env python3
-"""Splits spools by queues: split.py [ADMIN [SHELL]]
+"""Runs `spool_admin split` on all kinds of spools, with kills and failures: split.py [ADMIN [SHELL]]
 
-ADMIN is the program, and crates/spool_admin/out/spool_admin (made by `rt run` in that folder) where none is given; SHELL is
-crates/spool_shell/out/spool_shell likewise. The spools are files that tests/journal.py spells: of both versions, in either area, with
-queues, documents and jobs of each phase, one of them processing.
+ADMIN is the program; the default is crates/spool_admin/out/spool_admin (built by `rt run` in that crate). The default of SHELL is
+crates/spool_shell/out/spool_shell. The spools are files that tests/journal.py writes: of both versions, in either area, with queues,
+documents and jobs of each phase, one of them processing.
 
-- `split` leaves two files of the old one's length, with its owner's mode. One lists exactly the rows and documents of the queues that
-  were named, and the other one all others. The highest number and the moment are the old ones in both, and a job that was processing
-  is so. The shell serves both, and each gives its next job a number that no job of either has.
-- What it refuses it names, and both folders are as they were: a queue that isn't there, a folder that has a spool or that another
-  program owns, the same folder twice, a spool that is damaged or isn't there, rows that don't fit, words that say nothing.
-- Under strace (Debian's package `strace`) it is killed at each of its system calls, and each fails once. Each job is in exactly one
-  spool then: the old spool is there and the other folder has none, or both halves are there, the named one perhaps under the name that
-  isn't served. The same command, given again, ends with both halves, and leaves no other name. From the calls it is seen what a power
-  cut may leave: the old file is never written to, both new ones are synced with their names before the change over, and each name is
-  synced before the next one is changed, also by a call that goes on where one was killed.
+- `split` leaves two files of the old one's length, with its owner's mode. One lists exactly the rows and documents of the named queues, and
+  the other one all others. Both have the old highest number and time, and a job that was processing still is. The shell serves both, and
+  each gives its next job a number that no job of either has.
+- `split` names the reason when it refuses, and both folders are unchanged: a queue that does not exist, a folder that has a spool or that
+  another program owns, the same folder twice, a spool that is damaged or does not exist, rows that do not fit, invalid arguments.
+- Under strace (Debian's package `strace`) it is killed at each of its system calls, and each call fails once. Each job is in exactly one
+  spool then: the old spool exists and the other folder has none, or both halves exist, the named one perhaps under the name that is not
+  served. The same command, given again, ends with both halves, and leaves no other name. The calls also show that this holds after a power
+  cut: the old file is never written to, both new ones are synced with their names before the switch, and each name is synced before the
+  next one is changed, also by a call that continues after one that was killed.
 
-The last line is `N of N`, with status 0, or the first difference, with status 1: its folder stays then, and is named. Without
-strace, or where it may not trace, what wants it is left out.
+The last line is `N of N`, with status 0, or the first difference, with status 1: its folder is kept then, and its path is printed. If
+strace is missing or may not trace, the tests that need it are left out.
 """
 import copy
 import os
@@ -40,14 +40,14 @@ PART = "spool.part."
 
 def half_of(file, names, named):
     """The table of the rows of the named queues, or of all others."""
-    table = copy.deepcopy(model.standing(file))
+    table = copy.deepcopy(model.stored_table(file))
     table.queues = {name: queue for name, queue in table.queues.items() if (name in names) == named}
     table.jobs = {number: job for number, job in table.jobs.items() if (job.queue in names) == named}
     return table
 
 
 class Place:
-    """The folder of a spool with these bytes, and a folder beside it."""
+    """The folder of a spool with these bytes, and a second folder."""
 
     def __init__(self, folder, content=None):
         self.top = tempfile.mkdtemp(dir=folder)
@@ -57,7 +57,7 @@ class Place:
         if content is not None:
             with open(os.path.join(self.source, NAME), "wb") as file:
                 file.write(content)
-            # Those of an earlier program.
+            # The lock files of an earlier program.
             for root in (self.source, self.target):
                 os.close(os.open(os.path.join(root, LOCK), os.O_CREAT, 0o600))
 
@@ -69,15 +69,15 @@ class Place:
         same("the end of `split`", administer("split", self.source, self.target, *(queues or ("lab",))), (0, "", ""))
 
     def names(self):
-        """The names in both folders, beside those of the locks' files, which stay."""
+        """The names in both folders, except those of the lock files, which remain."""
         return tuple(sorted(name for name in os.listdir(root) if name != LOCK) for root in (self.source, self.target))
 
     def refuses(self, fault, *queues, words=None):
-        """Both folders are as they were."""
+        """Both folders are unchanged."""
         names, before = self.names(), self.content(self.source)
         same("the end", administer(*(words or ("split", self.source, self.target, *(queues or ("lab",))))), (1, "", fault))
         same("the names", self.names(), names)
-        same("the file is as it was", self.content(self.source) == before, True)
+        same("the file is unchanged", self.content(self.source) == before, True)
 
     def serve(self, root, *commands):
         script = "".join(f"{command}\n" for command in commands)
@@ -94,8 +94,8 @@ def is_listed(file, table, size):
 
 def is_split(place, old, names=("lab",)):
     same("the names", place.names(), ([NAME], [NAME]))
-    same("what went", is_listed(place.content(place.target), half_of(old, names, True), len(old)), True)
-    same("what stayed", is_listed(place.content(place.source), half_of(old, names, False), len(old)), True)
+    same("the named queues", is_listed(place.content(place.target), half_of(old, names, True), len(old)), True)
+    same("the other queues", is_listed(place.content(place.source), half_of(old, names, False), len(old)), True)
 
 
 def next_number(place, root, queue):
@@ -121,10 +121,10 @@ def both_are_served(folder):
     place = Place(folder, file)
     place.split()
     for root, named in ((place.source, False), (place.target, True)):
-        # The attempt that was under way is given up by the opening of its half, as by that of the whole.
+        # The attempt in progress is given up by the opening of its half, as by that of the whole spool.
         table = half_of(file, ("lab",), named)
         table.reopen()
-        same("what the shell lists", place.serve(root, "jobs", "queues"), [*table.jobs_reply(), *table.queues_reply()])
+        same("the shell's listing", place.serve(root, "jobs", "queues"), [*table.jobs_reply(), *table.queues_reply()])
     same("the next numbers", (next_number(place, place.source, "q"), next_number(place, place.target, "lab")), (6, 6))
 
 
@@ -151,9 +151,9 @@ def a_half_is_split_again(folder):
     is_split(second, half, ("q",))
 
 
-# ---- what is refused
+# ---- refusals
 
-def what_is_refused(folder):
+def refusals(folder):
     Place(folder, image_of()).refuses("spool: queue\n", "lab", "none")
     Place(folder, image_of()).refuses("spool: queue\n", "no name")
     place = Place(folder, image_of())
@@ -169,12 +169,12 @@ def what_is_refused(folder):
     place.refuses("spool: disk\nspool: cause: no file\n")
     place = Place(folder)
     same("no file", administer("split", place.source, place.target, "q"), (1, "", "spool: disk\nspool: cause: absent\n"))
-    same("nothing is made", place.names(), ([], []))
+    same("nothing is created", place.names(), ([], []))
     same("no folder", administer("split", place.source, f"{place.top}/none", "q"), (1, "", "spool: disk\nspool: cause: absent\n"))
 
 
 def rows_that_do_not_fit(folder):
-    """Rows are longer than the events that led to them."""
+    """Rows are longer than the events that created them."""
     events = [Q.event()]
     while len(image(SIZE, [*map(spelled, events)])) == SIZE and model.reading(image(SIZE, [*map(spelled, events)])).gate < SIZE // 2 - 60:
         events.append(of_q(len(events)).event())
@@ -195,17 +195,17 @@ def a_running_shell_keeps_it(folder):
             shell.communicate()
 
 
-def words_that_say_nothing(folder):
+def invalid_arguments(folder):
     place = Place(folder, image_of())
     for words in (("split",), ("split", place.source), ("split", place.source, place.target), ("split", place.source, place.target, ""),
                   ("join", place.source, place.target, "lab"), ("look", place.source, "lab"), ("grow", place.source, "8192", "lab")):
-        status, shown, told = administer(*words)
-        same(f"the end of {words}", (status, shown, told.startswith("error: ")), (2, "", True))
-    same("the file is as it was", place.content(place.source) == image_of(), True)
+        status, shown, errors = administer(*words)
+        same(f"the end of {words}", (status, shown, errors.startswith("error: ")), (2, "", True))
+    same("the file is unchanged", place.content(place.source) == image_of(), True)
 
 
 def another_split_waits_for_the_first(folder):
-    """What was begun with other words is finished first."""
+    """A split that was begun with other arguments must be finished first."""
     place = Place(folder, image_of())
     with open(os.path.join(place.source, "spool.split"), "w", encoding="ascii") as file:
         file.write(f"{PART}1\n{place.target}\nq\n")
@@ -228,26 +228,26 @@ def traced(place, *inject):
 
 
 def is_whole_or_split(place, what):
-    """Each job is in exactly one spool: the folder's, or the other folder's file, which may still have a name that isn't served."""
+    """Each job is in exactly one spool: the folder's, or the other folder's file, which may still have a name that is not served."""
     old = image_of()
     source, target = place.names()
     parts = [name for name in target if name == NAME or name.startswith(PART)]
     if place.content(place.source) == old:
         same(f"{what}: the other folder has no spool", NAME in target, False)
         return False
-    same(f"{what}: what stayed", is_listed(place.content(place.source), half_of(old, ("lab",), False), SIZE), True)
-    same(f"{what}: there is one part", len(parts), 1)
-    same(f"{what}: what went", is_listed(place.content(place.target, parts[0]), half_of(old, ("lab",), True), SIZE), True)
+    same(f"{what}: the other queues", is_listed(place.content(place.source), half_of(old, ("lab",), False), SIZE), True)
+    same(f"{what}: one part exists", len(parts), 1)
+    same(f"{what}: the named queues", is_listed(place.content(place.target, parts[0]), half_of(old, ("lab",), True), SIZE), True)
     return True
 
 
-def goes_on(place, what):
+def next_succeeds(place, what):
     """The same command, given again, ends with both halves, whatever the one before left."""
     was_split = is_whole_or_split(place, what)
-    status, shown, told = administer("split", place.source, place.target, "lab")
-    # Where nothing was left to do but to end.
-    done = was_split and (status, shown, told) == (1, "", "spool: queue\n") or (status, shown, told) == (1, "", "spool: taken\n")
-    same(f"{what}: the end of the next one", done or (status, shown, told) == (0, "", ""), True)
+    status, shown, errors = administer("split", place.source, place.target, "lab")
+    # If nothing was left to do.
+    done = was_split and (status, shown, errors) == (1, "", "spool: queue\n") or (status, shown, errors) == (1, "", "spool: taken\n")
+    same(f"{what}: the end of the next one", done or (status, shown, errors) == (0, "", ""), True)
     is_split(place, image_of())
 
 
@@ -258,7 +258,7 @@ def all_calls(folder):
 
 
 def side_by_side(check, calls):
-    """Each has folders of its own, and waits for syncs most of its time."""
+    """Each run has its own folders, and mostly waits for syncs."""
     with ThreadPoolExecutor(SIDE_BY_SIDE) as pool:
         try:
             for _ in pool.map(check, calls):
@@ -273,7 +273,7 @@ def it_is_killed_at_each_call(folder):
         place = Place(folder, image_of())
         (status, _, _), _ = traced(place, f"{call.name}:signal=KILL:when={call.number}")
         same(f"the status, killed at {call}", status in (-9, 137), True)
-        goes_on(place, f"killed at {call}")
+        next_succeeds(place, f"killed at {call}")
         shutil.rmtree(place.top)
 
     side_by_side(killed, all_calls(folder))
@@ -282,10 +282,10 @@ def it_is_killed_at_each_call(folder):
 def each_call_fails_once(folder):
     def failing(call):
         place = Place(folder, image_of())
-        (status, shown, told), _ = traced(place, f"{call.name}:error={ERRORS[call.name]}:when={call.number}")
-        same(f"the end, where {call} fails", (status in (0, 1), shown, told.startswith("spool: ") == (status == 1)), (True, "", True))
-        same(f"all went well, where {call} fails", status == 1 or is_whole_or_split(place, f"failed at {call}"), True)
-        goes_on(place, f"failed at {call}")
+        (status, shown, errors), _ = traced(place, f"{call.name}:error={ERRORS[call.name]}:when={call.number}")
+        same(f"the end, when {call} fails", (status in (0, 1), shown, errors.startswith("spool: ") == (status == 1)), (True, "", True))
+        same(f"`split` succeeds, when {call} fails", status == 1 or is_whole_or_split(place, f"failed at {call}"), True)
+        next_succeeds(place, f"failed at {call}")
         shutil.rmtree(place.top)
 
     calls = all_calls(folder)
@@ -294,13 +294,13 @@ def each_call_fails_once(folder):
 
 
 def a_power_cut_leaves_one_or_the_other(folder):
-    """Nothing that a later step rests on is unsynced: bytes of a file before its name is changed, and a name before the next one."""
+    """All that a later step depends on is synced: bytes of a file before its name is changed, and a name before the next one."""
     unsynced, renamed = set(), []
     pending = None
     for call in all_calls(folder):
         path = call.files[0] if call.files else ""
         if call.name in ("write", "pwrite64"):
-            same(f"{call} isn't on a spool's file", os.path.basename(path) != NAME, True)
+            same(f"{call} is not on a spool's file", os.path.basename(path) != NAME, True)
             unsynced.add(path)
         elif call.name in ("fsync", "fdatasync"):
             unsynced.discard(path)
@@ -316,29 +316,29 @@ def a_power_cut_leaves_one_or_the_other(folder):
             # The file keeps its bytes under its new name.
             unsynced = {names[1] if one == names[0] else one for one in unsynced}
     same("the last name is synced", pending, None)
-    same("the change over comes before the part's name", [to for _, to in renamed if to == NAME], [NAME, NAME])
-    same("the change over is the rest's", renamed[-2][0], "spool.rest")
+    same("the switch precedes the part's name", [to for _, to in renamed if to == NAME], [NAME, NAME])
+    same("the switch is the rest's", renamed[-2][0], "spool.rest")
 
 
-def a_power_cut_behind_a_kill(folder):
-    """One that is killed before its change over is synced, and given again: it is synced before the part has its name."""
+def a_power_cut_after_a_kill(folder):
+    """A run that is killed before the switch, and repeated, syncs the files before the part gets its name."""
     calls = all_calls(folder)
     over = next(at for at, call in enumerate(calls) if call.name.startswith("rename") and b"/spool.rest" in call.texts[0])
     sync = next(call for call in calls[over:] if call.name in ("fsync", "fdatasync"))
     place = Place(folder, image_of())
     (status, _, _), _ = traced(place, f"{sync.name}:signal=KILL:when={sync.number}")
-    same("the status, killed at the sync of the change over", status in (-9, 137), True)
+    same("the status, killed at the sync of the switch", status in (-9, 137), True)
     same("the part waits", is_whole_or_split(place, "killed at the sync"), True)
     done, calls = traced(place)
     same("the end of the next one", done, (0, "", ""))
     named = next(at for at, call in enumerate(calls) if call.name.startswith("rename"))
     synced = [call.files[0] for call in calls[:named] if call.name in ("fsync", "fdatasync")]
-    same("the change over is synced before the part has its name", place.source in synced, True)
+    same("the switch is synced before the part has its name", place.source in synced, True)
     is_split(place, image_of())
 
 
-PLAIN = [each_row_is_in_one_half, both_are_served, documents_are_whole, a_half_is_split_again, what_is_refused, rows_that_do_not_fit,
-         a_running_shell_keeps_it, words_that_say_nothing, another_split_waits_for_the_first]
-TRACED = [it_is_killed_at_each_call, each_call_fails_once, a_power_cut_leaves_one_or_the_other, a_power_cut_behind_a_kill]
+PLAIN = [each_row_is_in_one_half, both_are_served, documents_are_whole, a_half_is_split_again, refusals, rows_that_do_not_fit,
+         a_running_shell_keeps_it, invalid_arguments, another_split_waits_for_the_first]
+TRACED = [it_is_killed_at_each_call, each_call_fails_once, a_power_cut_leaves_one_or_the_other, a_power_cut_after_a_kill]
 
 run_all("split-", PLAIN, TRACED)

@@ -1,8 +1,8 @@
-"""A small model of a spool: the table that the bytes of its file stand for, or their fault and its place.
+"""A small model of a spool: decodes the bytes of its file to a table, or to the fault and its place.
 
-It is written from docs/PROMISES.md and the definitions that it names, and shares nothing with the program: rows and records are
-spelled by tests/journal.py. `opened` says what an opening of an image gives, `Table` what each event makes of a table, and whether
-it is refused. Why it is refused is not said here: an event of an image that is refused is damage, whatever its cause.
+It is written from docs/PROMISES.md and the definitions that it names, and shares no code with the program: tests/journal.py encodes rows
+and records. `opened` is the result of opening an image. `Table` applies events to a table, and refuses some. The reason of a refusal is not
+modelled: a refused event in an image is damage, whatever its cause.
 """
 import re
 from dataclasses import dataclass, field
@@ -10,7 +10,7 @@ from dataclasses import dataclass, field
 import journal
 
 HALF_AT_LEAST = 23
-ROOM_KEPT = 7  # for the record of a reopening, and the gate behind it
+ROOM_KEPT = 7  # for the record of a reopening, and the gate after it
 GREATEST_EPOCH = 2 ** 64 - 1
 GREATEST_COUNT = 2 ** 32 - 1
 GREATEST_JOB = 2 ** 31 - 1
@@ -21,7 +21,7 @@ MOST_QUEUES = 64
 MOST_KEPT = 64  # reasons, and attributes, of a queue
 MOST_EFFECT_BYTES = 16_384
 
-# The kinds of texts: what they are made of, and their least and greatest length in bytes.
+# The kinds of texts: their characters, and their least and greatest length in bytes.
 PLAIN = rb"[^\x00-\x1f\x7f]*"
 NAME = (rb"[A-Za-z0-9_-]*", 1, 127)
 URI = (rb"[!-~]*", 1, 1_023)
@@ -37,11 +37,11 @@ MESSAGE = (rb"[ -~]*", 0, 1_023)
 
 
 class Fault(Exception):
-    """No table: what the program tells on standard error, without `spool: `."""
+    """No table: the program's standard error, without `spool: `."""
 
 
 class Unfit(Exception):
-    """Bytes that spell nothing, or what may not come next."""
+    """Bytes that encode nothing, or a payload that may not come next."""
 
 
 def demand(holds):
@@ -50,7 +50,7 @@ def demand(holds):
 
 
 class Fields:
-    """The fields of a payload, taken in turn."""
+    """The fields of a payload, decoded in order."""
 
     def __init__(self, payload):
         self.rest = payload
@@ -111,8 +111,8 @@ class Queue:
 
     def row(self):
         words = (self.name, self.uri, self.target, journal.POLICIES[self.policy], self.interval, self.limit)
-        told = (self.info, self.location, self.accepting, self.stopped, self.message)
-        return journal.Queue(*words, *told, tuple(sorted(self.reasons)), tuple(sorted(self.attributes.items())))
+        state = (self.info, self.location, self.accepting, self.stopped, self.message)
+        return journal.Queue(*words, *state, tuple(sorted(self.reasons)), tuple(sorted(self.attributes.items())))
 
 
 @dataclass
@@ -130,14 +130,14 @@ class Job:
     pages: int = 0
     size: int = 0
     phase: str = "incoming"
-    # Of a job that is incoming or waiting: None, the number of a hold's reason, or a moment alone in a tuple.
+    # For an incoming or waiting job: None, the number of a hold's reason, or only a moment, in a tuple.
     hold: object = None
     not_before: int = 0
     first: bool = False
     stage: int = 0
     reason: str = ""
     document: bytes = b""
-    # The moment by which it is to start.
+    # The start deadline.
     by: int | None = None
 
     def has_ended(self):
@@ -153,14 +153,14 @@ class Job:
         return self.hold is not None and (not isinstance(self.hold, tuple) or now < self.hold[0])
 
     def is_late(self, now):
-        """Whether it still waits behind the moment by which it was to start."""
+        """Whether it still waits after its start deadline."""
         return self.phase == "waiting" and self.by is not None and self.by < now
 
     def is_ready(self, now):
         return self.phase == "waiting" and not self.is_held(now) and self.not_before <= now
 
     def rank(self):
-        """What goes first has the least."""
+        """The sort key: the first job to start has the least."""
         return not self.first, -self.priority, self.number
 
     def is_last_stage(self):
@@ -184,7 +184,7 @@ class Job:
         return [journal.Job(*wishes, *state), *journal.pieces(self.number, self.document)]
 
     def shown(self, now):
-        """Its number for a state, and the word beside it."""
+        """Its number for a state, and the word after it."""
         if self.phase == "waiting" and self.is_held(now):
             return 4, journal.HOLDS[0 if isinstance(self.hold, tuple) else self.hold]
         if self.phase == "waiting":
@@ -203,7 +203,7 @@ def quoted(text):
 
 
 class Table:
-    """The queues and jobs, and the rows of a listing of which more may come. It knows the version of the area that it is in."""
+    """The queues and jobs, and the rows of a listing that may continue. It knows the version of its area."""
 
     def __init__(self, version=journal.NEWEST):
         self.version = version
@@ -212,7 +212,7 @@ class Table:
         self.highest = 0
         self.now = 0
         self.is_listed = False
-        # The job of the last row while its document is short.
+        # The job of the last row while its document is incomplete.
         self.partial = None
 
     # ---- rows of a listing
@@ -272,7 +272,7 @@ class Table:
     # ---- events
 
     def apply(self, payload):
-        """Takes an event, as it is spelled. One that is refused changes nothing that counts: the image is damaged."""
+        """Applies an event, given its bytes. After a refused event the table is not used: the image is damaged."""
         fields = Fields(payload)
         kind = fields.number(1)
         demand(kind in EVENTS)
@@ -316,7 +316,7 @@ class Table:
         self.jobs[job.number], self.highest = job, job.number
 
     def job_of(self, number, fields, *phases):
-        """The job that an event is about: it is there, hasn't ended, and is in one of these phases."""
+        """The job of an event: it exists, has not ended, and is in one of these phases."""
         fields.end()
         job = self.jobs.get(number)
         demand(job and job.phase in phases)
@@ -402,7 +402,7 @@ class Table:
         del self.jobs[number]
 
     def end_attempt(self, job, reason, code=None):
-        """A backend ended with this code, or what it did isn't known. Other codes, and None, are the queue's policy's."""
+        """A backend ended with this code, or its result is not known. Other codes, and None, are handled by the queue's policy."""
         queue = self.queues[job.queue]
         by_policy = {0: "abort", 1: 6, 2: 7, 3: 4}[queue.policy]
         verdict = code if code in (0, 2, 3, 4, 5, 6, 7) else by_policy
@@ -421,7 +421,7 @@ class Table:
             job.wait(hold={2: 1, 3: 2}.get(verdict), first=verdict == 7)
             queue.stopped |= verdict == 4
 
-    # ---- what it tells
+    # ---- its output
 
     def processing(self):
         return [job for job in self.jobs.values() if job.phase == "processing"]
@@ -430,14 +430,14 @@ class Table:
         return any(job.queue == name for job in self.processing())
 
     def next_of(self, name):
-        """The job of a queue that is to be started next."""
+        """The job of a queue that starts next."""
         if self.queues[name].stopped or self.is_busy(name):
             return None
         ready = [job for job in self.jobs.values() if job.queue == name and job.is_ready(self.now)]
         return min(ready, key=Job.rank, default=None)
 
     def listing(self):
-        """The payloads of its rows, which are always of the newest version."""
+        """The payloads of its rows, always in the newest version."""
         rows = [journal.Head(self.highest, self.now)]
         rows += [self.queues[name].row() for name in sorted(self.queues)]
         for number in sorted(self.jobs):
@@ -482,7 +482,7 @@ def new_job(fields):
 
 
 def wishes(fields):
-    """What a job is created with, behind its queue and its number."""
+    """The fields of a new job, after its queue and its number."""
     return fields.text(USER), fields.text(TITLE), fields.number(2, 1, 9_999), fields.number(1, 1, 100), fields.text(OPTIONS)
 
 
@@ -511,7 +511,7 @@ def add_reasons(queue, words):
 
 
 def effect(fields):
-    """The bytes of an effect's code, and what it makes of a job and its queue."""
+    """The bytes of an effect's code, and its effect on a job and its queue."""
     before = len(fields.rest)
     kind = fields.number(1, 1, 7)
     if kind == 1:
@@ -552,7 +552,7 @@ def set_attribute(queue, name, value):
 
 @dataclass
 class Opened:
-    """What an opening gives: where the current area is, its epoch, its closed gate, and the table after the error policies."""
+    """The result of an opening: the offset of the current area, its epoch, its closed gate, and the table after the error policies."""
     base: int
     epoch: int
     gate: int
@@ -562,7 +562,7 @@ class Opened:
 
 
 def current_base(image):
-    """Where the current area is, and its epoch."""
+    """The offset of the current area, and its epoch."""
     half = len(image) // 2
     if half < HALF_AT_LEAST:
         raise Fault("not-a-spool")
@@ -582,7 +582,7 @@ def current_base(image):
 
 
 def read_payload(table, payload, is_listing):
-    """Takes the next payload. Whether a row may still come then."""
+    """Applies the next payload. Returns whether a row may still follow."""
     if is_listing and payload[:1] in (b"\x40", b"\x41", b"\x42", b"\x43"):
         table.load(payload)
         return True
@@ -591,13 +591,13 @@ def read_payload(table, payload, is_listing):
     return False
 
 
-def standing(image):
-    """The table of an image, with jobs that are processing as they are. Raises its fault where it has one."""
+def stored_table(image):
+    """The table of an image, with its processing jobs unchanged. Raises its fault if it has one."""
     return reading(image).table
 
 
 def opened(image):
-    """What an opening of an image gives. Raises its fault where it has one."""
+    """The result of opening an image. Raises its fault if it has one."""
     it = reading(image)
     if it.table.processing():
         it.table.reopen()
@@ -606,7 +606,7 @@ def opened(image):
 
 
 def reading(image):
-    """What is found in an image, which is left as it is."""
+    """The contents of an image, which is left unchanged."""
     base, epoch = current_base(image)
     table = Table(journal.version_of(image[base:base + journal.HEADER]))
     end, gate, is_listing = base + len(image) // 2, base + journal.HEADER, True
@@ -614,7 +614,7 @@ def reading(image):
         while image[gate] == journal.OPEN:
             behind = gate + journal.FRAME
             last = behind + int.from_bytes(image[gate + 1:behind], "big")
-            # The next gate, too, is in the area.
+            # The next gate must be in the area too.
             demand(last < end)
             is_listing = read_payload(table, image[behind:last], is_listing)
             gate = last
@@ -631,7 +631,7 @@ def appended(file, gate, payload):
 
 
 def tried(it, payload):
-    """Applies an event that isn't refused to an opened spool. Whether there is room for its record."""
+    """Applies an event that is not refused to an opened spool. Returns whether there is room for its record."""
     if it.gate + journal.FRAME + len(payload) + ROOM_KEPT > it.base + len(it.file) // 2:
         return False
     it.table.apply(payload)
@@ -640,7 +640,7 @@ def tried(it, payload):
 
 
 def round_without_programs(it):
-    """What a round of an opened spool is answered where no child can be started, and what it leaves."""
+    """The reply to a round of an opened spool, if no child can be started, and the resulting spool."""
     table, is_full, finished = it.table, False, 0
     for name in sorted(table.queues):
         job = table.next_of(name)
@@ -654,7 +654,7 @@ def round_without_programs(it):
 
 
 def created_by(it, queue, by):
-    """What a command that makes a job to be started by a moment is answered on an opened spool, and what it leaves."""
+    """The reply to a command that creates a job with a start deadline on an opened spool, and the resulting spool."""
     table, number = it.table, min(it.table.highest + 1, GREATEST_JOB)
     if table.version == 1:
         return "error 17 NeedsCheckpoint"
@@ -668,7 +668,7 @@ def created_by(it, queue, by):
 
 
 def checkpointed(it):
-    """What the command is answered on an opened spool, and what it leaves: the table is in the other area, of the newest version."""
+    """The reply to the command on an opened spool, and the resulting spool: the table is in the other area, in the newest version."""
     half = len(it.file) // 2
     other = half if it.base == 0 else 0
     if it.epoch == GREATEST_EPOCH:

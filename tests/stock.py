@@ -1,19 +1,20 @@
 #!/usr/bin/env python3
-"""Whether docs/STOCK.md says what the stock filters and backends of CUPS do: stock.py [FOLDER [SHELL [SERVICE]]]
+"""Compares docs/STOCK.md with the behaviour of the stock filters and backends of CUPS: stock.py [FOLDER [SHELL [SERVICE]]]
 
-It reads the tables of that page, and tries each filter of FOLDER (or else of /usr/lib/cups/filter, from Debian's packages `cups` and
-`cups-filters`) by the built program SHELL, crates/spool_shell/out/spool_shell where none is given. The filter gets a document of its kind
-from the spooler, as the first stage of a job, and a backend keeps what it wrote. It is tried as it is, then by
-examples/office/with-cups-env, and then with the row's PPD: the first by which the job completes, and what was written is of its kind and has a
-page with something on it, is how the filter runs. That is compared with the row. So is its package, where `dpkg` knows it.
+It reads the tables of that page, and tries each filter of FOLDER (default /usr/lib/cups/filter, from Debian's packages `cups` and
+`cups-filters`) with the built program SHELL (default crates/spool_shell/out/spool_shell). The filter gets a document of its kind from the
+spooler, as the first stage of a job, and a backend stores the filter's output. It is tried as it is, then through
+examples/office/with-cups-env, and then with the row's PPD. A try succeeds if the job completes, and the output is of its kind and has a
+page with something on it. The first try that succeeds is compared with the row. So is the filter's package, if `dpkg` knows it.
 
-The backends of the folder `backend` beside FOLDER print to a socket, to a CUPS of this script's own (tests/cups_beside.py), and to a terminal in
-the place of a device. The backend `socket` also prints what a filter gives to a printer that answers: what comes there is the job,
-byte for byte. Then the office's chains are tried (tests/stock_chains.py), by SERVICE or the built
-crates/spool_service/out/spool_service, or by the shell where that isn't built.
+The backends of the folder `backend` next to FOLDER print to a socket, to a private CUPS (tests/cups_beside.py), and to a
+terminal in place of a device. The backend `socket` also prints a filter's output to a printer that sends data back; the printer must
+receive the job, byte for byte. Then the chains of examples/office are tried (tests/stock_chains.py), by SERVICE (default
+crates/spool_service/out/spool_service), or by the shell if that is not built.
 
-A line tells each row. What isn't installed is left out, and said to be. The last line counts the rows that were seen, and those that
-aren't as the page says; the status is 1 where there are any, or where a filter or backend is installed that the page doesn't have.
+The script prints a line for each row. Rows whose filter or backend is not installed are skipped, and the output says so. The last line
+counts the rows that were checked, and the rows that differ from the page. The status is 1 if there are any, or if a filter or backend is
+installed that the page does not have.
 """
 import os
 import re
@@ -38,7 +39,7 @@ from stock_runs import Place, Rows
 
 AS_IS, WRAPPED, WITH_PPD, NO = "as it is", "with-cups-env", "with-cups-env and a PPD", "no"
 
-# The options that a filter has to be given, and the programs that it calls.
+# The options that a filter requires, and the programs that it calls.
 OPTIONS = {"sys5ippprinter": "output-format=pdf"}
 PROGRAMS = {
     "mupdftoraster": "mutool",
@@ -48,7 +49,7 @@ PROGRAMS = {
 }
 BRAILLE = ("brf", "ubrl", "index", "embosser", "vector", "svg", "cgm", "cmx", "emf", "wmf", "xfig", "imagetobrf", "imagetoubrl", "imageubrl")
 
-# What a file for printers has to begin with that has no type of its own, by the filter.
+# The first bytes of a filter's output, for printer files that have no type of their own, by the filter.
 PRINTERS = {
     "brftoembosser": b"",
     "commandtoescpx": b"\x1b@",
@@ -64,7 +65,7 @@ PRINTERS = {
     "textbrftoindexv3": b"\x1bD",
     "textbrftoindexv4": b"\x1bD",
 }
-# And of each type.
+# And by type.
 BEGINS = {
     "text/plain": b"Dear Bo",
     "application/postscript": b"%!",
@@ -74,7 +75,7 @@ BEGINS = {
     "image/pwg-raster": b"RaS2PwgRaster",
 }
 
-# Documents that a filter makes of another: the filter, and what that one takes.
+# Documents that a filter creates from another one: the filter, and its input.
 MADE = {
     "application/vnd.cups-raster": ("gstoraster", "application/vnd.cups-pdf"),
     "application/vnd.cups-brf": ("texttobrf", "text/plain"),
@@ -105,7 +106,7 @@ class Descriptions:
         os.mkdir(self.room)
 
     def text(self, row):
-        """The PPD of a row, or None where there is nothing to make it by."""
+        """The PPD of a row, or None if it cannot be created."""
         source, name = row.ppd
         path = os.path.join(self.room, f"{source}-{name}.ppd")
         if not os.path.isfile(path):
@@ -118,10 +119,10 @@ class Descriptions:
     def make(self, source, name, path):
         if source == "foomatic":
             if os.path.isfile(FOOMATIC):
-                told = subprocess.run([FOOMATIC, "cat", f"foomatic-db-compressed-ppds:0/ppd/foomatic-ppd/{name}.ppd"], capture_output=True)
-                if told.stdout:
+                ran = subprocess.run([FOOMATIC, "cat", f"foomatic-db-compressed-ppds:0/ppd/foomatic-ppd/{name}.ppd"], capture_output=True)
+                if ran.stdout:
                     with open(path, "wb") as file:
-                        file.write(told.stdout)
+                        file.write(ran.stdout)
             return
         driver = os.path.join(DRIVERS, source)
         if shutil.which("ppdc") and os.path.isfile(driver):
@@ -139,20 +140,20 @@ class Filters:
         self.place, self.descriptions = place, Descriptions(place.room)
 
     def missing(self, row):
-        """What isn't there that a row wants."""
+        """The requirements of a row that are missing."""
         if not os.path.isfile(os.path.join(self.place.filters, row.name)):
-            return "it isn't installed"
+            return "it is not installed"
         program = PROGRAMS.get(row.name)
         if program and not shutil.which(program):
-            return f"the program {program} isn't installed"
+            return f"the program {program} is not installed"
         if row.name.startswith(BRAILLE) and not os.path.isdir("/usr/share/liblouis"):
-            return "liblouis isn't installed (Debian's package liblouis-data)"
+            return "liblouis is not installed (Debian's package liblouis-data)"
         if row.ppd and self.descriptions.text(row) is None:
-            return f"nothing makes the PPD {row.ppd[1]} (Debian's packages cups-ppdc and foomatic-db-compressed-ppds)"
+            return f"no program creates the PPD {row.ppd[1]} (Debian's packages cups-ppdc and foomatic-db-compressed-ppds)"
         return None
 
     def seen(self, row):
-        """How the filter runs, and what was told of the last try."""
+        """How the filter runs, and the messages of the last try."""
         said = ""
         for way in (AS_IS, WRAPPED, WITH_PPD):
             if way == WITH_PPD and not row.ppd:
@@ -167,7 +168,7 @@ class Filters:
         return NO, said
 
     def document(self, row, source):
-        """A document of a type, made with the PPD of this try."""
+        """A document of a type, created with the PPD of this try."""
         if source == "application/vnd.cups-command":
             return COMMANDS.get(row.name, CLEAN)
         if source in MADE:
@@ -191,11 +192,11 @@ class Filters:
 
 
 def package_of(path):
-    """The package of a file, or None where nothing tells it."""
+    """The package of a file, or None if it is not known."""
     if not shutil.which("dpkg-query"):
         return None
-    told = subprocess.run(["dpkg-query", "-S", path], capture_output=True, text=True).stdout
-    found = re.match(r"([^:,\s]+)[:,]", told)
+    output = subprocess.run(["dpkg-query", "-S", path], capture_output=True, text=True).stdout
+    found = re.match(r"([^:,\s]+)[:,]", output)
     return found[1] if found else None
 
 
@@ -222,7 +223,7 @@ def main():
     place = Place(*words)
     missing = place.missing()
     if missing:
-        print(f"stock.py wants {missing}")
+        print(f"stock.py needs {missing}")
         return 1
     with tempfile.TemporaryDirectory(prefix="stock-", dir="/tmp") as room:
         place.set_up(room, OFFICE)

@@ -1,4 +1,4 @@
-"""The backends of docs/STOCK.md, each tried on something that takes what it prints. See tests/stock.py."""
+"""Tries the backends of docs/STOCK.md, each with a receiver for its output. See tests/stock.py."""
 import os
 import pty
 import select
@@ -12,7 +12,7 @@ from stock_documents import TEXT
 
 AS_IS, LISTS, NO = "as it is", "lists devices", "no"
 
-# The backends that print to a socket: each with its URI, where PORT is the port.
+# The backends that print to a socket: each with its URI, in which PORT represents the port.
 SOCKETS = {
     "socket": "socket://127.0.0.1:PORT/?waiteof=false",
     "beh": "beh:/0/1/1/socket://127.0.0.1:PORT/?waiteof=false",
@@ -20,17 +20,17 @@ SOCKETS = {
 }
 # Those that print to an IPP printer, which is a queue of CUPS.
 PRINTERS = ("ipp", "ipps", "http", "https")
-# Those that print to a device, for which a terminal stands.
+# Those that print to a device, which a terminal represents.
 DEVICES = {"parallel": "parallel:DEVICE", "serial": "serial:DEVICE?baud=9600+bits=8+parity=none+flow=none"}
 LISTERS = ("driverless", "driverless-fax", "snmp")
 
 SECONDS = 20
-# How long a backend has that is to find no device.
+# The seconds that a backend has to report that there is no device.
 FEW_SECONDS = 6
 
 
 class Taken:
-    """What comes to a socket. A printer of lpd answers each part with a byte 0."""
+    """Receives data on a socket. A printer of lpd answers each part with a byte 0."""
 
     def __init__(self, answers):
         self.answers, self.got = answers, []
@@ -68,7 +68,7 @@ def to_socket(place, name):
     taken = Taken(name == "lpd")
     end, message = printed(place, name, SOCKETS[name].replace("PORT", str(taken.port)))
     got = taken.end()
-    # Around a document lpd sends what it says of the job.
+    # lpd sends its description of the job before and after the document.
     whole = TEXT in got if name == "lpd" else got == TEXT
     return end.startswith("9 ") and whole, f"{end}, {got!r:.100}, {message}"
 
@@ -92,7 +92,7 @@ def read(path):
 
 
 def to_device(place, name):
-    """A terminal, which takes what is written to it as it is."""
+    """A terminal, which passes on its input unchanged."""
     mine, other = pty.openpty()
     tty.setraw(mine)
     tty.setraw(other)
@@ -106,10 +106,10 @@ def to_device(place, name):
 
 
 def to_home(place, name):
-    """cups-brf writes into the folder BRF of the job's user, here root's, which is taken away again."""
+    """cups-brf writes into the folder BRF of the job's user, here root's, which is removed again."""
     folder = os.path.expanduser("~root/BRF")
     if os.path.exists(folder):
-        return None, f"{folder} is there, and isn't touched"
+        return None, f"{folder} exists, and is not changed"
     end, message = printed(place, name, "cups-brf:/", "root")
     got = b""
     if os.path.isdir(folder):
@@ -121,7 +121,7 @@ def to_home(place, name):
 
 
 def ended(words, environment):
-    """The status of a program that has a few seconds, or None where it takes longer."""
+    """The status of a program that has a few seconds, or None if it takes longer."""
     program = subprocess.Popen(words, env=environment, stdin=subprocess.DEVNULL, stdout=subprocess.DEVNULL, stderr=subprocess.DEVNULL)
     try:
         return program.wait(FEW_SECONDS)
@@ -132,7 +132,7 @@ def ended(words, environment):
 
 
 def seen(place, name):
-    """How a backend runs, and what was told; no way where it can't be tried here."""
+    """How a backend runs, and its messages; None if it cannot be tried here."""
     if name in LISTERS:
         status = ended([os.path.join(place.backends, name)], {"PATH": "/usr/bin:/bin"})
         return LISTS, f"its list ends with {status}" if status is not None else f"its list takes more than {FEW_SECONDS} s"
@@ -157,10 +157,10 @@ def try_backends(place, rows):
     for row in rows.backends:
         path = os.path.join(place.backends, row.name)
         if not os.path.isfile(path):
-            rows.left_out(row.name, "it isn't installed")
+            rows.left_out(row.name, "it is not installed")
             continue
         if not os.access(path, os.X_OK) or (row.name in (*PRINTERS, "cups-brf", "serial", "lpd") and os.geteuid()):
-            rows.left_out(row.name, "it isn't to be run by this user")
+            rows.left_out(row.name, "this user may not run it")
             continue
         way, said = seen(place, row.name)
         if way is None:
@@ -176,7 +176,7 @@ ANSWER = b"@PJL USTATUS DEVICE\r\nCODE=10001\r\nONLINE=TRUE\r\n"
 
 
 def answers(listener, got):
-    """A printer that tells its status again and again while it takes a job."""
+    """A printer that reports its status again and again while it receives a job."""
     listener.settimeout(SECONDS)
     try:
         client, _ = listener.accept()
@@ -195,10 +195,10 @@ def answers(listener, got):
 
 
 def try_answers(place, rows):
-    """Whether what a printer says to the backend `socket` as a later stage comes back in the job."""
+    """Whether a printer's answer to the backend `socket` as a later stage is added to the job."""
     path = os.path.join(place.backends, "socket")
     if not os.access(path, os.X_OK):
-        rows.left_out("socket, answered", "it isn't installed")
+        rows.left_out("socket, answered", "it is not installed")
         return
     first = place.write("first", "#!/bin/sh\nhead -c 960000 /dev/zero | tr '\\0' x\n")
     os.chmod(first, 0o755)
@@ -212,4 +212,4 @@ def try_answers(place, rows):
         printer.join()
     job = b"".join(got)
     whole = end.startswith("9 ") and job == b"x" * 960_000
-    rows.check("socket, answered", whole, True, f"prints the job alone: {end}, {len(job)} bytes, {message}")
+    rows.check("socket, answered", whole, True, f"prints only the job: {end}, {len(job)} bytes, {message}")

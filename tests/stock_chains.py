@@ -1,7 +1,8 @@
-"""The chains of examples/office/convs: each kind of document for each type of queue. See tests/stock.py.
+"""Tries the chains of examples/office/convs: each kind of document for each type of queue. See tests/stock.py.
 
-One document of each kind is printed in two copies on nine queues at once, each with a file as its printer. What is in the file is looked at:
-the type, the number of pages, whether something is on each, and of a PDF the paper. CUPS's program `cupsfilter`, which reads the same files, is asked for the filters too.
+One document of each kind is printed in two copies on nine queues at once, each with a file as its printer. The script checks the file: the
+type, the number of pages, whether something is on each, and for a PDF the paper size. It also asks CUPS's program `cupsfilter`, which reads
+the same files, for the filters.
 """
 import os
 import re
@@ -17,8 +18,10 @@ COPIES = 2
 PAPER, POINTS = "A5", "420 x 595"
 
 
-class Office:
-    """A folder with a spool and the office's files, and what is printed in it: by the service where that is built, or else by the shell."""
+class ChainSpool:
+    """A folder with a spool and the files of examples/office, and its printed output: by the service if that is built, or else by the
+    shell.
+    """
 
     def __init__(self, place, name):
         self.folder = os.path.join(place.room, name)
@@ -36,7 +39,7 @@ class Office:
         self.words += ["--types", os.path.join(place.office, "types"), "--convs", os.path.join(place.office, "convs")]
 
     def commands(self, targets, document):
-        """What is said for a job on each queue, a list of commands each."""
+        """The commands for a job on each queue, a list for each."""
         for number, target in enumerate(targets, 1):
             file = os.path.join(self.folder, f"q{number}")
             yield [
@@ -47,7 +50,7 @@ class Office:
             ]
 
     def print(self, targets, document):
-        """What the close of each job is answered, and how the job ends."""
+        """The reply to the close of each job, and how the job ends."""
         commands = list(self.commands(targets, document))
         return self.print_by_service(commands) if self.serves else self.print_by_shell(commands)
 
@@ -56,20 +59,20 @@ class Office:
         try:
             until("the service", lambda: os.path.exists(self.socket) or program.poll() is not None)
             client = Client(self)
-            client.line.settimeout(300)
-            told = [[client.ask(command) for command in job][-1] for job in commands]
-            ends = [client.listing(f"wait {number}\n")[0] for number in range(1, len(told) + 1) if "stages" in told[number - 1]]
+            client.connection.settimeout(300)
+            replies = [[client.ask(command) for command in job][-1] for job in commands]
+            ends = [client.listing(f"wait {number}\n")[0] for number in range(1, len(replies) + 1) if "stages" in replies[number - 1]]
             rows = {int(row.split()[1]): row for row in ends}
         finally:
             program.terminate()
             program.communicate(timeout=60)
-        return [(reply, state_of(rows.get(number, ""))) for number, reply in enumerate(told, 1)]
+        return [(reply, state_of(rows.get(number, ""))) for number, reply in enumerate(replies, 1)]
 
     def print_by_shell(self, commands):
         script = b"".join(b"".join(job) for job in commands) + b"drain 100\njobs\n"
-        told = subprocess.run(self.words, input=script, capture_output=True, timeout=600).stdout.decode().splitlines()
-        rows = {int(row.split()[1]): row for row in told if row.startswith("job ")}
-        return [(told[4 * number - 1], state_of(rows.get(number, ""))) for number in range(1, len(commands) + 1)]
+        lines = subprocess.run(self.words, input=script, capture_output=True, timeout=600).stdout.decode().splitlines()
+        rows = {int(row.split()[1]): row for row in lines if row.startswith("job ")}
+        return [(lines[4 * number - 1], state_of(rows.get(number, ""))) for number in range(1, len(commands) + 1)]
 
     def printed(self, number):
         try:
@@ -80,7 +83,7 @@ class Office:
 
 
 def state_of(row):
-    """The state and the reason of a job, of its row."""
+    """The state and the reason of a job, from its row."""
     return " ".join(row.split()[3:5])
 
 
@@ -92,7 +95,7 @@ def conversions(place):
 
 
 def leads(lines, source, target, filters):
-    """Whether these filters lead from one type to another by the lines."""
+    """Whether these filters convert one type to another by the lines."""
     types = {source}
     for name in filters:
         types = {end for begin, end, by in lines if begin in types and by == name}
@@ -100,7 +103,7 @@ def leads(lines, source, target, filters):
 
 
 def pages_of(place, output):
-    """How many pages a file has, or None where nothing here can tell."""
+    """The number of pages of a file, or None if no program here can count them."""
     if output[:4] == b"RaS2":
         return output.count(b"PwgRaster\0")
     if output.startswith((b"%PDF", b"%!")):
@@ -110,18 +113,18 @@ def pages_of(place, output):
 
 
 def paper_of(place, output):
-    """The paper of a PDF's first page in points, or None where Poppler's pdfinfo isn't installed."""
+    """The paper size of a PDF's first page in points, or None if Poppler's pdfinfo is not installed."""
     if not shutil.which("pdfinfo"):
         return None
     path = os.path.join(place.room, "paper")
     with open(path, "wb") as file:
         file.write(output)
-    told = subprocess.run(["pdfinfo", path], capture_output=True, text=True).stdout
-    found = re.search(r"^Page size: +(.*?) pts", told, re.M)
+    output = subprocess.run(["pdfinfo", path], capture_output=True, text=True).stdout
+    found = re.search(r"^Page size: +(.*?) pts", output, re.M)
     return found[1] if found else "none"
 
 
-# How a file of each type begins.
+# The first bytes of each type.
 BEGINS = {
     "application/vnd.cups-pdf": b"%PDF",
     "application/pdf": b"%PDF",
@@ -134,7 +137,7 @@ BEGINS = {
 
 
 def wrong_of(place, target, kind, filters, output):
-    """What is wrong with what was printed, or an empty text."""
+    """The error in the printed output, or an empty text."""
     document = OFFICE[kind][0]
     if not filters:
         return "" if output == COPIES * document else f"{len(output)} bytes, and not the document {COPIES} times"
@@ -147,7 +150,7 @@ def wrong_of(place, target, kind, filters, output):
         return "" if b"HP-PCL XL" in output else "no PCL XL"
     if target == "application/vnd.cups-pdf" and paper_of(place, output) not in (None, POINTS):
         return f"a paper of {paper_of(place, output)}"
-    # texttopdf and the others make no copies, and pstops leaves them to the printer.
+    # texttopdf and the others print no copies, and pstops leaves them to the printer.
     once = "pdftopdf" not in filters
     pages = pages_of(place, output)
     return "" if pages in (None, 1 if once else COPIES) else f"{pages} pages"
@@ -168,7 +171,7 @@ def try_chains(place, rows):
         ask_cups(place, rows, lines)
     for kind, column in kinds():
         if missing:
-            rows.left_out(kind, f"{', '.join(missing)} isn't installed")
+            rows.left_out(kind, f"{', '.join(missing)} is not installed")
             continue
         try:
             try_kind(place, rows, lines, kind, column)
@@ -179,31 +182,31 @@ def try_chains(place, rows):
 def ask_cups(place, rows, lines):
     """Compares the page's filters with those that CUPS finds by the same files."""
     if not shutil.which("cupsfilter"):
-        rows.left_out("cupsfilter", "it isn't installed (Debian's package cups)")
+        rows.left_out("cupsfilter", "it is not installed (Debian's package cups)")
         return
     types = os.path.join(place.room, "data", "mime")
     os.makedirs(types)
     for name in ("types", "convs"):
         shutil.copy(os.path.join(place.office, name), os.path.join(types, f"office.{name}"))
-    # CUPS knows the types alone that a file of types names.
+    # CUPS knows only the types that a file of types names.
     place.write("data/mime/more.types", "".join(f"{target}\n" for _, target, _ in lines))
     settings = place.write("cups-files.conf", f"ServerRoot {place.room}\nDataDir {place.room}/data\nServerBin {os.path.dirname(place.filters)}\n")
     for kind, column in kinds():
         document = place.write("asked", OFFICE[kind][0])
         for target, cells in rows.chains:
             filters = re.findall(r"`([^`]*)`", cells[column])
-            # It knows no filters that aren't CUPS's, and counts none as one of its own.
+            # It knows no filters except CUPS's, and counts none as one of its own.
             if filters and "texttoprn" not in filters:
                 words = ["cupsfilter", "-c", settings, "--list-filters", "-m", target, document]
-                told = subprocess.run(words, capture_output=True, text=True, timeout=60).stdout.split()
-                rows.check("cupsfilter", told, filters, f"{kind} to {target}")
+                filters_found = subprocess.run(words, capture_output=True, text=True, timeout=60).stdout.split()
+                rows.check("cupsfilter", filters_found, filters, f"{kind} to {target}")
 
 
 def try_kind(place, rows, lines, kind, column):
     document, media = OFFICE[kind]
-    office = Office(place, kind)
-    told = office.print([target for target, _ in rows.chains], document)
-    for number, ((target, cells), (reply, end)) in enumerate(zip(rows.chains, told), 1):
+    spool = ChainSpool(place, kind)
+    results = spool.print([target for target, _ in rows.chains], document)
+    for number, ((target, cells), (reply, end)) in enumerate(zip(rows.chains, results), 1):
         cell, name = cells[column], f"{kind}, {target}"
         filters = re.findall(r"`([^`]*)`", cell)
         wanted = f"ok type {media} unprintable" if cell == "none" else f"ok type {media} stages {len(filters) + 1}"
@@ -214,7 +217,7 @@ def try_kind(place, rows, lines, kind, column):
         elif not leads(lines, media, target, filters):
             rows.differs(name, f"convs has no way by {filters}")
         else:
-            output = office.printed(number)
+            output = spool.printed(number)
             wrong = wrong_of(place, target, kind, filters, output) if end.startswith("9 ") else f"state {end}"
             pages = pages_of(place, output)
             said = f"{target} by {', '.join(filters) or 'no filter'}: {len(output)} bytes{f', {pages} pages' if pages else ''}"

@@ -1,4 +1,4 @@
-"""Documents of each kind for tests/stock.py, made here: what an office prints, and what some filters want."""
+"""Documents of each kind for tests/stock.py: typical office documents, and documents that some filters require."""
 import base64
 import gzip
 import os
@@ -61,7 +61,7 @@ def png():
 
 
 def gif():
-    """Of seven bits a point, whose codes have eight bits as long as they are few."""
+    """With seven bits a pixel, whose codes have eight bits while they are few."""
     colours = b"".join(bytes([number, 0, 255 - number]) for number in range(128))
     codes = b"\x80" + bytes(range(SIDE * SIDE)) + b"\x81"
     head = b"GIF89a" + struct.pack("<HHBBB", SIDE, SIDE, 0xF6, 0, 0) + colours
@@ -69,7 +69,7 @@ def gif():
 
 
 def tiff():
-    """Of three bytes a point, without compression."""
+    """With three bytes a pixel, without compression."""
     points = bytes([200, 40, 0]) * (SIDE * SIDE)
     bits, strip = 8, 8 + 6
     fields = [(256, 4, 1, SIDE), (257, 4, 1, SIDE), (258, 3, 3, bits), (259, 3, 1, 1), (262, 3, 1, 2), (273, 4, 1, strip)]
@@ -78,7 +78,7 @@ def tiff():
     return b"II*\0" + struct.pack("<I", strip + len(points)) + struct.pack("<HHH", 8, 8, 8) + points + table
 
 
-# What an office prints: the name of each kind, its document, and the type that the rules are to find.
+# Typical office documents: the name of each kind, its document, and the type that the rules must detect.
 OFFICE = {
     "text": (TEXT, "text/plain"),
     "HTML": (PAGE_OF_THE_WEB, "text/html"),
@@ -106,7 +106,7 @@ DOCUMENTS = {
 }
 
 
-# Documents that are to be typed by examples/office/types, each with a name.
+# Documents whose types are detected with examples/office/types, each with a name.
 TYPED = [
     ("a.txt", pdf(), "application/pdf"),
     ("a", b"\n" + pdf(), "application/pdf"),
@@ -135,7 +135,7 @@ TYPED = [
 
 
 def boxes(room, output):
-    """What of each page of a PDF, or of PostScript, has something on it, or None where Ghostscript isn't installed."""
+    """For each page of a PDF, or of PostScript, the area with something on it, or None if Ghostscript is not installed."""
     if shutil.which("gs") is None:
         return None
     path = os.path.join(room, "page")

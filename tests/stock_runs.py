@@ -1,4 +1,7 @@
-"""What tests/stock.py and its parts share: the rows of docs/STOCK.md, and the runs of the spooler and of single filters."""
+"""The shared parts of tests/stock.py and its modules: the rows of docs/STOCK.md, and the runs of programs.
+
+The programs are the spooler and single filters.
+"""
 import os
 import re
 import shutil
@@ -10,7 +13,7 @@ ROOT = os.path.dirname(os.path.dirname(os.path.realpath(__file__)))
 KEEP = """#!/bin/sh
 cat > "${DEVICE_URI#keep:}"
 """
-# Filters for Braille ask for a language.
+# Filters for Braille require a language.
 SETTINGS = "CUPS_SERVERBIN={binaries}\nLANG=en_US.UTF-8\n"
 
 
@@ -19,10 +22,10 @@ class Filter:
     name: str
     package: str
     source: str
-    # None where what it makes is a printer's own language.
+    # None if the output is a printer's own language.
     target: object
     runs: str
-    # Where the PPD is from, and its name.
+    # The source of the PPD, and its name.
     ppd: object
 
 
@@ -34,7 +37,7 @@ class Backend:
 
 
 class Rows:
-    """The tables of the page, and what was seen of them."""
+    """The tables of the page, and the observed results."""
 
     def __init__(self, text):
         parts = dict(re.findall(r"^## ([^\n]*)\n(.*?)(?=^## |\Z)", text, re.M | re.S))
@@ -50,7 +53,7 @@ class Rows:
     def differs(self, name, what):
         self.count += 1
         self.failed += 1
-        print(f"{name:20} ISN'T AS THE PAGE SAYS: {what}", flush=True)
+        print(f"{name:20} DIFFERS FROM THE PAGE: {what}", flush=True)
 
     def check(self, name, found, wanted, what):
         if found == wanted:
@@ -63,11 +66,11 @@ class Rows:
         print(f"{name:20} left out: {why}", flush=True)
 
     def unlisted(self, folder, names):
-        """Tells what the folder has that the page doesn't."""
+        """Reports the files of the folder that the page does not have."""
         there = sorted(os.listdir(folder)) if os.path.isdir(folder) else []
         for name in there:
             if os.path.isfile(os.path.join(folder, name)) and name not in names and not name.endswith(".sh"):
-                self.differs(name, "it isn't in the page")
+                self.differs(name, "it is not in the page")
 
 
 def cells_of(part):
@@ -87,7 +90,7 @@ def filter_of(cells):
 
 
 class Place:
-    """Where the stock parts are, and the programs of the spooler; and a folder to try them in."""
+    """The folder of the stock programs, the programs of the spooler, and a folder to try them in."""
 
     def __init__(self, filters="/usr/lib/cups/filter", shell=None, service=None):
         self.filters = filters.rstrip("/")
@@ -152,14 +155,14 @@ class Place:
         return " ".join(job.split()[3:5]), queue[queue.index('"') :]
 
     def filtered(self, row, as_it_is, document, options):
-        """How a job of this filter ends, the queue's message, and what the filter wrote."""
+        """How a job of this filter ends, the queue's message, and the filter's output."""
         kept = os.path.join(self.room, "kept")
         if os.path.exists(kept):
             os.remove(kept)
         path = f"{self.filters}/{row.name}" if as_it_is else f"{self.wrapper} {row.name}"
         programs = f"filter {row.name} {path}\nbackend keep {self.room}/keep\n"
         target = row.target or "printer/stock"
-        # A type is reached from itself without a filter, so this one is called by another name.
+        # A type is reached from itself without a filter, so this one gets another name.
         source = "test/document" if row.source == target else row.source
         types, convs = f"{source} document\n", f"{source} {target} 1 {row.name}\n"
         end, message = self.run(programs, types, convs, f"keep:{kept}", target, document, options)
@@ -170,11 +173,11 @@ class Place:
         return end, message, output
 
     def made(self, name, source, document, target):
-        """What a filter makes of a document, run as the spooler does, with the PPD that the queue has."""
+        """A filter's output for a document, run as the spooler does, with the queue's PPD."""
         path = self.write("document", document)
-        told = {"CHARSET": "utf-8", "CONTENT_TYPE": source, "FINAL_CONTENT_TYPE": target, "DEVICE_URI": "keep:/", "LANG": "C"}
-        told |= {"PATH": "/usr/bin:/bin", "PRINTER": "stock", "TMPDIR": self.room}
-        ran = subprocess.run([self.wrapper, name, "1", "ann", "A page", "1", "", path], env=told, capture_output=True, timeout=300)
+        variables = {"CHARSET": "utf-8", "CONTENT_TYPE": source, "FINAL_CONTENT_TYPE": target, "DEVICE_URI": "keep:/", "LANG": "C"}
+        variables |= {"PATH": "/usr/bin:/bin", "PRINTER": "stock", "TMPDIR": self.room}
+        ran = subprocess.run([self.wrapper, name, "1", "ann", "A page", "1", "", path], env=variables, capture_output=True, timeout=300)
         return ran.stdout
 
 

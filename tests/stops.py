@@ -1,19 +1,19 @@
 #!/usr/bin/env python3
-"""Stops a script at each call of its disk, and fails each call alone: stops.py [--scripts PROGRAM] [--shell PROGRAM]
+"""Fails each disk call of a script, alone or with all later calls, and opens the spool: stops.py [--scripts PROGRAM] [--shell PROGRAM]
 
-The script has two queues, four jobs with documents and options, of which one is to start by a moment and another one misses its
-own and is purged, a round, a checkpoint and a drain. It is served by crates/spool_scripts, over a disk and children in memory, once for each call
-of the disk: the disk fails from that call on, or at that call alone. Then the spool is opened again. It has the table after a prefix
-of the accepted events, which holds each one that was acknowledged, changed by a reopening, and its documents: jobs that can start
-are then ordered with them, and no stage that was ordered before is ordered again. Another form of it goes without moments and
-purges, on a spool of version 1, which the checkpoint makes a newer one.
+The script has two queues, four jobs with documents and options, one of them with a start deadline and one that misses its deadline and is
+purged, a round, a checkpoint and a drain. crates/spool_scripts serves it over a disk and children in memory, once for each call of the
+disk: the disk fails from that call on, or only at that call. Then the spool is opened again. It must have the table after a prefix of the
+accepted events, including each acknowledged one, changed by a reopening, and its documents: jobs that can start are then ordered with them,
+and no stage that was ordered before is ordered again. A second form of the script runs without deadlines and purges, on a spool of version
+1, which the checkpoint converts to a newer one.
 
-What the table after a prefix is listed as is told by the shell, on a file that tests/journal.py writes. An event takes four calls,
-of which the last is the sync behind its gate: where that one fails, the event is there and wasn't acknowledged. A document that is
-read takes one. How many a checkpoint takes is found by counting upwards.
+The shell provides the listing of the table after a prefix, from a file that tests/journal.py writes. An event takes four calls, the last of
+them the sync after its gate: if that one fails, the event is on the disk and was not acknowledged. A document that is read takes one. The
+number of calls of a checkpoint is found by counting upwards.
 
-The programs are those that `rt run` leaves in the crates' folders. The last line is `N cases passed`, with status 0, or the first
-difference, with status 1; the folder with its case stays then, and is named. It takes some ten seconds.
+The programs are the ones from `rt run` in the crates. The last line is `N cases passed`, with status 0, or the first difference, with
+status 1; the folder with its case is kept then, and its path is printed. It takes about ten seconds.
 """
 import argparse
 import os
@@ -46,15 +46,15 @@ CONVERTED = "HELLO"
 
 @dataclass(frozen=True)
 class Child:
-    """A child that is started: the stage of an attempt, its program, and how it goes."""
+    """A child that is started: the stage of an attempt, its program, and its result."""
 
     job: int
     stage: int
     program: str
-    goes: str
+    end: str
 
-    def order(self, behind):
-        """What is told of its order, behind so many that have finished."""
+    def order(self, finished):
+        """The account's line about its order, after this number of other children have finished."""
         job = JOBS[self.job]
         queue = QUEUES[job.queue]
         words = [str(job.number), job.user, job.title, str(job.copies), job.options]
@@ -65,7 +65,7 @@ class Child:
         variables = ("CHARSET=utf-8", f"CONTENT_TYPE={MEDIA[job.number]}", "CUPS_FILETYPE=document", f"DEVICE_URI={queue.uri}",
                      f"FINAL_CONTENT_TYPE={queue.target}", "LANG=C", "PATH=/bin", f"PRINTER={queue.name}", "PRINTER_INFO=",
                      "PRINTER_LOCATION=", "TMPDIR=/r", "SPOOL_ATTEMPT=1", "SPOOL_SIDE=", f"SPOOL_STAGE={self.stage}")
-        return (f"job {job.number} attempt 1 stage {self.stage} behind {behind}\n"
+        return (f"job {job.number} attempt 1 stage {self.stage} behind {finished}\n"
                 f"{self.program} {quoted(words)}\nvariables {quoted(variables)}\n{given}\n")
 
 
@@ -78,8 +78,8 @@ LAB_FIRST = Child(1, 1, "backend spoolfile", "exit 0")
 BACKEND = Child(2, 2, "backend s", "exit 1")
 LAB_THIRD = Child(3, 1, "backend spoolfile", "exit 0")
 
-# The commands, their replies, and what each does in turn: events, which are bytes, children that are started, documents that are
-# read (READ), and the checkpoint.
+# The commands, their replies, and the steps of each in order: events, which are bytes, children that are started, documents that are read
+# (READ), and the checkpoint.
 CHECKPOINT = "checkpoint"
 READ = "read"
 STORY = (
@@ -103,7 +103,7 @@ STORY = (
     ("checkpoint", "ok", [CHECKPOINT]),
     ("drain 3", "ok rounds 2", [start(3), BACKEND, READ, LAB_THIRD, stage(2, 1, 2, 1), stage(3, 1, 1, 0)]),
 )
-# The same without moments and without the purge, which version 1 takes.
+# The same without deadlines and without the purge, which version 1 does not have.
 OLD_STORY = (
     *STORY[:5],
     ("create hall bob Two 2 80 \"nocollate note='a b'\"", "ok job 2", [replace(SECOND, by=None).event()]),
@@ -115,13 +115,14 @@ AFTER = "jobs\nqueues\nround\njobs\n"
 
 
 class Difference(Exception):
-    """The programs don't do what they have to."""
+    """The programs behave differently than required."""
 
 
 @dataclass
 class Stopped:
-    """What came of the script up to a call: the replies so far, the events that are on the disk, the children that were started
-    with the number that had finished before each, and whether the disk failed."""
+    """The result of the script up to a call: the replies so far, the events that are on the disk, the children that were started with the
+    number that had finished before each, and whether the disk failed.
+    """
 
     replies: list
     events: list
@@ -130,7 +131,7 @@ class Stopped:
 
 
 def calls_of(step, checkpoint):
-    """The calls that a step takes, where a checkpoint takes so many."""
+    """The number of calls of a step, given that of a checkpoint."""
     if isinstance(step, Child):
         return 0
     return {CHECKPOINT: checkpoint, READ: 1}.get(step, APPEND)
@@ -141,7 +142,7 @@ def calls_of_all(story, checkpoint=0):
 
 
 def stopped_at(story, call, checkpoint):
-    """What comes of the script where that call fails, counted from 0 at the opening."""
+    """The result of the script if that call fails, counted from 0 at the opening."""
     done = Stopped([], [], [])
     left = call - OPENING
     finished = 0
@@ -166,7 +167,7 @@ def stopped_at(story, call, checkpoint):
 
 
 def listed(shell, folder, version, events):
-    """What the shell says to the last commands, on a spool whose journal has these events. It can start no child."""
+    """The shell's replies to the last commands, on a spool whose journal has these events. It can start no child."""
     root = tempfile.mkdtemp(dir=folder)
     with open(os.path.join(root, "spool.disk"), "wb") as file:
         file.write(image(SIZE, events, version=version))
@@ -177,8 +178,9 @@ def listed(shell, folder, version, events):
 
 
 def can_start(events):
-    """The children of the jobs that the first round after an opening can start: of each queue the first job that was closed and
-    never started."""
+    """The children of the jobs that the first round after an opening can start: for each queue the first job that was closed and never
+    started.
+    """
     first = {}
     for child in (FILTER, LAB_FIRST, LAB_THIRD):
         if is_closed(events, child.job) and start(child.job) not in events:
@@ -194,7 +196,7 @@ def write_case(folder, name, version, fuse, done, after):
     """A case of the stored scripts."""
     started, late = [child for child, _ in done.children], can_start(done.events)
     account = "the disk failed\n" if done.failed else ""
-    account += "".join(child.order(behind) for child, behind in done.children)
+    account += "".join(child.order(finished) for child, finished in done.children)
     account += "".join(child.order(len(started)) for child in late)
     account += f"finished {len(started)}\n" if started else ""
     files = {
@@ -204,14 +206,14 @@ def write_case(folder, name, version, fuse, done, after):
         "convs": "a/a a/b 10 f\n",
         "size": str(SIZE),
         "version": str(version),
-        "children": "\n\n".join([child.goes for child in started] + ["no start"] * len(late)) + "\n",
+        "children": "\n\n".join([child.end for child in started] + ["no start"] * len(late)) + "\n",
         "account": account,
         "fuse": fuse,
     }
     if not started + late:
         del files["children"]
     if version == NEWEST:
-        # The spool stays as it is made.
+        # The spool remains as it was created.
         del files["version"]
     for kind, words in files.items():
         with open(os.path.join(folder, f"{name}.{kind}"), "w") as file:
@@ -219,14 +221,14 @@ def write_case(folder, name, version, fuse, done, after):
 
 
 def served(program, folder):
-    """What the stored scripts of a folder came to: those that pass, and the other lines."""
+    """The results of the stored scripts of a folder: those that pass, and the other lines."""
     done = subprocess.run([program, folder], capture_output=True, text=True, timeout=600)
     lines = done.stdout.splitlines()
     return [line[:-3] for line in lines if line.endswith(" ok")], [line for line in lines if not line.endswith(" ok")]
 
 
 def calls_of_checkpoint(scripts, folder, version):
-    """The calls that the checkpoint takes: the least number with which an event behind it is the first to fail."""
+    """The number of calls of the checkpoint: the least number that makes an event after it the first to fail."""
     story = STORIES[version]
     before = story[:[command for command, _, _ in story].index("checkpoint")]
     first = calls_of_all(before)
@@ -247,7 +249,7 @@ def calls_of_checkpoint(scripts, folder, version):
 
 
 def all_cases(scripts, shell, folder, version):
-    """Serves the script of a version with each of its calls stopped and failed. How many cases that were."""
+    """Serves the script of a version with each of its calls stopped and failed. Returns the number of cases."""
     story, checkpoint = STORIES[version], calls_of_checkpoint(scripts, folder, version)
     events = [step for _, _, steps in story for step in steps if isinstance(step, bytes)]
     last = calls_of_all(story, checkpoint)

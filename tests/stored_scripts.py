@@ -1,16 +1,16 @@
-"""The stored scripts of crates/spool_scripts/data, as one who waits for replies has to read them."""
+"""Reads the stored scripts of crates/spool_scripts/data for a client that waits for replies."""
 import os
 import re
 
 DATA = os.path.join(os.path.dirname(os.path.realpath(__file__)), "..", "crates", "spool_scripts", "data")
 
-# What the built program has no word for.
+# The parts of a script that cannot be passed to the built program.
 MADE_UP = ("children", "fuse", "lang", "limits")
 
-# The lines behind which a served engine runs again, the second with a tick before: the built program serves its input in one run.
+# After `# run` a served engine runs again, and after `# tick` it makes a tick and runs again. The built program has only one run.
 CUTS = {b"# run\n", b"# tick\n"}
 
-# Sends that have a whole line; greater counts and numbers are no commands.
+# Sends with a whole line; greater counts and numbers are no commands.
 SEND = re.compile(rb'[ \t]*("?)send\1[ \t]+("?)([0-9]+)\2[ \t]+("?)([0-9]+)\4[ \t]*')
 LEAST_SIZE = 4_096
 USUAL_SIZE = 4_194_304
@@ -45,13 +45,14 @@ def names():
 
 
 def header(version):
-    """That of an area of epoch 1 that is open."""
+    """The first byte of an area of epoch 1 that is open."""
     return bytes([0xA5, version]) + (1).to_bytes(8, "big") + bytes(6)
 
 
 def words_of(name, root):
-    """The words behind the program's name that serve a script in a folder, which is made. A spool that is shorter than the
-    program makes one, or of an older version, is written there: an area without records."""
+    """The arguments of the program that serves a script in a folder, which is created. A spool that is shorter than the program creates
+    one, or of an older version, is written there: an area without records.
+    """
     os.mkdir(root)
     words = ["--root", root]
     for ending in ("types", "convs"):
@@ -80,7 +81,7 @@ def parts(script):
 
 
 def payload(line):
-    """How many bytes follow a line as those of a send, with the line feed behind them."""
+    """How many bytes follow a line as those of a send, with the line feed after them."""
     found = SEND.fullmatch(line)
     if not found or len(line) > LONGEST_LINE or not 1 <= int(found[3]) <= GREATEST_JOB or int(found[5]) > GREATEST_COUNT:
         return 0
@@ -88,12 +89,12 @@ def payload(line):
 
 
 def line_end(text, at):
-    """Where the line ends that begins here, behind its line feed, or 0 where it has none."""
+    """The end of the line that begins here, after its line feed, or 0 if it has none."""
     return text.find(b"\n", at) + 1
 
 
 def commands(part):
-    """What is given at once, and whether it has a reply, and what the command is. The last is what has no line feed."""
+    """The pieces that are written at once, whether each has a reply, and the command. The last is the text without a line feed."""
     at = 0
     while line_end(part, at):
         end = line_end(part, at)
@@ -102,7 +103,7 @@ def commands(part):
         if end + sent > len(part):
             break
         if sent and part[end + sent - 1 : end + sent] != b"\n":
-            # The bytes are no send: its reply comes, and then the line that they are in ends.
+            # The bytes are no send: its reply arrives, and then the line that they are in ends.
             yield part[at : end + sent], True, line
             at, end = end + sent, line_end(part, end + sent) or len(part)
             yield part[at:end], False, b""

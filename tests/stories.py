@@ -1,7 +1,7 @@
-"""A spool of any bytes, on which the shell is given commands: what tests/images.py and tests/events.py share.
+"""A spool with arbitrary bytes, and the commands that the shell runs on it: shared by tests/images.py and tests/events.py.
 
-The first word of their command is the program, and crates/spool_shell/out/spool_shell (made by `rt run` in that folder) where
-there is none. Further words name tests. Each test is a function that takes a folder, where it keeps its files.
+The first argument of these scripts is the program, by default crates/spool_shell/out/spool_shell (built by `rt run` in that crate). Further
+arguments name tests. Each test is a function that gets a folder for its files.
 """
 import inspect
 import os
@@ -18,20 +18,20 @@ here = os.path.dirname(os.path.abspath(__file__))
 built = os.path.join(here, "..", "crates", "spool_shell", "out", "spool_shell")
 shell = os.path.abspath(sys.argv[1] if len(sys.argv) > 1 else built)
 
-SIZE = 8_192  # of a spool where a test doesn't say
+SIZE = 8_192  # of a spool if a test does not specify it
 SECONDS = 60  # a program that takes longer hangs
 GREATEST = 2 ** 32 - 1
 GREATEST_NUMBER = 2 ** 31 - 1
 
-# What is told of a stage whose program isn't in the file of programs.
-NO_PROGRAM = re.compile(r"spool: job \d+ attempt \d+ stage \d+ \S+: not in the file of programs\n")
+# The log line about a stage whose program is not in the programs file.
+NO_PROGRAM = re.compile(r"spool: job \d+ attempt \d+ stage \d+ \S+: not listed in the programs file\n")
 
-# The backend of the scheme `s`: it keeps the document that it is given.
+# The backend of the scheme `s`: it stores its input document.
 BACKEND = '#!/bin/sh\ncat "$6" > "$0.$1"\n'
 
 
 class Difference(Exception):
-    """The program doesn't do what it has to."""
+    """The program behaves differently than required."""
 
 
 def same(what, found, wanted):
@@ -53,27 +53,28 @@ class Spool:
             return file.read()
 
     def lines(self, commands, words=(), status=0, errors=""):
-        """The lines of the replies to commands. The status and what is on standard error have to be these, but for what is told
-        of stages, which have no program here."""
+        """The lines of the replies to commands. The status and standard error must be these, except for log lines about stages, which have
+        no program here.
+        """
         script = b"".join(command if isinstance(command, bytes) else command.encode() + b"\n" for command in commands)
         done = subprocess.run([shell, "--root", self.root, *words], input=script, capture_output=True, timeout=SECONDS)
-        told = [line for line in done.stderr.decode().splitlines(True) if not NO_PROGRAM.fullmatch(line)]
-        same("standard error", "".join(told), errors)
+        lines = [line for line in done.stderr.decode().splitlines(True) if not NO_PROGRAM.fullmatch(line)]
+        same("standard error", "".join(lines), errors)
         same("status", done.returncode, status)
         return done.stdout.decode().splitlines()
 
     def says(self, *rows, words=()):
-        """Gives the commands of the rows, each a command and the line, or the lines, of its reply."""
+        """Sends the commands of the rows. Each row is a command and the line, or the lines, of its reply."""
         wanted = []
         for _, reply in rows:
             wanted += [reply] if isinstance(reply, str) else reply
         same("replies", self.lines([command for command, _ in rows], words), wanted)
 
     def is_refused(self, fault):
-        """The program opens nothing, answers nothing and changes nothing."""
+        """The program opens nothing, sends no reply and changes nothing."""
         before = self.content()
         same("replies", self.lines(["jobs"], status=1, errors=f"spool: {fault}\n"), [])
-        same("the file is as it was", self.content() == before, True)
+        same("the file is unchanged", self.content() == before, True)
 
     def listing(self):
         """The rows that a checkpoint writes, in the newest version."""
@@ -83,7 +84,7 @@ class Spool:
         same("the epoch", epoch, before + 1)
         same("the version", journal.current_version(self.content()), journal.NEWEST)
         rows = [journal.read_row(payload) for payload in payloads]
-        same("the rows spelled again", [row.payload() for row in rows], payloads)
+        same("the encoded rows", [row.payload() for row in rows], payloads)
         return rows
 
     def with_file(self, name, words, mode=0o600):
@@ -95,11 +96,11 @@ class Spool:
         return path
 
     def options(self, **files):
-        """The words that name files of types, of conversions and of programs."""
+        """The arguments that name files of types, of conversions and of programs."""
         return [word for option, words in files.items() for word in (f"--{option}", self.with_file(option, words))]
 
     def printed(self, job):
-        """The document that the backend is given for a job in a round."""
+        """The document that the backend gets for a job in a round."""
         backend = self.with_file("backend", BACKEND, 0o700)
         self.says(("round", "ok started 1 finished 1"), words=self.options(programs=f"backend s {backend}\n"))
         with open(f"{backend}.{job}", "rb") as file:
@@ -111,7 +112,7 @@ def spelled(payload, version=journal.NEWEST):
 
 
 class Story:
-    """The rows and events that a spool's journal holds, in an area of this version."""
+    """The rows and events of a spool's journal, in an area of this version."""
 
     def __init__(self, folder, *payloads, size=SIZE, version=journal.NEWEST):
         self.folder = folder
@@ -123,22 +124,22 @@ class Story:
         return [spelled(payload, self.version) for payload in payloads]
 
     def image(self, *more):
-        """The file of these, and of some more."""
+        """The file of these, and of further ones."""
         return image(self.size, self.payloads + self.spelled(more), version=self.version)
 
     def spool(self, *more):
-        """A spool of these, and of some more."""
+        """A spool of these, and of further ones."""
         return Spool(self.folder, self.image(*more))
 
     def takes(self, *payloads):
-        """The journal goes on with these, and the program opens it. It writes nothing but a reopening."""
+        """The journal continues with these, and the program opens it. It writes nothing except a reopening."""
         self.payloads = self.payloads + self.spelled(payloads)
         spool = self.spool()
         same("replies", spool.lines([]), [])
-        same("the file is as it was, or reopened", spool.content() in (self.image(), self.image(REOPEN)), True)
+        same("the file is unchanged, or reopened", spool.content() in (self.image(), self.image(REOPEN)), True)
 
     def refuses(self, *payloads):
-        """Each of these alone, behind the others, is damage at its gate."""
+        """Each of these alone, after the others, is damage at its gate."""
         for payload in payloads:
             self.spool(payload).is_refused(f"damaged {places(self.payloads)[-1]}")
 
@@ -153,16 +154,16 @@ class Story:
             same(f"{row!r} is in {found!r}", row in found, True)
 
     def starts(self, job, *others):
-        """This job may be started next, and none of the others."""
+        """This job may be started next, and no other."""
         same("replies", self.spool(start(job)).lines([]), [])
         self.refuses(*map(start, others))
 
     def is_short(self):
-        """It ends within a document, which is told at the gate behind it."""
+        """It ends within a document, which is reported at the gate after it."""
         self.spool().is_refused(f"damaged {places(self.payloads)[-1]}")
 
     def runs(self, *jobs):
-        """The jobs may be started in this order alone, where each is canceled before the next."""
+        """The jobs may be started only in this order, if each is canceled before the next."""
         copy = Story(self.folder, *self.payloads, size=self.size, version=self.version)
         for at, job in enumerate(jobs):
             copy.starts(job, *jobs[at + 1:])
@@ -183,33 +184,33 @@ def of_lab(number, **fields):
 
 
 def closed_job(number, filters=(), **fields):
-    """The events of a job of the queue lab whose document has ended."""
+    """The events of a job of the queue lab whose document is complete."""
     return of_lab(number, **fields).event(), close(number, filters)
 
 
-# A queue, its job, and the end of the job's document, of 26, 23 and 17 bytes with their frames. The gate behind is at 82.
+# A queue, its job, and the end of the job's document, of 26, 23 and 17 bytes with their frames. The gate after them is at 82.
 FIRST = (Q.event(), of_q(1).event(), close(1))
 
-# What they are listed as.
+# The rows that list them.
 FIRST_ROWS = (Head(1), Q, of_q(1, media="a/b", phase=waiting()))
 
-# The commands that make the first two.
+# The commands that create the first two.
 QUEUE = "queue q s:/ a/b abort-job"
 CREATE = 'create q u "" 1 50 ""'
 
 QUEUES = ['queue q 3 accepting a/b abort-job 30 5 none ""', "ok 1"]
 
 
-# ---- the tests in turn
+# ---- the tests in order
 
 def tests(module):
-    """The functions of a module that take a folder alone, in their order."""
+    """The functions of a module whose only parameter is a folder, in their order."""
     found = [(name, test) for name, test in module.items() if inspect.isfunction(test)]
     return [(name, test) for name, test in found if list(inspect.signature(test).parameters) == ["folder"]]
 
 
 def run(module):
-    """Runs the tests of a module, or those that are asked for, and prints how it went. The status to end with."""
+    """Runs the tests of a module, or those that are named, and prints the results. Returns the exit status."""
     asked = sys.argv[2:]
     chosen = [(name, test) for name, test in tests(module) if not asked or name in asked]
     if len(chosen) < len(asked) or not os.path.exists(shell):

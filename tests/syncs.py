@@ -1,31 +1,31 @@
 #!/usr/bin/env python3
-"""Looks at the calls by which the shell keeps its spool's file, and lets each of them fail: syncs.py [SHELL]
+"""Checks the system calls that store the shell's spool, and makes each of them fail: syncs.py [SHELL]
 
-No contract sees what a file's sync does. So this runs SHELL, or else crates/spool_shell/out/spool_shell (made by
-`rt run` in that folder), under strace (Debian's package `strace`), and looks at the calls themselves.
+No contract covers the effect of a file's sync. So this script runs SHELL, or else crates/spool_shell/out/spool_shell (built by `rt run` in
+that crate), under strace (Debian's package `strace`), and checks the calls themselves.
 
 Calls in order, at a first start on a fresh folder and at a second one on the same:
 
-- the folder is locked before any name in it is touched, and then the lock's file before any other; a second opening of that file is
-  refused its lock; both stay locked to the end, and that file has its name;
-- a first start writes the file with zeros to its whole length, makes it a spool, syncs it and renames it, and opens its
-  first gate alone, after a sync of all else;
-- each start syncs the folder, after the rename, and the file, before it reads it, and writes nothing more, all before
-  the first byte of a reply;
-- an event is one write of its record with a closed gate behind it, a sync, one write of the open gate, a sync, and then
-  its reply; a refused command, a listing or a comment makes no write and no sync;
-- at the end the file holds the records that were written, and zeros.
+- the folder is locked before any name in it is touched, and then the lock file before any other; a second opening of that file is refused
+  its lock; both stay locked to the end, and that file has its name;
+- a first start writes the file with zeros to its whole length, turns it into a spool, syncs it and renames it, and opens only its first
+  gate, after a sync of all else;
+- each start syncs the folder, after the rename, and the file, before it reads it, and writes nothing more, all before the first byte of a
+  reply;
+- an event is one write of its record followed by a closed gate, a sync, one write of the open gate, a sync, and then its reply; a refused
+  command, a listing or a comment causes no write and no sync;
+- at the end the file has the records that were written, and zeros.
 
-Calls that fail, one in each run: strace answers EIO or ENOSPC in its place, and the call isn't made:
+Calls that fail, one in each run: strace returns EIO or ENOSPC in its place, and the call is not made:
 
-- of an event, and of a close also the read of its document: it is answered `error disk`, each later one `error dead`, `jobs`
-  still answers, and the program ends with status 1 and `spool: disk`; the folder then opens, with the answered jobs, or
-  these and the one under way;
-- of a start: `spool: disk`, status 1 and no reply; the folder has no `spool.disk` or a whole one, and no file but the lock's
-  where there was no room for its bytes; a later start serves it.
+- of an event, and of a close also the read of its document: it gets `error disk`, each later one `error dead`, `jobs` still gets its reply,
+  and the program ends with status 1 and `spool: disk`; the folder can be opened again, with the acknowledged jobs, and possibly the one in
+  progress;
+- of a start: `spool: disk`, status 1 and no reply; the folder has no `spool.disk` or a complete one, and no file except the lock file if
+  there was no room for its bytes; a later start serves it.
 
-The last line is `N of N` for the runs, with status 0, or the first difference, with status 1. Without strace, or where
-it may not trace, the status is 2.
+The last line is `N of N` for the runs, with status 0, or the first difference, with status 1. If strace is missing or may not trace, the
+status is 2.
 """
 import os
 import re
@@ -41,13 +41,13 @@ here = os.path.dirname(os.path.abspath(__file__))
 built = os.path.join(here, "..", "crates", "spool_shell", "out", "spool_shell")
 shell = os.path.abspath(sys.argv[1] if len(sys.argv) > 1 else built)
 
-SIZE = 150_000  # more than two of the blocks in which the file is filled
+SIZE = 150_000  # more than two of the blocks that fill the file
 HEADER = 16  # bytes of an area's header
 OPEN = b"\xa5"  # an open gate
 FILE = "spool.disk"
 LOCK = "spool.lock"
 TYPE = "application/octet-stream"
-# How a run ends whose device has failed, and how a start ends in which a call failed.
+# The log of a run whose device has failed, and of a start with a failed call.
 DISK = [(1, "spool: disk\nspool: cause: failed\n")]
 START = [*DISK, (1, "spool: disk\nspool: cause: no room\n")]
 SHOWN = 4096  # bytes of a write or read that strace shows
@@ -64,14 +64,14 @@ KINDS = {
     "rename": "rename renameat renameat2",
     "remove": "unlink unlinkat",
     "look": "stat lstat fstat newfstatat statx access faccessat faccessat2",
-    # what could change the file unseen, or seem to sync it
+    # calls that could change the file unnoticed, or seem to sync it
     "unknown": "writev pwritev pwritev2 mmap sendfile copy_file_range fallocate truncate link linkat sync_file_range",
 }
 KIND_OF = {call: kind for kind, calls in KINDS.items() for call in calls.split()}
 
 
 class Difference(Exception):
-    """The program doesn't do what it has to."""
+    """The program behaves differently than required."""
 
 
 def demand(holds, text):
@@ -80,7 +80,7 @@ def demand(holds, text):
 
 
 class Command:
-    """A command, its reply, whether it is an event, and how its job is listed from then on: with no row it is listed no more."""
+    """A command, its reply, whether it is an event, and how its job is listed from then on: without a row it is no longer listed."""
 
     def __init__(self, text, reply, event=False, job=None):
         self.text = text + "\n"
@@ -95,7 +95,7 @@ class Command:
 
 
 def script(turn):
-    """The commands of one start, without the listings at its begin and its end."""
+    """The commands of one start, without the listings at its beginning and its end."""
     lab, first, second, third = f"lab{turn}", 3 * turn + 1, 3 * turn + 2, 3 * turn + 3
 
     def event(text, reply="ok", number=first, shown=None, size=5, title="First"):
@@ -128,23 +128,23 @@ def script(turn):
 
 
 def listed(commands):
-    """What `jobs` answers after these commands."""
+    """The reply to `jobs` after these commands."""
     last = dict(command.job for command in commands if command.job)
     rows = [last[number] for number in sorted(last) if last[number]]
     return "\n".join(rows + [f"ok {len(rows)}"])
 
 
 def with_listings(before, commands):
-    """The commands between two listings; those before have been answered by earlier starts."""
+    """The commands between two listings; earlier starts have replied to those before."""
     return [Command("jobs", listed(before)), *commands, Command("jobs", listed(before + commands))]
 
 
 class Call:
-    """A call, as strace shows it. Names are told from the folder on, which itself is `.`"""
+    """A call, as strace shows it. Names are relative to the folder, which itself is `.`"""
 
     def __init__(self, line, root, counts):
         found = re.fullmatch(r"(?:\d+ +)?(\w+)\((.*)\) += (-?\d+|\?)(.*)", line)
-        demand(found, f"strace shows {line!r}, which this script can't read")
+        demand(found, f"strace shows {line!r}, which this script cannot read")
         self.call, words, result, self.rest = found.groups()
         counts[self.call] = self.number = counts.get(self.call, 0) + 1
         self.kind = KIND_OF[self.call]
@@ -174,7 +174,7 @@ def bytes_in(word):
 
 
 def names_in(words, kind, root):
-    """The names inside the folder that a call's words have."""
+    """The names inside the folder in a call's arguments."""
     paths = []
     base = root
     for word in words:
@@ -189,7 +189,7 @@ def names_in(words, kind, root):
 
 
 def place_calls(calls):
-    """Says of each read and write where in its file it is."""
+    """Adds to each read and write its offset in its file."""
     places = {}
     for call in calls:
         if call.result < 0:
@@ -213,14 +213,14 @@ def calls_of(trace, root):
     calls = [Call(line, root, counts) for line in lines if not re.match(r"(\d+ +)?(---|\+\+\+)", line)]
     place_calls(calls)
     for call in calls:
-        demand(call.kind != "unknown" or not call.names, f"{call} is a call that this script can't follow")
+        demand(call.kind != "unknown" or not call.names, f"{call} is a call that this script cannot follow")
         if call.kind == "write" and call.descriptor() == 1:
             call.kind = "reply"
     return [call for call in calls if call.names or call.kind == "reply"]
 
 
 class Run:
-    """A run of the program over the folder, traced, and with one call failing where one is named."""
+    """A run of the program over the folder, traced, and with one call failing if one is named."""
 
     def __init__(self, root, commands, failing=None, error=None):
         words = [shell, "--root", ".", "--size", str(SIZE)]
@@ -239,18 +239,18 @@ class Run:
         demand(not failing or failed == [(failing.kind, failing.names)], f"strace let {failed} fail, not {failing}")
 
     def answers(self, replies, endings=((0, ""),)):
-        """Refuses other replies, and another end than these."""
+        """Requires these replies, and this end."""
         wanted = "".join(reply + "\n" for reply in replies if reply)
         demand(self.replies == wanted, f"answered {self.replies!r}, not {wanted!r}")
         demand(self.ending in endings, f"ended with {self.ending}, not {endings}")
 
 
 def first_index(calls, kind, name=None):
-    """The place of the first such call."""
+    """The position of the first such call."""
     for index, call in enumerate(calls):
         if call.kind == kind and name in (None, call.name):
             return index
-    raise Difference(f"there is no {kind} of {name or 'any file'}")
+    raise Difference(f"no {kind} of {name or 'any file'}")
 
 
 def has_sync(calls, name):
@@ -267,59 +267,59 @@ def check_lock(calls):
 
 
 def check_locked(calls, name, known):
-    """This name is locked before any that isn't known is touched, and to the end. It gives the place of that call."""
+    """This name is locked before any unknown name is touched, and to the end. Returns the position of that call."""
     at = first_index(calls, "lock", name)
     lock = calls[at]
-    demand("LOCK_EX" in lock.words[1] and lock.result == 0, f"{name} isn't locked by {lock}")
+    demand("LOCK_EX" in lock.words[1] and lock.result == 0, f"{name} is not locked by {lock}")
     for call in calls[:at]:
-        demand(set(call.names) <= set(known), f"{call} comes before the lock of {name}")
+        demand(set(call.names) <= set(known), f"{call} precedes the lock of {name}")
     last = max(index for index, call in enumerate(calls) if call.kind != "close")
     for call in calls[at:last]:
         let_go = call.kind == "close" or call.kind == "lock" and "LOCK_UN" in call.words[1]
-        demand(not let_go or call.descriptor() != lock.descriptor(), f"the lock of {name} is let go before the end")
+        demand(not let_go or call.descriptor() != lock.descriptor(), f"the lock of {name} is released before the end")
     return at
 
 
 def check_fill(writes):
-    """The zeros that come first, to the file's whole length. It gives the other writes."""
+    """The zeros that come first, to the file's whole length. Returns the other writes."""
     filled = 0
     while filled < SIZE:
         demand(writes, f"the file is filled to {filled} bytes, not to {SIZE}")
         write = writes.pop(0)
         zeros = write.kind == "write" and write.at == filled and not any(write.data())
-        demand(zeros and write.result > 0, f"{write} comes before the file has its zeros to the end, from {filled} on")
+        demand(zeros and write.result > 0, f"{write} precedes the zeros up to the end of the file, from {filled} on")
         filled += write.result
     demand(filled == SIZE, f"the file is filled to {filled} bytes, not to {SIZE}")
 
 
 def check_making(calls):
-    """The file is written, made and synced under another name, and then renamed. It gives the calls after that."""
+    """The file is written, completed and synced under another name, and then renamed. Returns the calls after that."""
     at = first_index(calls, "rename")
     rename = calls[at]
-    demand(rename.names[-1] == FILE and rename.result == 0, f"{rename} doesn't give the file its name")
+    demand(rename.names[-1] == FILE and rename.result == 0, f"{rename} does not give the file its name")
     made = [call for call in calls[:at] if call.name == rename.name and call.kind in ("write", "sync")]
-    demand(all(call.result >= 0 for call in made), "a call failed while the spool was made")
+    demand(all(call.result >= 0 for call in made), "a call failed while the spool was created")
     check_fill(made)
     kinds = [call.kind for call in made]
-    demand(kinds[-1:] == ["sync"], "the file isn't synced, as the last call, before its rename")
-    demand(kinds[-3:] == ["sync", "write", "sync"], "what stands behind the first header's gate isn't synced before it")
+    demand(kinds[-1:] == ["sync"], "the file is not synced, as the last call, before its rename")
+    demand(kinds[-3:] == ["sync", "write", "sync"], "the bytes after the first header's gate are not synced before it")
     gate = made[-2]
-    demand(gate.at == 0 and gate.data() == OPEN, f"{gate} isn't the first header's gate")
+    demand(gate.at == 0 and gate.data() == OPEN, f"{gate} is not the first header's gate")
     return calls[at + 1 :]
 
 
 def check_opening(calls):
     """The folder is synced before the first reply, and the file before it is read; nothing is written."""
-    demand(has_sync(calls, "."), "the folder isn't synced before the first reply")
+    demand(has_sync(calls, "."), "the folder is not synced before the first reply")
     for call in calls:
         changes = call.kind in ("write", "length", "rename", "remove") and call.result >= 0
-        demand(not changes, f"{call} comes in an opening")
+        demand(not changes, f"{call} occurs in an opening")
     read = first_index(calls, "read", FILE)
-    demand(has_sync(calls[:read], FILE), "the file isn't synced before it is read")
+    demand(has_sync(calls[:read], FILE), "the file is not synced before it is read")
 
 
 class Journal:
-    """The calls from the first reply on, taken one after another."""
+    """The calls from the first reply on, in order."""
 
     def __init__(self, calls, gate):
         self.calls = [call for call in calls if call.kind not in ("read", "look", "seek", "close")]
@@ -328,30 +328,30 @@ class Journal:
         self.replied = b""
 
     def take(self, kind, what):
-        """The next call, which is of this kind."""
-        demand(self.calls, f"nothing comes in place of {what}")
+        """The next call, which must be of this kind."""
+        demand(self.calls, f"no call instead of {what}")
         call = self.calls.pop(0)
         fits = call.kind == kind and call.name in (FILE, None) and call.result >= 0
-        demand(fits, f"{call} comes in place of {what}")
+        demand(fits, f"{call} instead of {what}")
         return call
 
     def take_event(self, text):
-        """The record behind the closed gate and a sync, the gate and a sync."""
+        """The record with the closed gate and a sync, then the gate and a sync."""
         demand(not self.replied, f"{self.replied!r} is replied before the record of {text!r}")
         record = self.take("write", f"the record of {text!r}")
         data = record.data()
         whole = record.at == self.gate + 1 and len(data) == record.result and len(data) > 5
-        demand(whole and struct.unpack(">I", data[:4])[0] == len(data) - 5, f"{record} is no record behind {self.gate}")
+        demand(whole and struct.unpack(">I", data[:4])[0] == len(data) - 5, f"{record} is no record after {self.gate}")
         demand(data[-1:] == b"\0", f"{record} leaves the next gate open")
         self.take("sync", f"the sync of the record of {text!r}")
         gate = self.take("write", f"the gate of {text!r}")
-        demand(gate.at == self.gate and gate.data() == OPEN, f"{gate} doesn't open the gate at {self.gate}")
+        demand(gate.at == self.gate and gate.data() == OPEN, f"{gate} does not open the gate at {self.gate}")
         self.take("sync", f"the sync of the gate of {text!r}")
         self.records += OPEN + data[:-1]
         self.gate = record.at + len(data) - 1
 
     def take_reply(self, reply):
-        """One reply. Of commands that are no events several may be written at once."""
+        """One reply. The replies to several commands that are no events may be written at once."""
         wanted = (reply + "\n").encode()
         while len(self.replied) < len(wanted):
             call = self.take("reply", f"the reply {reply!r}")
@@ -361,7 +361,7 @@ class Journal:
 
 
 def check_commands(calls, commands, gate):
-    """Each command's calls, up to its reply. It gives the journal."""
+    """Each command's calls, up to its reply. Returns the journal."""
     journal = Journal(calls, gate)
     for command in commands:
         if command.event:
@@ -378,12 +378,12 @@ def check_file(root, records):
     header = OPEN + b"\x02" + struct.pack(">Q", 1) + bytes(6)
     with open(os.path.join(root, FILE), "rb") as file:
         disk = file.read()
-    demand(disk == (header + records).ljust(SIZE, b"\0"), "the file holds other bytes than those that were written")
+    demand(disk == (header + records).ljust(SIZE, b"\0"), "the file has other bytes than were written")
     demand(sorted(os.listdir(root)) == [FILE, LOCK], f"the folder has {os.listdir(root)}")
 
 
 def check_order(root, kept):
-    """Both starts, each call in its place. It gives their runs, and keeps a copy of the spool between them."""
+    """Both starts, each call in its place. Returns their runs, and copies the spool between them."""
     runs = []
     before = []
     gate, records = HEADER, b""
@@ -422,7 +422,7 @@ def check_served(root, before, others=()):
 
 
 def event_fails(root, place, failing, error):
-    """One run in which a call of the event at this place fails."""
+    """One run with a failing call of the event in this position."""
     commands = with_listings([], script(0))
     before = commands[:place]
     commands[-1] = Command("jobs", listed(before))
@@ -433,18 +433,18 @@ def event_fails(root, place, failing, error):
 
 
 def start_fails(root, before, failing, error):
-    """One run in which a call of its start fails, after a start with these commands or none."""
+    """One run with a failing call of its start, after a start with these commands or none."""
     run = Run(root, with_listings(before, script(1 if before else 0)), failing, error)
     run.answers([], START)
     files = os.listdir(root)
     demand(error != "ENOSPC" or files == [LOCK], f"the folder has {files}")
     if FILE in files:
-        demand(os.path.getsize(os.path.join(root, FILE)) == SIZE, "the spool isn't whole")
+        demand(os.path.getsize(os.path.join(root, FILE)) == SIZE, "the spool is not complete")
     check_served(root, before)
 
 
 def failing_events(run):
-    """For each event its place among the commands, and the four calls that may fail."""
+    """For each event its position among the commands, and the four calls that may fail."""
     calls = [call for call in run.calls if call.kind in ("write", "sync", "reply")]
     calls = calls[first_index(calls, "reply") :]
     calls = [call for call in calls if call.kind != "reply"]
@@ -455,7 +455,7 @@ def failing_events(run):
 
 
 def failing_reads(run):
-    """The place of the first close among the commands, and the read of its document."""
+    """The position of the first close among the commands, and the read of its document."""
     calls = run.calls[first_index(run.calls, "reply") :]
     read = calls[first_index(calls, "read", FILE)]
     for place, command in enumerate(with_listings([], script(0))):
@@ -470,10 +470,10 @@ def failing_starts(run):
     for place, call in enumerate(run.calls[: first_index(run.calls, "reply")]):
         if call.kind == "close" or (call.kind, call.name) == ("look", "."):
             continue
-        # Where there is no lock of a folder the one of the lock's file decides, so the start goes on.
+        # If folders cannot be locked, the lock file decides, so the start continues.
         if (call.kind, call.name) == ("lock", "."):
             continue
-        # The folder is listed for what was left in it. Where that fails it stays.
+        # The folder is listed for leftovers. If that fails, they remain.
         if synced < place and (call.kind, call.name) == ("open", "."):
             continue
         yield call, "EIO"
@@ -482,7 +482,7 @@ def failing_starts(run):
 
 
 def in_folder(made, what, check, *words):
-    """A check in a folder of its own, which is a copy of the one given. It stays where there is a difference."""
+    """A check in a folder of its own, which is a copy of the given one. It is kept if there is a difference."""
     root = fresh()
     try:
         if made:
@@ -495,7 +495,7 @@ def in_folder(made, what, check, *words):
 
 
 def failures(first, second, kept):
-    """All failing runs, one after another. It gives their number."""
+    """All failing runs, in order. Returns their number."""
     count = 0
     for place, call in failing_events(first):
         error = ("EIO", "ENOSPC")[count // 4 % 2]

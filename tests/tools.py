@@ -1,17 +1,16 @@
 #!/usr/bin/env python3
-"""Runs the tools with real files, sockets and environments: tools.py [SPOOL_TOOLS]
+"""Runs the small filters and backends of spool_tools with real files, sockets and environments: tools.py [SPOOL_TOOLS]
 
-SPOOL_TOOLS is the program, and crates/spool_tools/out/spool_tools (made by `rt run` in that folder) where none is
-given. Each case compares a tool's output, its standard error, its status and the files that it leaves: what each filter
-makes of some bytes, from standard input and from a file with several copies, also in little memory; what each backend
-leaves, by each of its options; the packets that pass on the side channel; printers that take a document, reset the
-connection, answer, stay silent or aren't there; and words that are refused, where nothing is written. With SLOW=1 in the
-environment the 20 turns of `meet` and the 90 seconds of `appsocket` are waited for, too.
+SPOOL_TOOLS is the program; the default is crates/spool_tools/out/spool_tools (built by `rt run` in that crate). Each case compares a tool's
+output, its standard error, its status and the files that it leaves: the output of each filter for some bytes, from standard input and from
+a file with several copies, also with little memory; the results of each backend, with each of its options; the packets on the side channel;
+printers that accept a document, reset the connection, send data, stay silent or do not exist; and arguments that are refused, which write
+nothing. With SLOW=1 in the environment the 20 turns of `meet` and the 90 seconds of `appsocket` are tested too.
 
-The last line is `N of N`, with status 0, or behind a line for each case that differs, with status 1. It takes some
-thirty seconds.
+The last line is `N of N`, with status 0, or follows a line for each case that differs, with status 1. It takes about thirty seconds.
 """
 import os
+import re
 import resource
 import socket
 import struct
@@ -41,7 +40,7 @@ def check(name, got, wanted):
 
 
 def run(words, given=b"", uri=None, side=None, **more):
-    """The output, the standard error and the status of the program over these words."""
+    """The output, the standard error and the status of the program with these arguments."""
     env = {"PATH": "/usr/bin:/bin"}
     if uri is not None:
         env["DEVICE_URI"] = uri
@@ -70,7 +69,7 @@ def printed(data):
 
 
 def texts():
-    """Bytes of all kinds, and of lengths about those that are read at once."""
+    """Bytes of all kinds, with lengths close to those that are read at once."""
     every = bytes(range(256)) * 5
     yield from (b"", b"a\n", b"\n", b"\n\n\r\n", b"a\fb\f\n", b"no end", "äöü €\n".encode(), every, b"\f" * 1000)
     for length in (65_535, 65_536, 65_537, 131_072, 1_048_576):
@@ -95,12 +94,12 @@ def filters(folder):
                   (text * times, b"PAGE: total %d\n" % (feeds * times), 0))
             check(f"prncount of its input, {name}", run(["prncount", *job], text),
                   (text, b"PAGE: total %d\n" % feeds, 0))
-    # The greatest number of copies, leading zeros, and a name with all that a shell would read.
+    # The greatest number of copies, leading zeros, and a name with all characters that are special to a shell.
     odd = write(os.path.join(folder, "a 'b' \"c\" $d;e\n-f"), b"x\n")
     job = ["1", "u", "t", "9999", ""]
     check("9999 copies", run(["texttoprn", *job, odd]), (b"x\r\n\f" * 9999, b"PAGE: 1 9999\n", 0))
     check("copies 0002", run(["prncount", "1", "u", "t", "0002", "", odd]), (b"x\nx\n", b"PAGE: total 0\n", 0))
-    # Faults: a file that isn't there, a folder, an output that is full.
+    # Errors: a file that does not exist, a folder, an output that is full.
     for tool in ("texttoprn", "prncount"):
         for name in ("/nowhere", folder, ""):
             check(f"{tool} of {name}", run([tool, *JOB, name]), (b"", b"ERROR: cannot read\n", 1))
@@ -111,7 +110,7 @@ def filters(folder):
         with open("/dev/full", "wb") as full:
             ended = subprocess.run([tools, tool, *JOB], input=b"a\n", stdout=subprocess.PIPE, stderr=full,
                                    timeout=SECONDS)
-        check(f"{tool} that can't tell its pages", ended.returncode, 1)
+        check(f"{tool} that cannot report its pages", ended.returncode, 1)
 
 
 def bounded(folder):
@@ -154,7 +153,7 @@ def spoolfile(folder):
         ("a coded name", "?%65xit=6", 6),
     ):
         for words, wanted in ((JOB, b"from input"), ([*JOB, document], b"some\n\fbytes\0\xff" * 3)):
-            write(out, b"what was there, and is longer than what comes now and then some more bytes of it")
+            write(out, b"the old contents, which are longer than the new ones, so that they must be truncated")
             got = run(["spoolfile", *words], b"from input", uri=f"spoolfile:{out}{query}")
             check(f"spoolfile with {name}, {len(words)} words", (got, read(out)), ((b"", b"", status), wanted))
     # The path is decoded, as the value of an option is.
@@ -193,11 +192,11 @@ def meet(folder):
 
     both = [start(a, b), start(b, a)]
     check("two that meet", ([end(child) for child in both], read(a), read(b)), ([(b"", b"", 0)] * 2, b"", b""))
-    # Both marks are still there, so each is found at once, and a mark that is there keeps what it has.
+    # Both marks still exist, so each is found at once, and an existing mark keeps its contents.
     write(a, b"kept")
     began = time.monotonic()
     got = end(start(a, b))
-    check("a mark that is there", (got, read(a), time.monotonic() - began < 0.9), ((b"", b"", 0), b"kept", True))
+    check("a mark that exists", (got, read(a), time.monotonic() - began < 0.9), ((b"", b"", 0), b"kept", True))
     os.remove(a)
     os.remove(b)
     for turns, least, most in (("0", 0, 0.9), ("1", 0, 0.9), ("3", 1.9, 2.9)):
@@ -205,7 +204,7 @@ def meet(folder):
         got = end(start(a, b, f"&turns={turns}"))
         took = time.monotonic() - began
         got = got, read(a), read(b), least <= took < most
-        check(f"nobody in {turns} turns", got, ((b"", b"", 1), None, None, True))
+        check(f"no partner in {turns} turns", got, ((b"", b"", 1), None, None, True))
     late = start(a, b, "&turns=9")
     time.sleep(1.5)
     there = read(a)
@@ -219,11 +218,11 @@ def meet(folder):
     if os.environ.get("SLOW"):
         began = time.monotonic()
         got = end(start(a, "/nowhere"))
-        check("nobody in 20 turns", (got, 18.9 <= time.monotonic() - began < 20), ((b"", b"", 1), True))
+        check("no partner in 20 turns", (got, 18.9 <= time.monotonic() - began < 20), ((b"", b"", 1), True))
 
 
 class Server(threading.Thread):
-    """Takes one connection, keeps what comes, and answers the first four bytes."""
+    """Accepts one connection, stores the data, and answers the first four bytes."""
 
     def __init__(self, path, answer):
         super().__init__(daemon=True)
@@ -298,7 +297,7 @@ def side(folder):
 
 
 class Printer(threading.Thread):
-    """Listens on the loopback address, and does with each connection what it is given."""
+    """Listens on the loopback address, and runs the given function for each connection."""
 
     def __init__(self, serve, times=1, host="127.0.0.1"):
         super().__init__(daemon=True)
@@ -326,7 +325,7 @@ class Printer(threading.Thread):
 
 
 def take(connection, most=1 << 30):
-    """What comes on a connection up to its end, or so many bytes of it."""
+    """The data on a connection up to its end, or up to `most` bytes of it."""
     taken = bytearray()
     while len(taken) < most and (piece := connection.recv(min(65_536, most - len(taken)))):
         taken += piece
@@ -338,7 +337,7 @@ def reset(connection):
 
 
 def reset_after(count):
-    """Resets the connection once so many bytes have come."""
+    """Resets the connection after `count` bytes have arrived."""
 
     def serve(connection):
         taken = take(connection, count)
@@ -348,19 +347,19 @@ def reset_after(count):
     return serve
 
 
-def reset_behind_all(connection):
-    """Takes all, and resets the connection in place of ending it."""
+def reset_after_all(connection):
+    """Reads everything, and resets the connection instead of closing it."""
     taken = take(connection)
     reset(connection)
     return taken
 
 
 def leave(connection):
-    """Ends at once, without a look at what comes."""
+    """Closes at once, without reading."""
 
 
 def answer_before(connection):
-    """Says more than the system holds, and only then looks at what comes."""
+    """Sends more than the system buffers, and only then reads."""
     connection.sendall(b"status\n" * 2_000_000)
     return take(connection)
 
@@ -372,19 +371,19 @@ def answer_after(connection):
 
 
 def end_before(connection):
-    """Closes its half first, and then takes all."""
+    """Closes its half first, and then reads everything."""
     connection.shutdown(socket.SHUT_WR)
     return take(connection)
 
 
 def take_slowly(connection):
-    """Takes nothing for two seconds, in which the writer has to wait."""
+    """Reads nothing for two seconds, during which the writer must wait."""
     time.sleep(2)
     return take(connection)
 
 
 def stay(connection):
-    """Takes all, and neither ends nor resets before the writer has gone: what it says then meets nobody."""
+    """Reads everything, and neither closes nor resets before the writer has closed: then nobody reads its answer."""
     taken = take(connection)
     for _ in range(SECONDS * 10):
         time.sleep(0.1)
@@ -401,7 +400,7 @@ def sent(printer, given, query="", words=JOB, name="127.0.0.1"):
 
 def appsocket(folder):
     text = bytes(range(256)) * 79  # more than 20,000 bytes
-    large = text * 500  # some ten million, which no system takes at once
+    large = text * 500  # about ten million, more than any system accepts at once
     for length in (0, 1, 500, 20_000):
         printer = Printer(take, 20)
         ended = [sent(printer, text[:length]) for _ in range(20)]
@@ -430,42 +429,42 @@ def appsocket(folder):
 
 
 def resets(text, large):
-    """A reset is noticed wherever it comes: before the first byte is read, behind some, behind all."""
+    """A reset is noticed wherever it occurs: before the first byte is read, after some, after all."""
     for length in (500, 20_000):
         for serve, name in (
             (reset_after(0), "at once"),
-            (reset_after(1), "behind a byte"),
-            (reset_after(length), "behind the last byte"),
-            (reset_behind_all, "behind the end"),
+            (reset_after(1), "after a byte"),
+            (reset_after(length), "after the last byte"),
+            (reset_after_all, "after the end"),
             (leave, "by leaving unread"),
         ):
             printer = Printer(serve, 20)
             ended = [sent(printer, text[:length]) for _ in range(20)]
-            told = {(out, errors) for out, errors, _ in ended}
+            messages = {(out, errors) for out, errors, _ in ended}
             statuses = [status for _, _, status in ended]
             check(f"{length} bytes that are reset {name}", statuses, [1] * 20)
-            check(f"what is told of it, {name}", told <= {(b"", b"ERROR: cannot write\n"),
+            check(f"its standard error, {name}", messages <= {(b"", b"ERROR: cannot write\n"),
                                                           (b"", b"ERROR: connection reset\n")}, True)
             printer.all()
     for count in (1, 100_000):
         printer = Printer(reset_after(count))
         ended = sent(printer, large)
-        check(f"a long document that is reset behind {count} bytes", ended, (b"", b"ERROR: cannot write\n", 1))
+        check(f"a long document that is reset after {count} bytes", ended, (b"", b"ERROR: cannot write\n", 1))
         printer.all()
 
 
 def unreached(folder, text):
-    nobody = (b"", b"ERROR: cannot connect\n", 6)
+    unreachable = (b"", b"ERROR: cannot connect\n", 6)
     with socket.create_server(("127.0.0.1", 0)) as listener:
         port = listener.getsockname()[1]
     for name, address in (
-        ("nobody listens", f"127.0.0.1:{port}"),
-        ("nobody listens, for 1 second", f"127.0.0.1:{port}/?contimeout=1"),
-        ("nobody listens, as long as the system tries", f"127.0.0.1:{port}/?contimeout=0"),
-        ("a name that nobody has", "nobody.invalid:9100"),
+        ("no listener", f"127.0.0.1:{port}"),
+        ("no listener, for 1 second", f"127.0.0.1:{port}/?contimeout=1"),
+        ("no listener, as long as the system tries", f"127.0.0.1:{port}/?contimeout=0"),
+        ("a host that does not exist", "nobody.invalid:9100"),
     ):
-        check(name, run(["appsocket", *JOB], text, uri=f"appsocket://{address}"), nobody)
-    # A listener that is full takes no further connection: the system tries again and again.
+        check(name, run(["appsocket", *JOB], text, uri=f"appsocket://{address}"), unreachable)
+    # A listener with a full queue accepts no further connection: the system tries again and again.
     with socket.socket() as full:
         full.bind(("127.0.0.1", 0))
         full.listen(0)
@@ -477,7 +476,7 @@ def unreached(folder, text):
         began = time.monotonic()
         ended = run(["appsocket", *JOB], text, uri=f"appsocket://127.0.0.1:{full.getsockname()[1]}/?contimeout=2")
         took = time.monotonic() - began
-        check("a printer that doesn't answer for 2 seconds", (ended, 1.9 < took < 4), (nobody, True))
+        check("a printer that does not answer for 2 seconds", (ended, 1.9 < took < 4), (unreachable, True))
         for one in waiting:
             one.close()
     no_device = (b"", b"ERROR: no device\n", 1)
@@ -485,10 +484,10 @@ def unreached(folder, text):
                       ("a port too high", "appsocket://127.0.0.1:65536/"), ("an empty host", "appsocket:///a")):
         check(f"appsocket with {name}", run(["appsocket", *JOB], text, uri=uri), no_device)
     printer = Printer(take)
-    check("a document that isn't there", sent(printer, b"", words=[*JOB, os.path.join(folder, "none")]),
+    check("a document that does not exist", sent(printer, b"", words=[*JOB, os.path.join(folder, "none")]),
           (b"", b"ERROR: cannot read\n", 1))
     printer.all()
-    # The usual port, where it is free here; a name, and an address of the other kind.
+    # The default port, if it is free here; a name, and an address of the other kind.
     for host, name in (("127.0.0.1", "localhost"), ("::1", "[::1]")):
         try:
             printer = Printer(take, host=host)
@@ -509,7 +508,7 @@ def unreached(folder, text):
 
 
 def bounds(text):
-    """A printer that never ends is waited for as long as the option says."""
+    """The backend waits for a printer that never closes as long as the option says."""
     for query, least, most in (("?endtimeout=0", 0, 0.9), ("?endtimeout=2", 1.9, 3.9), ("?endtimeout=9&endtimeout=1", 0.9, 2.9),
                                *([("", 89, 93)] if os.environ.get("SLOW") else [])):
         printer = Printer(stay)
@@ -528,7 +527,12 @@ def words(folder):
         with open("/dev/full", "wb") as full:
             ended = subprocess.run([tools, tool], stdout=full, stderr=subprocess.PIPE)
         check(f"the device of {tool} on a full disk", (ended.stderr, ended.returncode), (b"", 1))
-    refused = [[], [""], ["-"], ["--help"], ["other", *JOB], [*JOB], ["Spoolfile"], ["spoolfile "], ["spoolfil"]]
+    got, errors, status = run(["--version"])
+    check("the version", (re.fullmatch(rb"spool_tools \(Cegmandi\) \d+\.\d+\.\d+\n", got) is not None, errors, status), (True, b"", 0))
+    with open("/dev/full", "wb") as full:
+        ended = subprocess.run([tools, "--version"], stdout=full, stderr=subprocess.PIPE)
+    check("the version on a full disk", (ended.stderr, ended.returncode), (b"", 1))
+    refused = [["--version", ""], ["--version", *JOB], [], [""], ["-"], ["--help"], ["other", *JOB], [*JOB], ["Spoolfile"], ["spoolfile "], ["spoolfil"]]
     refused += [["texttoprn"], ["prncount"], ["side-end"], ["side-end", "a", "b"], ["side-end", *JOB]]
     for tool in ("texttoprn", "prncount", "spoolfile", "meet", "sideask", "appsocket"):
         refused += [[tool, *JOB[:n]] for n in (1, 2, 3, 4)] + [[tool, *JOB, "x", "y"]]

@@ -1,5 +1,7 @@
-"""The system calls of the shell, as strace (Debian's package `strace`) shows them: what tests/cuts.py and tests/failing_calls.py
-share. Only the calls of the shell itself are looked at, and not those of its children."""
+"""The system calls of the shell, as strace (Debian's package `strace`) shows them.
+
+tests/cuts.py and tests/failing_calls.py share them. Only the calls of the shell itself are included, and not those of its children.
+"""
 import os
 import re
 import shutil
@@ -9,7 +11,7 @@ import sys
 SHOWN = 200_000  # bytes of a write that strace shows
 SECONDS = 120
 
-# The calls whose text is what is read or written.
+# The calls whose text is the data that is read or written.
 DATA = ("read", "write", "pread64", "pwrite64", "recvfrom", "sendto")
 
 LINE = re.compile(r"(\w+)\((.*)\) += (-?\d+|\?)(.*)")
@@ -22,12 +24,12 @@ def unescaped(text):
 
 
 class Call:
-    """A call: its name, its number among those of this name, its result, and the files that its words name, by their paths."""
+    """A call: its name, its number among those of this name, its result, and the files in its arguments, by their paths."""
 
     def __init__(self, line, counts):
         found = LINE.fullmatch(line)
         if not found:
-            raise SystemExit(f"strace shows {line[:200]!r}, which this script can't read")
+            raise SystemExit(f"strace shows {line[:200]!r}, which this script cannot read")
         self.name, self.words, result, self.rest = found.groups()
         counts[self.name] = self.number = counts.get(self.name, 0) + 1
         self.result = -1 if result == "?" else int(result)
@@ -46,7 +48,7 @@ class Call:
         return int(self.words.rsplit(", ", 1)[1])
 
     def paths(self):
-        """The paths that it names, and that of its file."""
+        """The paths in its arguments, and that of its file."""
         return self.files if self.name in DATA else [os.fsdecode(text) for text in self.texts] + self.files
 
     def __str__(self):
@@ -54,7 +56,7 @@ class Call:
 
 
 def may_trace():
-    """Whether strace is here, and may trace a program."""
+    """Whether strace is installed, and may trace a program."""
     if not shutil.which("strace"):
         print("no strace: apt-get install strace", file=sys.stderr)
         return False
@@ -65,8 +67,9 @@ def may_trace():
 
 
 def run(words, cwd, script, trace, names, inject=None):
-    """Runs a program over a script, and gives how it ended and its calls of these names. One may fail: `inject` is its name, its
-    number among these, and its error."""
+    """Runs a program over a script, and returns its result and its calls of these names. One may fail: `inject` is its name, its number
+    among these, and its error.
+    """
     strace = ["strace", "-y", "-xx", "-s", str(SHOWN), "-o", trace, "-e", "trace=" + ",".join(f"?{name}" for name in names)]
     if inject:
         name, number, error = inject

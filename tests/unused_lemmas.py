@@ -1,8 +1,9 @@
 #!/usr/bin/env python3
-"""Lists the lemmas and definitions of proofs/ and specs/ that nothing names: unused_lemmas.py
+"""Lists the lemmas and definitions of proofs/ and specs/ that are never used: unused_lemmas.py
 
-A name counts as used where it is named outside its own definition: in another definition of its crate or of any other, in
-an answer or an invariant, in a contract, or by its path in the tactic of a function. Lemmas of nested modules aren't looked at. The last line is `none`, with status 0, or `N that nothing names`, with status 1.
+A name is used if it occurs outside its own definition: in another definition of any crate, in an answer or an invariant, in a contract, or
+by its path in the tactic of a function. Lemmas of nested modules are not checked. The last line is `none`, with status 0, or `N that
+nothing names`, with status 1.
 """
 import os
 import re
@@ -14,10 +15,10 @@ top = os.path.join(os.path.dirname(os.path.abspath(__file__)), "..", "crates")
 SIGNATURE = re.compile(r"^(?:pub |abbrev |unfoldable )*([^\s:{(]+) :(?: |$)")
 TYPE = re.compile(r"^(?:pub )?(?:record|data) ([^\s:({]+)")
 
-# What a name in a text ends at.
+# The characters of a name.
 WORD = re.compile(r"[^\s(){}\[\],;.]+")
 
-# Files that the checker asks for: what they define are answers, which it names itself.
+# The files that the checker reads: their definitions are answers, which the checker uses itself.
 ASKED = ("Answers.antt", "Invariants.antt", "Proof.antt", "Lib.antt")
 
 
@@ -37,7 +38,7 @@ def without_remarks(text):
 
 
 def definitions(text):
-    """The definitions of a file: each name with the lines that are its own."""
+    """The definitions of a file: each name with its own lines."""
     found = []
     for line in text.split("\n"):
         is_one = SIGNATURE.match(line) or TYPE.match(line)

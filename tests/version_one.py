@@ -1,23 +1,23 @@
 #!/usr/bin/env python3
-"""Opens a spool that a program of version 1 wrote, and goes on with it: version_one.py [SHELL] [--old OLD]
+"""Opens and continues a spool that a program of format version 1 wrote: version_one.py [SHELL] [--old OLD]
 
-SHELL is the program, and crates/spool_shell/out/spool_shell (made by `rt run` in that folder) where none is given. The spool is
-in tests/version_one.txt: the bytes of its file, and what the program that wrote it answered on a copy (LOOK). It has queues of
-each error policy, jobs in each phase, documents, the rows of a checkpoint, and events behind them; the program was killed while
-jobs were processing. All of it is seen again:
+SHELL is the program; the default is crates/spool_shell/out/spool_shell (built by `rt run` in that crate). The spool is in
+tests/version_one.txt: the bytes of its file, and the replies of the program that wrote it, on a copy (LOOK). It has queues of each error
+policy, jobs in each phase, documents, the rows of a checkpoint, and events after them; the program was killed while jobs were processing.
+The script checks all of it:
 
-- SHELL answers the same on a copy, and leaves what the model of tests/spool_model.py says, in version 1.
-- It takes the events of version 1, and writes the records that tests/journal.py spells; `createby` and `purge` are `error 17
-  NeedsCheckpoint`.
-- Each job that hasn't ended is printed, with its document.
-- A checkpoint writes the area 0 in version 2, with the rows that the model says, and leaves the other one. Then `createby` makes a
-  job, which the clock cancels and `purge` takes away. All is there in further openings, and behind a further checkpoint.
+- SHELL replies the same on a copy, and leaves the file that the model of tests/spool_model.py computes, in version 1.
+- It accepts the events of version 1, and writes the records that tests/journal.py encodes; `createby` and `purge` are refused with `error
+  17 NeedsCheckpoint`.
+- Each job that has not ended is printed, with its document.
+- A checkpoint writes the area 0 in version 2, with the rows that the model computes, and leaves the other one unchanged. Then `createby`
+  creates a job, which the clock cancels and `purge` removes. All of this remains after further openings, and after a further checkpoint.
 
-With `--old OLD`, a program of version 1, commands at random are given to both on copies of the spool: the replies and the files are
-the same. And OLD refuses the newer spool: `spool: damaged 0`, the place of the header that it doesn't know.
+With `--old OLD`, a program of version 1, random commands are sent to both on copies of the spool: the replies and the files are the same.
+And OLD refuses the newer spool with `spool: damaged 0`, the place of the header that it does not know.
 
-The file was made by `version_one.py --write OLD`, where OLD was built from the last commit that wrote version 1. The last line is
-`N passed`, with status 0, or the first difference, with status 1; the folder stays then, and is named.
+The file was created by `version_one.py --write OLD`, with OLD built from the last commit that wrote version 1. The last line is `N passed`,
+with status 0, or the first difference, with status 1; the folder is kept then, and its path is printed.
 """
 import argparse
 import os
@@ -42,16 +42,16 @@ DISK = "spool.disk"
 SCRIPTS = 40  # that are given to both programs
 COMMANDS = 40  # of each
 
-# What is told of stages, which is no fault.
+# Log lines about stages, which are not errors of the shell.
 NOTICE = re.compile(r"spool: job \d+ attempt \d+ .*\n")
 
-# What is asked of a copy. The round has no programs, so a stage that it starts ends as one that can't be started.
+# The commands for a copy. The round has no programs, so a stage that it starts ends as one that cannot be started.
 LOOK = b"jobs\nqueues\nround\njobs\nqueues\n"
 
 # ---- the spool
 
 TYPES = "a/a x\nb/b y\n"
-# The filter h is in no file of programs.
+# The filter h is in no programs file.
 CONVS = "a/a a/b 10 f\nb/b a/b 10 h\n"
 FILTER = """#!/bin/sh
 cat >&2 <<'END'
@@ -157,7 +157,7 @@ round
 
 
 class Difference(Exception):
-    """The program doesn't do what it has to."""
+    """The program behaves differently than required."""
 
 
 def same(what, found, wanted):
@@ -166,7 +166,7 @@ def same(what, found, wanted):
 
 
 def commands_of(text):
-    """The commands of a script in turn, each as bytes."""
+    """The commands of a script in order, each as bytes."""
     for line in text.splitlines():
         if line.startswith("SEND "):
             job, begin, end = map(int, line.split()[1:])
@@ -185,7 +185,7 @@ def write(folder, name, text, mode=0o600):
 
 
 def options(folder, backend):
-    """The words that name files of types, of conversions and of programs."""
+    """The arguments that name files of types, of conversions and of programs."""
     programs = f"filter f {write(folder, 'f', FILTER, 0o700)}\nbackend s {write(folder, 's', backend, 0o700)}\n"
     files = {"types": TYPES, "convs": CONVS, "programs": programs}
     return [word for name, text in files.items() for word in (f"--{name}", write(folder, name, text))]
@@ -206,15 +206,15 @@ class Spool:
             return file.read()
 
     def serve(self, script, words=()):
-        """The lines of the replies, the standard error but for what is told of stages, and the status."""
+        """The lines of the replies, the standard error without log lines about stages, and the status."""
         done = subprocess.run([self.program, "--root", self.root, *words], input=script, capture_output=True, timeout=SECONDS)
         return done.stdout.decode().splitlines(), NOTICE.sub("", done.stderr.decode()), done.returncode
 
     def answers(self, script, replies, words=()):
-        same(f"what {script!r} is answered", self.serve(script, words), (replies, "", 0))
+        same(f"the replies to {script!r}", self.serve(script, words), (replies, "", 0))
 
     def says(self, *rows):
-        """Gives the commands of the rows, each a command and the line of its reply."""
+        """Sends the commands of the rows. Each row is a command and the line of its reply."""
         self.answers("".join(f"{command}\n" for command, _ in rows).encode(), [reply for _, reply in rows])
 
     def versions(self):
@@ -224,7 +224,7 @@ class Spool:
 # ---- the stored file
 
 def stored():
-    """The bytes of the file, and what was answered on a copy."""
+    """The bytes of the file, and the replies on a copy."""
     with open(STORED, encoding="utf-8") as file:
         lines = [line for line in file.read().splitlines() if not line.startswith("#")]
     answers, bytes_from = lines.index("answers"), lines.index("bytes")
@@ -240,7 +240,7 @@ def stored():
 
 
 def hex_lines(base, part):
-    """An area in lines of 48 bytes, without the zeros behind."""
+    """An area in lines of 48 bytes, without the zeros at its end."""
     part = part.rstrip(b"\0") + b"\0"
     yield f"at {base}"
     yield from (part[at:at + 48].hex() for at in range(0, len(part), 48))
@@ -258,7 +258,7 @@ def made_by(program, folder):
         running.stdin.flush()
         reply = running.stdout.readline()
         if not reply.startswith(b"ok"):
-            raise Difference(f"{command!r} is answered {reply!r}")
+            raise Difference(f"{command!r} got the reply {reply!r}")
     running.send_signal(signal.SIGKILL)
     running.wait()
     with open(os.path.join(root, DISK), "rb") as file:
@@ -270,9 +270,9 @@ def write_stored(program, folder):
     replies, errors, status = Spool(program, folder, content).serve(LOOK)
     same("the standard error and the status", (errors, status), ("", 0))
     lines = [
-        "# A spool of version 1, made by `tests/version_one.py --write OLD`, where OLD was built from the last commit that wrote version 1:",
-        "# what that program answered to `jobs`, `queues`, `round`, `jobs` and `queues` on a copy, and the bytes of the file from some places",
-        "# on. All others are zeros.",
+        "# A spool of version 1, which `tests/version_one.py --write OLD` created. OLD was built from the last commit that wrote version 1.",
+        "# First that program's replies to `jobs`, `queues`, `round`, `jobs` and `queues` on a copy, and then the bytes of the file from",
+        "# some places on. All others are zeros.",
         "answers", *replies, "bytes", *hex_lines(0, content[:HALF]), *hex_lines(HALF, content[HALF:]),
     ]
     with open(STORED, "w", encoding="utf-8") as file:
@@ -280,11 +280,11 @@ def write_stored(program, folder):
     same("the file that is read again", stored(), (content, replies))
 
 
-# ---- what is looked at
+# ---- the checks
 
 def has_all(content):
-    """The spool has what it has to: or else it shows little."""
-    table = model.standing(content)
+    """The spool has the contents that make the other checks meaningful."""
+    table = model.stored_table(content)
     same("the versions", [journal.version_of(half) for half in journal.halves(content)], [1, 1])
     kinds = {payload[0] for half in journal.halves(content) for payload in journal.payloads_of(half)}
     same("the kinds of events and rows that are missing", {*range(1, 0x0F), *range(0x40, 0x44)} - kinds, set())
@@ -304,7 +304,7 @@ def answers_the_same(shell, folder, content, replies):
     spool = Spool(shell, folder, content)
     spool.answers(LOOK, replies)
     it = model.opened(content)
-    same("what the model says", it.table.jobs_reply() + it.table.queues_reply(), replies[:len(replies) // 2])
+    same("the listing of the model", it.table.jobs_reply() + it.table.queues_reply(), replies[:len(replies) // 2])
     model.round_without_programs(it)
     same("the file", spool.content() == it.file, True)
     # Opening it again writes nothing, since nothing is processing.
@@ -312,7 +312,7 @@ def answers_the_same(shell, folder, content, replies):
     same("the file", spool.content() == it.file, True)
 
 
-# Each event of version 1 that a command makes, with its reply. Job 15 waits, 12 is incoming, and the number of the new job is 19.
+# Each event of version 1 that a command causes, with its reply. Job 15 waits, 12 is incoming, and the number of the new job is 19.
 EVENTS = [
     ("queue new s:/0 a/b abort-job", "ok", journal.Queue("new", "s:/0", "a/b").event()),
     ('info new "i" "l"', "ok", journal.info("new", "i", "l")),
@@ -338,19 +338,19 @@ def takes_the_events_of_version_one(shell, folder, content, replies):
     for command, reply, event in EVENTS:
         spool.answers(f"{CREATE_BY}\n{command}\npurge 1\npurge 99\n".encode(), [NOT_YET, reply, NOT_YET, NOT_YET], words)
         same("whether there is room", model.tried(it, event), True)
-        same(f"the file behind {command!r}", spool.content() == it.file, True)
+        same(f"the file after {command!r}", spool.content() == it.file, True)
     same("the versions", spool.versions(), [1, 1])
     spool.answers(b"jobs\nqueues\n", it.table.jobs_reply() + it.table.queues_reply())
 
 
-# A backend that keeps what it is given.
+# A backend that stores its input.
 KEEPS = """#!/bin/sh
 cat > "FOLDER/printed-$1"
 """
 
 
-def prints_what_is_left(shell, folder, content, replies):
-    """Before a checkpoint, and behind one."""
+def prints_remaining_jobs(shell, folder, content, replies):
+    """Before a checkpoint, and after one."""
     for first in (b"", b"checkpoint\n"):
         spool = Spool(shell, folder, content)
         words = options(spool.root, KEEPS.replace("FOLDER", spool.root))
@@ -358,17 +358,17 @@ def prints_what_is_left(shell, folder, content, replies):
         lines, errors, status = spool.serve(script, words)
         same("the standard error, the status, and faults", (errors, status, [line for line in lines if not line.startswith("ok")]), ("", 0, []))
         found = {}
-        for number in model.standing(content).jobs:
+        for number in model.stored_table(content).jobs:
             path = os.path.join(spool.root, f"printed-{number}")
             if os.path.exists(path):
                 with open(path, "rb") as file:
                     found[number] = file.read()
         left = [number for number, job in model.opened(content).table.jobs.items() if not job.has_ended()]
-        same("what is printed", found, {number: DOCUMENTS.get(number, b"") for number in left})
+        same("the printed documents", found, {number: DOCUMENTS.get(number, b"") for number in left})
 
 
-def goes_over(shell, folder, content, replies):
-    """The newer spool. Behind the checkpoint it holds the same, and a job that the clock cancels."""
+def converts(shell, folder, content, replies):
+    """The newer spool. After the checkpoint it has the same contents, and a job that the clock cancels."""
     spool = Spool(shell, folder, content)
     it = model.opened(content)
     jobs, queues = it.table.jobs_reply(), it.table.queues_reply()
@@ -388,7 +388,7 @@ def goes_over(shell, folder, content, replies):
     listed = it.table.jobs_reply()
     same("the jobs before it", listed[:-2], jobs[:-1])
     spool.answers(b"jobs\nqueues\n", listed + queues)
-    # It is incoming, so the clock leaves it until it is closed.
+    # It is incoming, so the clock does not cancel it until it is closed.
     spool.answers(b"clock 8001\ncheckpoint\n", ["ok", "ok"])
     same("the versions", spool.versions(), [2, 2])
     words = options(spool.root, BACKEND)
@@ -404,13 +404,13 @@ def goes_over(shell, folder, content, replies):
     return newer, spool.content()
 
 
-LOOKS = [answers_the_same, takes_the_events_of_version_one, prints_what_is_left, goes_over]
+CHECKS = [answers_the_same, takes_the_events_of_version_one, prints_remaining_jobs, converts]
 
 
-# ---- beside a program of version 1
+# ---- comparison with a program of version 1
 
 def some_commands(chance):
-    """Commands at random, which version 1 has."""
+    """Random commands, which version 1 has."""
     for _ in range(COMMANDS):
         job, queue = chance.randrange(1, 25), chance.choice(["aim", "bay", "cod", "den", "elm", "fig", "new", "nope"])
         document = chance.choice([b"", b"x", b"a\nb", bytes(chance.randrange(256) for _ in range(9))])
@@ -434,7 +434,7 @@ def some_commands(chance):
         ]) + b"\n"
 
 
-def goes_beside(shell, old, folder, content):
+def compares_programs(shell, old, folder, content):
     """The same commands on both, each in one run or in several."""
     for turn in range(SCRIPTS):
         chance = random.Random(turn)
@@ -446,16 +446,16 @@ def goes_beside(shell, old, folder, content):
             script, commands = b"".join(commands[:count]), commands[count:]
             one, other = (spool.serve(script, words) for spool in both)
             same(f"the replies to {script!r}", one, other)
-            same(f"the files behind {script!r}", both[0].content() == both[1].content(), True)
+            same(f"the files after {script!r}", both[0].content() == both[1].content(), True)
         for spool in both:
             shutil.rmtree(spool.root)
 
 
 def is_refused_by(old, folder, *newer):
-    """The program of version 1 opens none of these, and leaves them as they are."""
+    """The program of version 1 opens none of these, and leaves them unchanged."""
     for content in newer:
         spool = Spool(old, folder, content)
-        same("what the program of version 1 says", spool.serve(b"jobs\n"), ([], "spool: damaged 0\n", 1))
+        same("the output of the program of version 1", spool.serve(b"jobs\n"), ([], "spool: damaged 0\n", 1))
         same("the file", spool.content() == content, True)
 
 
@@ -474,17 +474,17 @@ def main():
             raise Difference(f"no program {shell}: run `rt run` in crates/spool_shell first")
         content, replies = stored()
         has_all(content)
-        for look in LOOKS:
-            newer = look(shell, folder, content, replies)
+        for check in CHECKS:
+            newer = check(shell, folder, content, replies)
         if asked.old:
             old = os.path.abspath(asked.old)
-            goes_beside(shell, old, folder, content)
+            compares_programs(shell, old, folder, content)
             is_refused_by(old, folder, *newer)
     except (Difference, AssertionError, OSError, subprocess.TimeoutExpired) as difference:
         print(f"{difference}, in {folder}")
         return 1
     shutil.rmtree(folder)
-    print(f"{len(LOOKS) + 2 * bool(asked.old)} passed")
+    print(f"{len(CHECKS) + 2 * bool(asked.old)} passed")
     return 0
 
 

@@ -1,15 +1,14 @@
 #!/usr/bin/env python3
-"""A newcomer's walk: runs the README's commands as they are written, and compares what they show: walk.py [--show]
+"""Runs the README's commands as written and compares their output: walk.py [--show]
 
-A block of the README that begins with ```console has commands, each behind `$ ` on a line of its own, and below each what it shows. They
-are run one after another by one bash, in a copy of the repository with the results of the proved build, in a home of
-their own (HOME), so `~` is an empty folder at first. `rt run` starts the program that is built: `rt ci` keeps no more than that, and
-another proof would take hours. What a command shows on both streams has to be the lines below it: carriage returns, form
-feeds and blanks at the end of a line aside. `...` stands for any text of a line, and alone on a line for any lines. --show prints what is
-shown.
+A block of the README that begins with ```console contains commands, each after `$ ` on its own line, followed by the expected output. One
+bash runs them in order, in a copy of the repository with the results of the proved build, with a HOME of their own, so `~` is
+an empty folder at first. `rt run` starts the built program instead of proving it again: `rt ci` keeps only the program, and a new proof
+would take hours. The output of a command on both streams must be the lines below it, except for carriage returns, form feeds and
+blanks at the end of a line. `...` represents any text within a line, and alone on a line any lines. --show prints the output.
 
-Where a program isn't built, or `rt` isn't there, the walk is left out, and said to be. It also sees that each file that the README
-names is there. The last line is `N commands, 0 differ`, with status 0, or names how many differ, with status 1.
+If a program is not built, or `rt` is not installed, the commands are not run, and the script reports that. It also checks that each file
+that the README names exists. The last line is `N commands, 0 differ`, with status 0, or has the number that differ, with status 1.
 """
 import contextlib
 import os
@@ -25,12 +24,12 @@ PROGRAMS = ["spool_front", "spool_shell", "spool_service", "spool_admin", "spool
 SECONDS = 1_700
 
 BLOCK = re.compile(r"^```console\n(.*?)^```$", re.MULTILINE | re.DOTALL)
-# A path in the README, and names that only stand for one.
+# A path in the README.
 PATH = re.compile(r"`(?:man )?((?:[\w.-]+/)+[\w.-]+|[A-Z]+\.md|install\.sh)(?: [^`]*)?`|\]\(([\w./-]+)\)")
 
 
 def commands(text):
-    """The commands of the README in their order, each with the lines that it is to show."""
+    """The commands of the README in order, each with its expected output."""
     found = []
     for block in BLOCK.findall(text):
         for line in block.splitlines():
@@ -42,21 +41,21 @@ def commands(text):
 
 
 def absent(text):
-    """The files that the README names and that aren't there."""
+    """The files that the README names and that do not exist."""
     named = {one or other for one, other in PATH.findall(text)}
     return sorted(it for it in named if "NAME" not in it and not (ROOT / it).exists())
 
 
 @contextlib.contextmanager
 def copy_of_all(room):
-    """A folder with the repository as it is, with what the proved build has left. What is changed there changes nothing here."""
+    """A folder with a copy of the repository and of the results of the proved build. Changes there do not affect the original."""
     folder, changes, work = (room / it for it in ("cegmandi", "changes", "work"))
     for it in (folder, changes, work):
         it.mkdir()
     layers = f"lowerdir={ROOT},upperdir={changes},workdir={work}"
     laid = subprocess.run(["mount", "-t", "overlay", "overlay", "-o", layers, folder], capture_output=True).returncode == 0
     if not laid:
-        # Not as root: the results take gigabytes, and are copied.
+        # Without root an overlay is not possible. The results, which take gigabytes, are copied.
         shutil.copytree(ROOT, folder, symlinks=True, dirs_exist_ok=True, ignore=shutil.ignore_patterns(".git", "__pycache__"))
     try:
         yield folder
@@ -65,8 +64,8 @@ def copy_of_all(room):
             subprocess.run(["umount", "-l", folder], check=True)
 
 
-# In the place of the toolchain's `rt`: `rt run` starts the built program, and anything else is rt's.
-STAND_IN = """#!/bin/sh
+# Replaces the toolchain's `rt`: `rt run` starts the built program, and rt does anything else.
+SUBSTITUTE = """#!/bin/sh
 case $1 in
 run)
     shift
@@ -78,23 +77,23 @@ exec RT "$@"
 """
 
 
-def stand_in(room):
-    """A folder with the stand-in of `rt`."""
+def substitute(room):
+    """A folder with the substitute for `rt`."""
     folder = room / "bin"
     folder.mkdir()
     program = folder / "rt"
-    program.write_text(STAND_IN.replace("RT", shutil.which("rt") or "false"), encoding="utf-8")
+    program.write_text(SUBSTITUTE.replace("RT", shutil.which("rt") or "false"), encoding="utf-8")
     program.chmod(0o755)
     return folder
 
 
 def walked(found, folder):
-    """What each command shows, run by one bash in this folder."""
+    """The output of each command, run by one bash in this folder."""
     mark = "=walk-mark="
     script = "".join(f"echo; echo {mark}\n{command}\n" for command, _ in found) + f"echo; echo {mark}\n"
     home = folder.parent / "home"
     home.mkdir()
-    path = f"{stand_in(folder.parent)}:{os.environ['PATH']}"
+    path = f"{substitute(folder.parent)}:{os.environ['PATH']}"
     environment = {**os.environ, "PATH": path, "HOME": str(home), "LC_ALL": "C.UTF-8", "COLUMNS": "80"}
     for name in ("SPOOL_SOCKET", "LPDEST", "PRINTER", "DESTDIR"):
         environment.pop(name, None)
@@ -111,12 +110,12 @@ def walked(found, folder):
 
 
 def fits(wanted, shown):
-    """Whether a line is the one that is wanted, in which `...` is any text."""
+    """Whether a line is the expected one, in which `...` is any text."""
     return re.fullmatch(".*".join(re.escape(it) for it in wanted.split("...")), shown) is not None
 
 
 def agrees(wanted, shown):
-    """Whether these lines are those that are wanted, of which one that is `...` is any lines."""
+    """Whether these lines are the expected ones, in which a line `...` is any lines."""
     if not wanted:
         return not shown
     if wanted[0] == "...":
@@ -125,12 +124,12 @@ def agrees(wanted, shown):
 
 
 def left_out(found):
-    """Why the walk can't be tried, if it can't."""
+    """The reason why the commands cannot be run, if there is one."""
     missing = [it for it in PROGRAMS if not (ROOT / "crates" / it / "out" / it).exists()]
     if missing:
-        return f"the walk, since these aren't built: {' '.join(missing)}"
+        return f"the commands, because these programs are not built: {' '.join(missing)}"
     if any(re.search(r"\brt\b", command) for command, _ in found) and not shutil.which("rt"):
-        return "the walk, since there is no rt"
+        return "the commands, because rt is not installed"
     return None
 
 
@@ -139,7 +138,7 @@ def main():
     found, wrong = commands(text), 0
     for name in absent(text):
         wrong += 1
-        print(f"the README names {name}, which isn't there")
+        print(f"the README names {name}, which does not exist")
     why = left_out(found)
     if why:
         print(f"left out: {why}")
@@ -148,13 +147,13 @@ def main():
     if found:
         with copy_of_all(room) as folder:
             shown = walked(found, folder)
-        shown += [["(it wasn't reached)"]] * (len(found) - len(shown))
+        shown += [["(it was not run)"]] * (len(found) - len(shown))
         for (command, wanted), lines in zip(found, shown):
             if "--show" in sys.argv[1:]:
                 print("\n".join([f"$ {command}", *lines]))
             if not agrees(wanted, lines):
                 wrong += 1
-                print("\n".join([f"differs: {command}", *(f"  wanted: {it}" for it in wanted), *(f"  shown:  {it}" for it in lines)]))
+                print("\n".join([f"differs: {command}", *(f"  expected: {it}" for it in wanted), *(f"  shown:    {it}" for it in lines)]))
     shutil.rmtree(room, ignore_errors=True)
     print(f"{len(found)} commands, {wrong} differ")
     return 1 if wrong else 0
