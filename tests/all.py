@@ -98,11 +98,15 @@ PARTS = [
     "large_tables.py",
     "real_children.py",
     "front_parts.py",
+    "poll_child.c",
     "service_children.py",
     "service_clients.py",
     "service_crashes.py",
+    "service_faults.py",
     "service_office.py",
     "service_parts.py",
+    "service_printing.py",
+    "service_times.py",
     "service_words.py",
     "spool_model.py",
     "stock_backends.py",
@@ -177,7 +181,7 @@ def missing_parts():
         missing["calls_without_memory.py"] = (True, "valgrind (Debian's package valgrind)")
     if not shutil.which("gcc"):
         missing["allocations.py"] = missing["refused_memory.py"] = missing["refused_scripts.py"] = (True, "a C compiler (Debian's package gcc)")
-        missing.setdefault("service.py", (False, "a day with a fast clock (Debian's package gcc)"))
+        missing.setdefault("service.py", (False, "a day with a fast clock, refused memory and processor time (Debian's package gcc)"))
     return missing
 
 

@@ -29,6 +29,9 @@ sleep "${DEVICE_URI##*/}"
 cat "${6:--}" >>FOLDER/printed
 """
 
+# A filter that sleeps, and passes on the document.
+FILTER = '#!/bin/sh\nsleep SECONDS\necho first >>FOLDER/stages\ncat "$6"\n'
+
 
 class Difference(Exception):
     """A result is not the expected one."""
@@ -266,9 +269,9 @@ class Folder:
     def backend(self, name, text):
         self.program("backend", name, text)
 
-    def two_stages(self, seconds):
-        """Documents named `.x` are filtered for queues of a/b, by a filter that sleeps for `seconds` seconds."""
-        self.program("filter", "first", f'#!/bin/sh\nsleep {seconds}\necho first >>FOLDER/stages\ncat "$6"\n')
+    def two_stages(self, seconds, text=FILTER):
+        """Documents named `.x` are filtered for queues of a/b, by a filter that sleeps for `seconds` seconds, or by this one."""
+        self.program("filter", "first", text.replace("SECONDS", str(seconds)))
         self.write("types", "a/a x\n")
         self.write("convs", "a/a a/b 10 first\n")
         self.words = ["--types", self.at("types"), "--convs", self.at("convs")]

@@ -1,0 +1,138 @@
+"""Tests of when the service acts, and of how much it works: next to a C program that does only the same. See tests/service.py."""
+import os
+import random
+import shutil
+import subprocess
+import threading
+import time
+
+from service_parts import HERE, LONGEST, Client, Skipped, holds, same, until
+
+# How many times as much processor time, and as much time until it sees an end, the service may take as the C program.
+MOST_WORK = 12
+MOST_DELAY = 3
+
+
+def poll_child(folder):
+    """The C program."""
+    if not shutil.which("gcc"):
+        raise Skipped("a C compiler (Debian's package gcc)")
+    program = folder.at("poll_child")
+    subprocess.run(["gcc", "-O2", "-o", program, os.path.join(HERE, "poll_child.c")], check=True)
+    return program
+
+
+def work_of(process):
+    """The processor time of a process, in nanoseconds."""
+    with open(f"/proc/{process}/schedstat", encoding="ascii") as file:
+        return int(file.read().split()[0])
+
+
+def work_in(seconds, processes):
+    """The processor time that each of these processes takes meanwhile, in nanoseconds."""
+    before = [work_of(process) for process in processes]
+    time.sleep(seconds)
+    return [work_of(process) - begun for process, begun in zip(processes, before)]
+
+
+def processor_time(folder):
+    """A service whose child runs takes little more processor time than a program that polls a child. An idle service, one of whose clients
+    watches and one waits, takes less than that program.
+    """
+    program = poll_child(folder)
+    folder.start()
+    client, watcher, waiter = Client(folder), Client(folder), Client(folder)
+    folder.queue(client, "q", 12)
+    folder.queue(client, "held")
+    held = client.create("held")
+    same("hold", client.ask(f"hold {held} 4000000000\n"), "ok")
+    same("watch", watcher.ask("watch\n"), "ok")
+    waiter.say(f"wait {held}\n")
+    with subprocess.Popen([program, "sleep", "30"], stdout=subprocess.DEVNULL) as poller:
+        try:
+            # After a second the pause between two polls is the longest one.
+            time.sleep(3)
+            idle, one = work_in(4, [folder.running.pid, poller.pid])
+            job = client.submit("q")
+            client.until_state(job, "5")
+            time.sleep(2)
+            busy, other = work_in(4, [folder.running.pid, poller.pid])
+            same("it still prints", client.state(job)[0], "5")
+        finally:
+            poller.kill()
+    print(f"  in 4 s: idle {idle / 1e6:.2f} ms, with a child {busy / 1e6:.2f} ms; the C program {one / 1e6:.2f} ms and {other / 1e6:.2f} ms")
+    holds("the idle service works less than the C program with a child", idle <= one)
+    holds("the service with a child works little more", busy <= MOST_WORK * other)
+
+
+# A backend that sleeps as long as the title of its job says, and records when it ends.
+TIMED = '#!/bin/sh\nsleep "$3"\ndate +%s.%N >FOLDER/ended-$1.new\nmv FOLDER/ended-$1.new FOLDER/ended-$1\n'
+
+
+def ends_are_seen(folder):
+    """The time between the end of a child and the reply to who waits for its job is not much longer than the time until the C program sees
+    the end of the same child.
+    """
+    program, chance = poll_child(folder), random.Random(3)
+    folder.backend("timed", TIMED)
+    folder.start()
+    client = Client(folder)
+    folder.queue(client, "q", scheme="timed")
+    naps = [f"{chance.uniform(0.6, 1):.3f}" for _ in range(11)]
+    seen, ours = [], []
+
+    def poll():
+        for at, nap in enumerate(naps):
+            ran = subprocess.run([program, folder.at("backend-timed"), f"c{at}", "u", nap], capture_output=True, text=True, timeout=60)
+            seen.append(float(ran.stdout))
+
+    thread = threading.Thread(target=poll)
+    thread.start()
+    try:
+        for nap in naps:
+            job = client.submit("q", title=nap)
+            same("its row", client.ask(f"wait {job}\n").split()[3], "9")
+            ours.append(time.time() - float(folder.read(f"ended-{job}")))
+            same("the end of the rows", client.reply(), "ok 1")
+    finally:
+        thread.join()
+    theirs = [moment - float(folder.read(f"ended-c{at}")) for at, moment in enumerate(seen)]
+    print(f"  {len(naps)} children of 0.6 to 1 s: {1_000 * sum(ours) / len(ours):.1f} ms, the C program {1_000 * sum(theirs) / len(theirs):.1f} ms")
+    holds("ends are seen about as soon", sum(ours) <= MOST_DELAY * sum(theirs))
+
+
+def holds_that_end(folder):
+    """A job that is held after its `close`, until a moment, starts at that moment, while no client is connected: also if it was held
+    indefinitely before, and if its hold was for longer.
+    """
+    folder.start()
+    client = Client(folder)
+    moment, jobs = int(time.time()) + 5, []
+    for name, earlier in (("plain", None), ("indefinite", "indefinite"), ("longer", 4_000_000_000), ("shorter", int(time.time()) + 2)):
+        folder.queue(client, name)
+        same("disable", client.ask(f"disable {name}\n"), "ok")
+        job = client.submit(name, f"{name}\n")
+        if earlier:
+            same("hold", client.ask(f"hold {job} {earlier}\n"), "ok")
+        same("hold", client.ask(f"hold {job} {moment}\n"), "ok")
+        same("enable", client.ask(f"enable {name}\n"), "ok")
+        jobs.append(job)
+    same("they are held", sorted(set(client.states().values())), ["4 job-hold-until-specified"])
+    client.close()
+    until("one is printed", lambda: folder.printed() != "", 2 * LONGEST)
+    first = time.time()
+    until("all are printed", lambda: len(folder.printed().split()) == len(jobs))
+    print(f"  {len(jobs)} holds that ended were over {first - moment:.2f} to {time.time() - moment:.2f} s later")
+    holds("not before the moment", moment <= first)
+    # As soon as a job whose hold ends while it has no document: within a second, and the time of a start.
+    holds("and soon", time.time() < moment + 3)
+    client = Client(folder)
+    client.until_ended(jobs)
+    same("each by one attempt", {client.fields(job)["attempts"] for job in jobs}, {"1"})
+
+
+TESTS = [
+    holds_that_end,
+    processor_time,
+    ends_are_seen,
+]
