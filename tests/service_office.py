@@ -8,6 +8,8 @@ from dataclasses import dataclass
 
 from service_parts import Client, Difference, HERE, Skipped, at_once, holds, patient_client, same, until
 
+ADMIN = os.path.join(HERE, "..", "crates", "spool_admin", "out", "spool_admin")
+
 # ---- the clock and the maintenance
 
 
@@ -188,6 +190,53 @@ def room_after_a_restart(folder):
     print(f"  {count} events between two checkpoints; after a restart {checkpoints(folder) - before} more")
 
 
+def the_share_that_must_be_free(folder):
+    """With --room 80 a checkpoint is made when a fifth of the journal is used, and with --room 10 when nine tenths are."""
+    folder.size, counts = 65_536, []
+    for percent in (80, 10):
+        folder.start("--room", str(percent))
+        client = Client(folder)
+        if percent == 80:
+            folder.queue(client, "q")
+            job = client.create("q")
+        # After the first one the share is that of the room that a checkpoint leaves.
+        holds_until_checkpoint(folder, client, job)
+        counts.append(holds_until_checkpoint(folder, client, job))
+        folder.kill()
+    print(f"  events between two checkpoints: {counts}")
+    holds("four and a half times as many", 3.5 * counts[0] < counts[1] < 5.5 * counts[0])
+
+
+def a_spool_that_stays_full(folder):
+    """If the state does not fit into the other half, changes are refused and the checkpoint fails, which is logged, and nothing is lost. In a
+    larger file there is room again.
+    """
+    folder.size = 16_384
+    folder.start()
+    client = Client(folder)
+    folder.queue(client, "q")
+    same("disable", client.ask("disable q\n"), "ok")
+    jobs, reply = [], "ok"
+    while reply != "error full":
+        reply = client.ask('create q u "t" 1 50 ""\n')
+        jobs += [int(reply.split()[2])] if reply.startswith("ok") else []
+    until("a failed checkpoint", lambda: "spool: checkpoint failed\n" in folder.log())
+    same("a checkpoint", client.ask("checkpoint\n"), "error full")
+    same("another job", client.ask('create q u "t" 1 50 ""\n'), "error full")
+    same("no checkpoint is made", checkpoints(folder), 0)
+    rows = client.listing("jobs\n")
+    same("rows", len(rows), len(jobs))
+    folder.kill()
+    if not os.path.exists(ADMIN):
+        raise Skipped("the built spool_admin, for a larger file (`rt run` in crates/spool_admin)")
+    subprocess.run([ADMIN, "grow", folder.at("spool"), "65536"], check=True, timeout=60)
+    folder.start()
+    client = Client(folder)
+    same("the jobs in the larger file", client.listing("jobs\n"), rows)
+    same("enable", client.ask("enable q\n"), "ok")
+    client.until_state(client.submit("q"), "9")
+
+
 # ---- many jobs
 
 
@@ -360,6 +409,8 @@ TESTS = [
     old_jobs_are_purged,
     a_small_spool_makes_room,
     room_after_a_restart,
+    the_share_that_must_be_free,
+    a_spool_that_stays_full,
     thousands_of_jobs,
     a_day_of_an_office,
 ]

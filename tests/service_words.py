@@ -8,7 +8,7 @@ import subprocess
 import sys
 import time
 
-from service_parts import BEFORE, Client, LONGEST, Skipped, holds, listings, print_times, same, timed, until
+from service_parts import BEFORE, Client, LONGEST, Skipped, TYPE, holds, listings, print_times, same, timed, until
 
 # ---- its own commands
 
@@ -135,6 +135,52 @@ def watch_changes(folder):
     same("then nothing", watcher.says_nothing(), True)
 
 
+def watch_what_the_service_does(folder):
+    """Clients that watch are told of the jobs whose hold or deadline passes, and of those that the service purges."""
+    folder.start("--keep", "1")
+    client, watcher = Client(folder), Client(folder)
+    folder.queue(client, "q")
+    same("disable", client.ask("disable q\n"), "ok")
+    moment = int(time.time()) + 3
+    held, late, untouched = client.submit("q"), client.create("q", by=moment), client.submit("q")
+    same("hold", client.ask(f"hold {held} {moment}\n"), "ok")
+    client.finish(late)
+    same("watch", watcher.ask("watch\n"), "ok")
+    client.close()
+    rows = {held: ended_row(held, state="3 none"), late: ended_row(late, state="7 canceled")}
+    told = sorted(watcher.reply() for _ in rows)
+    holds("not before", moment <= time.time())
+    same("the rows of both", told, sorted(rows.values()))
+    same("and of no other", watcher.says_nothing(1.2), True)
+    client = Client(folder)
+    same("cancel", [client.ask(f"cancel {job}\n") for job in (held, untouched)], ["ok", "ok"])
+    lines = []
+    read_until(watcher, lines, f"gone job {late}")
+    # The row of a job that is purged in the same turn is not sent.
+    same("the canceled one that remains", ended_row(untouched, state="7 canceled") in lines, True)
+    same("purged, the oldest first", [line for line in lines if line.startswith("gone")], [f"gone job {held}", f"gone job {late}"])
+    same("the last one", sorted(client.states()), [untouched])
+
+
+def wait_beside_a_purge(folder):
+    """A client that waits gets the row of its job, although the service purges each ended job at once."""
+    folder.start("--keep", "0")
+    client = Client(folder)
+    folder.queue(client, "q")
+    rows = []
+    for turn in range(40):
+        job = client.create("q")
+        client.say(f"send {job} 2\nx\n\nclose {job} f\nwait {job}\n")
+        replies = [client.reply() for _ in range(3)]
+        same("close", replies[1], f"ok type {TYPE} stages 1")
+        rows.append((replies[2], ended_row(job)))
+        if replies[2].startswith("job"):
+            same("its last line", client.reply(), "ok 1")
+        time.sleep(0.03 * (turn % 5))
+    same("rows", [found for found, wanted in rows if found != wanted], [])
+    until("all are purged", lambda: client.states() == {})
+
+
 def watch_that_is_not_read(folder):
     """It delays no other client and takes no more memory: rows are left out, and a line says so."""
     folder.start()
@@ -198,6 +244,28 @@ def log_of_stages(folder):
     Client(folder).until_state(Client(folder).submit("q"), "9")
     folder.shut_down()
     same("a quiet one", folder.log(), "")
+
+
+COMPLAINS = """#!/bin/sh
+for number in $(seq 100 199); do echo "ERROR: line $number" >&2; done
+exit "${DEVICE_URI##*/}"
+"""
+
+
+def log_of_long_errors(folder):
+    """The last 400 bytes of the standard error of a child that failed are logged, line by line, and nothing of one that succeeded."""
+    folder.backend("complains", COMPLAINS)
+    folder.start()
+    client = Client(folder)
+    for status, state in ((1, "8"), (0, "9")):
+        folder.queue(client, f"q{status}", status, "abort-job", scheme="complains")
+        client.until_state(client.submit(f"q{status}"), state)
+    folder.shut_down()
+    prefix = "spool: job 1 attempt 1 stage 1 complains: "
+    text = "".join(f"ERROR: line {number}\n" for number in range(100, 200))
+    lines = [line.removeprefix(prefix) for line in folder.log().splitlines() if line.startswith(prefix)]
+    same("the first job", lines, ["ended with status 1", *text[-400:].splitlines()])
+    same("the other one", [line for line in folder.log().splitlines() if "job 2" in line], ["spool: job 2 attempt 1 stage 1 complains: ended"])
 
 
 # ---- its end
@@ -274,7 +342,44 @@ def shutdown_waits_a_minute(folder):
     holds("it waited for a minute", 58 < took < 70)
 
 
+STUCK = """#!/bin/sh
+echo $$ >>FOLDER/pids
+exec sleep 1000
+"""
+
+
+def shutdown_with_an_end(folder):
+    """After `shutdown` an admitted client can still end a child that hangs, and then the service ends."""
+    folder.backend("stuck", STUCK)
+    folder.start()
+    client, other = Client(folder), Client(folder)
+    folder.queue(client, "q", policy="abort-job", scheme="stuck")
+    job = client.submit("q")
+    until("its child", lambda: folder.read("pids") != "")
+    same("shutdown", client.ask("shutdown\n"), "ok")
+    same("end", other.ask(f"end {job}\n"), "ok")
+    same("status", folder.running.wait(LONGEST), 0)
+    same("its child", [word for word in folder.read("pids").split() if os.path.exists(f"/proc/{word}")], [])
+    child = f"spool: job {job} attempt 1 stage 1 stuck: killed by a signal"
+    same("the log", folder.log().splitlines()[1:], ["spool: shutting down: 1 children running", f"{child}, no error message", child, "spool: stopped"])
+    folder.start()
+    same("its state", Client(folder).state(job), "8 backend-failed")
+
+
 # ---- its socket
+
+
+def sockets_that_cannot_be_made(folder):
+    """The service ends with `spool: socket`, and has changed nothing. A file that has the socket's name is removed."""
+    for socket_path in (folder.at("absent", "it.sock"), folder.at("spool"), folder.at("x" * 120)):
+        folder.launch("--listen", socket_path)
+        same("its end", (folder.running.wait(LONGEST), folder.log()), (1, "spool: socket\n"))
+        os.remove(folder.at("log"))
+    folder.socket = folder.at("file")
+    folder.write("file", "text")
+    folder.start("--listen", folder.socket)
+    same("in place of a file", Client(folder).ask("queues\n"), "ok 0")
+
 
 
 def the_mode_of_the_socket(folder):
@@ -346,12 +451,17 @@ TESTS = [
     wait_for_a_job,
     wait_that_ends_otherwise,
     watch_changes,
+    watch_what_the_service_does,
+    wait_beside_a_purge,
     watch_that_is_not_read,
     rounds_are_ticks,
     log_of_stages,
+    log_of_long_errors,
     shutdown_finishes_running_jobs,
     shutdown_finishes_all_stages,
     shutdown_waits_a_minute,
+    shutdown_with_an_end,
+    sockets_that_cannot_be_made,
     the_mode_of_the_socket,
     refused_to_another_user,
     two_services,
