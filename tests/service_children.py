@@ -3,7 +3,8 @@ import os
 import subprocess
 import time
 
-from service_parts import Client, Skipped, holds, listings, print_times, same, timed, until
+import traces
+from service_parts import Client, Skipped, holds, kill_children, listings, print_times, same, timed, until
 
 # A backend that writes its process number and hangs, with a child of its own.
 HANGS = """#!/bin/sh
@@ -233,6 +234,47 @@ def few_descriptors(folder):
     same("their attempts", {client.fields(job)["attempts"] for job in jobs}, {"1"})
 
 
+STARTS = "clone,clone3,fork,vfork"
+
+
+def processes_that_are_refused(folder):
+    """If the system refuses processes for a moment, at most four jobs lose an attempt, and nothing is started for two seconds. At most four
+    children are started in a turn.
+    """
+    if not traces.may_trace():
+        raise Skipped("strace (Debian's package strace), or the permission to trace")
+    calls = folder.at("calls")
+    refusal = ["-e", f"trace={STARTS},epoll_wait,epoll_pwait", "-e", f"inject={STARTS}:error=EAGAIN:when=1..4"]
+    folder.before += ["strace", "-qq", "-o", calls, *refusal]
+    folder.start()
+    try:
+        client = Client(folder)
+        names = [f"q{number:02}" for number in range(12)]
+        for name in names:
+            folder.queue(client, name, policy="abort-job")
+            same("disable", client.ask(f"disable {name}\n"), "ok")
+        jobs = [client.submit(name, f"{name}\n") for name in names]
+        client.say("".join(f"enable {name}\n" for name in names))
+        same("enable", [client.reply() for _ in names], ["ok"] * len(names))
+        began = time.time()
+        until("some have failed", lambda: "8" in [state[0] for state in client.states().values()])
+        until("the others are printed", lambda: {state[0] for state in client.states().values()} <= {"8", "9"})
+        took = time.time() - began
+        found = [client.state(job) for job in jobs]
+        same("the jobs", (found.count("8 backend-failed"), found.count("9 job-completed-successfully")), (4, 8))
+        same("their attempts", {client.fields(job)["attempts"] for job in jobs}, {"1"})
+        same("it is logged", folder.log().count("slow: not started: out of processes\n"), 4)
+        print(f"  the others were printed {took:.2f} s later")
+        holds("not before two seconds", 1.8 < took < 10)
+        folder.shut_down()
+    finally:
+        kill_children(folder.running.pid)
+    with open(calls, encoding="ascii", errors="replace") as file:
+        names = [line.partition("(")[0] for line in file]
+    turns = "".join("," if name.startswith("epoll") else "s" * (name in STARTS.split(",")) for name in names).split(",")
+    same("the most starts in a turn", max(len(turn) for turn in turns), 4)
+
+
 def a_full_folder(folder):
     """While the folder has no room nothing is started, and no job loses an attempt. Then all are printed."""
     root = folder.at("spool")
@@ -281,5 +323,6 @@ TESTS = [
     a_child_with_a_side_channel,
     a_child_that_asks_while_it_runs,
     few_descriptors,
+    processes_that_are_refused,
     a_full_folder,
 ]

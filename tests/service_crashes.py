@@ -7,7 +7,7 @@ import time
 
 import cuts
 import traces
-from service_parts import Client, Difference, Skipped, holds, patient_client, same, timed, until
+from service_parts import Client, Difference, Skipped, holds, kill_children, patient_client, same, timed, until
 
 # ---- kills
 
@@ -199,16 +199,6 @@ class ServiceRunFolder(cuts.RunFolder):
             lines = [line.rstrip("\n") for line in file]
         tracing.take([traces.Call(line, counts) for line in lines if not line.startswith(("---", "+++"))])
         return tracing.steps
-
-
-def kill_children(process):
-    """Kills the processes that a process has started: strace leaves them running when it is killed itself."""
-    try:
-        with open(f"/proc/{process}/task/{process}/children") as file:
-            for child in file.read().split():
-                os.kill(int(child), signal.SIGKILL)
-    except OSError:
-        pass
 
 
 def converse(folder):

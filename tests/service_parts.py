@@ -346,6 +346,16 @@ class Folder:
         return os.stat(self.at("spool", "spool.disk")).st_mtime_ns
 
 
+def kill_children(process):
+    """Kills the processes that a process has started: strace leaves them running when it is killed itself."""
+    try:
+        with open(f"/proc/{process}/task/{process}/children") as file:
+            for child in file.read().split():
+                os.kill(int(child), signal.SIGKILL)
+    except OSError:
+        pass
+
+
 def listings(client, count=50):
     """The time of each of `count` listings."""
     return [timed(lambda: client.listing("queues\n")) for _ in range(count)]
