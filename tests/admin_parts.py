@@ -28,6 +28,8 @@ SIZE = 8_192
 NAME = "spool.disk"
 LOCK = "spool.lock"
 OWNED = "spool: disk\nspool: cause: owned\n"
+# The user and the group of a spool: others than those of the program, if that is allowed.
+OTHERS = (os.geteuid(), os.getegid()) if os.geteuid() else (65_533, 65_532)
 
 # The calls at which the program may be killed, each with an error that it may return.
 ERRORS = {"open": "EIO", "openat": "EIO", "flock": "ENOLCK", "statx": "EIO", "fstat": "EIO", "lstat": "EIO", "newfstatat": "EIO",

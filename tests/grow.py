@@ -6,7 +6,7 @@ crates/spool_shell/out/spool_shell. The spools are files that tests/journal.py w
 documents and jobs of each phase, one of them processing.
 
 - `look` prints what tests/spool_model.py finds in the file, and changes neither its bytes nor its times.
-- `grow` leaves a file of BYTES bytes, with the owner's mode. Its next epoch has exactly the rows of the table after an opening, with all
+- `grow` leaves a file of BYTES bytes, with the owner and the mode of the old one. Its next epoch has exactly the rows of the table after an opening, with all
   documents. The shell serves it, and a spool that was full takes events again.
 - `grow` names the reason when it refuses, and the old file is unchanged: a spool that is damaged or does not exist, one that a shell owns,
   BYTES that are too few, a file with a second name, invalid arguments.
@@ -27,7 +27,7 @@ import tempfile
 import journal
 import spool_model as model
 import traces
-from admin_parts import ERRORS, KILLED, LOCK, NAME, OWNED, SECONDS, SHELL, SIZE, administer, image_of, in_second_area, run_all
+from admin_parts import ERRORS, KILLED, LOCK, NAME, OTHERS, OWNED, SECONDS, SHELL, SIZE, administer, image_of, in_second_area, run_all
 from journal import image
 from stories import Q, Difference, of_q, same, spelled
 
@@ -129,9 +129,11 @@ def a_larger_file_has_the_table(folder):
         for size in (len(file), LARGER, 1_000_000):
             place = Place(folder, file)
             os.chmod(place.file, 0o640)
+            os.chown(place.file, *OTHERS)
             place.grow(size)
             same(f"the table in {size} bytes", is_grown(file, place.content(), size), True)
-            same("the mode", stat.S_IMODE(os.stat(place.file).st_mode), 0o640)
+            found = os.stat(place.file)
+            same("the mode and the owner", (stat.S_IMODE(found.st_mode), found.st_uid, found.st_gid), (0o640, *OTHERS))
             same("the names", names_in(place.root), [NAME])
             lists_grown(place, file)
 

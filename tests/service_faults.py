@@ -86,17 +86,23 @@ echo "ends $1 $SPOOL_ATTEMPT" >>FOLDER/turns
 """
 
 
-def fail(folder, client):
-    """Takes the name of the spool away so that the service cannot restore it: its device has failed. Then the name is restored."""
+def fail(folder, use):
+    """Takes the name of the spool away so that the service cannot restore it: its device fails as `use` writes to it. Then the name is
+    restored.
+    """
     disk, unfinished = folder.at("spool", "spool.disk"), folder.at("spool", "spool.disk.new")
     os.mkdir(unfinished)
     os.rename(disk, folder.at("kept.disk"))
-    same("a change", client.ask("reject later\n"), "error disk")
+    use()
     status = folder.running.wait(LONGEST)
-    same("its end", (status, folder.log().splitlines()[-3:]), (1, ["spool: disk failed", "spool: disk", "spool: cause: failed"]))
+    same("its end", (status, folder.log().splitlines()[-2:]), (1, ["spool: disk", "spool: cause: failed"]))
     same("the socket", os.path.exists(folder.socket), False)
     os.rename(folder.at("kept.disk"), disk)
     os.rmdir(unfinished)
+
+
+def change(client):
+    same("a change", client.ask("reject later\n"), "error disk")
 
 
 def processing_jobs(folder):
@@ -118,8 +124,9 @@ def a_device_that_fails(folder):
     client, jobs = processing_jobs(folder)
     other = Client(folder)
     same("another client", len(other.listing("queues\n")), 3)
-    fail(folder, client)
+    fail(folder, lambda: change(client))
     same("it is disconnected", other.is_closed(), True)
+    holds("it is logged", "spool: disk failed\n" in folder.log())
     folder.start()
     client = Client(folder)
     same("whether the queue rejects", client.listing("queues\n")[1].split()[1:4], ["later", "3", "accepting"])
@@ -135,7 +142,7 @@ def a_device_that_fails(folder):
 def a_device_that_fails_under_a_supervisor(folder):
     """If the remaining processes are ended before the next start, as the unit for systemd does, nothing prints next to them."""
     client, jobs = processing_jobs(folder)
-    fail(folder, client)
+    fail(folder, lambda: change(client))
     for group in folder.read("pids").split():
         os.killpg(os.getpgid(int(group)), signal.SIGKILL)
     folder.start()
@@ -148,6 +155,26 @@ def a_device_that_fails_under_a_supervisor(folder):
     same("nothing is left", "earlier" in folder.log(), False)
     with open(UNIT, encoding="utf-8") as unit:
         holds("the unit ends the children", "KillMode=control-group\n" in unit.read())
+
+
+def a_device_that_fails_without_a_command(folder):
+    """The service also ends if the device fails while it records the end of a child, or the time. Nothing is acknowledged then."""
+    client, jobs = processing_jobs(folder)
+    waiter = Client(folder)
+    waiter.say(f"wait {jobs[0]}\n")
+    fail(folder, lambda: until("an end", lambda: "ends" in folder.read("turns")))
+    same("who waits", waiter.is_closed(), True)
+    until("both ends", lambda: folder.read("turns").count("ends") == 2)
+    folder.start()
+    client = Client(folder)
+    client.until_state(jobs[0], "9")
+    same("the lost attempts", (client.fields(jobs[0])["attempts"], client.state(jobs[1])), ("2", "8 attempt-lost"))
+    same("printed", sorted(folder.printed().split()), ["again", "again", "once"])
+    held = client.create("later")
+    same("hold", client.ask(f"hold {held} {int(time.time()) + 2}\n"), "ok")
+    fail(folder, lambda: None)
+    folder.start()
+    Client(folder).until_state(held, "4 job-incoming")
 
 
 # ---- ends of children that cannot be known
@@ -351,6 +378,7 @@ TESTS = [
     names_that_are_taken_away,
     a_device_that_fails,
     a_device_that_fails_under_a_supervisor,
+    a_device_that_fails_without_a_command,
     ignored_child_signals,
     memory_for_one_reply,
     refused_allocations,

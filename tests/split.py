@@ -5,7 +5,7 @@ ADMIN is the program; the default is crates/spool_admin/out/spool_admin (built b
 crates/spool_shell/out/spool_shell. The spools are files that tests/journal.py writes: of both versions, in either area, with queues,
 documents and jobs of each phase, one of them processing.
 
-- `split` leaves two files of the old one's length, with its owner's mode. One lists exactly the rows and documents of the named queues, and
+- `split` leaves two files of the old one's length, with its owner and mode. One lists exactly the rows and documents of the named queues, and
   the other one all others. Both have the old highest number and time, and a job that was processing still is. The shell serves both, and
   each gives its next job a number that no job of either has.
 - `split` names the reason when it refuses, and both folders are unchanged: a queue that does not exist, a folder that has a spool or that
@@ -30,7 +30,7 @@ from concurrent.futures import ThreadPoolExecutor
 import journal
 import spool_model as model
 import traces
-from admin_parts import ERRORS, KILLED, LOCK, NAME, OWNED, SECONDS, SHELL, SIZE, administer, image_of, in_second_area, run_all
+from admin_parts import ERRORS, KILLED, LOCK, NAME, OTHERS, OWNED, SECONDS, SHELL, SIZE, administer, image_of, in_second_area, run_all
 from journal import close, image, send
 from stories import LAB, Q, of_lab, of_q, same, spelled
 
@@ -110,10 +110,12 @@ def each_row_is_in_one_half(folder):
         for names in (("lab",), ("q",), ("q", "lab"), ("lab", "lab")):
             place = Place(folder, file)
             os.chmod(os.path.join(place.source, NAME), 0o640)
+            os.chown(os.path.join(place.source, NAME), *OTHERS)
             place.split(*names)
             is_split(place, file, names)
             for root in (place.source, place.target):
-                same("the mode", stat.S_IMODE(os.stat(os.path.join(root, NAME)).st_mode), 0o640)
+                found = os.stat(os.path.join(root, NAME))
+                same("the mode and the owner", (stat.S_IMODE(found.st_mode), found.st_uid, found.st_gid), (0o640, *OTHERS))
 
 
 def both_are_served(folder):
