@@ -6,8 +6,8 @@ crates/spool_shell/out/spool_shell. The spools are files that tests/journal.py w
 documents and jobs of each phase, one of them processing.
 
 - `look` prints what tests/spool_model.py finds in the file, and changes neither its bytes nor its times.
-- `grow` leaves a file of BYTES bytes, with the owner and the mode of the old one. Its next epoch has exactly the rows of the table after an opening, with all
-  documents. The shell serves it, and a spool that was full takes events again.
+- `grow` leaves a file of BYTES bytes, with the owner and the mode of the old one. Its next epoch has exactly the rows of the table after an
+  opening, with all documents. The shell serves it, and a spool that was full takes events again.
 - `grow` names the reason when it refuses, and the old file is unchanged: a spool that is damaged or does not exist, one that a shell owns,
   BYTES that are too few, a file with a second name, invalid arguments.
 - Under strace (Debian's package `strace`) it is killed at each of its system calls, and each call fails once. The name refers to the old
