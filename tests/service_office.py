@@ -78,6 +78,25 @@ def a_clock_that_moves_back(folder):
     same("the time is unchanged", moment_of(client), known)
 
 
+def a_clock_that_is_set(folder):
+    """If the system's clock is set forward while the service has nothing to do, it notices within a minute."""
+    if not folder.is_long:
+        raise Skipped("it takes a minute (--long)")
+    folder.environment = {"LD_PRELOAD": fast_clock(folder), "FAST_CLOCK": f"{time.time()} {time.time()} 1", "CLOCK_JUMP": folder.at("jump")}
+    folder.start()
+    client = Client(folder)
+    folder.queue(client, "q")
+    job = client.create("q")
+    same("hold", client.ask(f"hold {job} {int(time.time()) + HOUR}\n"), "ok")
+    client.finish(job)
+    client.close()
+    time.sleep(3)
+    folder.write("jump", "")
+    began = time.time()
+    until("it is printed", lambda: folder.printed() != "", 70)
+    print(f"  it noticed {time.time() - began:.1f} s after the clock was set")
+
+
 def moment_of(client):
     """The engine's time: the last moment until which a hold ends at once."""
     low, high = 0, 4_000_000_000
@@ -405,6 +424,7 @@ TESTS = [
     the_clock_is_announced_only_if_needed,
     a_deadline_that_passes,
     a_clock_that_moves_back,
+    a_clock_that_is_set,
     a_job_is_tried_again,
     old_jobs_are_purged,
     a_small_spool_makes_room,
