@@ -211,8 +211,11 @@ def a_group_whose_child_has_ended(folder):
     same("end", client.ask(f"end {job}\n"), "ok")
     client.until_state(job, "8")
     same("an end of a child that has ended", client.ask(f"end {job}\n"), "error job")
-    # The time after which a child that has not ended is killed, and more.
-    time.sleep(11.5)
+    # Turns of the service after the time when a child that has not ended is killed.
+    time.sleep(11)
+    for _ in range(5):
+        same("a turn", client.state(job)[0], "8")
+        time.sleep(0.1)
     same("the process that it left", [is_there(pid) for pid in left], [True])
     for pid in left:
         os.kill(pid, 9)

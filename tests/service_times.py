@@ -8,8 +8,10 @@ import time
 
 from service_parts import HERE, LONGEST, Client, Skipped, holds, same, until
 
-# How many times as much processor time, and as much time until it sees an end, the service may take as the C program.
+# How many times as much processor time, with a child that runs long and with short ones, and as much time until it sees an end, the service may
+# take as the C program.
 MOST_WORK = 12
+MOST_SHORT_WORK = 5
 MOST_DELAY = 3
 
 
@@ -84,7 +86,7 @@ def ends_are_seen(folder):
     def poll():
         for at, nap in enumerate(naps):
             ran = subprocess.run([program, folder.at("backend-timed"), f"c{at}", "u", nap], capture_output=True, text=True, timeout=60)
-            seen.append(float(ran.stdout))
+            seen.append(float(ran.stdout.split()[0]))
 
     thread = threading.Thread(target=poll)
     thread.start()
@@ -99,6 +101,27 @@ def ends_are_seen(folder):
     theirs = [moment - float(folder.read(f"ended-c{at}")) for at, moment in enumerate(seen)]
     print(f"  {len(naps)} children of 0.6 to 1 s: {1_000 * sum(ours) / len(ours):.1f} ms, the C program {1_000 * sum(theirs) / len(theirs):.1f} ms")
     holds("ends are seen about as soon", sum(ours) <= MOST_DELAY * sum(theirs))
+
+
+def processor_time_of_short_children(folder):
+    """While a child runs that lasts some milliseconds, the service sleeps between its checks, as the C program does."""
+    program, count = poll_child(folder), 40
+    folder.backend("short", "#!/bin/sh\nexec sleep 0.05\n")
+    folder.start()
+    client = Client(folder)
+    folder.queue(client, "q", scheme="short")
+    same("disable", client.ask("disable q\n"), "ok")
+    jobs = [client.submit("q") for _ in range(count)]
+    before = work_of(folder.running.pid)
+    same("enable", client.ask("enable q\n"), "ok")
+    client.say(f"wait {jobs[-1]}\n")
+    same("the last one", client.reply().split()[:4], ["job", str(jobs[-1]), "q", "9"])
+    ours, theirs = (work_of(folder.running.pid) - before) / 1e6, 0
+    for _ in range(count):
+        ran = subprocess.run([program, folder.at("backend-short")], capture_output=True, text=True, timeout=60)
+        theirs += float(ran.stdout.split()[1])
+    print(f"  {count} children of 0.05 s: {ours:.1f} ms, the C program {theirs:.1f} ms")
+    holds("it sleeps meanwhile", ours <= MOST_SHORT_WORK * theirs)
 
 
 def holds_that_end(folder):
@@ -134,5 +157,6 @@ def holds_that_end(folder):
 TESTS = [
     holds_that_end,
     processor_time,
+    processor_time_of_short_children,
     ends_are_seen,
 ]
