@@ -1,14 +1,16 @@
 """Tests of a service whose disk, memory or start is faulty, and of a folder whose files a child removes. See tests/service.py."""
 import os
 import random
+import re
 import resource
 import shutil
 import signal
 import subprocess
 import time
 
+import traces
 from service_crashes import Gone, Submitter
-from service_parts import HERE, LONGEST, TYPE, Client, Difference, Folder, Skipped, holds, patient_client, same, until
+from service_parts import HERE, LONGEST, TYPE, Client, Difference, Folder, Skipped, holds, kill_children, patient_client, same, until
 from service_printing import KEEPS, kept, send_document
 
 # ---- the name of the spool
@@ -72,6 +74,41 @@ def names_that_are_taken_away(folder):
         holds(f"document {job} is printed whole", kept(folder, job) == data)
     again = [name for name in os.listdir(folder.path) if name.startswith("kept-") and name not in [f"kept-{job}" for job in documents]]
     same("ended jobs that were printed again", again, [])
+
+
+CALLS = "open,openat,flock,pwrite64,fsync,fdatasync,rename,renameat,renameat2,write,writev,sendto,sendmsg"
+
+
+def a_name_is_restored_in_order(folder):
+    """The copy is locked, written, synced and renamed, and the folder is synced, in this order and before the reply. So after a power cut the
+    name belongs to the copy too, with everything acknowledged.
+    """
+    if not traces.may_trace():
+        raise Skipped("strace (Debian's package strace), or the permission to trace")
+    calls = folder.at("calls")
+    folder.before += ["strace", "-qq", "-y", "-s", "16", "-o", calls, "-e", f"trace={CALLS}"]
+    folder.start()
+    try:
+        client = Client(folder)
+        folder.queue(client, "q")
+        job = client.create("q")
+        send_document(client, job, bytes(DOCUMENT))
+        os.remove(folder.at("spool", "spool.disk"))
+        same("a change", client.ask("reject q\n"), "ok")
+        folder.shut_down()
+    finally:
+        kill_children(folder.running.pid)
+    with open(calls, encoding="utf-8", errors="replace") as file:
+        lines = file.read().splitlines()
+    root = os.path.realpath(folder.at("spool"))
+    begun = max(at for at, line in enumerate(lines) if line.startswith("open") and "spool.disk.new" in line and "O_EXCL" in line)
+    told = next(at for at, line in enumerate(lines) if at > begun and '"ok\\n"' in line)
+    shown = re.compile(rf"(\w+)\((?:\d+<{re.escape(root)}(/spool\.disk(?:\.new)?)?>|\"{re.escape(folder.at('spool', 'spool.disk.new'))}\")")
+    found = [shown.match(line) for line in lines[begun + 1 : told]]
+    kinds = [f"{match[1]} {match[2] or ''}".rstrip() for match in found if match]
+    order = [kind for at, kind in enumerate(kinds) if kinds[at - 1 : at] != [kind]]
+    copied = ["flock /spool.disk.new", "pwrite64 /spool.disk.new", "fsync /spool.disk.new", "rename", "fsync"]
+    same("the calls up to the reply", order, [*copied, "fdatasync /spool.disk", "pwrite64 /spool.disk", "fdatasync /spool.disk"])
 
 
 # ---- a device that fails
@@ -376,6 +413,7 @@ class Persistent(Submitter):
 
 TESTS = [
     names_that_are_taken_away,
+    a_name_is_restored_in_order,
     a_device_that_fails,
     a_device_that_fails_under_a_supervisor,
     a_device_that_fails_without_a_command,
