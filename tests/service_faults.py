@@ -176,12 +176,27 @@ def a_device_that_fails(folder):
     same("it is logged", [line for line in folder.log().splitlines() if "earlier" in line], lines)
 
 
+def running_groups():
+    """The groups of all processes that run."""
+    found = set()
+    for name in os.listdir("/proc"):
+        try:
+            with open(f"/proc/{name}/stat", encoding="ascii", errors="replace") as file:
+                state, _, group = file.read().rsplit(") ", 1)[1].split()[:3]
+        except (OSError, IndexError):
+            continue
+        found |= {int(group)} if state != "Z" else set()
+    return found
+
+
 def a_device_that_fails_under_a_supervisor(folder):
     """If the remaining processes are ended before the next start, as the unit for systemd does, nothing prints next to them."""
     client, jobs = processing_jobs(folder)
     fail(folder, lambda: change(client))
-    for group in folder.read("pids").split():
-        os.killpg(os.getpgid(int(group)), signal.SIGKILL)
+    groups = {int(word) for word in folder.read("pids").split()}
+    for group in groups:
+        os.killpg(group, signal.SIGKILL)
+    until("their ends", lambda: not groups & running_groups())
     folder.start()
     client = Client(folder)
     client.until_state(jobs[0], "9")
@@ -344,7 +359,6 @@ def counted(folder, library, refused):
         other.until("queues\n", [f'queue q 3 accepting {TYPE} retry-job 0 0 none ""'])
         log = room.log()
         holds("it is reported once", log.count("out of memory") + log.count("spool: memory") + log.count("not started") <= 1)
-        room.shut_down()
     finally:
         room.end()
         room.remove()
