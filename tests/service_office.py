@@ -141,6 +141,22 @@ def old_jobs_are_purged(folder):
     same("one that was purged", client.ask(f"job {jobs[0]}\n"), "error job")
 
 
+def a_job_whose_child_runs_is_not_purged(folder):
+    """The service purges a canceled job only when its child has ended, and the other jobs meanwhile."""
+    folder.start("--keep", "0")
+    client = Client(folder)
+    folder.queue(client, "slow", 3)
+    folder.queue(client, "q")
+    job = client.submit("slow")
+    client.until_state(job, "5")
+    same("cancel", client.ask(f"cancel {job}\n"), "ok")
+    others = [client.submit("q") for _ in range(3)]
+    until("the others are purged", lambda: list(client.states()) == [job], 2.5)
+    same("its child runs", (client.state(job), folder.printed()), ("7 canceled", "x\n" * len(others)))
+    until("it is purged", lambda: client.states() == {})
+    same("its child has ended", folder.printed(), "x\n" * 4)
+
+
 def a_small_spool_makes_room(folder):
     """Jobs are printed on a spool whose journal fills again and again: the service makes room."""
     folder.size = 16_384
@@ -427,6 +443,7 @@ TESTS = [
     a_clock_that_is_set,
     a_job_is_tried_again,
     old_jobs_are_purged,
+    a_job_whose_child_runs_is_not_purged,
     a_small_spool_makes_room,
     room_after_a_restart,
     the_share_that_must_be_free,

@@ -382,6 +382,35 @@ def sockets_that_cannot_be_made(folder):
 
 
 
+WIPES = """#!/bin/sh
+cat "${6:--}" >>FOLDER/printed
+rm -rf "$TMPDIR"/*
+"""
+
+
+def a_child_that_removes_everything(folder):
+    """A child that removes everything in its folder costs no job. It removes the socket there too: admitted clients are served, and others
+    once the service is started again. A socket in another folder remains.
+    """
+    folder.backend("wipes", WIPES)
+    for elsewhere in (False, True):
+        folder.socket = folder.at("it.sock") if elsewhere else folder.at("spool", "spool.sock")
+        folder.start("--listen", folder.socket)
+        client = Client(folder)
+        if not elsewhere:
+            folder.queue(client, "q", scheme="wipes")
+        jobs = [client.submit("q") for _ in range(2)]
+        client.until_ended(jobs)
+        same("its attempts", {client.fields(job)["attempts"] for job in jobs}, {"1"})
+        same("the files", sorted(os.listdir(folder.at("spool"))), ["spool.disk", "spool.lock"])
+        same("a new client", is_admitted(folder), elsewhere)
+        folder.kill()
+    folder.start("--listen", folder.socket)
+    client = Client(folder)
+    same("the jobs", sorted(client.states().values()), ["9 job-completed-successfully"] * 4)
+    same("each was printed once", folder.printed(), "x\n" * 4)
+
+
 def the_mode_of_the_socket(folder):
     folder.start()
     same("usually", oct(os.stat(folder.socket).st_mode & 0o777), oct(0o660))
@@ -462,6 +491,7 @@ TESTS = [
     shutdown_waits_a_minute,
     shutdown_with_an_end,
     sockets_that_cannot_be_made,
+    a_child_that_removes_everything,
     the_mode_of_the_socket,
     refused_to_another_user,
     two_services,
