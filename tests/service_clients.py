@@ -1,4 +1,5 @@
 """Tests of clients: no client delays another one, and each uses at most the memory of its slot. See tests/service.py."""
+import os
 import random
 import resource
 import select
@@ -7,7 +8,8 @@ import socket
 import threading
 import time
 
-from service_parts import Client, Difference, LONGEST, at_once, holds, listings, patient_client, print_times, same, until
+import traces
+from service_parts import Client, Difference, LONGEST, Skipped, at_once, holds, kill_children, listings, patient_client, print_times, same, until
 
 # The number of slots.
 SLOTS = 64
@@ -110,6 +112,35 @@ def a_flood(folder):
     finally:
         stop.set()
         thread.join()
+
+
+def thirty_two_commands_in_turn(folder):
+    """After 32 commands of a client the other clients are served, and then its next ones."""
+    if not traces.may_trace():
+        raise Skipped("strace (Debian's package strace), or the permission to trace")
+    calls = folder.at("calls")
+    folder.before += ["strace", "-qq", "-s", "1000", "-o", calls, "-e", "trace=sendto,sendmsg,write,writev"]
+    folder.start()
+    try:
+        flooder, others = Client(folder), [Client(folder), Client(folder)]
+        for client in (flooder, *others):
+            same("a reply", client.ask("queues\n"), "ok 0")
+        with open(f"/proc/{folder.running.pid}/task/{folder.running.pid}/children", encoding="ascii") as file:
+            service = int(file.read().split()[0])
+        os.kill(service, signal.SIGSTOP)
+        flooder.say("cancel 999999\n" * 70)
+        for other in others:
+            other.say("queues\n")
+        time.sleep(0.2)
+        os.kill(service, signal.SIGCONT)
+        same("its replies", [flooder.reply() for _ in range(70)], ["error 5 NoJob"] * 70)
+        same("the others'", [other.reply() for other in others], ["ok 0", "ok 0"])
+        folder.shut_down()
+    finally:
+        kill_children(folder.running.pid)
+    with open(calls, encoding="ascii", errors="replace") as file:
+        sent = [(line.count("NoJob"), "ok 0" in line) for line in file if "NoJob" in line or "ok 0" in line]
+    same("the replies in turn", sent[-5:], [(32, False), (0, True), (0, True), (32, False), (6, False)])
 
 
 def a_client_that_leaves_while_it_waits(folder):
@@ -487,6 +518,7 @@ TESTS = [
     a_client_that_never_reads,
     a_client_that_reads_slowly,
     a_flood,
+    thirty_two_commands_in_turn,
     a_client_that_leaves_while_it_waits,
     an_end_of_text,
     cut_at_each_byte,
