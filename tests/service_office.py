@@ -225,6 +225,31 @@ def room_after_a_restart(folder):
     print(f"  {count} events between two checkpoints; after a restart {checkpoints(folder) - before} more")
 
 
+def one_checkpoint_after_a_start(folder):
+    """A spool that consists mostly of documents makes one checkpoint after each start, and then none while nothing is written. A few more
+    events do not cause one either.
+    """
+    folder.size = 65_536
+    folder.start()
+    client = Client(folder)
+    folder.queue(client, "q")
+    job = client.create("q")
+    same("send", client.ask(b"send %d 27000\n" % job + bytes(27_000) + b"\n"), "ok bytes 27000")
+    for _ in range(2):
+        folder.kill()
+        before = checkpoints(folder)
+        folder.start()
+        until("a checkpoint", lambda: checkpoints(folder) == before + 1, 5)
+        written = folder.disk_time()
+        time.sleep(2.5)
+        same("then none", (checkpoints(folder), folder.disk_time()), (before + 1, written))
+        client = Client(folder)
+        for number in range(10):
+            same("hold", client.ask(f"hold {job} {LATER + number}\n"), "ok")
+        time.sleep(0.5)
+        same("nor after some events", checkpoints(folder), before + 1)
+
+
 def the_share_that_must_be_free(folder):
     """With --room 80 a checkpoint is made when a fifth of the journal is used, and with --room 10 when nine tenths are."""
     folder.size, counts = 65_536, []
@@ -446,6 +471,7 @@ TESTS = [
     a_job_whose_child_runs_is_not_purged,
     a_small_spool_makes_room,
     room_after_a_restart,
+    one_checkpoint_after_a_start,
     the_share_that_must_be_free,
     a_spool_that_stays_full,
     thousands_of_jobs,
