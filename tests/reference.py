@@ -131,7 +131,7 @@ def without_generics(tokens):
 
 
 def subject_of(header):
-    """The type and the trait of an `impl`, by their last names: OnceDisk and Disk of `impl<D> a::Disk for b::OnceDisk<D>`."""
+    """The type and the trait of an `impl`, by their last names: FuseDisk and Disk of `impl<D> a::Disk for b::FuseDisk<D>`."""
     plain = without_generics(header)
     if "where" in plain:
         plain = plain[: plain.index("where")]

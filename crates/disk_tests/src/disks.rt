@@ -1,6 +1,6 @@
 //! Disks in memory and in a file, and their failures.
 
-use spool_disk::{DeviceFault, Disk, FileDisk, FuseDisk, MemDisk, OnceDisk};
+use spool_disk::{DeviceFault, Disk, FileDisk, FuseDisk, MemDisk};
 use std::fs;
 use std::fs::File;
 use std::test::Fail;
@@ -46,7 +46,7 @@ fn fuse_passes_three_calls(rt: HostRuntime) -> Result<(), Fail> {
 // The fourth call has no effect. Later calls take effect.
 #[test]
 fn the_fourth_call_fails(rt: HostRuntime) -> Result<(), Fail> {
-    let mut disk = OnceDisk::new(MemDisk::new(rt.alloc(), 4)?, 3);
+    let mut disk = FuseDisk::once(MemDisk::new(rt.alloc(), 4)?, 3);
     assert!(rt; holds(&mut disk));
     assert!(rt; !writes(&mut disk, 0, &[1]));
     assert!(rt; writes(&mut disk, 3, &[5]) && disk.sync().is_ok());

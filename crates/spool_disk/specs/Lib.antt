@@ -3,4 +3,3 @@ pub mod File
 pub mod Fuse
 pub mod Images
 pub mod MemoryDisks
-pub mod Once

@@ -1,13 +1,13 @@
-// A disk that passes a number of calls to another disk, and then fails each call without effect.
-ghost use Rattle.std.specs.Prelude.{◌≡◌, ◌+◌, ◌-◌, ◌≤◌, ◌<◌, ◌^◌, length, OnOk, IsErr};
+// A disk that passes a number of calls to another disk, and then fails one call without effect, or each.
+ghost use Rattle.std.specs.Prelude.{◌≡◌, ◌+◌, ◌-◌, ◌≤◌, ◌<◌, ◌^◌, true, false, length, OnOk, IsErr};
 ghost use Rattle.spool_disk.specs.Disk.{Reads, IsSynced, IsWritten, ChangesNothing, ChangesOnly, Counts, HasCause};
-ghost use Rattle.spool_disk.specs.Fuse.{disk_of, calls_left, fault_count, behind_fuse, IsFused};
+ghost use Rattle.spool_disk.specs.Fuse.{disk_of, calls_left, has_blown, is_mended, is_due, fault_count, behind_fuse, IsFused};
 
 use crate::surely::{read_surely, sync_surely, write_surely};
 use crate::{DeviceFault, Disk};
 
-/// A disk that passes its first calls of `read`, `write` and `sync` to the wrapped disk, and then fails each such call without effect. It
-/// represents a device that breaks, or is disconnected, at a chosen moment.
+/// A disk that passes its first calls of `read`, `write` and `sync` to the wrapped disk. Then it fails each such call without effect, or
+/// only the next one. It represents a device that breaks, or is disconnected, at a chosen moment, for good or temporarily.
 ///
 /// Its bytes, images and moments are those of the wrapped disk. It has a count of failures, its own and those of the wrapped disk. At the
 /// greatest count, where no call may fail, it repeats the call of the wrapped disk until it succeeds.
@@ -15,19 +15,43 @@ use crate::{DeviceFault, Disk};
 pub struct FuseDisk<D: Disk> {
     disk: D,
     left: u64,
+    // Whether a call has failed because none was left.
+    blown: bool,
+    // Whether the calls after that one pass.
+    mended: bool,
     faults: u64,
 }
 
 impl<D: Disk> FuseDisk<D> {
-    /// Returns a disk that passes `calls` calls of `read`, `write` and `sync` together.
+    /// Returns a disk that passes `calls` calls of `read`, `write` and `sync` together, and then fails each.
     pub fn new(disk: D, calls: u64) -> FuseDisk<D>
         ensures disk { disk_of result ≡ disk }
         ensures calls { calls_left result ≡ calls }
         ensures count { fault_count result ≡ 0 }
+        ensures lasting { is_mended result ≡ false }
     {
         FuseDisk {
             disk,
             left: calls,
+            blown: false,
+            mended: false,
+            faults: 0,
+        }
+    }
+
+    /// Returns a disk that passes `calls` calls, fails the next one, and passes all later ones.
+    pub fn once(disk: D, calls: u64) -> FuseDisk<D>
+        ensures disk { disk_of result ≡ disk }
+        ensures calls { calls_left result ≡ calls }
+        ensures whole { has_blown result ≡ false }
+        ensures count { fault_count result ≡ 0 }
+        ensures mended { is_mended result ≡ true }
+    {
+        FuseDisk {
+            disk,
+            left: calls,
+            blown: false,
+            mended: true,
             faults: 0,
         }
     }
@@ -39,22 +63,29 @@ impl<D: Disk> FuseDisk<D> {
         self.disk
     }
 
-    // Takes one of the calls that are left. If none is left, it counts a failure.
+    // Takes one of the calls that are left. If the call is due to fail, it counts a failure.
     fn take_call(&mut self) -> Result<(), DeviceFault>
         requires { fault_count self.old < 2 ^ 64 - 1 }
-        ensures passes { OnOk result (0 < calls_left self.old) }
-        ensures fails { IsErr result → calls_left self.old ≡ 0 }
+        ensures passes { OnOk result (is_due self.old ≡ false) }
+        ensures fails { IsErr result → is_due self.old ≡ true }
         ensures takes { calls_left self.new ≡ calls_left self.old - 1 }
+        ensures mends { is_mended self.new ≡ is_mended self.old }
+        ensures notes { calls_left self.old ≡ 0 → has_blown self.new ≡ true }
+        ensures waits { 0 < calls_left self.old → has_blown self.new ≡ has_blown self.old }
         ensures disk { disk_of self.new ≡ disk_of self.old }
         ensures count { OnOk result (fault_count self.new ≡ fault_count self.old) }
         ensures counted { IsErr result → fault_count self.new ≡ fault_count self.old + 1 }
     {
-        if self.left == 0 {
-            self.faults += 1;
-            return Err(DeviceFault);
+        if self.left > 0 {
+            self.left -= 1;
+            return Ok(());
         }
-        self.left -= 1;
-        Ok(())
+        if self.blown && self.mended {
+            return Ok(());
+        }
+        self.blown = true;
+        self.faults += 1;
+        Err(DeviceFault)
     }
 
     // Counts a failure of the wrapped disk.
@@ -63,6 +94,8 @@ impl<D: Disk> FuseDisk<D> {
         ensures same { result ≡ answer }
         ensures disk { disk_of self.new ≡ disk_of self.old }
         ensures left { calls_left self.new ≡ calls_left self.old }
+        ensures blown { has_blown self.new ≡ has_blown self.old }
+        ensures mends { is_mended self.new ≡ is_mended self.old }
         ensures cause { Counts (fault_count self.old) (fault_count self.new) result }
     {
         if answer.is_err() {

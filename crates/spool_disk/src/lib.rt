@@ -23,10 +23,9 @@
 //!   the count is unchanged (`Blames`).
 //! - [`persist`] writes and syncs, with the clauses of both (`written`, `durable`, `changes`, `cause`).
 //! - [`MemDisk`] is bytes in memory, and reports them. It never fails, and a crash leaves its bytes.
-//! - [`FuseDisk`] passes a number of calls to another disk, and then fails each call without effect (`disk`, `calls`, `count`, `fuse`). It
-//!   reports what that disk reports. It counts its own failures and those of that disk. At the greatest count it repeats the call of that
-//!   disk until it succeeds.
-//! - [`OnceDisk`] does the same, but fails exactly one call, and passes all later ones (`disk`, `calls`, `whole`, `count`, `once`).
+//! - [`FuseDisk`] passes a number of calls to another disk, and then fails each call without effect, or only the next one if it is made by
+//!   `FuseDisk::once` (`disk`, `calls`, `whole`, `count`, `lasting`, `mended`, `fuse`). It reports what that disk reports. It counts its own
+//!   failures and those of that disk. At the greatest count it repeats the call of that disk until it succeeds.
 //! - [`FileDisk`] is a file of the system. It reports nothing of its bytes, so only lengths, failures and results are promised for it. It
 //!   counts one failure for each call that returns a fault (`once`). It takes the file's length when it is made, and syncs with
 //!   `fdatasync`. It does not sync the file's name; the program that makes the file does.
@@ -49,7 +48,6 @@ mod durable;
 mod file;
 mod fuse;
 mod memory;
-mod once;
 mod surely;
 
 pub use disk::{DeviceFault, Disk};
@@ -57,4 +55,3 @@ pub use durable::persist;
 pub use file::FileDisk;
 pub use fuse::FuseDisk;
 pub use memory::MemDisk;
-pub use once::OnceDisk;

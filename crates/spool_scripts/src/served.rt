@@ -14,7 +14,7 @@ use filter_args::Place;
 use mime_costs::Convs;
 use mime_rules::Types;
 use spool_core::{Spool, make};
-use spool_disk::{Disk, FuseDisk, MemDisk, OnceDisk};
+use spool_disk::{Disk, FuseDisk, MemDisk};
 use spool_engine::{Engine, RunFault};
 use std::alloc::Global;
 
@@ -46,7 +46,7 @@ struct Part<'a> {
     reader_fails: bool,
 }
 
-type Printer = Engine<OnceDisk<FuseDisk<MemDisk>>, MemChildren>;
+type Printer = Engine<FuseDisk<MemDisk>, MemChildren>;
 
 /// Serves the script of a case on a new spool. During its first part the disk fails after `calls` calls, and during the
 /// first run of that part the limits of the case apply.
@@ -107,7 +107,7 @@ fn new_disk(alloc: Global, case: &Case) -> Result<MemDisk, CaseFault> {
 fn printer_on(
     alloc: Global,
     case: &Case,
-    disk: OnceDisk<FuseDisk<MemDisk>>,
+    disk: FuseDisk<MemDisk>,
     children: MemChildren,
 ) -> Result<Printer, CaseFault> {
     let (types, _) = Types::read(alloc, case.types.as_str())?;
@@ -141,7 +141,7 @@ fn serve_part(
     }
     let (spool, children) = printer.into_parts();
     Ok(Bench {
-        disk: spool.into_disk().into_disk().into_disk(),
+        disk: spool.into_disk().into_disk(),
         children,
         account,
     })
@@ -265,11 +265,11 @@ fn push_fault(account: &mut String, fault: RunFault) -> Result<(), CaseFault> {
 }
 
 // Returns a disk that fails after `calls` calls: once, or from then on.
-fn failing(disk: MemDisk, calls: u64, once: bool) -> OnceDisk<FuseDisk<MemDisk>> {
+fn failing(disk: MemDisk, calls: u64, once: bool) -> FuseDisk<MemDisk> {
     if once {
-        OnceDisk::new(FuseDisk::new(disk, u64::MAX), calls)
+        FuseDisk::once(disk, calls)
     } else {
-        OnceDisk::new(FuseDisk::new(disk, calls), u64::MAX)
+        FuseDisk::new(disk, calls)
     }
 }
 
