@@ -2,7 +2,7 @@
 use spool_types::{AbortReason, HoldReason};
 
 /// The verdict on a job whose child ended.
-#[derive(Clone, Copy, Debug, PartialEq, Eq)]
+#[derive(Clone, Copy, PartialEq, Eq)]
 pub enum Verdict {
     /// The next stage of the job will run.
     NextStage,

@@ -7,11 +7,11 @@ use crate::children::{Children, StartRoom};
 use crate::order::{ChildFault, Finish, Order};
 
 /// Children that never start and report nothing.
-#[derive(Clone, Copy, Debug)]
+#[derive(Clone, Copy)]
 pub struct NoChildren;
 
 /// The ticket of a child of [`NoChildren`]: none is ever made.
-#[derive(Debug, Drop)]
+#[derive(Drop)]
 pub struct NoTicket;
 
 impl Children for NoChildren {

@@ -85,7 +85,7 @@ impl Finish {
 }
 
 /// A child could not be started, or its end is unknown.
-#[derive(Clone, Copy, Debug, PartialEq, Eq)]
+#[derive(Clone, Copy, PartialEq, Eq)]
 pub struct ChildFault;
 
 /// An order, and how many children were finished before it.

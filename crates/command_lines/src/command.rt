@@ -57,7 +57,7 @@ pub enum Kind {
 }
 
 // The kind of the next bytes.
-#[derive(Clone, Copy, Debug, PartialEq, Eq)]
+#[derive(Clone, Copy, PartialEq, Eq)]
 pub enum Mode {
     Line,
     // The rest of a line that has no further meaning.

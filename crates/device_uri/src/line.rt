@@ -8,7 +8,7 @@ use spool_types::{AttributeNameKind, Text, TextKind, Uri};
 use std::alloc::{AllocError, Global};
 
 /// Why a device line was rejected.
-#[derive(Clone, Copy, Debug, PartialEq, Eq)]
+#[derive(Clone, Copy, PartialEq, Eq)]
 pub enum LineFault {
     /// The line does not have the form of a device line.
     BadLine,
@@ -27,7 +27,7 @@ impl From<AllocError> for LineFault {
 }
 
 /// The kind of a device's class: 1 to 127 letters, digits and hyphens.
-#[derive(Clone, Copy, Debug)]
+#[derive(Clone, Copy)]
 pub struct DeviceClassKind;
 
 impl TextKind for DeviceClassKind {

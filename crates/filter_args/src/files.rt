@@ -8,7 +8,7 @@ use spool_types::JobId;
 use std::alloc::{AllocError, Global};
 
 /// A file of a child in the spool's folder.
-#[derive(Clone, Copy, Debug, PartialEq, Eq)]
+#[derive(Clone, Copy, PartialEq, Eq)]
 pub enum ChildFile {
     /// Its input: for the first stage the document.
     Input,

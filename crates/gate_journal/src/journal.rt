@@ -9,7 +9,7 @@ use crate::layout::{HEAD_LEN, KEPT_ROOM};
 use spool_disk::{DeviceFault, Disk, persist};
 
 /// The reason why it is not certain that a record was added.
-#[derive(Clone, Copy, Debug, PartialEq, Eq)]
+#[derive(Clone, Copy, PartialEq, Eq)]
 pub enum JournalFault {
     /// The record does not fit. Nothing has changed.
     Full,

@@ -17,7 +17,7 @@ mod draft;
 pub(crate) use draft::Draft;
 
 /// The state of a job in the lane of its queue.
-#[derive(Clone, Copy, Debug)]
+#[derive(Clone, Copy)]
 pub(crate) enum LaneState {
     /// The job has ended or does not exist.
     Ended,

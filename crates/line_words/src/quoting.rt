@@ -6,7 +6,7 @@ use crate::blanks::is_blank;
 
 /// The position of a character in such a text. Single and double quotes quote, and a backslash takes the next character literally, in
 /// quotes too.
-#[derive(Clone, Copy, Debug, PartialEq, Eq)]
+#[derive(Clone, Copy, PartialEq, Eq)]
 pub enum Quoting {
     Bare,
     Single,

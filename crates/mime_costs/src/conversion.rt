@@ -13,7 +13,7 @@ pub const EVERY_TYPE: &str = "*/*";
 pub const NO_FILTER: &str = "-";
 
 /// The kind of a source: a media type, a super type and `/*`, or `*/*`, in lower case.
-#[derive(Clone, Copy, Debug)]
+#[derive(Clone, Copy)]
 pub struct SourceKind;
 
 /// The source of a conversion.

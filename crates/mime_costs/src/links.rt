@@ -11,7 +11,7 @@ use std::collections::HashMap;
 
 /// The positions of the first conversions with the three sources that accept a type. If no conversion has such a source, its position is
 /// the number of conversions.
-#[derive(Clone, Copy, Debug)]
+#[derive(Clone, Copy)]
 pub struct Positions {
     pub of_type: usize,
     pub of_super: usize,
@@ -19,7 +19,7 @@ pub struct Positions {
 }
 
 /// The links of a conversion.
-#[derive(Clone, Copy, Debug)]
+#[derive(Clone, Copy)]
 pub struct Link {
     /// The first conversion with the same source.
     pub group: usize,

@@ -8,7 +8,7 @@ ghost use Rattle.mime_lines.specs.RuleNumbers.{number_of, in_base, is_digit_in, 
 const TOO_GREAT: u64 = 4_294_967_296;
 
 /// The number in a word.
-#[derive(Clone, Copy, Debug, PartialEq, Eq)]
+#[derive(Clone, Copy, PartialEq, Eq)]
 pub enum Number {
     Fits(u32),
     /// The number is above 4,294,967,295.

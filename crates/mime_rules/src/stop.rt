@@ -4,7 +4,7 @@ use spool_types::WarningKind;
 use std::alloc::{AllocError, AllocFailed};
 
 /// Why reading a line ended early.
-#[derive(Clone, Copy, Debug, PartialEq, Eq)]
+#[derive(Clone, Copy, PartialEq, Eq)]
 pub(crate) enum Stop {
     /// Out of memory.
     Memory,

@@ -12,7 +12,7 @@ use spool_disk::Disk;
 use spool_types::{Event, JobId, Reply, StageEnd};
 
 // The number of ends that were acknowledged, and the first fault.
-#[derive(Clone, Copy, Debug)]
+#[derive(Clone, Copy)]
 pub(crate) struct Ends {
     pub(crate) told: usize,
     pub(crate) fault: Option<RoundFault>,

@@ -21,7 +21,7 @@ use spool_types::{Job, JobId, Phase};
 use std::alloc::{AllocError, Global};
 
 // The number of children that were started, and the first fault.
-#[derive(Clone, Copy, Debug)]
+#[derive(Clone, Copy)]
 pub(crate) struct Launches {
     pub(crate) started: usize,
     pub(crate) fault: Option<RoundFault>,

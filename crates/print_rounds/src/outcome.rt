@@ -6,14 +6,14 @@ use spool_core::ApplyFault;
 use spool_types::Reply;
 
 /// The number of children that a round started, and of ends of stages that were acknowledged.
-#[derive(Clone, Copy, Debug, PartialEq, Eq)]
+#[derive(Clone, Copy, PartialEq, Eq)]
 pub struct Round {
     pub started: usize,
     pub finished: usize,
 }
 
 /// The first fault of a round.
-#[derive(Clone, Copy, Debug, PartialEq, Eq)]
+#[derive(Clone, Copy, PartialEq, Eq)]
 pub enum RoundFault {
     /// An earlier call met a device error, and nothing was done.
     Dead,
@@ -26,7 +26,7 @@ pub enum RoundFault {
 }
 
 /// The outcome of starting the stage of a processing job.
-#[derive(Clone, Copy, Debug, PartialEq, Eq)]
+#[derive(Clone, Copy, PartialEq, Eq)]
 pub enum Launch {
     /// It was not started: its child's finish is stored.
     Unlaunched,
@@ -41,7 +41,7 @@ pub enum Launch {
 }
 
 /// The outcome of the end of a job's stage.
-#[derive(Clone, Copy, Debug, PartialEq, Eq)]
+#[derive(Clone, Copy, PartialEq, Eq)]
 pub enum Report {
     /// No stage of the job has ended.
     Silent,

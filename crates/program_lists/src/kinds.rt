@@ -7,7 +7,7 @@ use line_words::is_blank;
 use spool_types::{Text, TextKind};
 
 /// The kind of a program's path: it begins with `/`, and contains neither a blank nor `=`.
-#[derive(Clone, Copy, Debug)]
+#[derive(Clone, Copy)]
 pub struct ProgramPathKind;
 
 /// The path of a program.
@@ -38,7 +38,7 @@ fn is_path_byte(b: u8) -> bool
 }
 
 /// The kind of a program's first word: it contains no blank.
-#[derive(Clone, Copy, Debug)]
+#[derive(Clone, Copy)]
 pub struct ProgramWordKind;
 
 /// A word that a program gets before all others.
@@ -54,7 +54,7 @@ impl TextKind for ProgramWordKind {
 
 /// The kind of a backend's name: the scheme of a device's URI (RFC 3986) as the parser of the URL Standard returns it, with capitals
 /// turned into lower case. It is a lower-case letter, and then lower-case letters, digits, `+`, `-` and `.`.
-#[derive(Clone, Copy, Debug)]
+#[derive(Clone, Copy)]
 pub struct BackendNameKind;
 
 /// The scheme of the devices that a backend serves.

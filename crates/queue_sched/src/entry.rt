@@ -8,7 +8,7 @@ use spool_types::{Hold, Job, JobId, Moment, Phase, Priority};
 use std::cmp::Ordering;
 
 /// The fields of a waiting job that determine its order and its start.
-#[derive(Clone, Copy, Debug, PartialEq, Eq)]
+#[derive(Clone, Copy, PartialEq, Eq)]
 pub struct Entry {
     pub id: JobId,
     /// Whether it comes before all jobs that are not marked.

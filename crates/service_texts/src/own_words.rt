@@ -8,7 +8,7 @@ use line_words::first_word;
 use spool_types::JobId;
 
 /// A request to the service itself.
-#[derive(Clone, Copy, Debug, PartialEq, Eq)]
+#[derive(Clone, Copy, PartialEq, Eq)]
 pub enum OwnWord {
     /// Show this job with all its fields.
     Job(JobId),

@@ -7,7 +7,7 @@ use spool_types::{JobId, Phase, QueueName};
 use std::alloc::{AllocError, Global};
 
 /// The running stage of a job.
-#[derive(Clone, Copy, Debug, PartialEq, Eq)]
+#[derive(Clone, Copy, PartialEq, Eq)]
 pub(crate) struct Stage {
     pub job: JobId,
     pub attempt: u32,

@@ -5,7 +5,7 @@ ghost use Rattle.split_rows.specs.declared.fault.HalfFault.TheVariants.{Memory};
 use std::alloc::AllocError;
 
 /// Why a half was not made. The whole spool is as before.
-#[derive(Clone, Copy, Debug, PartialEq, Eq)]
+#[derive(Clone, Copy, PartialEq, Eq)]
 pub enum HalfFault {
     /// Memory ran out.
     Memory,

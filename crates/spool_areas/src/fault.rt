@@ -30,7 +30,7 @@ pub struct OpenError<D> {
 }
 
 /// Why nothing was read.
-#[derive(Clone, Copy, Debug, PartialEq, Eq)]
+#[derive(Clone, Copy, PartialEq, Eq)]
 pub enum ReadFault {
     /// An earlier call failed because of the device.
     Dead,

@@ -12,7 +12,7 @@ use spool_types::JobId;
 use std::alloc::Global;
 
 /// Why a document was not read.
-#[derive(Clone, Copy, Debug, PartialEq, Eq)]
+#[derive(Clone, Copy, PartialEq, Eq)]
 pub enum Unread {
     /// Memory ran out for the document, and no device was called.
     Memory,

@@ -3,7 +3,7 @@ use crate::items::Words;
 use crate::kinds::{AttributeName, Message};
 
 /// How a child ended.
-#[derive(Clone, Copy, Debug, PartialEq, Eq)]
+#[derive(Clone, Copy, PartialEq, Eq)]
 pub enum Exit {
     /// With this exit status (backend(7) names 0 to 7).
     Code(u8),
@@ -16,7 +16,7 @@ pub enum Exit {
 }
 
 /// The severity of a message (filter(7)).
-#[derive(Clone, Copy, Debug, PartialEq, Eq)]
+#[derive(Clone, Copy, PartialEq, Eq)]
 pub enum Level {
     Emergency,
     Alert,
@@ -28,14 +28,14 @@ pub enum Level {
 }
 
 /// An attribute of a queue.
-#[derive(Debug, Drop)]
+#[derive(Drop)]
 pub struct Attribute {
     pub name: AttributeName,
     pub value: Message,
 }
 
 /// The effect of a line of a child's standard error (filter(7)).
-#[derive(Debug, Drop)]
+#[derive(Drop)]
 pub enum Effect {
     /// `PAGE: page copies` adds the copies to the job's pages.
     Pages { page: u32, copies: u32 },

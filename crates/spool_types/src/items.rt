@@ -8,7 +8,7 @@ use std::alloc::{AllocError, Global};
 use std::marker::Model;
 
 /// At most `MOST` items in order. Its value in contracts is a list.
-#[derive(Clone, Debug, Drop)]
+#[derive(Clone, Drop)]
 pub struct Items<T, const MOST: usize> {
     items: Vec<T>,
 }

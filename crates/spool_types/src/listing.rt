@@ -4,7 +4,7 @@ use crate::numbers::{JobId, Moment};
 use crate::rows::{Job, QueueRow};
 
 /// The first row of a listing.
-#[derive(Clone, Copy, Debug, PartialEq, Eq)]
+#[derive(Clone, Copy, PartialEq, Eq)]
 pub struct Head {
     /// The highest job number that was assigned, or 0.
     pub highest: u32,

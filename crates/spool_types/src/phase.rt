@@ -5,7 +5,7 @@ ghost use Rattle.spool_types.specs.Phases.{has_ended, is_incoming, is_waiting, i
 use crate::numbers::Moment;
 
 /// What a queue does with a job after its backend failed (ErrorPolicy, cupsd.conf(5)).
-#[derive(Clone, Copy, Debug, PartialEq, Eq)]
+#[derive(Clone, Copy, PartialEq, Eq)]
 pub enum Policy {
     AbortJob,
     RetryJob,

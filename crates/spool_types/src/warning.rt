@@ -3,7 +3,7 @@ ghost use Rattle.std.specs.Prelude.{◌≡◌};
 ghost use Rattle.spool_types.specs.Warnings.{warning_name};
 
 /// A skipped line, and the reason.
-#[derive(Clone, Copy, Debug, PartialEq, Eq)]
+#[derive(Clone, Copy, PartialEq, Eq)]
 pub struct Warning {
     /// The number of the line, from 1. A joined line has the number of its first line.
     pub line: usize,
@@ -11,7 +11,7 @@ pub struct Warning {
 }
 
 /// Why a line was skipped: its first error from left to right.
-#[derive(Clone, Copy, Debug, PartialEq, Eq)]
+#[derive(Clone, Copy, PartialEq, Eq)]
 pub enum WarningKind {
     /// A media type was expected.
     BadType,

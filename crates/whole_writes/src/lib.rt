@@ -21,7 +21,7 @@ ghost use Rattle.whole_writes.specs.Writes.{WroteSome};
 use std::io::{ErrorKind, Write};
 
 /// The bytes were not all written.
-#[derive(Clone, Copy, Debug, PartialEq, Eq)]
+#[derive(Clone, Copy, PartialEq, Eq)]
 pub struct WriteFault;
 
 /// Writes all the bytes, or after an error a proper prefix of them.

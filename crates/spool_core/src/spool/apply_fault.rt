@@ -3,7 +3,7 @@
 use spool_types::Refusal;
 
 /// Why an event was not applied. The causes are checked in this order. After all but `Disk` nothing has changed.
-#[derive(Clone, Copy, Debug, PartialEq, Eq)]
+#[derive(Clone, Copy, PartialEq, Eq)]
 pub enum ApplyFault {
     /// An earlier call met a fault of the device, and no device was called. The spool must be opened again.
     Dead,
