@@ -42,9 +42,6 @@ has_lf_append [] ys h k = k
 has_lf_append (x ∷ xs) ys h k =
     (elim (eqb x 10) as (λ v. cond v true (has_lf xs) ≡ false → cond v true (has_lf (xs ++ ys)) ≡ false) [ true ↦ λ l. absurd (false≢true (sym l)) | false ↦ λ l. has_lf_append xs ys l k ]) h
 
-pub no_lf : (b : ℕ) → (b ≡ 10 → ⊥) → has_lf (b ∷ []) ≡ false
-no_lf b h = let e : eqb b 10 ≡ false = grind (arith, h) in ap (λ v. cond v true false) e
-
 -- ## Bytes of a send
 
 -- The bytes of a send and LF, otherwise malformed, for any way to read the rest.

@@ -1,5 +1,5 @@
 //! A reader of a client's requests.
-ghost use Rattle.std.specs.Prelude.{◌≡◌, ◌⊎◌, ℕ, ◌<◌, ◌≤◌, true, false, List, ◌++◌, length, take, drop, slice_index, vec_len, IfSome, IfNone, OnErr, OnOk, IfOk};
+ghost use Rattle.std.specs.Prelude.{◌≡◌, ◌⊎◌, ℕ, ◌<◌, ◌≤◌, true, false, List, ◌++◌, length, take, drop, slice_index, vec_len, OnErr, OnOk, IfOk};
 ghost use Rattle.command_lines.specs.TextLines.{has_lf};
 ghost use Rattle.command_lines.specs.PendingCommands.{IsPartial};
 ghost use Rattle.command_lines.specs.Waits.{wanted_of};
@@ -8,7 +8,7 @@ ghost use Rattle.client_reader.specs.AwaitedRequests.{Awaits, ComesFurther, Give
 ghost use Rattle.client_reader.specs.declared.ask.Ask.{Ask as AskOf};
 
 use crate::ask::{Ask, Next};
-use command_lines::{Commands, Wanted, line_by_line};
+use command_lines::{Commands, Wanted, line_by_line, line_feed_at};
 use service_texts::{OwnWord, own_word};
 use std::alloc::{AllocError, Global};
 
@@ -103,7 +103,7 @@ impl Reader {
         ensures err { (asks : List ℕ → List AskOf) → Awaits self.old asks → OnErr result (Awaits self.new asks) }
         ensures further { IfOk result (λ next. ComesFurther (length self.old.text.items) next self.new) }
     {
-        match line_end(&self.text) {
+        match line_feed_at(&self.text) {
             Some(at) => self.take_line(at),
             None if LONGEST_LINE < self.text.len() => self.give_front(),
             None => Ok(Next::Text),
@@ -163,7 +163,7 @@ impl Reader {
         ensures further { IfOk result (λ next. ComesFurther (length self.old.text.items) next self.new) }
     {
         line_by_line();
-        match line_end(&self.text) {
+        match line_feed_at(&self.text) {
             Some(at) => {
                 self.give(at + 1)?;
                 Ok(Next::Again)
@@ -239,19 +239,4 @@ fn ends_within(bytes: &[u8]) -> bool
         Some(b) => *b != LINE_FEED,
         None => true,
     }
-}
-
-// The byte offset of the first line feed.
-fn line_end(text: &[u8]) -> Option<usize>
-    ensures at { IfSome result (λ at. at < length text.now) }
-    ensures before { IfSome result (λ at. has_lf (take at text.now) ≡ false) }
-    ensures there { IfSome result (λ at. slice_index text.now at ≡ 10) }
-    ensures none { IfNone result (has_lf text.now ≡ false) }
-{
-    for (i, b) in text.iter().enumerate() {
-        if *b == LINE_FEED {
-            return Some(i);
-        }
-    }
-    None
 }

@@ -37,6 +37,7 @@
 //!   without the bound: the first line or word, followed by the rest.
 //! - *ExactReplies*: [`print_reply`] returns the bytes of a reply: for each [`Answer`] the line of `Replies`, or for a listing the lines.
 //!   [`push_job`] and [`push_queue`] append a single line of a listing, and [`push_quoted`] appends a text in quotes.
+//! - [`line_feed_at`] returns the byte offset of the first line feed (`at`, `before`, `there`, `none`).
 //! - [`job_number`] returns the job number that a word states, as every command reads it.
 //!
 //! # Invariants
@@ -67,7 +68,7 @@ mod reply;
 mod words;
 
 pub use command::{Command, Creation, Rounds};
-pub use commands::{Commands, Wanted};
+pub use commands::{Commands, Wanted, line_feed_at};
 pub use laws::{line_by_line, only_line_events, word_by_word};
 pub use numbers::job_number;
 pub use reply::{Answer, ShownQueue, print_reply, push_job, push_queue, push_quoted};

@@ -2,7 +2,7 @@ use Rattle.std.proofs.Common.{get_or, take, ap, ◌∙◌}
 use Rattle.std.proofs.lemmas.List.{take_more}
 use Rattle.command_lines.specs.TextLines.{has_lf}
 use Rattle.command_lines.proofs.LineLaws.{has_lf_none, no_lf}
-use Rattle.command_lines.proofs.commands.lf_place.Goals as goal
+use Rattle.command_lines.proofs.commands.line_feed_at.Goals as goal
 
 pub loop-i-preserved : goal.loop-i-preserved
 loop-i-preserved c =
