@@ -36,6 +36,7 @@ PASSED_ON = {
     ("device_uri", "options"): 1,
     # Numbers of held jobs that exceed the greatest usize: no memory can hold that many.
     ("job_table", "reserve"): 2,
+    ("job_table", "make_room"): 1,
     ("front_words", "mistake"): 2,
     ("front_words", "read_words"): 1,
     ("front_words", "words_fault"): 1,

@@ -23,13 +23,13 @@ use Rattle.job_table.proofs.Timely.{deadline_own, deadline_timed}
 -- ## Elements of a list
 
 module _ {X : Type 0} where
-  first_here : (x : X) (xs : List X) → Contains (x ∷ xs) x
+  pub first_here : (x : X) (xs : List X) → Contains (x ∷ xs) x
   first_here x xs = (0, omega arith, refl)
 
-  rest_here : (x : X) (xs : List X) (y : X) → Contains xs y → Contains (x ∷ xs) y
+  pub rest_here : (x : X) (xs : List X) (y : X) → Contains xs y → Contains (x ∷ xs) y
   rest_here x xs y there = (suc there.0, omega (arith, there.1), there.2)
 
-  first_or_rest : (x : X) (xs : List X) (y : X) → Contains (x ∷ xs) y → (x ≡ y) ⊎ Contains xs y
+  pub first_or_rest : (x : X) (xs : List X) (y : X) → Contains (x ∷ xs) y → (x ≡ y) ⊎ Contains xs y
   first_or_rest x xs y (zero, within, here) = inl here
   first_or_rest x xs y (suc k, within, here) = inr (k, omega (arith, within), here)
 
@@ -40,29 +40,29 @@ module _ {X : Type 0} where
   pairs_more R x xs first rest (suc i) zero d lt within = absurd (omega (arith, lt))
   pairs_more R x xs first rest (suc i) (suc k) d lt within = rest i k d (omega (arith, lt)) (omega (arith, within))
 
-  pairs_first : (R : X → X → Type 0) (x : X) (xs : List X) → AllPairs R (x ∷ xs) → (y : X) → Contains xs y → R x y
+  pub pairs_first : (R : X → X → Type 0) (x : X) (xs : List X) → AllPairs R (x ∷ xs) → (y : X) → Contains xs y → R x y
   pairs_first R x xs pairs y there = subst (R x) there.2 (pairs 0 (suc there.0) y (omega arith) (omega (arith, there.1)))
 
-  pairs_rest : (R : X → X → Type 0) (x : X) (xs : List X) → AllPairs R (x ∷ xs) → AllPairs R xs
+  pub pairs_rest : (R : X → X → Type 0) (x : X) (xs : List X) → AllPairs R (x ∷ xs) → AllPairs R xs
   pairs_rest R x xs pairs i k d lt within = pairs (suc i) (suc k) d (omega (arith, lt)) (omega (arith, within))
 
-mapped_by : {X Y : Type 0} (f : X → Y) (xs : List X) (y : Y) → Contains (map f xs) y → (x : X) × Contains xs x × (f x ≡ y)
+pub mapped_by : {X Y : Type 0} (f : X → Y) (xs : List X) (y : Y) → Contains (map f xs) y → (x : X) × Contains xs x × (f x ≡ y)
 mapped_by f [] y there = absurd (omega (arith, there.1))
 mapped_by f (x ∷ xs) y there = elim (first_or_rest (f x) (map f xs) y there) [
   | inl own ↦ (x, first_here x xs, own)
   | inr rest ↦ (let found = mapped_by f xs y rest in (found.0, rest_here x xs found.0 found.1, found.2))
 ]
 
-abbrev one_if : Bool → ℕ
+abbrev pub one_if : Bool → ℕ
 one_if b = cond b 1 0
 
-count_more : {X : Type 0} (p : X → Bool) (x : X) (xs : List X) → count_by p (x ∷ xs) ≡ one_if (p x) + count_by p xs
+pub count_more : {X : Type 0} (p : X → Bool) (x : X) (xs : List X) → count_by p (x ∷ xs) ≡ one_if (p x) + count_by p xs
 count_more p x xs = sum_by-cons (λ y. one_if (p y)) x xs
 
 -- ## Collecting from a list
 
 module _ {X Y : Type 0} (h : X → Option Y) where
-  abbrev IsGiven : List X → Y → Type 0
+  abbrev pub IsGiven : List X → Y → Type 0
   IsGiven xs y = (x : X) × Contains xs x × (h x ≡ Some y)
 
   given_later : (x : X) (xs : List X) (y : Y) → IsGiven xs y → IsGiven (x ∷ xs) y
@@ -76,7 +76,7 @@ module _ {X Y : Type 0} (h : X → Option Y) where
   ]
 
   -- Each collected item comes from an element.
-  given_by : (xs : List X) (y : Y) → Contains (filter_map h xs) y → IsGiven xs y
+  pub given_by : (xs : List X) (y : Y) → Contains (filter_map h xs) y → IsGiven xs y
   given_by [] y there = absurd (omega (arith, there.1))
   given_by (x ∷ xs) y there = given_first x xs y (h x) refl (given_by xs y) there
 
@@ -85,7 +85,7 @@ module _ {X Y : Type 0} (h : X → Option Y) where
   kept_first ys y (Some z) later = rest_here z ys y later
 
   -- The item of each element is collected.
-  given : (xs : List X) (x : X) (y : Y) → Contains xs x → h x ≡ Some y → Contains (filter_map h xs) y
+  pub given : (xs : List X) (x : X) (y : Y) → Contains xs x → h x ≡ Some y → Contains (filter_map h xs) y
   given [] x y there is = absurd (omega (arith, there.1))
   given (z ∷ xs) x y there is = elim (first_or_rest z xs x there) [
     | inl own ↦ subst (λ o. Contains (cons_option o (filter_map h xs)) y) (sym (ap h own ∙ is)) (first_here y (filter_map h xs))
@@ -100,7 +100,7 @@ module _ {X Y : Type 0} (h : X → Option Y) where
         step x found.0 y w (first found.0 found.1) is found.2) rest
 
     -- Different elements have different items.
-    given_apart : (xs : List X) → AllPairs R xs → AllPairs Q (filter_map h xs)
+    pub given_apart : (xs : List X) → AllPairs R xs → AllPairs Q (filter_map h xs)
     given_apart [] pairs = λ i k d lt within. absurd (omega (arith, within))
     given_apart (x ∷ xs) pairs = apart_first x xs (h x) refl (pairs_first R x xs pairs) (given_apart xs (pairs_rest R x xs pairs))
 
@@ -110,7 +110,7 @@ module _ {X Y : Type 0} (h : X → Option Y) where
     few_first x xs (Some y) is rest = omega (arith, rest, count_more p x xs, ap one_if (passes x y is))
 
     -- At most as many items are collected as elements pass.
-    given_few : (xs : List X) → length (filter_map h xs) ≤ count_by p xs
+    pub given_few : (xs : List X) → length (filter_map h xs) ≤ count_by p xs
     given_few [] = omega arith
     given_few (x ∷ xs) = few_first x xs (h x) refl (given_few xs)
 
@@ -138,7 +138,7 @@ but_pass p n j is = by_case (cases_eq j n) is
 
 module _ {X : Type 0} (id : X → ℕ) (t : X → Bool) where
   -- The number of an element that passes.
-  abbrev IsNumber : List X → ℕ → Type 0
+  abbrev pub IsNumber : List X → ℕ → Type 0
   IsNumber xs j = (x : X) × Contains xs x × (id x ≡ j) × (t x ≡ true)
 
   module _ (x : X) (xs : List X) (p : ℕ → Bool) (each : (j : ℕ) → p j ≡ true → IsNumber (x ∷ xs) j) where
@@ -172,7 +172,7 @@ module _ {X : Type 0} (id : X → ℕ) (t : X → Bool) where
   none_of p each j false is = refl
 
   -- If each number that passes belongs to an element that passes, at most as many numbers pass as elements.
-  few_numbers : (xs : List X) (p : ℕ → Bool) → ((j : ℕ) → p j ≡ true → IsNumber xs j) → AtMost p (count_by t xs)
+  pub few_numbers : (xs : List X) (p : ℕ → Bool) → ((j : ℕ) → p j ≡ true → IsNumber xs j) → AtMost p (count_by t xs)
   few_numbers [] p each = none_pass p (λ j. none_of p each j (p j) refl)
   few_numbers (x ∷ xs) p each = number_first x xs p each (t x) refl (few_numbers xs)
 
@@ -185,7 +185,7 @@ abbrev pub is_timed : JobRow → Bool
 is_timed row = is_some row.job.by
 
 module _ (s : State) (legal : IsLegal s) (rows : List JobRow) (same : map job_of rows ≡ finite.values s.jobs) where
-  abbrev jobs : List Job
+  abbrev pub jobs : List Job
   jobs = finite.values s.jobs
 
   row_job : (i : ℕ) (d : JobRow) → get_or jobs i d.job ≡ (get_or rows i d).job
@@ -194,13 +194,13 @@ module _ (s : State) (legal : IsLegal s) (rows : List JobRow) (same : map job_of
   row_within : (i : ℕ) → i < length rows → i < length jobs
   row_within i lt = subst (λ n. i < n) (sym (length-map rows job_of) ∙ ap length same) lt
 
-  row_there : (row : JobRow) → Contains rows row → job_at s row.job.id ≡ Some row.job
+  pub row_there : (row : JobRow) → Contains rows row → job_at s row.job.id ≡ Some row.job
   row_there row there = there_value s legal row.job (there.0, row_within there.0 there.1, row_job there.0 row ∙ ap job_of there.2)
 
-  row_of : (j : ℕ) (r : Job) → job_at s j ≡ Some r → (row : JobRow) × Contains rows row × (row.job ≡ r)
+  pub row_of : (j : ℕ) (r : Job) → job_at s j ≡ Some r → (row : JobRow) × Contains rows row × (row.job ≡ r)
   row_of j r there = mapped_by job_of rows r (subst (λ js. Contains js r) (sym same) (value_there s j r there))
 
-  rows_apart : AllPairs (λ x y. ¬ (x.job.id ≡ y.job.id)) rows
+  pub rows_apart : AllPairs (λ x y. ¬ (x.job.id ≡ y.job.id)) rows
   rows_apart i k d lt within own =
       let rise = numbers_rise s legal i k d.job lt (row_within k within) in
       omega (arith, rise, ap (λ (x : Job). x.id) (row_job i d), ap (λ (x : Job). x.id) (row_job k d), own)

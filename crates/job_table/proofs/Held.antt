@@ -24,6 +24,7 @@ use Rattle.job_table.specs.declared.table.Table.TheInside.{Inside}
 use Rattle.job_table.proofs.Accepted.{accepted_create}
 use Rattle.job_table.proofs.Changes.{without_own, without_other}
 use Rattle.job_table.proofs.Moves.{Stays, stays_queue, put_other, put_own}
+use Rattle.job_table.proofs.Redated.{agenda_as}
 use Rattle.job_table.proofs.Seats.{Gains, Leaves, lanes_stay}
 use Rattle.job_table.proofs.Steps.{after_creation}
 use Rattle.job_table.proofs.Timely.{timely_as}
@@ -60,6 +61,8 @@ held_stays a store stays legal is = record {
   lanes = lanes_stay a.store.state store.state a.vacant a.lanes.items is.lanes stays;
   timely = timely_as (job_at a.store.state) (job_at store.state) a.timetable stays.jobs is.timely;
   spare = is.spare;
+  agenda = agenda_as (job_at a.store.state) (job_at store.state) a.agenda stays.jobs is.agenda;
+  vacancies = is.vacancies;
 }
 
 pub held_same : (a : Inside) (store : Contents) → store.state ≡ a.store.state → IsInLanes a → IsInLanes (record a { store = store })

@@ -36,6 +36,9 @@ pub mod Lanes
 pub mod Timely
 pub mod Seats
 pub mod Retimed
+pub mod Redated
+pub mod DueDates
+pub mod Dated
 pub mod Late
 pub mod Indexed
 pub mod Busy

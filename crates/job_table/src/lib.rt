@@ -12,10 +12,12 @@
 //! [`Table::commit`] changes the rows. The caller writes the event to its journal between the two calls, when the event
 //! can neither be refused nor run out of memory.
 //!
-//! A table consists of its rows (`Store`), a lane for each queue (`Lane`) and one timetable (`Timetable`). A lane has
-//! the index of the queue's waiting jobs, its processing job, and the number of its jobs that have not ended. The
-//! timetable has the deadlines of all waiting jobs that must start by a moment, and counts the jobs that must. Lanes
-//! and timetable are derived from the rows, so that neither the choice of a job nor a clock event searches the rows.
+//! A table consists of its rows (`Store`), a lane for each queue (`Lane`), one timetable (`Timetable`) and one agenda
+//! (`Agenda`). A lane has the index of the queue's waiting jobs, its processing job, and the number of its jobs that
+//! have not ended. The timetable has the deadlines of all waiting jobs that must start by a moment, and counts the jobs
+//! that must. The agenda has the ends of holds, the retries and the ended jobs. Lanes, timetable and agenda are derived
+//! from the rows, so that neither the choice of a job, a clock event, nor the search for what falls due next reads the
+//! rows.
 //!
 //! # Events
 //!
@@ -42,6 +44,9 @@
 //!   places noted for a checkpoint (`Noted`, `HasNoMoves`, `HasMoves`); the rows, extents, reasons and attributes that
 //!   can be added without allocating (`Room`). `DocumentLengths`: the length of each document (`document_len`,
 //!   `AreDocuments`). No event is refused or answered by the contents of documents.
+//! - `DueTimes`: the earliest moment at which a clock event changes something about a job or starts one (`due_of`), and
+//!   the earliest of all jobs (`next_due`); the jobs that a clock event cancels or whose hold it ends (`IsChangedJob`);
+//!   the numbers of the ended jobs in ascending order (`ended_numbers`).
 //! - `Over`: the numbers that are over: the job has ended, or no job has the number and it is at most the highest
 //!   assigned. `TableVersions`: the same table in the newest version.
 //! - `Stages`: a table is in a stage of an attempt (`IsIn`). The stage is spent (`IsSpent`) if the job has ended or was
@@ -86,6 +91,9 @@
 //!   index of a queue, with exactly its waiting jobs (`IsIndexOf`) at the table's moment, each before the jobs that it
 //!   beats, and None exactly if the queue does not exist (`absent`). [`Table::processing`] returns the processing job
 //!   of a queue (`busy_of`), and [`Table::is_idle`] whether no queue has one (`HasNoProcessing`).
+//! - Due times: [`Table::next_due`] returns the earliest due moment of all jobs (`next_due`). [`Table::changed_by`] lists
+//!   exactly the jobs that a clock event changes (`IsChangedJob`). [`Table::ended_count`] and [`Table::ended_job`] return
+//!   the number of the ended jobs and the one at a position, in ascending order of number (`ended_numbers`).
 //! - *Reopening* ([`reopening`]): the event Reopen applies the error policy of its queue to each processing job
 //!   (`lost`), and no other job changes (`others`, `absent`). A queue changes only in that it stops, if the policy
 //!   requires it (`queues`, `unstopped`, `no_queue`). Nothing else changes (`rest`). No job is processing afterwards
@@ -152,10 +160,15 @@
 //!    and for each new job that the table has room for (`IsInLanes`), so a job that becomes a waiting job allocates
 //!    nothing. No event changes the moment by which an existing job must start, so a deadline is only added, removed or
 //!    retained (`MayRetime`). A purged job has no deadline and is not counted (`IsDismissed`).
-//! 8. The rows of a loading are legal. Its last job is stored apart from them while its document is incomplete: the
+//! 8. The agenda has the end of each hold that has one, the retry of each waiting job that has one, and each ended job,
+//!    and nothing else (`AreDates`). The dates do not depend on the current moment, so no clock event changes them. Each
+//!    of the three lists has room for all jobs and for each new job that the table has room for (`IsAgenda`,
+//!    `IsInLanes`), so no event allocates for them but a new job. For every event about a job, `commit` compares the
+//!    job's dates before and after the change of the rows (`Agenda::redate`).
+//! 9. The rows of a loading are legal. Its last job is stored apart from them while its document is incomplete: the
 //!    document so far consists of full pieces, and the job may be added as the last row (`IsReading`). So the table is
 //!    legal after each row. The memory for the row and for the extents of all its pieces is allocated when the job is
-//!    loaded; no clause states this. The lanes and the timetable are built after the last row.
+//!    loaded; no clause states this. The lanes, the timetable and the agenda are built after the last row.
 //!
 //! # Errors
 //!
@@ -168,16 +181,21 @@
 //! # Cost
 //!
 //! - A row is found by binary search. The next job and the processing job are read from a lane.
-//! - An event about a job moves the job's entry in the lane's index and its deadline in the timetable, each by binary
-//!   search.
+//! - An event about a job moves the job's entry in the lane's index, its deadline in the timetable and its dates in the
+//!   agenda, each by binary search.
+//! - [`Table::next_due`] reads the lanes of at most 64 queues, and four dates, which it finds by binary search.
+//!   [`Table::changed_by`] reads the dates of the jobs that it lists, and [`Table::ended_job`] one date. None of them
+//!   reads a row.
 //! - A clock event inspects the first deadline, and cancels the late jobs one at a time while the old moment is still
 //!   in force; each step is a Cancel. For k late jobs of n waiting jobs this costs about k steps. If none is late, no
 //!   job is inspected. Then the new moment is set in each lane, which searches the jobs of a lane only if one of them
 //!   may be started from then on.
-//! - A purge inspects no lane and moves no other row (`job_rows`).
-//! - [`Loading::into_table`] sorts the waiting jobs of each queue once, and all deadlines once.
+//! - A purge inspects no lane and moves no other row (`job_rows`). It removes the job's entry from the agenda by binary
+//!   search; the entry of the oldest ended job is the first, so no other moves.
+//! - [`Loading::into_table`] sorts the waiting jobs of each queue once, and the deadlines and the dates once.
 #![tactic(auto)]
 
+mod agenda;
 mod lane;
 mod laws;
 mod listing;

@@ -15,7 +15,7 @@ use std::alloc::{AllocError, Global};
 /// The deadlines of the waiting jobs that must start by a moment.
 #[derive(Drop)]
 pub(crate) struct Timetable {
-    deadlines: Deadlines,
+    pub deadlines: Deadlines,
     // The number of jobs that must start by a moment, whatever their phase. Each of them may become a waiting job.
     timed: usize,
 }

@@ -1,10 +1,11 @@
 -- The order of deadlines: by the moment, then by the number.
-use Rattle.std.proofs.Common.{◌≡◌, ℕ, ◌<◌, ◌≤◌, Bool, true, false, cond, ◌==◌, nat_lt, List, get_or, sym, ap, subst, ◌∙◌, arith}
+use Rattle.std.proofs.Common.{◌≡◌, ℕ, ◌<◌, ◌≤◌, Bool, true, false, cond, ◌==◌, nat_lt, nat_le, List, length, get_or, sym, ap, subst, ◌∙◌, arith}
 use Rattle.std.proofs.Math.Logic.{⊎_elim}
 use Rattle.std.proofs.lemmas.Bool.{cases_order}
 use Rattle.std.proofs.lemmas.Bool.Decides.{nat_tests}
 use Rattle.std.proofs.lemmas.List.{get_or_default}
 use Rattle.std.specs.List.{Contains}
+use Rattle.std.specs.List.Sorted.{IsPartitionedBy}
 use Rattle.queue_sched.specs.Deadlines.{InTurn, comes_before}
 use Rattle.queue_sched.specs.declared.deadlines.Deadline.{Deadline}
 
@@ -53,3 +54,24 @@ first_is_least xs first order here d there =
     (λ (gt : there.0 < 0). absurd (omega arith))
     other)
     (cases_order 0 there.0)
+
+-- ## Deadlines before a moment
+
+rising : (xs : List Deadline) → InTurn xs → (i j : ℕ) (d : Deadline) → i ≤ j → j < length xs → (get_or xs i d).by ≤ (get_or xs j d).by
+rising xs order i j d le inside =
+    ⊎_elim (λ (same : i ≡ j). subst (λ k. (get_or xs i d).by ≤ (get_or xs k d).by) same (omega arith))
+    (λ other. ⊎_elim
+    (λ (lt : i < j). comes_no_later (get_or xs i d).by (get_or xs i d).id (get_or xs j d).by (get_or xs j d).id (order i j d lt inside))
+    (λ (gt : j < i). absurd (omega (arith, gt, le)))
+    other)
+    (cases_order i j)
+
+-- If a moment passes, each earlier one passes: then the deadlines that pass are the first ones.
+pub parted_by : (p : ℕ → Bool) → ((a b : ℕ) → a ≤ b → p b ≡ true → p a ≡ true) → (xs : List Deadline) → InTurn xs → IsPartitionedBy (λ (d : Deadline). p d.by) xs
+parted_by p earlier xs order i j d le inside passes = earlier (get_or xs i d).by (get_or xs j d).by (rising xs order i j d le inside) passes
+
+pub before_earlier : (m a b : ℕ) → a ≤ b → nat_lt b m ≡ true → nat_lt a m ≡ true
+before_earlier m a b le passes = grind (arith, nat_tests)
+
+pub until_earlier : (m a b : ℕ) → a ≤ b → nat_le b m ≡ true → nat_le a m ≡ true
+until_earlier m a b le passes = grind (arith, nat_tests)

@@ -1,7 +1,7 @@
 //! The deadlines of waiting jobs that must start by a moment.
 ghost use Rattle.std.specs.Prelude.{◌≡◌, ◌<◌, ◌≤◌, ◌+◌, ◌↔◌, ◌⊎◌, ℕ, true, false, [], length, slice_index_or, vec_capacity, IsOk, OnOk, OnErr, IfSome};
 ghost use Rattle.std.specs.Option.{IsNone};
-ghost use Rattle.std.specs.List.{AllWithin, Contains, insert, remove};
+ghost use Rattle.std.specs.List.{AllWithin, Contains, insert, remove, slice_get};
 ghost use Rattle.std.specs.List.Sorted.{IsPermutation};
 ghost use Rattle.std.specs.Ordering.{is_lt};
 ghost use Rattle.std.specs.VecDeque.{deque_capacity};
@@ -159,6 +159,32 @@ impl Deadlines {
         } else {
             None
         }
+    }
+
+    /// Returns the deadline at this position, if there is one. The earliest is at 0.
+    pub fn get(&self, at: usize) -> Option<Deadline>
+        ensures item { result ≡ slice_get self.now.items at }
+        ensures order { InTurn self.now.items }
+    {
+        self.items.get(at).copied()
+    }
+
+    /// Returns the number of deadlines before `moment`, which are the first ones. Searches by halves.
+    pub fn count_before(&self, moment: Moment) -> usize
+        ensures in_range { result ≤ length self.now.items }
+        ensures before { AllWithin (λ d. d.by < moment) self.now.items 0 result }
+        ensures behind { AllWithin (λ d. moment ≤ d.by) self.now.items result (length self.now.items) }
+    {
+        self.items.partition_point(|deadline| deadline.by < moment)
+    }
+
+    /// Returns the number of deadlines that are not after `moment`, which are the first ones. Searches by halves.
+    pub fn count_until(&self, moment: Moment) -> usize
+        ensures in_range { result ≤ length self.now.items }
+        ensures before { AllWithin (λ d. d.by ≤ moment) self.now.items 0 result }
+        ensures behind { AllWithin (λ d. moment < d.by) self.now.items result (length self.now.items) }
+    {
+        self.items.partition_point(|deadline| deadline.by <= moment)
     }
 }
 

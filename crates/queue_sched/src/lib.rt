@@ -33,7 +33,9 @@
 //! - [`Deadlines::first_before`] returns a job whose moment is before the given one (`found`), and None exactly if no
 //!   deadline is (`none`). The deadlines are exactly those added and not removed: `items` of [`Deadlines::insert`],
 //!   [`Deadlines::remove`] and [`Deadlines::of_items`]. [`Deadlines::new`] has none. [`Deadlines::len`] and
-//!   [`Deadlines::room`] return its parts.
+//!   [`Deadlines::room`] return its parts, and [`Deadlines::get`] the deadline at a position (`item`).
+//!   [`Deadlines::count_before`] and [`Deadlines::count_until`] return how many are before a moment, or not after it
+//!   (`before`, `behind`).
 //!
 //! # Not proved
 //!
@@ -74,8 +76,9 @@
 //!   slot. Each list has 50 % more slots than its room, so either happens only after many removals, and a removal costs
 //!   a few moves on average. [`Index::advance`] reads no entry if the moment is before the due one, and all entries
 //!   otherwise. [`Index::of_entries`] sorts its entries once.
-//! - [`Deadlines::first_before`] reads only the first deadline. Adding and removing find the position by binary search,
-//!   and move the deadlines before it or after it, whichever are fewer. [`Deadlines::of_items`] sorts once.
+//! - [`Deadlines::first_before`] reads only the first deadline. Adding, removing and counting find the position by
+//!   binary search. Adding and removing move the deadlines before it or after it, whichever are fewer.
+//!   [`Deadlines::of_items`] sorts once.
 #![tactic(auto)]
 
 mod choice;

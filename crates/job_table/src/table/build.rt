@@ -1,9 +1,10 @@
 //! Builds a table from its rows. One pass over the jobs adds each to the draft of its queue's lane, and then the
-//! waiting jobs of each draft are sorted. The deadlines are collected and sorted once as well. For n jobs this takes n
-//! log n steps, whatever the order of the waiting jobs and of the deadlines.
+//! waiting jobs of each draft are sorted. The deadlines and the dates of the agenda are collected and sorted once as
+//! well. For n jobs this takes n log n steps, whatever the order of the waiting jobs and of the dates.
 ghost use Rattle.std.specs.Prelude.{◌≡◌, count_by, is_some, length, IfOk};
 ghost use Rattle.std.specs.List.{All, filter_map};
 ghost use Rattle.queue_sched.specs.WaitingIndex.{HasEachOnce};
+ghost use Rattle.job_table.specs.Agendas.{ended_date, hold_date, retry_date, IsAgenda};
 ghost use Rattle.job_table.specs.Contents.{no_moves};
 ghost use Rattle.job_table.specs.LaneDrafts.{drafted, AreDrafts, IsBlank};
 ghost use Rattle.job_table.specs.Lanes.{AreBeside, IsAdvanced};
@@ -12,6 +13,7 @@ ghost use Rattle.job_table.specs.Timely.{deadline_of, IsTimely};
 ghost use Rattle.spool_types.specs.State.{job_at};
 
 use super::Table;
+use crate::agenda::{Agenda, ended_date, hold_date, retry_date};
 use crate::lane::{Draft, Lane, lane_state_of};
 use crate::new_places::NewPlaces;
 use crate::store::Store;
@@ -31,10 +33,12 @@ impl Table {
         let drafts = drafts_of(alloc, &store)?;
         let lanes = lanes_of(alloc, drafts, store.now())?;
         let timetable = timetable_of(alloc, &store)?;
+        let agenda = agenda_of(alloc, &store)?;
         Ok(Table {
             store,
             lanes,
             timetable,
+            agenda,
             vacant: 0,
             new_places: NewPlaces::none(alloc),
         })
@@ -104,4 +108,42 @@ fn timed_count(rows: &Rows) -> usize
     ensures { result ≡ count_by (λ row. is_some row.job.by) rows.now.items }
 {
     rows.iter().filter(|row| row.job.by.is_some()).count()
+}
+
+// Returns the agenda of the jobs, with room for every job.
+fn agenda_of(alloc: Global, store: &Store) -> Result<Agenda, AllocError>
+    ensures { IfOk result (IsAgenda (job_at store.now.state)) }
+{
+    let rows = store.jobs();
+    let holds = holds_of(alloc, rows)?;
+    let retries = retries_of(alloc, rows)?;
+    let ended = ended_of(alloc, rows)?;
+    Agenda::of_dates(holds, retries, ended, rows.len())
+}
+
+// Returns the ends of the holds.
+fn holds_of(alloc: Global, rows: &Rows) -> Result<Vec<Deadline>, AllocError>
+    ensures { IfOk result (λ dates. dates.items ≡ filter_map (λ row. hold_date row.job) rows.now.items) }
+{
+    rows.iter()
+        .filter_map(|row| hold_date(&row.job))
+        .collect(alloc)
+}
+
+// Returns the retries of the waiting jobs.
+fn retries_of(alloc: Global, rows: &Rows) -> Result<Vec<Deadline>, AllocError>
+    ensures { IfOk result (λ dates. dates.items ≡ filter_map (λ row. retry_date row.job) rows.now.items) }
+{
+    rows.iter()
+        .filter_map(|row| retry_date(&row.job))
+        .collect(alloc)
+}
+
+// Returns the entries of the jobs that have ended.
+fn ended_of(alloc: Global, rows: &Rows) -> Result<Vec<Deadline>, AllocError>
+    ensures { IfOk result (λ dates. dates.items ≡ filter_map (λ row. ended_date row.job) rows.now.items) }
+{
+    rows.iter()
+        .filter_map(|row| ended_date(&row.job))
+        .collect(alloc)
 }

@@ -1,15 +1,19 @@
 -- The job gets its new lane state and its new deadline. No other lane state changes.
-use Rattle.std.proofs.Common.{◌≡◌, None, sym, ap, subst, ◌∙◌, arith}
+use Rattle.std.proofs.Common.{◌≡◌, ◌<◌, None, length, sym, ap, subst, ◌∙◌, arith}
 use Rattle.std.specs.Prelude.{is_some}
+use Rattle.std.proofs.lemmas.Bool.{both_ways}
 use Rattle.spool_types.specs.Sent.{sent_by, with_placed}
 use Rattle.spool_types.specs.State.{job_at}
+use Rattle.job_table.specs.Agendas.{dates_found}
 use Rattle.job_table.specs.Contents.{Contents, places_at}
 use Rattle.job_table.specs.Lanes.{lane_state_of, is_live}
 use Rattle.job_table.specs.Step.{refusal_of}
 use Rattle.job_table.specs.Timely.{deadline_found, IsRetimed, MayRetime}
+use Rattle.job_table.specs.declared.agenda.Dates.{Dates}
+use Rattle.job_table.proofs.Gathered.{one_if}
 use Rattle.job_table.proofs.Held.{stepped}
 use Rattle.job_table.proofs.Retimed.{moved_may, moved_retimed}
-use Rattle.job_table.proofs.Seats.{Goes, goes, gone, gone_there, goes_from, goes_alone, goes_lanes, goes_number, IsReseatedLane}
+use Rattle.job_table.proofs.Seats.{Goes, goes, gone, gone_there, goes_from, goes_alone, goes_lanes, goes_number, place_within, IsReseatedLane}
 use Rattle.job_table.proofs.table.Table.change_job.Goals as goal
 use Rattle.job_table.proofs.table.Table.change_job.Goals.{After-commit-reply}
 
@@ -64,6 +68,33 @@ change-requires c =
     (subst (MayRetime c.self.inside.timetable c.args.job (deadline_found (job_at s c.args.job))) (sym c.deadline-after.ensures)
     (moved_may s t g.legal c.args.job g.moves g.row g.there c.self.invariant.legal c.self.inside.timetable c.self.invariant.timely))
 
+pub dates-dates_after-requires : goal.dates-dates_after-requires
+dates-dates_after-requires c =
+    let g = rows (goal.at.dates-dates_after-requires c).After-commit-reply in
+    ap is_some (gone_there _ _ _ g)
+
+pub index_mut-requires : goal.index_mut-requires
+index_mut-requires c =
+    let g = rows (goal.at.index_mut-requires c).After-commit-reply in
+    let lt : c.seat-place.result.0 < length c.self.inside.lanes.items =
+    place_within c.self.inside.store.state c.commit-reply.new.self.state c.self.inside.vacant c.self.inside.lanes.items c.self.invariant.lanes (g.row).queue c.seat-place.result.0 (c.seat-place.ensures.place g.row g.there) in
+    omega (arith, lt, c.self.inside.lanes.ok.0)
+
+-- The job exists before and after the event.
+pub redate-requires : goal.redate-requires
+redate-requires c =
+    let g = rows (goal.at.redate-requires c).After-commit-reply in
+    let s = c.self.inside.store.state in
+    record {
+      jobs = job_at s;
+      agenda = c.self.invariant.agenda;
+      own = sym c.dates-dates_before.ensures;
+      next = job_at c.commit-reply.new.self.state c.args.job;
+      later = sym c.dates-dates_after.ensures;
+      number = λ r at. (g.legal.jobs c.args.job r at).id;
+      room = λ absent. absurd (both_ways c.dates-dates_before.result.exists absent (ap (λ (d : Dates). d.exists) (c.dates-dates_before.ensures ∙ ap dates_found g.there)));
+    }
+
 pub invariant_of-self : goal.invariant_of-self
 invariant_of-self c =
     let g = rows (goal.at.invariant_of-self c).After-commit-reply in
@@ -84,6 +115,15 @@ invariant_of-self c =
       legal = g.legal;
       timely = c.change.ensures.timely (job_at s) (job_at t) c.self.invariant.timely (sym c.deadline-before.ensures) retimed;
       spare = omega (arith, c.self.invariant.spare, c.change.ensures.timed, c.change.ensures.room);
+      agenda = c.redate.ensures.agenda (job_at s) (job_at t) c.self.invariant.agenda (sym c.dates-dates_before.ensures) (record { own = sym c.dates-dates_after.ensures; others = g.moves.others });
+      vacancies = omega (
+        arith,
+        c.self.invariant.vacancies,
+        c.redate.ensures.jobs,
+        c.redate.ensures.room,
+        ap (λ (d : Dates). one_if d.exists) (c.dates-dates_before.ensures ∙ ap dates_found g.there),
+        ap (λ (d : Dates). one_if d.exists) (c.dates-dates_after.ensures ∙ ap dates_found (gone_there _ _ _ g)),
+      );
       lanes =
           goes_lanes _ _ _ g c.self.inside.vacant c.self.inside.lanes.items c.self.invariant.lanes c.seat-place.result.0 (c.seat-place.ensures.place g.row g.there)
           c.index_mut.result.now c.index_mut.ensures.value new

@@ -8,6 +8,7 @@ use Rattle.job_table.specs.Contents.{Contents}
 use Rattle.job_table.specs.Lanes.{IsAdvanced, AreLanes}
 use Rattle.job_table.specs.Legal.{IsLegal}
 use Rattle.job_table.proofs.Held.{legal_then}
+use Rattle.job_table.proofs.Redated.{agenda_as}
 use Rattle.job_table.proofs.Seats.{lanes_advanced}
 use Rattle.job_table.proofs.Timely.{timely_as}
 use Rattle.job_table.proofs.table.Table.clock.Goals as goal
@@ -44,4 +45,6 @@ invariant_of-self c =
           (subst (λ ls. IsAdvanced c.max-now.result (get_or ls i d) (get_or new i d)) c.deref_mut.ensures.value (c.advance_each.ensures.each i d lt))));
       timely = timely_as (job_at s) (job_at t) c.self.inside.timetable (λ k. ap (λ (u : State). job_at u k) same) c.self.invariant.timely;
       spare = c.self.invariant.spare;
+      agenda = agenda_as (job_at s) (job_at t) c.self.inside.agenda (λ k. ap (λ (u : State). job_at u k) same) c.self.invariant.agenda;
+      vacancies = c.self.invariant.vacancies;
     }

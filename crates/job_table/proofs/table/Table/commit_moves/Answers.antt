@@ -12,7 +12,7 @@ move_documents-requires c =
 pub invariant_of-self : goal.invariant_of-self
 invariant_of-self c =
     let held = held_same c.self.inside c.move_documents.new.self c.move_documents.ensures.state c.self.invariant in
-    record { legal = held.legal; lanes = held.lanes; timely = held.timely; spare = held.spare }
+    record { legal = held.legal; lanes = held.lanes; timely = held.timely; spare = held.spare; agenda = held.agenda; vacancies = held.vacancies }
 
 pub returns-clause-places : goal.returns-clause-places
 returns-clause-places c = λ j r there lives.

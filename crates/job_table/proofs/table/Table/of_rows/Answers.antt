@@ -15,4 +15,6 @@ invariant_of-result c = record {
       (subst (λ m. AreBeside (λ d lane. IsAdvanced m (drafted d) lane) c.in_ok-drafts.drafts.items c.in_ok-lanes.lanes.items) c.now.ensures c.in_ok-lanes.ensures);
   timely = c.in_ok-timetable.ensures;
   spare = omega (arith, c.in_ok-timetable.ensures.room);
+  agenda = c.in_ok-agenda.ensures;
+  vacancies = omega (arith, c.in_ok-agenda.ensures.fits);
 }

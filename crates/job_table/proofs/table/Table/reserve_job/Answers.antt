@@ -44,6 +44,8 @@ invariant_of-self-in_err-reserve_each c =
       lanes = as_roomy (record c.self.inside { store = c.reserve_job.new.self }) held c.deref_mut.result.now c.reserve_each.new.lanes c.deref_mut.ensures.value c.reserve_each.ensures.count c.reserve_each.ensures.each;
       timely = held.timely;
       spare = held.spare;
+      agenda = held.agenda;
+      vacancies = held.vacancies;
     }
 
 pub invariant_of-self-in_err-reserve : goal.invariant_of-self-in_err-reserve
@@ -55,6 +57,22 @@ invariant_of-self-in_err-reserve c =
       lanes = as_roomy (record c.self.inside { store = c.reserve_job.new.self }) held c.deref_mut.result.now c.reserve_each.new.lanes c.deref_mut.ensures.value c.reserve_each.ensures.count c.reserve_each.ensures.each;
       timely = timely;
       spare = omega (arith, timely.room, c.if-self-eq0.true);
+      agenda = held.agenda;
+      vacancies = held.vacancies;
+    }
+
+pub invariant_of-self-in_err-make_room : goal.invariant_of-self-in_err-make_room
+invariant_of-self-in_err-make_room c =
+    let held = held_same c.self.inside c.reserve_job.new.self c.reserve_job.ensures.same c.self.invariant in
+    let timely = c.reserve.ensures.timely (job_at c.reserve_job.new.self.state) held.timely in
+    let agenda = c.make_room.ensures.agenda (job_at c.reserve_job.new.self.state) held.agenda in
+    record {
+      legal = held.legal;
+      lanes = as_roomy (record c.self.inside { store = c.reserve_job.new.self }) held c.deref_mut.result.now c.reserve_each.new.lanes c.deref_mut.ensures.value c.reserve_each.ensures.count c.reserve_each.ensures.each;
+      timely = timely;
+      spare = omega (arith, timely.room, c.if-self-eq0.true);
+      agenda = agenda;
+      vacancies = omega (arith, agenda.fits, c.if-self-eq0.true);
     }
 
 pub invariant_of-self-then-self-eq0 : goal.invariant_of-self-then-self-eq0
@@ -65,4 +83,6 @@ invariant_of-self-then-self-eq0 c =
       lanes = roomier (record c.self.inside { store = c.reserve_job.new.self }) held c.deref_mut.result.now c.reserve_each.new.lanes c.deref_mut.ensures.value c.reserve_each.ensures.count c.reserve_each.ensures.each 1 c.in_ok-reserve_each.ensures.room;
       timely = c.reserve.ensures.timely (job_at c.reserve_job.new.self.state) held.timely;
       spare = omega (arith, c.in_ok-reserve.ensures.room, c.reserve.ensures.timed);
+      agenda = c.make_room.ensures.agenda (job_at c.reserve_job.new.self.state) held.agenda;
+      vacancies = omega (arith, c.in_ok-make_room.ensures.room, c.make_room.ensures.jobs);
     }

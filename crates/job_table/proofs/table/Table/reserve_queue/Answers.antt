@@ -15,4 +15,6 @@ invariant_of-self-2 c =
       lanes = subst (AreLanes c.reserve_queue.new.self.state c.self.inside.vacant) (sym c.reserve.ensures.items) held.lanes;
       timely = held.timely;
       spare = held.spare;
+      agenda = held.agenda;
+      vacancies = held.vacancies;
     }
