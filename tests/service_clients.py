@@ -170,6 +170,19 @@ def an_end_of_text(folder):
     same("it continues to serve", Client(folder).ask("queues\n"), "ok 0")
 
 
+def a_line_cut_from_a_longer_one(folder):
+    """A client that hangs up after the first bytes of `cancel 12` has not cancelled job 1."""
+    folder.start()
+    client, other = Client(folder), Client(folder)
+    folder.queue(other, "q")
+    same("disable", other.ask("disable q\n"), "ok")
+    same("the job", other.create("q"), 1)
+    client.say("jobs\ncancel 1")
+    client.connection.shutdown(socket.SHUT_WR)
+    same("its listing", (len(client.rest_of_listing()), client.is_closed()), (1, True))
+    same("the job stays", other.fields(1)["state"], "4")
+
+
 # ---- cut off at each byte
 
 
@@ -521,6 +534,7 @@ TESTS = [
     thirty_two_commands_in_turn,
     a_client_that_leaves_while_it_waits,
     an_end_of_text,
+    a_line_cut_from_a_longer_one,
     cut_at_each_byte,
     disconnected_at_each_byte,
     fifty_clients_at_once,

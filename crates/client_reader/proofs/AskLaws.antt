@@ -60,5 +60,8 @@ in_order old [] new are more = are more
 in_order old (takes piece ∷ calls) new are more = ap old (append_assoc piece (taken_in calls) more) ∙ in_order (λ more. old (piece ++ more)) calls new are more
 in_order old (gives ask ∷ calls) new are more = are.1 (taken_in calls ++ more) ∙ ap (λ l. ask ∷ l) (in_order are.0 calls new are.2 more)
 
+pub first_whatever : (calls : List Call) (left : List ℕ → List Ask) → AreCalls asks_of calls left → (more : List ℕ) → AreFirstOf (given_in calls) (asks_of (taken_in calls ++ more))
+first_whatever calls left are more = (left more, in_order asks_of calls left are more)
+
 pub first_given : (calls : List Call) (left : List ℕ → List Ask) → AreCalls asks_of calls left → AreFirstOf (given_in calls) (asks_of (taken_in calls))
 first_given calls left are = (left [], ap asks_of (sym (append-nil (taken_in calls))) ∙ in_order asks_of calls left are [])

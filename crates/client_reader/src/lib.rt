@@ -14,7 +14,8 @@
 //!   [`Reader::next`] returns the first awaited request, or none yet (`Gives`); if memory runs out it loses nothing.
 //! - [`Reader::next`] makes progress: less of the text is left than before, or only part of a line or nothing is left (`further`).
 //! - [`asks_come_in_order`]: over any list of calls, whatever the pieces, the returned requests are the first of the requests in the text
-//!   so far.
+//!   so far (`so_far`), and also in each longer text that begins with it (`whatever_follows`). So a line without its line feed is never
+//!   returned, unless no further text can change its request, as for a line that is too long.
 //!
 //! # Invariants
 //!
