@@ -1,6 +1,6 @@
 -- The children that must end, and when each is sent which signal. Moments are in milliseconds.
-use Rattle.std.specs.Prelude.{◌≡◌, ℕ, ◌-◌, ◌==◌, Bool, cond, filter_map, is_some, nat_le, List, [], ◌∷◌, ◌++◌, Option, None, Some}
-use Rattle.std.specs.List.{list_any}
+use Rattle.std.specs.Prelude.{◌≡◌, ℕ, ◌-◌, ◌==◌, Bool, cond, filter_map, is_some, nat_le, List, [], ◌∷◌, ◌++◌, length, Option, None, Some}
+use Rattle.std.specs.List.{items_where_true, list_any}
 use Rattle.std.specs.Option.{option_map}
 use Rattle.service_loop.specs.declared.endings.Ending.{Ending}
 use Rattle.service_loop.specs.declared.signals.Signal.{Signal}
@@ -23,6 +23,12 @@ is_listed group endings = list_any (λ ending. ending.group == group) endings
 abbrev pub with_ending : ℕ → ℕ → List Ending → List Ending
 with_ending job group endings =
     cond (is_listed group endings) endings (endings ++ record { job = job; group = group; sent = None } ∷ [])
+
+-- Some of these children, unchanged and in their order: for each of them one choice whether it remains.
+pub record AreAmong (all kept : List Ending) : Type 0 where
+  pub choices : List Bool
+  pub each : length choices ≡ length all
+  pub chosen : kept ≡ items_where_true choices all
 
 -- A child that must end, after it was sent the signal that was due.
 abbrev pub signalled : ℕ → Ending → Ending

@@ -1,6 +1,6 @@
 //! The children that clients want ended: each is sent SIGTERM, and SIGKILL 10 s later.
 ghost use Rattle.std.specs.Prelude.{◌≡◌, ◌↔◌, ℕ, ◌+◌, ◌≤◌, true, false, List, [], ◌∷◌, Some, IsNone, IfOk, IsTrue, OnOk, OnErr, map, vec_len};
-ghost use Rattle.service_loop.specs.Endings.{Sends, grace, is_listed, signal_of, signalled, signals_due, with_ending};
+ghost use Rattle.service_loop.specs.Endings.{AreAmong, Sends, grace, is_listed, signal_of, signalled, signals_due, with_ending};
 ghost use Rattle.service_loop.specs.declared.endings.Ending.{Ending as AnyEnding};
 
 use crate::children::Watch;
@@ -76,8 +76,8 @@ impl Endings {
     /// Sends SIGTERM to the new ones, kills those whose grace period is over, and forgets those that have ended.
     pub fn act<S: Signals>(&mut self, watch: &Watch, signals: &mut S, now: u64)
         ensures few { vec_len self.new.list ≤ vec_len self.old.list }
-        // The children still noted were sent their due signals, and nothing else was sent.
-        ensures sent { (kept : List AnyEnding) × (self.new.list.items ≡ map (signalled now) kept) × Sends (S.sent signals.old) (S.sent signals.new) (signals_due now kept) }
+        // The children still noted are among those noted before. They were sent their due signals, and nothing else was sent.
+        ensures sent { (kept : List AnyEnding) × AreAmong self.old.list.items kept × (self.new.list.items ≡ map (signalled now) kept) × Sends (S.sent signals.old) (S.sent signals.new) (signals_due now kept) }
     {
         self.list
             .retain(|ending| watch.group_of(ending.job) == Some(ending.group));

@@ -108,8 +108,8 @@
 //! - **Admission.** A new client is admitted according to when each client was heard last and which clients listen (`admission` of
 //!   `Clients::admit`, `IsAdmission`, `heard_of`, `listens`).
 //! - **Children to end.** A child that must end is noted by its process group, once (`with_ending`). It is sent SIGTERM, and SIGKILL no
-//!   sooner than 10 s later (`signal_of`). If [`Signals`] reports the signals that it sends, the children still noted were sent their due
-//!   signals, and nothing else was sent (`sent` of `Endings::act`).
+//!   sooner than 10 s later (`signal_of`). The children still noted are among those noted before. If [`Signals`] reports the signals that
+//!   it sends, they were sent their due signals, and nothing else was sent (`sent` of `Endings::act`).
 //!
 //! # Not proved
 //!
