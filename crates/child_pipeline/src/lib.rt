@@ -29,17 +29,19 @@
 //!   standard error (`end_of`). The finish is stored as it came and the event is made from it at each call, so a call that runs out of
 //!   memory loses nothing. A child with more than 16,777,216 bytes of output, or whose end is unknown, is Lost; such output is released at
 //!   once, and the standard error stays.
-//! - [`Runner::is_due`], [`Runner::is_reporting`], [`Runner::has_next`] and [`Runner::is_running`] are exact. [`Runner::slot`] and
-//!   [`Runner::next_job`] iterate over the slots, in ascending order of job number.
+//! - [`Runner::is_due`], [`Runner::is_reporting`], [`Runner::has_next`] and [`Runner::is_running`] are exact. [`Runner::group_of`] returns
+//!   a group exactly if the job's child runs (`some`, `none`). [`Runner::slot`] and [`Runner::next_job`] iterate over the slots, in
+//!   ascending order of job number.
 //! - [`Runner::has_ended`] returns the next answer of the checks, does not wait, and leaves the slots unchanged (`slots`, `looks`).
 //!   [`Children::start_room`] changes nothing in the trace, and nothing bounds the starts of children that report (`told`, `always`); other
 //!   children say how many may be started (`rooms`, `answer`).
 //! - [`MemChildren::new`] reports its three lists, and its `start`, `finish` and `has_ended` answer from them. It reserves an order and a
 //!   number for each answer of `start`, so `start` and `finish` do not allocate. A start after the end of the list is an error and records
 //!   no order; a check after the end of the list reports that the child has ended. A child of [`NoChildren`] never starts.
-//! - A child's order is its program (a filter, or the backend named by the scheme of the queue's URI), the job's arguments, in stage 1 with
-//!   the document's path, and the stage's environment (`Orders`). `words`, `environment` and `ChildFile::path` of `filter_args` are the
-//!   parts. The definitions use the table's `Job`, not its row, so that the definition of a whole run can cite them.
+//! - A child's order has the name of the job's queue and its URI, the program (a filter, or the backend named by the scheme of the URI),
+//!   the job's arguments, in stage 1 with the document's path, and the stage's environment (`Orders`). `words`, `environment` and
+//!   `ChildFile::path` of `filter_args` are the parts. The definitions use the table's `Job`, not its row, so that the definition of a
+//!   whole run can cite them.
 //!
 //! # Invariants
 //!
@@ -75,7 +77,7 @@ mod reports;
 mod runner;
 mod texts;
 
-pub use children::{Children, StartRoom};
+pub use children::Children;
 pub use groups::Grouped;
 pub use laws::{right_input, tickets_stay};
 pub use memory::{MemChildren, MemTicket};

@@ -3,7 +3,8 @@ ghost use Rattle.std.specs.Prelude.{◌≡◌, true, None, IsErr};
 ghost use Rattle.child_pipeline.specs.ChildTraces.{Starts, Looks};
 ghost use Rattle.child_pipeline.specs.declared.none.NoTicket.{NoTicket as NoTicketValue};
 
-use crate::children::{Children, StartRoom};
+use crate::children::Children;
+use crate::groups::Grouped;
 use crate::order::{ChildFault, Finish, Order};
 
 /// Children that never start and report nothing.
@@ -13,6 +14,12 @@ pub struct NoChildren;
 /// The ticket of a child of [`NoChildren`]: none is ever made.
 #[derive(Drop)]
 pub struct NoTicket;
+
+impl Grouped for NoTicket {
+    fn group(&self) -> u32 {
+        0
+    }
+}
 
 impl Children for NoChildren {
     type Ticket = NoTicket;
@@ -43,7 +50,7 @@ impl Children for NoChildren {
     }
 
     // A start fails without using any resource.
-    fn start_room(&mut self) -> Option<StartRoom>
+    fn start_room(&mut self) -> Option<usize>
         ensures none { result ≡ None }
     {
         None

@@ -3,7 +3,9 @@ ghost use Rattle.std.specs.Prelude.{◌≡◌};
 ghost use Rattle.child_pipeline.specs.Finishes.{no_start, lost, bounded};
 
 use crate::texts::{Content, Scheme, Texts};
-use spool_types::{AttemptNumber, Exit, FilterName, JobId, LONGEST_DOCUMENT, StageNumber};
+use spool_types::{
+    AttemptNumber, Exit, FilterName, JobId, LONGEST_DOCUMENT, QueueName, StageNumber, Uri,
+};
 use std::alloc::Global;
 
 /// The program that a child runs.
@@ -29,6 +31,9 @@ pub struct Order {
     pub job: JobId,
     pub attempt: AttemptNumber,
     pub stage: StageNumber,
+    /// The job's queue, and the URI of its device.
+    pub queue: QueueName,
+    pub uri: Uri,
     pub program: Program,
     /// The arguments after the program (filter(7)).
     pub words: Texts,

@@ -1,5 +1,5 @@
 //! The slots of the jobs' stages.
-ghost use Rattle.std.specs.Prelude.{◌≡◌, ◌&&◌, ◌==◌, false, nat_lt, None, Some, IsSome, IsTrue, IfOk, OnOk, OnErr};
+ghost use Rattle.std.specs.Prelude.{◌≡◌, ◌&&◌, ◌==◌, false, nat_lt, None, Some, IsNone, IsSome, IsTrue, IfOk, OnOk, OnErr, is_some};
 ghost use Rattle.std.specs.Option.{option_copied, option_map};
 ghost use Rattle.std.specs.FinMap as finite;
 ghost use Rattle.slab.specs.Slab.{Updates};
@@ -8,6 +8,7 @@ ghost use Rattle.child_pipeline.specs.Finishes.{kept};
 ghost use Rattle.child_pipeline.specs.ChildTraces.{finish_in as finish_told, Looks};
 
 use crate::children::Children;
+use crate::groups::Grouped;
 use crate::order::{ChildFault, Finish, Input, Order};
 use crate::orders::{environment, program, words};
 use crate::reports::stage_end;
@@ -75,6 +76,18 @@ pub struct Runner<C: Children> {
     // The key of each job's slot.
     keys: BTreeMap<JobId, usize>,
     slots: Slab<Slot<C::Ticket>>,
+}
+
+impl<T: Grouped> Slot<T> {
+    // The process group of the child, if it is running.
+    fn group(&self) -> Option<u32>
+        ensures { is_some result ≡ is_running self.now.progress }
+    {
+        match &self.progress {
+            Progress::Running(ticket) => Some(ticket.group()),
+            _ => None,
+        }
+    }
 }
 
 impl<C: Children> Model for Runner<C> {
@@ -155,6 +168,17 @@ impl<C: Children> Runner<C> {
         match self.slot(job) {
             Some(slot) => slot.is_running(),
             None => false,
+        }
+    }
+
+    /// The process group of the child of a job's stage, if it is running.
+    pub fn group_of(&self, job: JobId) -> Option<u32>
+        ensures some { IsSome result → IsRunning (finite.get self.now job) }
+        ensures none { IsNone result → IsTicketless (finite.get self.now job) }
+    {
+        match self.slot(job) {
+            Some(slot) => slot.group(),
+            None => None,
         }
     }
 
@@ -330,6 +354,14 @@ impl<C: Children> Runner<C> {
         ensures unstarted { OnErr result (children.new ≡ children.old) }
     {
         let (attempt, stage) = self.place_of(row.id);
+        let name = match queue.name.clone() {
+            Ok(name) => name,
+            Err(fault) => return Err(fault),
+        };
+        let uri = match queue.uri.clone() {
+            Ok(uri) => uri,
+            Err(fault) => return Err(fault),
+        };
         let program = match program(self.alloc, row, queue, stage) {
             Ok(program) => program,
             Err(fault) => return Err(fault),
@@ -347,6 +379,8 @@ impl<C: Children> Runner<C> {
             job: row.id,
             attempt,
             stage,
+            queue: name,
+            uri,
             program,
             words,
             environment,

@@ -9,7 +9,6 @@ use Rattle.service_rules.specs.Clocks.{clock_to_announce, clock_wait}
 use Rattle.service_rules.specs.declared.looks.Pause.{Pause}
 use Rattle.service_rules.specs.ChildPolling.{next_look, pause_for, poll_wait}
 use Rattle.service_rules.specs.Purges.{purge_count, purged, swept_to}
-use Rattle.service_rules.specs.Starts.{starts_left}
 use Rattle.service_rules.specs.ClientBounds.{is_served_on}
 
 -- The 32nd command is served, the 33rd is not. A command is served with one byte less than 64 KiB unread.
@@ -105,8 +104,3 @@ PurgeRows = map (λ count. purged count jobs) (0 ∷ 1 ∷ 2 ∷ 3 ∷ 8 ∷ [])
 abbrev pub SweptRows : Type 0
 SweptRows = map (λ count. swept_to 0 count jobs) (0 ∷ 1 ∷ 2 ∷ 3 ∷ 8 ∷ []) ++ swept_to 9 1 [] ∷ []
     ≡ 0 ∷ 3 ∷ 7 ∷ 9 ∷ 9 ∷ 9 ∷ []
-
--- None run, some, all, more than allowed; the launcher is not ready.
-abbrev pub StartRows : Type 0
-StartRows = starts_left true 0 32 ∷ starts_left true 31 32 ∷ starts_left true 32 32 ∷ starts_left true 40 32 ∷ starts_left false 0 32 ∷ []
-    ≡ 32 ∷ 1 ∷ 0 ∷ 0 ∷ 0 ∷ []

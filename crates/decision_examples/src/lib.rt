@@ -31,7 +31,7 @@ ghost use Rattle.decision_examples.specs.ListedFaults.{ListedFaultRows, QueueFau
 ghost use Rattle.decision_examples.specs.OptionExamples.{OptionRows, OptionFaultRows, LastValueRows};
 ghost use Rattle.decision_examples.specs.Children.{FileRows, ArgumentRows, EnvironmentRows};
 ghost use Rattle.decision_examples.specs.DiskExamples.{JournalRows, DamagedRows, ClosedRows, LeastAreaRows, MadeRows, MadeAnewRows, AreaRows, VersionRows, HeaderFaultRows, PlanRows};
-ghost use Rattle.decision_examples.specs.Services.{ServedRows, LookRows, FirstLookRows, PauseRows, WaitRows, ClockRows, ClockWaitRows, RoomRows, ShortRows, CheckpointRows, PurgeCountRows, PurgeRows, SweptRows, StartRows};
+ghost use Rattle.decision_examples.specs.Services.{ServedRows, LookRows, FirstLookRows, PauseRows, WaitRows, ClockRows, ClockWaitRows, RoomRows, ShortRows, CheckpointRows, PurgeCountRows, PurgeRows, SweptRows};
 
 /// Limits, texts, media types and the size of effects.
 pub fn values()
@@ -167,5 +167,4 @@ pub fn services()
     ensures purge_counts { PurgeCountRows }
     ensures purges { PurgeRows }
     ensures swept { SweptRows }
-    ensures starts { StartRows }
 {}

@@ -17,7 +17,8 @@ use Rattle.filter_args.specs.declared.place.Place.{Place}
 use Rattle.child_pipeline.specs.StageSlots.{Slots, slot_in, begun, with_progress, put_progress, progress_after, IsStart, IsTicketless, order_in, end_in, FinishesFrom, FinishesStage, Waits, IsFinish}
 use Rattle.child_pipeline.specs.Tickets.{AreKeptBy, AreOnce, HasTickets, IsRunningAs}
 use Rattle.child_pipeline.specs.ChildTraces.{ChildTrace, is_in, without, Looks, starts_first, started_by, first_finish, after_finish, after_look}
-use Rattle.child_pipeline.specs.declared.children.StartRoom.{StartRoom}
+use Rattle.print_rounds.specs.declared.start_room.StartRoom.{StartRoom}
+use Rattle.print_rounds.specs.declared.start_room.TickLimits.{TickLimits}
 use Rattle.child_pipeline.specs.declared.order.ChildFault.{ChildFault}
 use Rattle.child_pipeline.specs.declared.order.Finish.{Finish}
 use Rattle.child_pipeline.specs.declared.order.Order.{Order}
@@ -642,8 +643,8 @@ module _ {D : Type 0} (device : DiskView D) (stays : (s : State) (events : List 
         run = drops.runs.run;
       }
 
-  pub tick_hands : (place : Place) (earlier : List AnsweredOrder) (t : ChildTrace) (old new : RunState D) (result : Result Round RoundFault) → IsLegal old.spool.state → old.told ≡ Some t → HasTickets old.slots t → AreKeptFrom earlier old.slots → RunTheirStages t.orders old.slots → (r : IsTickOf device place old new result) → TickHandsOn earlier t old r.steps new
-  tick_hands place earlier t old new result legal tells tickets kept_old run r = pass_hands place false r.start_room earlier t old r.steps new r.made legal tells tickets kept_old run
+  pub tick_hands : (place : Place) (limits : Option TickLimits) (earlier : List AnsweredOrder) (t : ChildTrace) (old new : RunState D) (result : Result Round RoundFault) → IsLegal old.spool.state → old.told ≡ Some t → HasTickets old.slots t → AreKeptFrom earlier old.slots → RunTheirStages t.orders old.slots → (r : IsTickOf device place limits old new result) → TickHandsOn earlier t old r.steps new
+  tick_hands place limits earlier t old new result legal tells tickets kept_old run r = pass_hands place false r.start_room earlier t old r.steps new r.made legal tells tickets kept_old run
 
   -- ## Consecutive ticks
 
@@ -651,7 +652,7 @@ module _ {D : Type 0} (device : DiskView D) (stays : (s : State) (events : List 
   all_hand place earlier t slots told [] ticks tells tickets kept_old run = tt
   all_hand place earlier t slots told (c ∷ cs) (begins, tells_c, legal, tick, ticks) tells tickets kept_old run =
       let tickets_c : HasTickets c.old.slots t = subst (λ m. HasTickets m t) (sym begins) tickets in
-      let hands = tick_hands place earlier t c.old c.new c.result legal (tells_c ∙ tells) tickets_c (subst (AreKeptFrom earlier) (sym begins) kept_old) (subst (RunTheirStages t.orders) (sym begins) run) tick in
+      let hands = tick_hands place c.limits earlier t c.old c.new c.result legal (tells_c ∙ tells) tickets_c (subst (AreKeptFrom earlier) (sym begins) kept_old) (subst (RunTheirStages t.orders) (sym begins) run) tick in
       let by = tick.tickets t (tells_c ∙ tells) tickets_c in
       let same : by.now ≡ hands.now = some_of by.now hands.now (sym by.tells ∙ hands.tells) in (
         hands,

@@ -36,6 +36,7 @@ pub mod LifeLaws
 pub mod RowLaws
 pub mod TickTickets
 pub mod LookPlays
+pub mod CountLaws
 pub mod TickExact
 pub mod TickRound
 pub mod TickLaws

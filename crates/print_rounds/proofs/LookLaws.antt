@@ -57,7 +57,7 @@ passed_before (Some b) k j near far = by_test (nat_lt b j) refl
     by_test true e = absurd (far (ltb-true b j e))
     by_test false e = let le : j ≤ b = ltb-false b j e in omega (arith, near, le)
 
-same_key : (j k : ℕ) → eq_by_cmp nat_cmp j k ≡ true → j ≡ k
+pub same_key : (j k : ℕ) → eq_by_cmp nat_cmp j k ≡ true → j ≡ k
 same_key j k is = by_order (nat_cmp j k) refl is
   where
     by_order : (r : Ordering) → r ≡ nat_cmp j k → is_eq r ≡ true → j ≡ k
@@ -74,20 +74,20 @@ less_key j k is = by_order (nat_cmp j k) refl is
     by_order Greater e is = absurd (cc)
 
 module _ {X : Type 0} where
-  abbrev keys : List (ℕ × X) → List ℕ
+  abbrev pub keys : List (ℕ × X) → List ℕ
   keys es = map (λ e. e.0) es
 
-  found_later : (e : ℕ × X) (es : List (ℕ × X)) (j : ℕ) → IsSome (find nat_cmp j es) → IsSome (find nat_cmp j (e ∷ es))
+  pub found_later : (e : ℕ × X) (es : List (ℕ × X)) (j : ℕ) → IsSome (find nat_cmp j es) → IsSome (find nat_cmp j (e ∷ es))
   found_later e es j there = by_test (eq_by_cmp nat_cmp j e.0)
     where
       by_test : (b : Bool) → IsSome (cond b (Some e.1) (find nat_cmp j es))
       by_test true = refl
       by_test false = there
 
-  found_first : (e : ℕ × X) (es : List (ℕ × X)) → IsSome (find nat_cmp e.0 (e ∷ es))
+  pub found_first : (e : ℕ × X) (es : List (ℕ × X)) → IsSome (find nat_cmp e.0 (e ∷ es))
   found_first e es = subst (λ r. IsSome (cond (is_eq r) (Some e.1) (find nat_cmp e.0 es))) (sym (tied_itself nat_cmp_total e.0)) refl
 
-  above : (k : ℕ) (es : List (ℕ × X)) → IsTrue (below_all nat_cmp k es) → (j : ℕ) → IsSome (find nat_cmp j es) → k < j
+  pub above : (k : ℕ) (es : List (ℕ × X)) → IsTrue (below_all nat_cmp k es) → (j : ℕ) → IsSome (find nat_cmp j es) → k < j
   above k [] below j there = absurd (cc)
   above k (e ∷ es) below j there = by_test (above k es (second_so (is_lt (nat_cmp k e.0)) (below_all nat_cmp k es) below) j) (eq_by_cmp nat_cmp j e.0) refl there
     where

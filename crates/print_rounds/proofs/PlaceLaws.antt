@@ -7,11 +7,13 @@ use Rattle.std.specs.List.{filter}
 use Rattle.std.proofs.lemmas.Bool.{cases_eq}
 use Rattle.std.proofs.lemmas.List.{get_or-set_other, get_or-set_same, length-append, length-take}
 use Rattle.spool_types.specs.State.{State}
+use Rattle.job_table.specs.Attempts.{busy_of}
 use Rattle.child_pipeline.specs.StageSlots.{Slots, IsTicketless}
 use Rattle.child_pipeline.specs.ChildTraces.{is_in}
-use Rattle.child_pipeline.specs.declared.children.StartRoom.{StartRoom}
+use Rattle.print_rounds.specs.declared.start_room.StartRoom.{StartRoom}
 use Rattle.print_rounds.specs.Finished.{AreDistinct, AllRest}
-use Rattle.print_rounds.specs.StageChecks.{free_queues}
+use Rattle.print_rounds.specs.Choice.{busy_jobs, with_busy}
+use Rattle.print_rounds.specs.StageChecks.{free_queues, idle_among, is_stray, runs, tended_jobs}
 use Rattle.print_rounds.specs.Passes.{unblocked}
 use Rattle.print_rounds.specs.StartLimits.{AreChosen, can_start, has_next, HasStartRoomFor, IsPartOf, opened_in, waiting_jobs, window, rotated}
 use Rattle.print_rounds.proofs.EndLaws.{not_first, not_second}
@@ -69,6 +71,13 @@ above m n off = grind (arith, nat_tests)
 within : (m n : ℕ) → nat_le m n ≡ true → m ≤ n
 within m n on = grind (arith, nat_tests)
 
+fitting : (m n : ℕ) → m ≤ n → nat_le m n ≡ true
+fitting m n le = grind (arith, nat_tests)
+
+fewer_fit : (start_room : Option StartRoom) (m n : ℕ) → m ≤ n → HasStartRoomFor start_room n → HasStartRoomFor start_room m
+fewer_fit None m n le fits = tt
+fewer_fit (Some p) m n le fits = omega (arith, le, fits)
+
 module _ {X : Type 0} where
   in_turn_fits : (p : StartRoom) (xs : List X) → IsPartOf (rotated (Some p) xs) xs × (length (rotated (Some p) xs) ≤ p.count)
   in_turn_fits p xs = by_fit (nat_le (length xs) p.count) refl
@@ -100,6 +109,36 @@ module _ {X : Type 0} where
       nothing : (ys : List X) → IsPartOf ys [] → ys ≡ []
       nothing [] part = refl
       nothing (y ∷ ys) part = absurd part
+
+  all_fit : (start_room : Option StartRoom) (xs : List X) → HasStartRoomFor start_room (length xs) → rotated start_room xs ≡ xs
+  all_fit None xs fits = refl
+  all_fit (Some p) xs fits = ap (λ b. cond b xs (window p.count (p.first % length xs) xs)) (fitting (length xs) p.count fits)
+
+  fewer_pass : (p : X → Bool) (xs : List X) → length (filter p xs) ≤ length xs
+  fewer_pass p [] = omega arith
+  fewer_pass p (x ∷ xs) = by_test (p x) (fewer_pass p xs)
+    where
+      by_test : (b : Bool) → length (filter p xs) ≤ length xs → length (cond b (x ∷ filter p xs) (filter p xs)) ≤ length (x ∷ xs)
+      by_test true few = omega (arith, few)
+      by_test false few = omega (arith, few)
+
+few_busy : (s : State) (names : List (List ℕ)) → length (busy_jobs s names) ≤ length names
+few_busy s [] = omega arith
+few_busy s (name ∷ names) = by_job (busy_of s name) (few_busy s names)
+  where
+    by_job : (o : Option ℕ) → length (busy_jobs s names) ≤ length names → length (with_busy o (busy_jobs s names)) ≤ length (name ∷ names)
+    by_job None few = omega (arith, few)
+    by_job (Some j) few = omega (arith, few)
+
+-- If there is room for each queue, the stages of all jobs without a running child are started.
+pub all_launched : (start_room : Option StartRoom) (s : State) (slots : Slots) (names : List (List ℕ)) → HasStartRoomFor start_room (length names)
+    → rotated start_room (idle_among slots (tended_jobs s slots names)) ≡ idle_among slots (tended_jobs s slots names)
+all_launched start_room s slots names fits =
+    let js = tended_jobs s slots names in
+    let idle = fewer_pass (λ j. not (runs slots j)) js in
+    let tended = fewer_pass (λ j. not (is_stray s slots j)) (busy_jobs s names) in
+    let busy = few_busy s names in
+    all_fit start_room (idle_among slots js) (fewer_fit start_room (length (idle_among slots js)) (length names) (omega (arith, idle, tended, busy)) fits)
 
 -- ## Queues that are opened
 

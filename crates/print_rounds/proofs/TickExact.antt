@@ -1,6 +1,6 @@
 -- If nothing failed, a tick is Script's.
 use Rattle.std.proofs.Common.{◌≡◌, ℕ, zero, suc, Bool, not, ◌&&◌, ◌||◌, true, false, cond, ◌==◌, List, [], ◌∷◌, length, map, Option, Some, None, refl, sym, ap, subst, ◌∙◌, arith, IsTrue}
-use Rattle.std.specs.Prelude.{IsSome, T, is_some}
+use Rattle.std.specs.Prelude.{IsSome, T}
 use Rattle.std.specs.declared.cmp.Ordering.{Ordering}
 use Rattle.std.specs.declared.cmp.Ordering.TheVariants.{Less, Equal, Greater}
 use Rattle.std.specs.Cmp.{nat_cmp_total, eq_by_cmp_equiv, unsigned_tied, first_so, second_so}
@@ -19,7 +19,7 @@ use Rattle.filter_args.specs.declared.place.Place.{Place}
 use Rattle.child_pipeline.specs.StageSlots.{Slots}
 use Rattle.child_pipeline.specs.Tickets.{HasTickets, AreKeptBy}
 use Rattle.child_pipeline.specs.ChildTraces.{ChildTrace, is_in}
-use Rattle.child_pipeline.specs.declared.children.StartRoom.{StartRoom}
+use Rattle.print_rounds.specs.declared.start_room.StartRoom.{StartRoom}
 use Rattle.child_pipeline.specs.declared.runner.Slot.{Slot}
 use Rattle.print_rounds.specs.Choice.{busy_jobs}
 use Rattle.print_rounds.specs.Counts.{starting_events, starting_fault, stages_fault, launching_fault, ending_fault, started_in}
@@ -45,6 +45,7 @@ use Rattle.print_rounds.proofs.PlayLaws.{all_played, play_at}
 use Rattle.print_rounds.proofs.ReadLaws.{reads_state}
 use Rattle.print_rounds.proofs.ReportLaws.{play_after}
 use Rattle.print_rounds.proofs.RoundLaws.{starts_alive}
+use Rattle.print_rounds.proofs.PlaceLaws.{all_launched}
 use Rattle.print_rounds.proofs.StartLaws.{starts_played, starts_keys}
 use Rattle.print_rounds.proofs.TickTickets.{TicketLaws, idle_tickets, launches_keep, looks_keep}
 use Rattle.print_rounds.proofs.ToldLaws.{SuitIn, all_told}
@@ -177,7 +178,7 @@ module _ {D : Type 0} (device : DiskView D) (old : OpenSpool D) (slots : Slots) 
 
 -- ## The whole
 
-module _ {D : Type 0} (device : DiskView D) (laws : Laws) (kept : TicketLaws) (place : Place) (start_room : Option StartRoom) (old new : RunState D) (steps : PassSteps D) (made : IsPass device place false start_room old steps new) (legal : IsLegal old.spool.state) (alive : old.spool.dead ≡ false) (always : IsSome old.told → start_room ≡ None) (none : fault_in steps.parts ≡ None)
+module _ {D : Type 0} (device : DiskView D) (laws : Laws) (kept : TicketLaws) (place : Place) (start_room : Option StartRoom) (old new : RunState D) (steps : PassSteps D) (made : IsPass device place false start_room old steps new) (legal : IsLegal old.spool.state) (alive : old.spool.dead ≡ false) (fits : HasStartRoomFor start_room (length (finite.keys old.spool.state.queues))) (none : fault_in steps.parts ≡ None)
     (t : ChildTrace) (documents : ℕ → List ℕ) (tells : old.told ≡ Some t) (has : HasTickets old.slots t) (handed : AreHanded documents steps.parts.launchings) where
   abbrev s : State
   s = old.spool.state
@@ -202,9 +203,6 @@ module _ {D : Type 0} (device : DiskView D) (laws : Laws) (kept : TicketLaws) (p
 
   begun : AllBegun steps.parts.startings
   begun = all_begun device old.spool steps.parts.startings mid made.starts (or_first (starting_fault steps.parts.startings) (stages_fault launchings steps.parts.endings) none)
-
-  unbound : start_room ≡ None
-  unbound = always (ap (λ o. is_some o) tells)
 
   mid_alive : mid.dead ≡ false
   mid_alive = starts_alive device old.spool steps.parts.startings mid made.starts begun alive
@@ -232,13 +230,14 @@ module _ {D : Type 0} (device : DiskView D) (laws : Laws) (kept : TicketLaws) (p
 
   started : plays play_start (play_from s idle t) (free_queues s idle) ≡ p1
   started =
-      ap (λ names. plays play_start (play_from s idle t) names) (sym (made.queues.all (subst (λ o. HasStartRoomFor o (length (finite.keys s.queues))) (sym unbound) tt)))
+      ap (λ names. plays play_start (play_from s idle t) names) (sym (made.queues.all fits))
       ∙ starts_played device old.spool steps.parts.startings mid made.starts (play_from s idle t) begun
 
   -- ### The starts of stages
 
   launched_are : map (λ l. l.job) launchings ≡ idle_among idle js
-  launched_are = made.launched ∙ ap (λ ks. rotated start_room (idle_among idle ks)) tended ∙ ap (λ o. rotated o (idle_among idle js)) unbound
+  launched_are = made.launched ∙ ap (λ ks. rotated start_room (idle_among idle ks)) tended
+      ∙ all_launched start_room mid.state idle (finite.keys mid.state.queues) (subst (λ names. HasStartRoomFor start_room (length names)) (sym (starts_keys device old.spool steps.parts.startings mid made.starts)) fits)
 
   launched : AreKeptBy t (started_in launchings) slots steps.parts.told
   launched = launches_keep kept place mid.state numbers t idle old.told launchings slots steps.parts.told made.launches
@@ -339,8 +338,8 @@ module _ {D : Type 0} (device : DiskView D) (laws : Laws) (kept : TicketLaws) (p
 
 -- The tables, slots, trace, events and counts are those of Script's tick with the documents that were read.
 pub tick_exact : {D : Type 0} (device : DiskView D) (laws : Laws) (kept : TicketLaws) (place : Place) (start_room : Option StartRoom) (old new : RunState D) (steps : PassSteps D)
-    → IsPass device place false start_room old steps new → IsLegal old.spool.state → old.spool.dead ≡ false → (IsSome old.told → start_room ≡ None) → fault_in steps.parts ≡ None
+    → IsPass device place false start_room old steps new → IsLegal old.spool.state → old.spool.dead ≡ false → HasStartRoomFor start_room (length (finite.keys old.spool.state.queues)) → fault_in steps.parts ≡ None
     → (t : ChildTrace) (documents : ℕ → List ℕ) → old.told ≡ Some t → HasTickets old.slots t → AreHanded documents steps.parts.launchings
     → IsScriptRound old steps.parts new (tick_of place documents old.spool.state old.slots t)
-tick_exact device laws kept place start_room old new steps made legal alive always none t documents tells has handed =
-    is_script device laws kept place start_room old new steps made legal alive always none t documents tells has handed
+tick_exact device laws kept place start_room old new steps made legal alive fits none t documents tells has handed =
+    is_script device laws kept place start_room old new steps made legal alive fits none t documents tells has handed

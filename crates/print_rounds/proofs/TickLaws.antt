@@ -1,6 +1,7 @@
 -- A tick is a call of a StageHistory, with all its clauses.
-use Rattle.std.proofs.Common.{◌≡◌, ◌⊎◌, inl, inr, ℕ, ◌≤◌, Bool, not, ◌&&◌, ◌||◌, true, false, cond, ◌==◌, List, [], ◌∷◌, length, map, Option, Some, None, Result, refl, sym, ap, subst, ◌∙◌, append-nil, arith}
-use Rattle.std.specs.Prelude.{◌↔◌, IsSome}
+use Rattle.std.proofs.Common.{◌≡◌, ◌⊎◌, inl, inr, ℕ, ◌+◌, ◌-◌, ◌≤◌, Bool, not, ◌&&◌, ◌||◌, true, false, cond, ◌==◌, List, [], ◌∷◌, length, map, Option, Some, None, Result, refl, sym, ap, subst, ◌∙◌, append-nil, arith}
+use Rattle.std.specs.Prelude.{◌↔◌, IfSome, IsSome, IsSomeAnd}
+use Rattle.std.proofs.Math.Nat.{min-le_right}
 use Rattle.std.specs.FinMap as finite
 use Rattle.std.proofs.lemmas.Bool.{both_ways}
 use Rattle.std.proofs.lemmas.List.{length-map}
@@ -12,10 +13,10 @@ use Rattle.job_table.specs.Stages.{Key, IsIn, IsSpent}
 use Rattle.spool_core.specs.Image.{HasDocuments}
 use Rattle.spool_core.specs.OpenSpools.{OpenSpool}
 use Rattle.filter_args.specs.declared.place.Place.{Place}
-use Rattle.child_pipeline.specs.StageSlots.{Slots, FinishesFrom, slot_in, with_progress}
+use Rattle.child_pipeline.specs.StageSlots.{Slots, FinishesFrom, IsTicketless, slot_in, with_progress}
 use Rattle.child_pipeline.specs.Tickets.{HasTickets, AreKeptBy}
 use Rattle.child_pipeline.specs.ChildTraces.{ChildTrace, is_in}
-use Rattle.child_pipeline.specs.declared.children.StartRoom.{StartRoom}
+use Rattle.print_rounds.specs.declared.start_room.StartRoom.{StartRoom}
 use Rattle.child_pipeline.specs.declared.runner.Progress.{Progress}
 use Rattle.child_pipeline.specs.declared.runner.Progress.TheVariants.{Ready, Running, Ended}
 use Rattle.print_rounds.specs.Choice.{busy_jobs}
@@ -24,20 +25,22 @@ use Rattle.print_rounds.specs.RunStates.{RunState, run_state, Launching, AreHand
 use Rattle.print_rounds.specs.Finished.{AreDistinct, AllRest}
 use Rattle.print_rounds.specs.StageChecks.{Dropping, IsDropped, AreDroppings, has_child, idle_slots, idle_among, is_stray, runs}
 use Rattle.print_rounds.specs.Passes.{PassSteps, IsPass, IsPassBy, jobs_tended, jobs_left}
-use Rattle.print_rounds.specs.StartLimits.{HasStartRoomFor, rotated}
+use Rattle.print_rounds.specs.StartLimits.{HasStartRoomFor, IsRoomWithin, left_by, room_within, rotated}
+use Rattle.print_rounds.specs.declared.start_room.TickLimits.{TickLimits}
 use Rattle.print_rounds.specs.Rounds.{HasSomeOf, HasSomeWhole, LeavesDocuments, RoundSteps, events_in, tried_in, fault_in}
-use Rattle.print_rounds.specs.RoundTicks.{IsTickOf, IsTickAsked, Finishing, AreFinishings}
+use Rattle.print_rounds.specs.RoundTicks.{IsTickOf, IsTickAsked, Finishing, AreFinishings, count_running}
 use Rattle.print_rounds.specs.StageHistory.{keys_in, IsBegunSlot, IsHeld, IsStageCall}
 use Rattle.print_rounds.specs.declared.outcome.Round.{Round}
 use Rattle.print_rounds.specs.declared.outcome.RoundFault.{RoundFault}
 use Rattle.print_rounds.proofs.AcceptLaws.{all_begun, or_first, or_second}
 use Rattle.print_rounds.proofs.BusyLaws.{all_distinct, idle_rests, part_distinct}
 use Rattle.print_rounds.proofs.CrashLaws.{IsKept, round_part, any_moment, any_whole, lasting, handed}
-use Rattle.print_rounds.proofs.EndLaws.{get_other, get_left, turned, not_first, not_second}
+use Rattle.print_rounds.proofs.CountLaws.{drops_rest, few_running, idle_rest}
+use Rattle.print_rounds.proofs.EndLaws.{ends_rest, get_other, get_left, turned, not_first, not_second}
 use Rattle.print_rounds.proofs.FreeLaws.{get_idle}
 use Rattle.print_rounds.proofs.HoldLaws.{Laws, begun_same, held_current, launches_begun, waited_begun, ends_going}
 use Rattle.print_rounds.proofs.KeyLaws.{accepted_both, starts_accepted, ends_accepted}
-use Rattle.print_rounds.proofs.LaunchLaws.{HasNumbers, some_of}
+use Rattle.print_rounds.proofs.LaunchLaws.{HasNumbers, launches_same, some_of}
 use Rattle.print_rounds.proofs.PartLaws.{IsPart, starts_part, ends_part}
 use Rattle.print_rounds.proofs.PrefixLaws.{after_both}
 use Rattle.print_rounds.proofs.PlaceLaws.{in_turn_few, in_turn_none, in_turn_part, part_once, part_rest}
@@ -229,12 +232,34 @@ module _ {D : Type 0} (device : DiskView D) (laws : Laws) (tickets : TicketLaws)
             handed device lawful old.spool parts.mid parts.startings made.starts parts.launchings parts.read made.reads parts.slots steps.looked parts.endings steps.ended made.ends lives bytes documents is given
             place idle parts.slots old.told parts.told made.launches
 
-    whole_tick : IsKept device old.spool → old.spool.dead ≡ false → (IsSome old.told → start_room ≡ None) → (result : Result Round RoundFault) → result ≡ result_of (counts_of parts.launchings parts.endings) (fault_in parts) → (tick : IsTickOf device place old new result) × (tick.start_room ≡ start_room)
-    whole_tick kept alive always result answer = (
+    -- No more children run than before and were started.
+    more_run : count_running new.slots ≤ count_running old.slots + length parts.launchings
+    more_run =
+        let few = few_running old.slots new.slots (map (λ t. t.job) parts.launchings) (λ k out rests.
+        drops_rest false steps.ended.slots steps.ended.told steps.droppings new.slots new.told made.drops k
+        (ends_rest device seen parts.endings steps.ended made.ends k
+        (λ _. subst IsTicketless (sym (launches_same place parts.mid.state numbers idle old.told parts.launchings parts.slots parts.told made.launches k out)) (idle_rest old.spool.state old.slots k rests)))) in
+        let count = length-map parts.launchings (λ t. t.job) in
+        omega (arith, few, count)
+
+    most_run : (limits : Option TickLimits) → IsRoomWithin limits (count_running old.slots) start_room → IfSome limits (λ l. count_running old.slots ≤ l.most → count_running new.slots ≤ l.most)
+    most_run None within = tt
+    most_run (Some l) within = by_room start_room within few
+      where
+        by_room : (o : Option StartRoom) → IsSomeAnd o (λ p. p.count ≤ left_by l (count_running old.slots)) → HasStartRoomFor o (length parts.launchings) → count_running old.slots ≤ l.most → count_running new.slots ≤ l.most
+        by_room None none fits before = absurd none
+        by_room (Some p) left fits before =
+            let least = min-le_right l.starts (l.most - count_running old.slots) in
+            omega (arith, left, fits, before, least, more_run)
+
+    whole_tick : (limits : Option TickLimits) → IsRoomWithin limits (count_running old.slots) start_room → IsKept device old.spool → old.spool.dead ≡ false → (IsSome old.told → (first : ℕ) × (start_room ≡ room_within limits (count_running old.slots) first None)) → (result : Result Round RoundFault) → result ≡ result_of (counts_of parts.launchings parts.endings) (fault_in parts) → (tick : IsTickOf device place limits old new result) × (tick.start_room ≡ start_room)
+    whole_tick limits within kept alive always result answer = (
       record {
         start_room = start_room;
+        within = within;
         always = always;
         few = few;
+        most = most_run limits within;
         steps = steps;
         made = made;
         answer = answer;
@@ -254,7 +279,7 @@ module _ {D : Type 0} (device : DiskView D) (laws : Laws) (tickets : TicketLaws)
         turn = λ t tells has. tick_turn t tells has alive;
         read = some_handed parts.launchings once;
         handed = own_handed;
-        exact = λ none t documents tells has given. tick_exact device laws tickets place start_room old new steps made legal alive always none t documents tells has given;
+        exact = λ fits none t documents tells has given. tick_exact device laws tickets place start_room old new steps made legal alive fits none t documents tells has given;
       },
       refl,
     )
@@ -265,16 +290,28 @@ module _ {D : Type 0} (device : DiskView D) (lawful : IsLawful device) (laws : L
   abbrev still_part : IsPart device old.spool [] [] old.spool
   still_part = starts_part device old.spool [] old.spool refl
 
+  -- Nothing has changed.
+  unmoved_count : (limits : Option TickLimits) → new ≡ old → IfSome limits (λ l. count_running old.slots ≤ l.most → count_running new.slots ≤ l.most)
+  unmoved_count None same = tt
+  unmoved_count (Some l) same = λ before. subst (λ (c : RunState D). count_running c.slots ≤ l.most) (sym same) before
+
   -- The pass is a tick.
-  module _ (always : IsSome old.told → start_room ≡ None) (asked : Option StartRoom → Type 0) (has : asked start_room) (kept : IsKept device old.spool) where
-    by_pass : (b : Bool) → old.spool.dead ≡ b → IsPassBy device place false start_room old b new result → IsTickAsked asked device place old b new result
+  module _ (limits : Option TickLimits) (within : IsRoomWithin limits (count_running old.slots) start_room) (always : IsSome old.told → (first : ℕ) × (start_room ≡ room_within limits (count_running old.slots) first None))
+      (asked : Option StartRoom → Type 0) (has : asked start_room) (kept : IsKept device old.spool) where
+    by_pass : (b : Bool) → old.spool.dead ≡ b → IsPassBy device place false start_room old b new result → IsTickAsked asked device place limits old b new result
     by_pass true died pass = pass
     by_pass false alive (inl unbegun) = inl unbegun
     by_pass false alive (inr passed) =
-        let whole = whole_tick device laws tickets place start_room old new passed.steps passed.made legal lawful kept alive always result passed.answer in
+        let whole = whole_tick device laws tickets place start_room old new passed.steps passed.made legal lawful limits within kept alive always result passed.answer in
         inr (whole.0, subst asked (sym whole.1) has)
 
-    pub passed_tick : IsPassBy device place false start_room old old.spool.dead new result → IsTickAsked asked device place old old.spool.dead new result
+    -- No more children run than may at once.
+    pub passed_most : (b : Bool) → IsPassBy device place false start_room old b new result → IfSome limits (λ l. count_running old.slots ≤ l.most → count_running new.slots ≤ l.most)
+    passed_most true pass = unmoved_count limits pass.1
+    passed_most false (inl unbegun) = unmoved_count limits unbegun.1
+    passed_most false (inr passed) = most_run device laws tickets place start_room old new passed.steps passed.made legal lawful limits within
+
+    pub passed_tick : IsPassBy device place false start_room old old.spool.dead new result → IsTickAsked asked device place limits old old.spool.dead new result
     passed_tick pass = by_pass old.spool.dead refl pass
 
   unmoved : new ≡ old → (device.failures old.spool.disk ≤ device.failures new.spool.disk) × (IsSome (device.bytes new.spool.disk) ↔ IsSome (device.bytes old.spool.disk))

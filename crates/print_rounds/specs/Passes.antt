@@ -6,7 +6,7 @@ use Rattle.spool_core.specs.OpenSpools.{OpenSpool}
 use Rattle.filter_args.specs.declared.place.Place.{Place}
 use Rattle.child_pipeline.specs.StageSlots.{Slots}
 use Rattle.child_pipeline.specs.ChildTraces.{ChildTrace}
-use Rattle.child_pipeline.specs.declared.children.StartRoom.{StartRoom}
+use Rattle.print_rounds.specs.declared.start_room.StartRoom.{StartRoom}
 use Rattle.print_rounds.specs.Counts.{counts_of, result_of}
 use Rattle.print_rounds.specs.RunStates.{RunState, run_state, AreStartings, AreLaunchings, AreReads, AreEndings}
 use Rattle.print_rounds.specs.StageChecks.{Look, AreLooks, Dropping, AreDroppings, ripe_in, idle_slots, tended_jobs, idle_among, strays}

@@ -1,5 +1,5 @@
 -- A tick: a round that waits for no child.
-use Rattle.std.specs.Prelude.{◌≡◌, ◌⊎◌, ℕ, ◌+◌, length, Bool, true, false, cond, List, [], ◌∷◌, IsSome, Option, None, Some, Result, Err}
+use Rattle.std.specs.Prelude.{◌≡◌, ◌≤◌, ◌⊎◌, ℕ, ◌+◌, length, Bool, true, false, cond, List, [], ◌∷◌, IsSome, IfSome, Option, None, Some, Result, Err}
 use Rattle.std.specs.List.{filter}
 use Rattle.std.specs.FinMap as finite
 use Rattle.spool_disk.specs.Disk.{DiskView, LeavesOnly}
@@ -10,12 +10,13 @@ use Rattle.filter_args.specs.declared.place.Place.{Place}
 use Rattle.child_pipeline.specs.StageSlots.{Slots, FinishesStage}
 use Rattle.child_pipeline.specs.Tickets.{HasTickets, AreKeptBy}
 use Rattle.child_pipeline.specs.ChildTraces.{ChildTrace, looks_next, after_look}
-use Rattle.child_pipeline.specs.declared.children.StartRoom.{StartRoom}
+use Rattle.print_rounds.specs.declared.start_room.StartRoom.{StartRoom}
 use Rattle.print_rounds.specs.RunStates.{RunState, AreHanded}
 use Rattle.print_rounds.specs.Counts.{AreAcknowledged, counts_of, started_in, result_of}
 use Rattle.print_rounds.specs.StageChecks.{idle_slots, free_queues, tended_jobs, idle_among, runs, strays}
 use Rattle.print_rounds.specs.Passes.{PassSteps, IsPass}
-use Rattle.print_rounds.specs.StartLimits.{HasStartRoomFor}
+use Rattle.print_rounds.specs.StartLimits.{HasStartRoomFor, IsRoomWithin, room_within}
+use Rattle.print_rounds.specs.declared.start_room.TickLimits.{TickLimits}
 use Rattle.print_rounds.specs.Rounds.{HasSomeOf, HasSomeWhole, LeavesDocuments, IsScriptRound, IsUnbegun, events_in, tried_in, fault_in}
 use Rattle.print_rounds.specs.RoundScript.{Play, plays, play_start, play_launch, play_end, play_from, waited}
 use Rattle.print_rounds.specs.StageHistory.{IsStageCall}
@@ -73,13 +74,24 @@ tick_of place documents s slots told =
 
 -- ## A tick, also if something fails
 
-pub record IsTickOf {D : Type 0} (device : DiskView D) (place : Place) (old new : RunState D) (result : Result Round RoundFault) : Type 0 where
-  -- How many children may be started. For children that report, nothing bounds the starts.
+-- The jobs with running children, in ascending order of number.
+abbrev pub running_jobs : Slots → List ℕ
+running_jobs slots = filter (runs slots) (finite.keys slots)
+
+-- The number of running children.
+abbrev pub count_running : Slots → ℕ
+count_running slots = length (running_jobs slots)
+
+pub record IsTickOf {D : Type 0} (device : DiskView D) (place : Place) (limits : Option TickLimits) (old new : RunState D) (result : Result Round RoundFault) : Type 0 where
+  -- How many children may be started. For children that report, the limits alone bound the starts.
   pub start_room : Option StartRoom
-  pub always : IsSome old.told → start_room ≡ None
+  pub within : IsRoomWithin limits (count_running old.slots) start_room
+  pub always : IsSome old.told → (first : ℕ) × (start_room ≡ room_within limits (count_running old.slots) first None)
   pub steps : PassSteps D
   pub made : IsPass device place false start_room old steps new
   pub few : HasStartRoomFor start_room (length steps.parts.launchings)
+  -- No more children run than may at once.
+  pub most : IfSome limits (λ l. count_running old.slots ≤ l.most → count_running new.slots ≤ l.most)
   pub answer : result ≡ result_of (counts_of steps.parts.launchings steps.parts.endings) (fault_in steps.parts)
   -- The events acknowledged in it are accepted in order, and the table is the one after them.
   pub accepted : AreAccepted old.spool.state (events_in old steps.parts)
@@ -103,25 +115,21 @@ pub record IsTickOf {D : Type 0} (device : DiskView D) (place : Place) (old new 
   -- The documents that were read are jobs' documents. If the disk reports its bytes, they are the documents in the bytes.
   pub read : (documents : ℕ → List ℕ) × AreHanded documents steps.parts.launchings
   pub handed : (bytes : List ℕ) (documents : ℕ → List ℕ) → device.bytes old.spool.disk ≡ Some bytes → HasDocuments old.spool.state documents bytes → AreHanded documents steps.parts.launchings
-  -- If nothing failed and the children report, it is Script's tick with the documents that were read.
-  pub exact : fault_in steps.parts ≡ None → (t : ChildTrace) (documents : ℕ → List ℕ) → old.told ≡ Some t → HasTickets old.slots t → AreHanded documents steps.parts.launchings →
+  -- If there is room for each queue, nothing failed and the children report, it is Script's tick with the documents that were read.
+  pub exact : HasStartRoomFor start_room (length (finite.keys old.spool.state.queues)) → fault_in steps.parts ≡ None → (t : ChildTrace) (documents : ℕ → List ℕ) → old.told ≡ Some t → HasTickets old.slots t → AreHanded documents steps.parts.launchings →
       IsScriptRound old steps.parts new (tick_of place documents old.spool.state old.slots t)
 
 -- A spool that has met a device error does nothing.
-abbrev pub IsTickBy : {D : Type 0} → DiskView D → Place → RunState D → Bool → RunState D → Result Round RoundFault → Type 0
-IsTickBy device place old true new result = (result ≡ Err ends.Dead) × (new ≡ old)
-IsTickBy device place old false new result = IsUnbegun old new result ⊎ IsTickOf device place old new result
+abbrev pub IsTickBy : {D : Type 0} → DiskView D → Place → Option TickLimits → RunState D → Bool → RunState D → Result Round RoundFault → Type 0
+IsTickBy device place limits old true new result = (result ≡ Err ends.Dead) × (new ≡ old)
+IsTickBy device place limits old false new result = IsUnbegun old new result ⊎ IsTickOf device place limits old new result
 
 -- A tick that uses the room that the children were asked for.
-abbrev pub IsTickAsked : {D : Type 0} → (Option StartRoom → Type 0) → DiskView D → Place → RunState D → Bool → RunState D → Result Round RoundFault → Type 0
-IsTickAsked asked device place old true new result = (result ≡ Err ends.Dead) × (new ≡ old)
-IsTickAsked asked device place old false new result = IsUnbegun old new result ⊎ ((made : IsTickOf device place old new result) × asked made.start_room)
+abbrev pub IsTickAsked : {D : Type 0} → (Option StartRoom → Type 0) → DiskView D → Place → Option TickLimits → RunState D → Bool → RunState D → Result Round RoundFault → Type 0
+IsTickAsked asked device place limits old true new result = (result ≡ Err ends.Dead) × (new ≡ old)
+IsTickAsked asked device place limits old false new result = IsUnbegun old new result ⊎ ((made : IsTickOf device place limits old new result) × asked made.start_room)
 
 -- ## At the end
-
--- The jobs with running children, in ascending order of number.
-abbrev pub running_jobs : Slots → List ℕ
-running_jobs slots = filter (runs slots) (finite.keys slots)
 
 -- A child is finished, and its finish stored in its slot.
 pub record Finishing : Type 0 where

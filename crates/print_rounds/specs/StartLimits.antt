@@ -1,13 +1,44 @@
 -- The starts if the children have room for a few only.
-use Rattle.std.specs.Prelude.{◌≡◌, ◌⊎◌, ◌≤◌, ◌<◌, ◌+◌, ◌-◌, ◌%◌, ℕ, nat_le, Bool, true, not, ◌&&◌, cond, List, [], ◌∷◌, ◌++◌, length, take, drop, slice_index_or, Option, None, Some, IfSome, is_some}
+use Rattle.std.specs.Prelude.{◌≡◌, ◌⊎◌, ◌≤◌, ◌<◌, ◌+◌, ◌-◌, ◌%◌, ℕ, min, nat_le, Bool, true, not, ◌&&◌, cond, List, [], ◌∷◌, ◌++◌, length, take, drop, slice_index_or, Option, None, Some, IfSome, IsSomeAnd, is_some}
 use Rattle.std.specs.List.{filter}
 use Rattle.std.specs.FinMap as finite
 use Rattle.spool_types.specs.State.{State}
 use Rattle.job_table.specs.Attempts.{next_of}
 use Rattle.child_pipeline.specs.StageSlots.{Slots}
-use Rattle.child_pipeline.specs.declared.children.StartRoom.{StartRoom}
+use Rattle.print_rounds.specs.declared.start_room.StartRoom.{StartRoom}
+use Rattle.print_rounds.specs.declared.start_room.TickLimits.{TickLimits}
 use Rattle.print_rounds.specs.Choice.{busy_jobs}
 use Rattle.print_rounds.specs.StageChecks.{free_queues, idle_among}
+
+-- ## Room
+
+-- How many children may be started while this number runs.
+abbrev pub left_by : TickLimits → ℕ → ℕ
+left_by l running = min l.starts (l.most - running)
+
+abbrev pub lesser : ℕ → Option ℕ → ℕ
+lesser left None = left
+lesser left (Some n) = min left n
+
+-- The room that the limits leave, if the children have room for this number of starts, or bound none.
+abbrev pub room_within : Option TickLimits → ℕ → ℕ → Option ℕ → Option StartRoom
+room_within None running first None = None
+room_within None running first (Some n) = Some (record { count = n; first = first })
+room_within (Some l) running first answer = Some (record { count = lesser (left_by l running) answer; first = first })
+
+-- The limits leave no room.
+abbrev pub IsFull : Option TickLimits → ℕ → Type 0
+IsFull None running = ⊥
+IsFull (Some l) running = left_by l running ≡ 0
+
+-- The room of a tick. The children are asked for theirs, unless the limits leave none.
+abbrev pub IsRoomBy : (Option ℕ → Type 0) → Option TickLimits → ℕ → ℕ → Option StartRoom → Type 0
+IsRoomBy asked limits running first room =
+    (IsFull limits running × (room ≡ Some (record { count = 0; first = first }))) ⊎ ((answer : Option ℕ) × asked answer × (room ≡ room_within limits running first answer))
+
+-- The room is within the limits.
+abbrev pub IsRoomWithin : Option TickLimits → ℕ → Option StartRoom → Type 0
+IsRoomWithin limits running room = IfSome limits (λ l. IsSomeAnd room (λ p. p.count ≤ left_by l running))
 
 -- There is room for n starts, or nothing bounds them.
 abbrev pub HasStartRoomFor : Option StartRoom → ℕ → Type 0

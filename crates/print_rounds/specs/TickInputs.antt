@@ -18,6 +18,7 @@ use Rattle.print_rounds.specs.Inputs.{AnsweredOrder, IsRight, HaveDocuments, Are
 use Rattle.print_rounds.specs.StageChecks.{Dropping}
 use Rattle.print_rounds.specs.Passes.{PassSteps}
 use Rattle.print_rounds.specs.RoundTicks.{IsTickOf, Finishing}
+use Rattle.print_rounds.specs.declared.start_room.TickLimits.{TickLimits}
 use Rattle.print_rounds.specs.StageHistory.{key_in}
 use Rattle.print_rounds.specs.declared.outcome.Launch.{Launch}
 use Rattle.print_rounds.specs.declared.outcome.Launch.TheVariants.{Unlaunched, Launched, NoMemory, Disk, Dead}
@@ -136,6 +137,7 @@ pub record FinishesHandOn (earlier : List AnsweredOrder) (t : ChildTrace) (slots
 
 -- A tick, from its call to its return.
 pub record TickCall (D : Type 0) : Type 0 where
+  pub limits : Option TickLimits
   pub old : RunState D
   pub result : Result Round RoundFault
   pub new : RunState D
@@ -145,7 +147,7 @@ pub record TickCall (D : Type 0) : Type 0 where
 abbrev pub AreTicks : {D : Type 0} → DiskView D → Place → Slots → Option ChildTrace → List (TickCall D) → Type 0
 AreTicks device place slots told [] = Unit {0}
 AreTicks device place slots told (c ∷ cs) =
-    (c.old.slots ≡ slots) × (c.old.told ≡ told) × IsLegal c.old.spool.state × IsTickOf device place c.old c.new c.result × AreTicks device place c.new.slots c.new.told cs
+    (c.old.slots ≡ slots) × (c.old.told ≡ told) × IsLegal c.old.spool.state × IsTickOf device place c.limits c.old c.new c.result × AreTicks device place c.new.slots c.new.told cs
 
 -- Each of them continues from the answers of those before it.
 abbrev pub AreHandedOn : {D : Type 0} (device : DiskView D) (place : Place) (slots : Slots) (told : Option ChildTrace) → List AnsweredOrder → ChildTrace → (cs : List (TickCall D)) → AreTicks device place slots told cs → Type 0

@@ -20,6 +20,7 @@ ghost use Rattle.print_rounds.specs.Rounds.{IsRoundOf};
 ghost use Rattle.print_rounds.specs.RoundScript.{round_of};
 ghost use Rattle.print_rounds.specs.RoundTicks.{AreFinishings, Finishing, IsTickOf, tick_of};
 ghost use Rattle.print_rounds.specs.StageHistory.{IsStageCall, keys_in};
+ghost use Rattle.print_rounds.specs.declared.start_room.TickLimits.{TickLimits as LimitsOf};
 ghost use Rattle.print_rounds.specs.declared.outcome.Round.{Round as RoundOf};
 ghost use Rattle.print_rounds.specs.declared.outcome.RoundFault.{RoundFault as FaultOf};
 
@@ -52,9 +53,9 @@ pub fn rounds_hand_on<D: Disk>()
 pub fn ticks_hand_on<D: Disk>()
     // If the slots retain the outputs of earlier orders and their children run the slots' stages, each order of a tick is passed the right
     // input, and both are true again after the tick.
-    ensures one { (place : Place) (earlier : List AnsweredOrder) (t : ChildTrace) (old new : RunState D) (result : Result RoundOf FaultOf) →
+    ensures one { (place : Place) (limits : Option LimitsOf) (earlier : List AnsweredOrder) (t : ChildTrace) (old new : RunState D) (result : Result RoundOf FaultOf) →
         IsLegal old.spool.state → old.told ≡ Some t → HasTickets old.slots t → AreKeptFrom earlier old.slots → RunTheirStages t.orders old.slots →
-        (r : IsTickOf D.device place old new result) → TickHandsOn earlier t old r.steps new }
+        (r : IsTickOf D.device place limits old new result) → TickHandsOn earlier t old r.steps new }
 
     // The same for the end, when all children are waited for.
     ensures finishes { (earlier : List AnsweredOrder) (t : ChildTrace) (slots : Slots) (told : Option ChildTrace) (fs : List Finishing) (new : Slots) (told_then : Option ChildTrace) →

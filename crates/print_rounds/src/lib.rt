@@ -13,10 +13,11 @@
 //! 5. If a job has left its stage (it was canceled, or its attempt was abandoned), a child that still runs for it keeps its slot until it
 //!    has ended, and its queue starts nothing. So no second backend writes to its device. The end of this child is not reported.
 //!
-//! If the children have room for a few starts only (`Children::start_room`), a tick starts at most that many, so that no job loses an
-//! attempt (`specs/StartLimits.antt`). Processing jobs that wait for a child come first, then queues with a next job, in order from `first`
-//! on. A tick asks for this room once, before the first start. A round limits nothing, and requires that no child runs when it begins:
-//! [`finish_children`] waits for those that a tick has left.
+//! A tick has limits: how many children may run at once, and how many it may start ([`TickLimits`], `specs/StartLimits.antt`). If these
+//! leave room, it asks the children for theirs (`Children::start_room`) once, before the first start, so that no job loses an attempt for
+//! lack of a resource. Processing jobs that wait for a child come first, then queues with a next job, in order from the position `turn` on.
+//! If some of them were left out, `turn` becomes the position after the last one that was not. A round limits nothing, and requires that no
+//! child runs when it begins: [`finish_children`] waits for those that a tick has left.
 //!
 //! # Promises
 //!
@@ -30,16 +31,18 @@
 //!   them that are still in their stages, and of finishes stored before, and no others.
 //! - *Starts in a tick*: if there is room for a child of each queue, the queues that start are exactly those without a running child, and
 //!   the stages those of the processing jobs without one (`AreChosen`: `all`). Otherwise processing jobs come first, then queues with a
-//!   next job, as far as room is left (`few`, `full`). In any case a tick uses the room that it asked for (`IsTickAsked`), and calls
-//!   `start` at most that many times (`few`).
+//!   next job, as far as room is left (`few`, `full`). In any case a tick uses the room that its limits and the children leave
+//!   (`IsTickAsked`, `IsRoomBy`; of children that report the limits alone, `always`), and calls `start` at most that many times (`few`).
+//! - *Limits*: if at most as many children run before a tick as may at once, at most as many run after it (`most`, `count_running`).
+//!   [`count_free`] returns how many more may run.
 //! - *Crash*: unless the device had failed before, a crash at any moment of a pass leaves the table after the first of the events that were
 //!   tried in it, some or all (`any_moment`). These are the acknowledged ones, followed by the event in progress when the device failed, if
 //!   it did (`tried_in`, `all_acknowledged`, `in_hand`). A pass without a fault leaves a device that works (`works`). The documents stay as
 //!   they are, in a crash (`any_whole`) and at the end (`lasting`), since no event of a pass sends anything. No job is run twice in a round
 //!   (`once`). The device's count of failures does not fall (`later`), and a disk that reports its bytes still reports them (`told`).
-//! - *ExactScript*: if nothing failed and the children report, the table, the slots, the children's trace, the events and the counts are
-//!   those of the definition, with the documents that were read (`round_of`, `tick_of`, `exact`). A round is the tick whose checks all
-//!   report that the child has ended ([`rounds_are_ticks`]).
+//! - *ExactScript*: if nothing failed, the children report and a tick has room for each queue, the table, the slots, the children's trace,
+//!   the events and the counts are those of the definition, with the documents that were read (`round_of`, `tick_of`, `exact`). A round is
+//!   the tick whose checks all report that the child has ended ([`rounds_are_ticks`]).
 //! - *EachFinishedOnce*: whatever failed, each child that a round started is finished once and no other is, and every start came before the
 //!   first finish (`finished`). Over ticks the running children of the trace are exactly those whose tickets the slots have: each child
 //!   that was started runs or was finished once (`tickets`). [`finish_children`] finishes each child that runs, and applies no event
@@ -115,4 +118,5 @@ pub use laws::{
 };
 pub use outcome::{Launch, Report, Round, RoundFault};
 pub use rounds::round;
+pub use start_room::{StartRoom, TickLimits, count_free};
 pub use ticks::{finish_children, tick};

@@ -9,9 +9,9 @@ use crate::launches::launch_all;
 use crate::looks::{drop_strays, list_ripe};
 use crate::outcome::{Round, RoundFault};
 use crate::slots::free_idle;
-use crate::start_room::{choose_jobs, hold_back};
+use crate::start_room::{StartRoom, choose_jobs, hold_back};
 use crate::starts::start_free;
-use child_pipeline::{Children, Runner, StartRoom};
+use child_pipeline::{Children, Runner};
 use filter_args::Place;
 use spool_core::Spool;
 use spool_disk::Disk;
@@ -58,7 +58,8 @@ impl Lists {
 
 // Frees the slots that neither are current nor have a running child. Then it starts the next job of each queue without a running child, and
 // a stage of each processing job without one, as far as there is room for starts. Then it reports the ends: of all children, which it waits
-// for, or of the children that a check found ended.
+// for, or of the children that a check found ended. If queues were left out for lack of room, `turn` becomes the position after the last
+// queue that was not.
 pub(crate) fn pass<D: Disk, C: Children>(
     alloc: Global,
     place: &Place,
@@ -67,6 +68,7 @@ pub(crate) fn pass<D: Disk, C: Children>(
     children: &mut C,
     waits: bool,
     start_room: Option<StartRoom>,
+    turn: &mut usize,
 ) -> Result<Round, RoundFault>
     ensures { IsPassBy D.device place.now waits start_room (run_state spool.old runner.old (C.tells children.old)) spool.old.dead (run_state spool.new runner.new (C.tells children.new)) result }
 {
@@ -80,8 +82,9 @@ pub(crate) fn pass<D: Disk, C: Children>(
     let table = spool.table();
     free_idle(table, runner);
     mark_blocked(table, runner, &mut lists.blocked);
-    hold_back(
+    *turn = hold_back(
         start_room,
+        *turn,
         table,
         runner,
         &mut lists.blocked,

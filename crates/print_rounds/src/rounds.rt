@@ -41,5 +41,6 @@ pub fn round<D: Disk, C: Children>(
     legal_tables_stay_legal();
     spent_stages_stay_spent();
     versions_rise();
-    pass(alloc, place, spool, runner, children, true, None)
+    let mut turn = 0;
+    pass(alloc, place, spool, runner, children, true, None, &mut turn)
 }

@@ -1,16 +1,89 @@
 //! Which queues and jobs are chosen if the children have room for a few starts only.
-ghost use Rattle.std.specs.Prelude.{◌≡◌, ◌⊎◌, ◌≤◌, ◌<◌, ◌+◌, ◌++◌, ℕ, true, false, [], length, slice_index_or, vec_capacity};
+ghost use Rattle.std.specs.Prelude.{◌≡◌, ◌⊎◌, ◌≤◌, ◌<◌, ◌+◌, ◌-◌, ◌++◌, ℕ, true, false, [], None, IsSome, length, slice_index_or, vec_capacity};
 ghost use Rattle.std.specs.FinMap as finite;
 ghost use Rattle.print_rounds.specs.StageChecks.{free_queues};
 ghost use Rattle.print_rounds.specs.Passes.{unblocked};
-ghost use Rattle.print_rounds.specs.StartLimits.{AreChosen, can_start, rotated, opened_in, waiting_jobs};
+ghost use Rattle.print_rounds.specs.RoundTicks.{count_running};
+ghost use Rattle.print_rounds.specs.StartLimits.{AreChosen, IsRoomBy, IsRoomWithin, can_start, room_within, rotated, opened_in, waiting_jobs};
 
 use crate::slots::has_child;
 use crate::starts::next_at;
-use child_pipeline::{Children, Runner, StartRoom};
+use child_pipeline::{Children, Runner};
 use job_table::Table;
 use spool_types::JobId;
 use std::mem;
+
+/// The limits of a tick.
+#[derive(Clone, Copy)]
+pub struct TickLimits {
+    /// How many children may run at once.
+    pub most: usize,
+    /// How many children may be started.
+    pub starts: usize,
+}
+
+/// How many children may be started, and the queue of the first choice.
+#[derive(Clone, Copy)]
+pub struct StartRoom {
+    pub count: usize,
+    /// The position of the first queue in the queue order, among the queues in ascending order of name, modulo their number.
+    pub first: usize,
+}
+
+/// Returns how many more children may run, if at most `most` may.
+pub fn count_free<C: Children>(runner: &Runner<C>, most: usize) -> usize
+    ensures { result ≡ most - count_running runner.now }
+{
+    let mut free = most;
+    let mut behind = None;
+    while let Some(job) = runner.next_job(behind) {
+        if has_child(runner, job) {
+            free = free.saturating_sub(1);
+        }
+        behind = Some(job);
+    }
+    free
+}
+
+// Returns how many children a tick may start. The children are asked for their room, which takes a while, unless the limits leave none.
+pub(crate) fn room_of<C: Children>(
+    limits: Option<TickLimits>,
+    runner: &Runner<C>,
+    children: &mut C,
+    first: usize,
+) -> Option<StartRoom>
+    ensures told { C.tells children.new ≡ C.tells children.old }
+    ensures asked { IsRoomBy (λ answer. (then : C) × C.rooms children.old answer then) limits (count_running runner.now) first result }
+    ensures within { IsRoomWithin limits (count_running runner.now) result }
+    ensures always { IsSome (C.tells children.old) → result ≡ room_within limits (count_running runner.now) first None }
+{
+    let Some(limits) = limits else {
+        let count = children.start_room()?;
+        return Some(StartRoom { count, first });
+    };
+    let left = limits.starts.min(count_free(runner, limits.most));
+    if left == 0 {
+        return Some(StartRoom { count: 0, first });
+    }
+    let count = match children.start_room() {
+        Some(count) => left.min(count),
+        None => left,
+    };
+    Some(StartRoom { count, first })
+}
+
+// Returns the position after the last queue in the range that is not blocked, or `turn` if all are blocked.
+fn turn_in(blocked: &[bool], from: usize, to: usize, turn: usize) -> usize
+    requires { to ≤ length blocked.now }
+{
+    let mut turn = turn;
+    for at in from..to {
+        if !blocked[at] {
+            turn = at + 1;
+        }
+    }
+    turn
+}
 
 // Returns the number of processing jobs that wait for a child.
 fn count_waiting<C: Children>(table: &Table, runner: &Runner<C>) -> usize
@@ -68,14 +141,15 @@ fn open_some(
 }
 
 // Blocks the queues that have no room. If there is room for fewer starts than queues, the jobs that wait for a child come first,
-// then queues with a next job, from `first` on.
+// then queues with a next job, from `first` on. It returns the position after the last of them, or `turn` if no queue was left out.
 pub(crate) fn hold_back<C: Children>(
     start_room: Option<StartRoom>,
+    turn: usize,
     table: &Table,
     runner: &Runner<C>,
     blocked: &mut Vec<bool>,
     spare: &mut Vec<bool>,
-)
+) -> usize
     requires count { length blocked.old.items ≡ length (finite.keys table.now.state.queues) }
     requires free { unblocked blocked.old.items (finite.keys table.now.state.queues) ≡ free_queues table.now.state runner.now }
     requires empty { spare.old.items ≡ [] }
@@ -84,11 +158,11 @@ pub(crate) fn hold_back<C: Children>(
     ensures chosen { AreChosen start_room table.now.state runner.now (unblocked blocked.new.items (finite.keys table.now.state.queues)) }
 {
     let Some(start_room) = start_room else {
-        return;
+        return turn;
     };
     let queues = table.queues().len();
     if queues <= start_room.count {
-        return;
+        return turn;
     }
     for _ in 0..queues {
         spare.push_reserved(true);
@@ -100,6 +174,8 @@ pub(crate) fn hold_back<C: Children>(
     let left = open_some(table, blocked, first, queues, left, spare);
     open_some(table, blocked, 0, first, left, spare);
     mem::swap(blocked, spare);
+    let turn = turn_in(blocked, first, queues, turn);
+    turn_in(blocked, 0, first, turn)
 }
 
 // Lists the jobs that have room: all of them, or else `count` jobs from position `first` on and then from the beginning, in the order of

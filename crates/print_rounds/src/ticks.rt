@@ -1,13 +1,15 @@
 //! A tick: a round that waits for no child.
-ghost use Rattle.std.specs.Prelude.{◌≡◌, ◌≤◌, ◌↔◌, List, map, IsSome, Some};
+ghost use Rattle.std.specs.Prelude.{◌≡◌, ◌≤◌, ◌↔◌, List, map, IfSome, IsSome, Some};
 ghost use Rattle.child_pipeline.specs.Tickets.{HasTickets};
 ghost use Rattle.child_pipeline.specs.ChildTraces.{ChildTrace};
 ghost use Rattle.print_rounds.specs.RunStates.{run_state};
 ghost use Rattle.print_rounds.specs.Finished.{HasNoneRunning};
-ghost use Rattle.print_rounds.specs.RoundTicks.{AreFinishings, Finishing, IsFinishedOff, IsTickAsked, running_jobs};
+ghost use Rattle.print_rounds.specs.RoundTicks.{AreFinishings, Finishing, IsFinishedOff, IsTickAsked, count_running, running_jobs};
+ghost use Rattle.print_rounds.specs.StartLimits.{IsRoomBy};
 
 use crate::outcome::{Round, RoundFault};
 use crate::passes::pass;
+use crate::start_room::{TickLimits, room_of};
 use child_pipeline::{Children, Runner, tickets_stay};
 use filter_args::Place;
 use job_table::{legal_tables_stay_legal, spent_stages_stay_spent, versions_rise};
@@ -17,18 +19,24 @@ use std::alloc::Global;
 
 /// Runs one tick, a round that waits for no child. It starts the next job of each queue without a running child, starts a stage of each
 /// processing job without one, and applies the events of the children that have ended. A job that was canceled or abandoned while its child
-/// ran keeps its slot, and its queue starts nothing, until that child has ended. It starts no more children than [`Children::start_room`]
-/// allows. It returns the number of children that it started and of ends that were acknowledged, or its first fault.
+/// ran keeps its slot, and its queue starts nothing, until that child has ended. It starts no more children than the limits and
+/// [`Children::start_room`] allow. Of the queues that could start a job, those from position `turn` on come first; if others were left out,
+/// `turn` becomes the position after the last one. It returns the number of children that it started and of ends that were acknowledged, or
+/// its first fault.
 pub fn tick<D: Disk, C: Children>(
     alloc: Global,
     place: &Place,
     spool: &mut Spool<D>,
     runner: &mut Runner<C>,
     children: &mut C,
+    limits: Option<TickLimits>,
+    turn: &mut usize,
 ) -> Result<Round, RoundFault>
-    ensures tick { IsTickAsked (λ start_room. (then : C) × C.rooms children.old start_room then) D.device place.now (run_state spool.old runner.old (C.tells children.old)) spool.old.dead (run_state spool.new runner.new (C.tells children.new)) result }
+    ensures tick { IsTickAsked (IsRoomBy (λ answer. (then : C) × C.rooms children.old answer then) limits (count_running runner.old) turn.old) D.device place.now limits (run_state spool.old runner.old (C.tells children.old)) spool.old.dead (run_state spool.new runner.new (C.tells children.new)) result }
     ensures later { D.device.failures spool.old.disk ≤ D.device.failures spool.new.disk }
     ensures told { IsSome (D.device.bytes spool.new.disk) ↔ IsSome (D.device.bytes spool.old.disk) }
+    // No more children run than may at once.
+    ensures most { IfSome limits (λ l. count_running runner.old ≤ l.most → count_running runner.new ≤ l.most) }
 {
     // The table is legal and stays legal. No ticket is lost.
     let _legal = spool.table().jobs();
@@ -36,8 +44,10 @@ pub fn tick<D: Disk, C: Children>(
     spent_stages_stay_spent();
     versions_rise();
     tickets_stay();
-    let start_room = children.start_room();
-    pass(alloc, place, spool, runner, children, false, start_room)
+    let start_room = room_of(limits, runner, children, *turn);
+    pass(
+        alloc, place, spool, runner, children, false, start_room, turn,
+    )
 }
 
 /// Waits for each running child. Their finishes stay in their slots, and no event is applied. So each child that was started has been

@@ -2,7 +2,7 @@ use child_pipeline::{Children, Content, Input, Order, Program, Scheme, Texts};
 use log::{Level, Logged};
 use program_lists::ProgramList;
 use spool_runtime::{LogLines, launcher_in};
-use spool_types::{AttemptNumber, Exit, JobId, StageNumber};
+use spool_types::{AttemptNumber, Exit, JobId, QueueName, StageNumber, Uri};
 use std::alloc::Global;
 use std::test::Fail;
 use std::time::{Clock, Duration};
@@ -27,6 +27,8 @@ fn order_of(alloc: Global, job: u32, word: &str) -> Result<Order, Fail> {
         job,
         attempt,
         stage,
+        queue: QueueName::read(alloc, "q")?,
+        uri: Uri::read(alloc, "s:/")?,
         program: Program::Backend(Scheme::new(String::from_str(alloc, "s")?)),
         words: Texts::new(vec![in alloc; word]?),
         environment: Texts::new(Vec::new(alloc)),
@@ -67,7 +69,7 @@ fn ends_with<C: Children>(children: &mut C, ticket: C::Ticket, status: u8) -> bo
 
 // Returns whether four children may be started.
 fn has_room_for_four<C: Children>(children: &mut C) -> bool {
-    matches!(children.start_room(), Some(start_room) if start_room.count == 4)
+    children.start_room() == Some(4)
 }
 
 // Returns whether a poll of a child returns at once, and later polls see its end.

@@ -1,6 +1,6 @@
 ghost use Rattle.std.specs.Prelude.{IsSome, None};
 
-use child_pipeline::{ChildFault, Children, Content, Finish, Order, StartRoom};
+use child_pipeline::{ChildFault, Children, Content, Finish, Grouped, Order};
 use mime_costs::Convs;
 use mime_rules::Types;
 use spool_runtime::{memory_device, open_engine, place_in};
@@ -25,12 +25,17 @@ const SCRIPT: &str = concat!(
 #[derive(Drop)]
 struct OneByOne {
     alloc: Global,
-    turn: usize,
     started: Vec<JobId>,
 }
 
 #[derive(Drop)]
 struct Begun;
+
+impl Grouped for Begun {
+    fn group(&self) -> u32 {
+        0
+    }
+}
 
 impl Children for OneByOne {
     type Ticket = Begun;
@@ -62,10 +67,8 @@ impl Children for OneByOne {
         true
     }
 
-    fn start_room(&mut self) -> Option<StartRoom> {
-        let first = self.turn;
-        self.turn = first.wrapping_add(1);
-        Some(StartRoom { count: 1, first })
+    fn start_room(&mut self) -> Option<usize> {
+        Some(1)
     }
 }
 
@@ -74,7 +77,6 @@ fn started_in(alloc: Global, ticks: usize) -> Result<Vec<u32>, Fail> {
     let disk = memory_device(alloc, 65_536)?;
     let children = OneByOne {
         alloc,
-        turn: 1,
         started: Vec::new(alloc),
     };
     let (types, warnings) = Types::read(alloc, "")?;
@@ -89,7 +91,7 @@ fn started_in(alloc: Global, ticks: usize) -> Result<Vec<u32>, Fail> {
     let mut replies = Vec::new(alloc);
     engine.run(&mut SCRIPT.as_bytes(), &mut replies)?;
     for _ in 0..ticks {
-        match engine.tick() {
+        match engine.tick(None) {
             Ok(_) => {}
             Err(_) => return Err(Fail::from("no tick")),
         }
@@ -105,6 +107,6 @@ fn started_in(alloc: Global, ticks: usize) -> Result<Vec<u32>, Fail> {
 #[test]
 fn queues_take_turns(rt: HostRuntime) -> Result<(), Fail> {
     let jobs = started_in(rt.alloc(), 7)?;
-    assert!(rt; jobs.as_slice() == [3, 5, 1, 4, 6, 2].as_slice());
+    assert!(rt; jobs.as_slice() == [1, 3, 5, 2, 4, 6].as_slice());
     Ok(())
 }

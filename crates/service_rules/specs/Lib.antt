@@ -5,4 +5,3 @@ pub mod ChildPolling
 pub mod Clocks
 pub mod Checkpoints
 pub mod Purges
-pub mod Starts

@@ -1,5 +1,5 @@
-//! The decisions of a service: which clients are connected and served, how long the service waits, when it sends its engine the time, when
-//! it purges jobs and makes checkpoints, and how many children it starts.
+//! The decisions of a service: which clients are connected and served, how long the service waits, when it sends its engine the time, and
+//! when it purges jobs and makes checkpoints.
 //!
 //! Moments, counts and sizes are arguments, so this crate knows no socket, clock or process. `service_loop` calls these functions.
 //!
@@ -31,7 +31,6 @@
 //!   have ended and have no running child. The list begins where its caller chooses. [`swept_to`]: a job number; jobs up to it need no
 //!   further check. [`swept_jobs_are_skipped`]: above it are exactly the jobs still to check. The caller remembers this number, and lowers
 //!   it if a job below it ends.
-//! - [`starts_left`]: the number of children still missing from the limit; none while the launcher is not ready.
 //! - [`bounds::defaults`]: 32 children, a quarter of the room, 500 ended jobs (`children`, `room`, `kept`).
 //!
 //! # Not proved
@@ -54,7 +53,6 @@ mod clocks;
 mod looks;
 mod purges;
 mod slots;
-mod starts;
 mod turns;
 
 pub use checkpoints::{Checkpoint, Room, checkpoints_cost_little, is_wanted, room_in};
@@ -62,5 +60,4 @@ pub use clocks::{Clocks, clock_to_announce, clock_wait};
 pub use looks::{Pause, ends_are_seen_soon, next_look, pause_for, poll_wait};
 pub use purges::{Candidate, Purges, jobs_to_purge, purge_count, swept_jobs_are_skipped, swept_to};
 pub use slots::{Admission, Client, admit, first_to_go};
-pub use starts::starts_left;
 pub use turns::is_served_on;

@@ -16,7 +16,7 @@ use Rattle.side_channel.specs.declared.devices.Device.{Device}
 use Rattle.spool_types.specs.declared.effect.Exit.{Exit}
 use Rattle.spool_types.specs.declared.effect.Exit.TheVariants.{Code, Lost, NoStart, Signal}
 use Rattle.spool_runtime.specs.Shortage.{shortage_of}
-use Rattle.spool_runtime.specs.SideDevice.{device_in, uri_among}
+use Rattle.spool_runtime.specs.SideDevice.{device_in}
 use Rattle.spool_runtime.specs.declared.launcher.Room.{Room}
 use Rattle.spool_runtime.specs.declared.reasons.Reason.{Reason}
 use Rattle.spool_runtime.specs.declared.reasons.Reason.TheVariants.{Refused, Short}
@@ -32,9 +32,9 @@ abbrev pub input_name : List ℕ → Input → List ℕ
 input_name path (inputs.Document content) = codes "/dev/null"
 input_name path (inputs.Bytes content) = path
 
--- The device of the side channel, if there is one: the device of the URI in the variables.
+-- The device of the side channel, if there is one: the device of the order's URI.
 abbrev pub device_for : Programs → Order → Option Device
-device_for list order = option_map (λ (program : ListedProgram). device_in (uri_among order.environment)) list.side
+device_for list order = option_map (λ (program : ListedProgram). device_in order.uri) list.side
 
 -- The end that a status shows: an exit with a code, or a signal. The status of a process that was stopped shows
 -- neither.

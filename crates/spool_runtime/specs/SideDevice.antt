@@ -1,5 +1,5 @@
 -- The device that the options of a URI describe.
-use Rattle.std.specs.Prelude.{ℕ, Bool, true, not, cond, nat_le, List, [], ◌∷◌, length, take, drop, codes, unwrap_or, Option, None, Some, Result, Ok, Err}
+use Rattle.std.specs.Prelude.{ℕ, Bool, true, not, cond, nat_le, List, [], length, codes, unwrap_or, Option, None, Some, Result, Ok, Err}
 use Rattle.std.specs.Str.{bytes_eq}
 use Rattle.line_words.specs.DecimalNumbers.{decimal}
 use Rattle.url.specs.Parts.{Parts}
@@ -49,21 +49,3 @@ device_with options =
 
 abbrev pub device_in : List ℕ → Device
 device_in uri = device_with (options_in uri)
-
--- ---- the URI in the variables
-
-abbrev pub uri_name : List ℕ
-uri_name = codes "DEVICE_URI="
-
--- The text after the name, if the variable begins with the name.
-abbrev pub uri_behind : List ℕ → Option (List ℕ)
-uri_behind variable = cond (bytes_eq (take 11 variable) uri_name) (Some (drop 11 variable)) None
-
-abbrev pub uri_or : List ℕ → Option (List ℕ) → List ℕ
-uri_or rest None = rest
-uri_or rest (Some uri) = uri
-
--- The same for the first variable that begins with the name.
-abbrev pub uri_among : List (List ℕ) → List ℕ
-uri_among [] = []
-uri_among (v ∷ vs) = uri_or (uri_among vs) (uri_behind v)

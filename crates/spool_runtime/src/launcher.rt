@@ -68,10 +68,8 @@ use crate::script::Call;
 use crate::serving::place_in;
 use crate::sessions::{SideLine, SideLines};
 use crate::shortage::{Descriptors, FolderRoom, MOST_WAITS, Patience, shortage_of};
-use crate::side_device::{device_of, uri_in};
-use child_pipeline::{
-    ChildFault, Children, Content, Finish, Grouped, Input, Order, Program, StartRoom, Texts,
-};
+use crate::side_device::device_of;
+use child_pipeline::{ChildFault, Children, Content, Finish, Grouped, Input, Order, Program};
 use filter_args::Place;
 use log::Log;
 use program_fitness::obstacle_of;
@@ -98,10 +96,6 @@ const LONGEST_PAUSE: u64 = 16;
 
 // The longest time between two polls that is reported, in milliseconds.
 const LONGEST_TIME: u128 = 60_000;
-
-// How far `turn` moves at a tick. The upper half of `turn` repeats in step with no number of queues or of ticks, so no
-// queue is passed over every time.
-const STRIDE: usize = 0x9E37_79B9_7F4A_7C15;
 
 // The standard input of a first stage.
 const NOTHING: &str = "/dev/null";
@@ -130,8 +124,6 @@ pub struct Launcher<'a, L, R> {
     served: Option<Instant>,
     // Whether the end of a child could not be known.
     blind: bool,
-    // The upper 32 bits are the queue where the last choice of queues that start a job began.
-    turn: usize,
 }
 
 /// A child that runs, or that has ended and is not finished.
@@ -200,7 +192,6 @@ impl<'a, L: Log, R: Files<File = File> + Net + Processes + Clock + AllocGlobal> 
             sides: SideLines::new(rt.alloc()),
             served: None,
             blind: false,
-            turn: 0,
         }
     }
 
@@ -336,7 +327,7 @@ impl<'a, L: Log, R: Files<File = File> + Net + Processes + Clock + AllocGlobal> 
         if self.list.side().is_none() {
             return Ok(None);
         }
-        let device = device_of(self.rt.alloc(), uri_in(order.environment.as_slice()))?;
+        let device = device_of(self.rt.alloc(), order.uri.as_str())?;
         let line = SideLine::bind(self.rt, paths.side.as_str(), order.job, device)?;
         Ok(Some(line))
     }
@@ -350,21 +341,21 @@ impl<'a, L: Log, R: Files<File = File> + Net + Processes + Clock + AllocGlobal> 
 
     ghost number = { λ _. 0 };
 
-    ghost rooms = { λ _ start_room _. IsSomeAnd start_room (λ p. p.count ≤ 4) };
+    ghost rooms = { λ _ start_room _. IsSomeAnd start_room (λ n. n ≤ 4) };
 
     fn start(&mut self, order: Order) -> Result<RunningChild<R::Started>, ChildFault> {
-        self.patience.begin(queue_in(order.environment.as_slice()));
+        self.patience.begin(order.queue.as_str());
         self.descriptors.take();
         let started = self.start_patiently(&order);
         let Order {
             job,
             attempt,
             stage,
+            queue,
             program,
-            environment,
             ..
         } = order;
-        self.patience.pass(queue_variable(environment));
+        self.patience.pass(queue);
         let run = StageRun {
             job,
             attempt,
@@ -405,16 +396,14 @@ impl<'a, L: Log, R: Files<File = File> + Net + Processes + Clock + AllocGlobal> 
         !is_running(&mut ticket.begun.child)
     }
 
-    fn start_room(&mut self) -> Option<StartRoom> {
-        self.turn = self.turn.wrapping_add(STRIDE);
+    fn start_room(&mut self) -> Option<usize> {
         self.patience.hurry();
         let count = if self.blind || self.patience.is_short(self.rt) || !self.has_folder_room() {
             0
         } else {
             self.descriptors.count_starts(self.rt)
         };
-        let first = self.turn >> 32;
-        Some(StartRoom { count, first })
+        Some(count)
     }
 }
 
@@ -548,27 +537,6 @@ fn refusal_of(error: &io::Error) -> Reason
         Some(shortage) => Reason::Short(shortage),
         None => Reason::Refused,
     }
-}
-
-// The variable with the name of the queue, among those of a child.
-const QUEUE: &str = "PRINTER=";
-
-fn queue_in(environment: &[String]) -> &str {
-    match environment
-        .iter()
-        .find(|variable| variable.starts_with(QUEUE))
-    {
-        Some(variable) => variable.as_str(),
-        None => "",
-    }
-}
-
-// Returns the same variable, owned.
-fn queue_variable(environment: Texts) -> Option<String> {
-    environment
-        .into_vec()
-        .into_iter()
-        .find(|variable| variable.starts_with(QUEUE))
 }
 
 // Returns the finish of a child that ended with this status and wrote these files.

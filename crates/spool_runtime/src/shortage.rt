@@ -8,6 +8,7 @@ ghost use Rattle.std.specs.IoError.{error_kind, raw_os_error};
 ghost use Rattle.spool_runtime.specs.Shortage.{begins_round, short_number, shortage_of};
 
 use crate::child_files::make_file_of;
+use spool_types::QueueName;
 use std::fs::{self, File, Files};
 use std::io::ErrorKind;
 use std::time::{Clock, Duration, Instant};
@@ -206,8 +207,8 @@ pub(crate) struct Patience {
     left: u32,
     // When a start failed for a shortage, if no child was finished since.
     failed: Option<Instant>,
-    // The variable with the queue of the last start of this round.
-    last: Option<String>,
+    // The queue of the last start of this round.
+    last: Option<QueueName>,
     // Whether starts do not wait, since the starts are those of a tick.
     hurried: bool,
 }
@@ -261,8 +262,8 @@ impl Patience {
     }
 
     /// Ends the start for this queue.
-    pub fn pass(&mut self, queue: Option<String>) {
-        self.last = queue;
+    pub fn pass(&mut self, queue: QueueName) {
+        self.last = Some(queue);
     }
 
     /// Waits once, unless this round's starts have waited enough. Returns whether it waited.

@@ -8,10 +8,10 @@
 //!
 //! If two options have the same name, the last one counts. An option with an invalid value has its default. All have
 //! their defaults if the URI or its options cannot be parsed.
-ghost use Rattle.std.specs.Prelude.{◌≡◌, IfOk, map, string_bytes};
+ghost use Rattle.std.specs.Prelude.{◌≡◌, IfOk};
 ghost use Rattle.std.specs.Option.{option_map};
 ghost use Rattle.line_words.specs.DecimalNumbers.{decimal};
-ghost use Rattle.spool_runtime.specs.SideDevice.{device_in, flag_in, id_in, options_in, state_in, uri_among, uri_behind};
+ghost use Rattle.spool_runtime.specs.SideDevice.{device_in, flag_in, id_in, options_in, state_in};
 
 use device_options::{last_value, options_or_none};
 use device_uri::{DeviceOption, DeviceUri, UriFault};
@@ -19,30 +19,8 @@ use line_words::decimal;
 use side_channel::{Device, DeviceId};
 use std::alloc::{AllocError, Global};
 
-// The variable with the URI.
-const URI: &str = "DEVICE_URI=";
-
 // The state of a device that specifies none: it is ready.
 const ONLINE: u8 = 1;
-
-/// Returns the URI among the variables of a child. Each child has one.
-pub(crate) fn uri_in(environment: &[String]) -> &str
-    ensures { result.now ≡ uri_among (map string_bytes environment.now) }
-{
-    for variable in environment {
-        if let Some(uri) = uri_of(variable.as_str()) {
-            return uri;
-        }
-    }
-    ""
-}
-
-// Returns the value of a variable, if it is the variable with the URI.
-fn uri_of(variable: &str) -> Option<&str>
-    ensures { option_map (λ uri. uri.now) result ≡ uri_behind variable.now }
-{
-    variable.strip_prefix(URI)
-}
 
 /// Returns the device of a URI.
 pub(crate) fn device_of(alloc: Global, uri: &str) -> Result<Device, AllocError>

@@ -2,8 +2,8 @@ use Rattle.print_rounds.proofs.HandedOnLaws.{finishes_hand, tick_hands, ticks_ha
 use Rattle.print_rounds.proofs.laws.ticks_hand_on.Goals as goal
 
 pub returns-clause-one : goal.returns-clause-one
-returns-clause-one g c = λ place earlier t old new result legal tells tickets kept run r.
-    tick_hands g.D.Disk.device c.legal_tables_stay_legal.ensures.stays place earlier t old new result legal tells tickets kept run r
+returns-clause-one g c = λ place limits earlier t old new result legal tells tickets kept run r.
+    tick_hands g.D.Disk.device c.legal_tables_stay_legal.ensures.stays place limits earlier t old new result legal tells tickets kept run r
 
 pub returns-clause-finishes : goal.returns-clause-finishes
 returns-clause-finishes g c = λ earlier t slots told fs new told_then tells tickets kept run finishes.

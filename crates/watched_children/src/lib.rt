@@ -1,0 +1,21 @@
+//! Children whose starts and ends are logged.
+//!
+//! [`WatchedChildren`] wraps other children. It logs a line for each start and each end, and after an end with another status than 0 the
+//! last lines of the child's standard error. Everything else it passes on.
+//!
+//! # Promises
+//!
+//! - *Nothing changes on the way*: the trace of the wrapper is the trace of the inner children (`tells`), and a ticket has the number of
+//!   the inner ticket (`number`). So each call is exactly one call of the inner children: `start` passes the order as it is, and `finish`
+//!   and `has_ended` return the inner answers. Each law of an engine's children (no stage is ordered twice, the right input, each child is
+//!   finished once) applies to wrapped children. [`WatchedChildren::new`] takes the inner children as they are (`inner`).
+//! - The answer of `start_room` is that of the inner children (`rooms`), and a ticket has the group of the inner ticket.
+//!
+//! # Not proved
+//!
+//! - What is logged. If memory for the name of a child runs out, its lines say `a child`.
+#![tactic(auto)]
+
+mod watched;
+
+pub use watched::{WatchedChildren, WatchedTicket};
