@@ -28,10 +28,16 @@ LIBRARIES = {"spool_shell": "spool_runtime", "spool_tools": "builtin_stages"}
 # that call before you add one here.
 PASSED_ON = {
     ("child_pipeline", "insert"): 1,
+    ("command_lines", "push_closed"): 2,
     ("command_lines", "push_count"): 1,
+    ("command_lines", "push_created"): 1,
+    ("command_lines", "push_drained"): 1,
     ("command_lines", "push_head"): 1,
     ("command_lines", "push_queue_head"): 1,
+    ("command_lines", "push_refusal"): 1,
+    ("command_lines", "push_rounded"): 1,
     ("command_lines", "push_rules"): 1,
+    ("command_lines", "push_sent"): 1,
     ("command_lines", "push_sizes"): 1,
     ("device_uri", "options"): 1,
     # Numbers of held jobs that exceed the greatest usize: no memory can hold that many.
@@ -62,8 +68,6 @@ PASSED_ON = {
     ("service_texts", "push_queue_news"): 1,
     ("service_texts", "push_ranks"): 1,
     ("service_texts", "push_state"): 1,
-    # The replies are in memory, so no other error is possible.
-    ("service_loop", "serve"): 1,
     ("spool_areas", "collect"): 1,
     ("spool_areas", "new_window"): 1,
     ("spool_core", "change_areas"): 1,
@@ -77,7 +81,6 @@ PASSED_ON = {
     ("spool_engine", "answer"): 1,
     ("spool_engine", "close_typed"): 1,
     ("spool_engine", "serve_end"): 1,
-    ("spool_engine", "serve_next"): 1,
     ("spool_engine", "serve_whole"): 1,
     ("spool_engine", "take_piece"): 1,
     ("spool_admin", "no_task"): 1,
@@ -128,7 +131,6 @@ CAPACITIES = {
     ("row_effects", "make_room"): ["MOST_KEPT"],
     ("service_loop", "enter"): ["1"],
     ("service_loop", "new"): ["MOST_CLIENTS", "MOST_CLIENTS", "MOST_LISTED"],
-    ("service_loop", "reserve"): ["1"],
     ("spool_core", "drive_all"): ["1"],
     # 576 KiB, during a checkpoint.
     ("spool_core", "prepare"): ["BLOCK_ROOM"],
@@ -197,7 +199,6 @@ CONSTANTS = {
     ("spool_runtime", "MOST_BLOCKS"): 1,
     ("spool_runtime", "MOST_ERRORS"): 1,
     ("spool_runtime", "MOST_LINES"): 1,
-    ("spool_runtime", "STRIDE"): 1,
     ("service_loop", "LONGEST_IDLE"): 1,
     ("spool_service", "MOST"): 1,
     ("spool_types", "GREATEST"): 2,

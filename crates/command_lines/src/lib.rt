@@ -1,4 +1,4 @@
-//! The commands of a script, read from bytes in pieces of any length, and the text of each reply.
+//! The commands of a script, read from bytes in pieces of any length, and the answers to them with their text.
 //!
 //! [`Commands`] is a reader of commands. Its caller feeds it the pieces of a text as they arrive, takes the whole commands with
 //! [`Commands::next`], and takes the last ones at the end of the text with [`Commands::finish`]. Every error in a script is a
@@ -21,7 +21,7 @@
 //! - `AskedEvents`: the events that a single line states completely.
 //! - `PendingCommands`: the contents of a reader (`Pending`), and the commands that it will return, as a function of the text that follows
 //!   (`to_come`).
-//! - `Replies`: the bytes of each reply (`answer_text`).
+//! - `Replies`: the line of each answer (`answer_line`), and the lines of listings.
 //!
 //! # Promises
 //!
@@ -35,8 +35,8 @@
 //!   attempt.
 //! - [`line_by_line`] and [`word_by_word`]: `commands_of` and `words_of` are defined with a bound on lines and words. These laws state them
 //!   without the bound: the first line or word, followed by the rest.
-//! - *ExactReplies*: [`print_reply`] returns the bytes of a reply: for each [`Answer`] the line of `Replies`, or for a listing the lines.
-//!   [`push_job`] and [`push_queue`] append a single line of a listing, and [`push_quoted`] appends a text in quotes.
+//! - *ExactReplies*: [`push_answer`] appends the line of an [`Answer`]. [`push_jobs`] appends the lines of jobs, [`push_job`] and
+//!   [`push_queue`] a single line of a listing, and [`push_quoted`] a text in quotes.
 //! - [`line_feed_at`] returns the byte offset of the first line feed (`at`, `before`, `there`, `none`).
 //! - [`job_number`] returns the job number that a word states, as every command reads it.
 //!
@@ -71,4 +71,4 @@ pub use command::{Command, Creation, Rounds};
 pub use commands::{Commands, Wanted, line_feed_at};
 pub use laws::{line_by_line, only_line_events, word_by_word};
 pub use numbers::job_number;
-pub use reply::{Answer, ShownQueue, print_reply, push_job, push_queue, push_quoted};
+pub use reply::{Answer, push_answer, push_job, push_jobs, push_queue, push_quoted};

@@ -1,25 +1,17 @@
-//! The text of replies.
-ghost use Rattle.std.specs.Prelude.{◌≡◌, ◌++◌, IfOk, OnOk, codes, map};
-ghost use Rattle.std.specs.Fmt.{decimal};
+//! Answers to commands, and their text.
+ghost use Rattle.std.specs.Prelude.{◌≡◌, ◌++◌, OnOk, map};
 ghost use Rattle.spool_types.specs.State.{job_of};
-ghost use Rattle.command_lines.specs.Replies.{answer_text, quoted, job_line, job_head, job_sizes, jobs_text, queue_head, queue_rules, reasons_word, queue_text, shown_text, refusal_line, created_line, sent_line, closed_line, rounded_line, drained_line};
+ghost use Rattle.command_lines.specs.Replies.{answer_line, quoted, job_line, job_head, job_sizes, jobs_lines, queue_head, queue_rules, reasons_word, queue_text, refusal_line, created_line, sent_line, closed_line, rounded_line, drained_line, counted_line};
 
 use job_rows::Rows;
 use line_words::{is_backslash, is_quote};
 use spool_types::{Job, JobId, MediaType, Moment, QueueRow, Reason, Refusal};
-use std::alloc::{AllocError, Global};
+use std::alloc::AllocError;
 use std::io::Write;
 
-/// A queue, and whether a job of it is processing.
-#[derive(Clone, Copy, Drop)]
-pub struct ShownQueue<'a> {
-    pub row: &'a QueueRow,
-    pub busy: bool,
-}
-
-/// The reply to a command.
+/// The answer to a command, as a value. Its text is its line, after the rows if it is a listing.
 #[derive(Drop)]
-pub enum Answer<'a> {
+pub enum Answer {
     Done,
     Created(JobId),
     /// The size of the document so far, in bytes.
@@ -29,13 +21,10 @@ pub enum Answer<'a> {
         media: MediaType,
         stages: Option<u8>,
     },
-    /// The jobs in ascending order of number, with their states at the moment `now`.
-    Jobs {
-        rows: &'a Rows,
-        now: Moment,
-    },
-    /// The queues in ascending order of name.
-    Queues(&'a [ShownQueue<'a>]),
+    /// The listing of the jobs, in ascending order of number: how many there are. The rows are those of the table.
+    Jobs(usize),
+    /// The listing of the queues, in ascending order of name: how many there are. The rows are those of the table.
+    Queues(usize),
     /// The number of children that a round started, and the number of ends of stages that were acknowledged in it.
     Rounded {
         started: usize,
@@ -61,83 +50,84 @@ pub enum Answer<'a> {
     EpochEnd,
 }
 
-/// Returns the text of a reply.
-pub fn print_reply(alloc: Global, answer: &Answer<'_>) -> Result<Vec<u8>, AllocError>
-    ensures { IfOk result (λ text. text.items ≡ answer_text answer.now) }
+/// Appends the line of an answer. Of a listing this is the last line, which counts the rows. If memory runs out, a part of the line may have
+/// been appended.
+pub fn push_answer(text: &mut Vec<u8>, answer: &Answer) -> Result<(), AllocError>
+    ensures { OnOk result (text.new.items ≡ text.old.items ++ answer_line answer.now) }
 {
     match answer {
-        Answer::Done => Vec::from_slice(alloc, b"ok\n"),
-        Answer::Created(job) => created(alloc, *job),
-        Answer::Sent(size) => sent(alloc, *size),
-        Answer::Closed { media, stages } => closed(alloc, media, *stages),
-        Answer::Jobs { rows, now } => jobs(alloc, rows, *now),
-        Answer::Queues(shown) => queues(alloc, shown),
-        Answer::Rounded { started, finished } => rounded(alloc, *started, *finished),
-        Answer::Drained(rounds) => drained(alloc, *rounds),
-        Answer::Refused(refusal) => refused(alloc, *refusal),
-        Answer::Malformed => Vec::from_slice(alloc, b"error syntax\n"),
-        Answer::BadUri => Vec::from_slice(alloc, b"error uri\n"),
-        Answer::BadOptions => Vec::from_slice(alloc, b"error options\n"),
-        Answer::Dead => Vec::from_slice(alloc, b"error dead\n"),
-        Answer::NoMemory => Vec::from_slice(alloc, b"error memory\n"),
-        Answer::Full => Vec::from_slice(alloc, b"error full\n"),
-        Answer::Disk => Vec::from_slice(alloc, b"error disk\n"),
-        Answer::EpochEnd => Vec::from_slice(alloc, b"error epoch\n"),
+        Answer::Done => text.extend_from_slice(b"ok\n"),
+        Answer::Created(job) => push_created(text, *job),
+        Answer::Sent(size) => push_sent(text, *size),
+        Answer::Closed { media, stages } => push_closed(text, media, *stages),
+        Answer::Jobs(count) | Answer::Queues(count) => push_count(text, *count),
+        Answer::Rounded { started, finished } => push_rounded(text, *started, *finished),
+        Answer::Drained(rounds) => push_drained(text, *rounds),
+        Answer::Refused(refusal) => push_refusal(text, *refusal),
+        Answer::Malformed => text.extend_from_slice(b"error syntax\n"),
+        Answer::BadUri => text.extend_from_slice(b"error uri\n"),
+        Answer::BadOptions => text.extend_from_slice(b"error options\n"),
+        Answer::Dead => text.extend_from_slice(b"error dead\n"),
+        Answer::NoMemory => text.extend_from_slice(b"error memory\n"),
+        Answer::Full => text.extend_from_slice(b"error full\n"),
+        Answer::Disk => text.extend_from_slice(b"error disk\n"),
+        Answer::EpochEnd => text.extend_from_slice(b"error epoch\n"),
     }
 }
 
-fn created(alloc: Global, job: JobId) -> Result<Vec<u8>, AllocError>
-    ensures { IfOk result (λ text. text.items ≡ created_line job) }
+fn push_created(text: &mut Vec<u8>, job: JobId) -> Result<(), AllocError>
+    ensures { OnOk result (text.new.items ≡ text.old.items ++ created_line job) }
 {
     let number = job.get();
-    Ok(format!(in alloc; "ok job {number}\n")?.into_bytes())
+    write!(text, "ok job {number}\n").map_err(|_| AllocError)
 }
 
-fn sent(alloc: Global, size: u32) -> Result<Vec<u8>, AllocError>
-    ensures { IfOk result (λ text. text.items ≡ sent_line size) }
+fn push_sent(text: &mut Vec<u8>, size: u32) -> Result<(), AllocError>
+    ensures { OnOk result (text.new.items ≡ text.old.items ++ sent_line size) }
 {
-    Ok(format!(in alloc; "ok bytes {size}\n")?.into_bytes())
+    write!(text, "ok bytes {size}\n").map_err(|_| AllocError)
 }
 
-fn closed(alloc: Global, media: &MediaType, stages: Option<u8>) -> Result<Vec<u8>, AllocError>
-    ensures { IfOk result (λ text. text.items ≡ closed_line media.now stages) }
+fn push_closed(text: &mut Vec<u8>, media: &MediaType, stages: Option<u8>) -> Result<(), AllocError>
+    ensures { OnOk result (text.new.items ≡ text.old.items ++ closed_line media.now stages) }
 {
     let media = media.as_str();
     match stages {
-        Some(stages) => Ok(format!(in alloc; "ok type {media} stages {stages}\n")?.into_bytes()),
-        None => Ok(format!(in alloc; "ok type {media} unprintable\n")?.into_bytes()),
+        Some(stages) => {
+            write!(text, "ok type {media} stages {stages}\n").map_err(|_| AllocError)
+        }
+        None => write!(text, "ok type {media} unprintable\n").map_err(|_| AllocError),
     }
 }
 
-fn rounded(alloc: Global, started: usize, finished: usize) -> Result<Vec<u8>, AllocError>
-    ensures { IfOk result (λ text. text.items ≡ rounded_line started finished) }
+fn push_rounded(text: &mut Vec<u8>, started: usize, finished: usize) -> Result<(), AllocError>
+    ensures { OnOk result (text.new.items ≡ text.old.items ++ rounded_line started finished) }
 {
-    Ok(format!(in alloc; "ok started {started} finished {finished}\n")?.into_bytes())
+    write!(text, "ok started {started} finished {finished}\n").map_err(|_| AllocError)
 }
 
-fn drained(alloc: Global, rounds: u32) -> Result<Vec<u8>, AllocError>
-    ensures { IfOk result (λ text. text.items ≡ drained_line rounds) }
+fn push_drained(text: &mut Vec<u8>, rounds: u32) -> Result<(), AllocError>
+    ensures { OnOk result (text.new.items ≡ text.old.items ++ drained_line rounds) }
 {
-    Ok(format!(in alloc; "ok rounds {rounds}\n")?.into_bytes())
+    write!(text, "ok rounds {rounds}\n").map_err(|_| AllocError)
 }
 
-fn refused(alloc: Global, refusal: Refusal) -> Result<Vec<u8>, AllocError>
-    ensures { IfOk result (λ text. text.items ≡ refusal_line refusal) }
+fn push_refusal(text: &mut Vec<u8>, refusal: Refusal) -> Result<(), AllocError>
+    ensures { OnOk result (text.new.items ≡ text.old.items ++ refusal_line refusal) }
 {
     let number = refusal.number();
     let name = refusal.name();
-    Ok(format!(in alloc; "error {number} {name}\n")?.into_bytes())
+    write!(text, "error {number} {name}\n").map_err(|_| AllocError)
 }
 
-fn jobs(alloc: Global, rows: &Rows, now: Moment) -> Result<Vec<u8>, AllocError>
-    ensures { IfOk result (λ text. text.items ≡ jobs_text now (map job_of rows.now.items)) }
+/// Appends the lines of a listing that show these jobs at the moment `now`. If memory runs out, a part of them may have been appended.
+pub fn push_jobs(text: &mut Vec<u8>, rows: &Rows, now: Moment) -> Result<(), AllocError>
+    ensures { OnOk result (text.new.items ≡ text.old.items ++ jobs_lines now (map job_of rows.now.items)) }
 {
-    let mut text = Vec::new(alloc);
     for row in rows.iter() {
-        push_job(&mut text, &row.job, &now)?;
+        push_job(text, &row.job, &now)?;
     }
-    push_count(&mut text, rows.len())?;
-    Ok(text)
+    Ok(())
 }
 
 /// Appends the line of a listing that shows this job at the moment `now`. If memory runs out, a part of the line may have been appended.
@@ -168,17 +158,6 @@ fn push_sizes(text: &mut Vec<u8>, row: &Job) -> Result<(), AllocError>
     let size = row.size;
     let pages = row.pages;
     write!(text, " {size} {pages} ").map_err(|_| AllocError)
-}
-
-fn queues(alloc: Global, queues: &[ShownQueue<'_>]) -> Result<Vec<u8>, AllocError>
-    ensures { IfOk result (λ text. text.items ≡ shown_text queues.now) }
-{
-    let mut text = Vec::new(alloc);
-    for queue in queues {
-        push_queue(&mut text, queue.row, queue.busy)?;
-    }
-    push_count(&mut text, queues.len())?;
-    Ok(text)
 }
 
 /// Appends the line of a listing that shows this queue. `busy` states whether a job of it is processing. If memory runs out, a part of the
@@ -235,7 +214,7 @@ fn push_reasons(text: &mut Vec<u8>, reasons: &[Reason]) -> Result<(), AllocError
 
 // Appends the line that ends a listing.
 fn push_count(text: &mut Vec<u8>, count: usize) -> Result<(), AllocError>
-    ensures { OnOk result (text.new.items ≡ text.old.items ++ (codes "ok " ++ decimal count ++ codes "\n")) }
+    ensures { OnOk result (text.new.items ≡ text.old.items ++ counted_line count) }
 {
     write!(text, "ok {count}\n").map_err(|_| AllocError)
 }

@@ -1,6 +1,5 @@
 -- The number of rounds of a drain, and its reply.
 use Rattle.std.proofs.Common.{◌≡◌, ℕ, zero, suc, ◌+◌, ◌<◌, List, [], ◌∷◌, ◌++◌, length, refl, ap, sym, ◌∙◌, subst, arith, true, false, Bool, Result, Ok, Err}
-use Rattle.std.specs.Prelude.{IfOk}
 use Rattle.print_rounds.specs.RunStates.{RunState}
 use Rattle.print_rounds.specs.declared.outcome.Round.{Round}
 use Rattle.print_rounds.specs.declared.outcome.RoundFault.{RoundFault}
@@ -90,7 +89,6 @@ pub drain_told : (q : Result (List Round) RoundFault) → line_told drain_text q
 drain_told (Ok rounds) = refl
 drain_told (Err fault) = refl
 
--- A text with these bytes is the reply, if they are equal.
-pub as_told : {X E : Type 0} (bytes : X → List ℕ) (r : Result X E) (reply line : List ℕ) → reply ≡ line → IfOk r (λ x. bytes x ≡ line) → IfOk r (λ x. bytes x ≡ reply)
-as_told bytes (Ok x) reply line e h = h ∙ sym e
-as_told bytes (Err fault) reply line e h = h
+-- A text that equals the line equals the reply, if they are equal.
+pub as_told : (said reply line : List ℕ) → reply ≡ line → said ≡ line → said ≡ reply
+as_told said reply line e h = h ∙ sym e

@@ -1,6 +1,6 @@
 -- The step of a command without rounds.
 use Rattle.std.proofs.Common.{◌≡◌, ℕ, List, [], ◌∷◌, refl, ap, sym, ◌∙◌, subst, inl, inr, ⊎_elim, arith, true, false, cond, Option, None, Some, Result, Ok, Err}
-use Rattle.std.specs.Prelude.{◌≤◌, ◌↔◌, IfOk, OnOk, IsSome, codes}
+use Rattle.std.specs.Prelude.{◌≤◌, ◌↔◌, OnOk, IsSome, codes}
 use Rattle.spool_types.specs.declared.event.Event.{Event}
 use Rattle.spool_types.specs.declared.event.Event.TheVariants.{AddQueue}
 use Rattle.spool_types.specs.declared.event.NewQueue.{NewQueue}
@@ -29,7 +29,7 @@ use Rattle.spool_engine.specs.Mime.{Mime}
 use Rattle.spool_engine.specs.Script.{says, asks, lists, meaning, creating, job_options, job_of_creation, event_in, event_of, step_line, step_state, reply_line}
 use Rattle.print_rounds.specs.Rounds.{HasSomeOf, LeavesDocuments}
 use Rattle.spool_engine.specs.EventSteps.{Setting, Outcome, EventStep, served, no_memory, full, disk, dead, unread, unlisted, IsServedBy, IsTaken, IsOutcome, IsReadFor, MayBeRead, IsKept, HasSomeSent, HasTableIn, HasWholeIn, is_checkpoint, tried_as, checkpoint_fault_line}
-use Rattle.spool_engine.specs.EventAnswers.{answer_line, checkpoint_line, HasWholeInEitherVersion, IsApplied, IsRelisted, Takes}
+use Rattle.spool_engine.specs.EventAnswers.{event_line, checkpoint_line, HasWholeInEitherVersion, IsApplied, IsRelisted, Takes}
 
 -- The images since the current moment of a disk are its current images.
 abbrev pub OnlyNow : {D : Type 0} → DiskView D → Type 0
@@ -176,7 +176,7 @@ dead_turn v s s' c e line now is h read = applied_turn v s s' c [] e line (Err D
     (untried_whole v.device s s' e (Err Dead) now h h.cause.1)
     (λ lives tells documents has. same_documents v.device s s' documents h.cause.1 has)
 
-pub answered_turn : {D : Type 0} (v : Setting D) (s s' : OpenSpool D) (c : Command) (e : Event) (line : Reply → List ℕ) (a : Result Reply ApplyFault) → OnlyNow v.device → ReadsNothing v s c → meaning v.mime s.state [] c ≡ asks e line → IsApplied v.device s e a s' → (t : EventStep D) × Takes v s c t s' × (t.text ≡ answer_line line a)
+pub answered_turn : {D : Type 0} (v : Setting D) (s s' : OpenSpool D) (c : Command) (e : Event) (line : Reply → List ℕ) (a : Result Reply ApplyFault) → OnlyNow v.device → ReadsNothing v s c → meaning v.mime s.state [] c ≡ asks e line → IsApplied v.device s e a s' → (t : EventStep D) × Takes v s c t s' × (t.text ≡ event_line line a)
 answered_turn v s s' c e line (Ok reply) now none is h = applied_turn v s s' c [] e line (Ok reply) served (line reply) is h
     (subst (λ w. IsServedBy v.device s w (line reply) s') (sym is) (sym (ap (step_line line) h.cause.step), subst (λ r. IsTaken s e r s') (sym h.cause.step) h.cause))
     (none served)
@@ -198,28 +198,27 @@ answered_turn v s s' c e line (Err Disk) now none is h = applied_turn v s s' c [
     (tried_whole v.device s s' e (Err Disk) h)
     (λ lives tells documents has. absurd (let died = h.cause.dead in cc))
 
--- A text with these bytes has the other bytes, if they are equal.
-pub same_bytes : {X E : Type 0} (bytes : X → List ℕ) (r : Result X E) (a b : List ℕ) → b ≡ a → IfOk r (λ text. bytes text ≡ a) → IfOk r (λ text. bytes text ≡ b)
-same_bytes bytes (Ok x) a b e h = h ∙ sym e
-same_bytes bytes (Err fault) a b e h = h
+-- A text that equals one text equals the other, if they are equal.
+pub same_bytes : (said a b : List ℕ) → b ≡ a → said ≡ a → said ≡ b
+same_bytes said a b e h = h ∙ sym e
 
 -- A command that is an event, and the text of its reply.
-pub event_told : {X E D : Type 0} (bytes : X → List ℕ) (r : Result X E) (v : Setting D) (s s' : OpenSpool D) (c : Command) (e : Event) (line : Reply → List ℕ) → OnlyNow v.device → ReadsNothing v s c → meaning v.mime s.state [] c ≡ asks e line
-    → (a : Result Reply ApplyFault) × IsApplied v.device s e a s' × IfOk r (λ text. bytes text ≡ answer_line line a)
-    → (t : EventStep D) × Takes v s c t s' × IfOk r (λ text. bytes text ≡ t.text)
-event_told bytes r v s s' c e line now none is (a, went, text) =
+pub event_told : {D : Type 0} (said : List ℕ) (v : Setting D) (s s' : OpenSpool D) (c : Command) (e : Event) (line : Reply → List ℕ) → OnlyNow v.device → ReadsNothing v s c → meaning v.mime s.state [] c ≡ asks e line
+    → (a : Result Reply ApplyFault) × IsApplied v.device s e a s' × (said ≡ event_line line a)
+    → (t : EventStep D) × Takes v s c t s' × (said ≡ t.text)
+event_told said v s s' c e line now none is (a, went, text) =
     let (t, takes, told) = answered_turn v s s' c e line a now none is went in
-    (t, takes, same_bytes bytes r (answer_line line a) t.text told text)
+    (t, takes, same_bytes said (event_line line a) t.text told text)
 
 -- A command without an event, and the text of its reply.
-pub said_told : {X E D : Type 0} (bytes : X → List ℕ) (r : Result X E) (v : Setting D) (s : OpenSpool D) (c : Command) (text : List ℕ) → OnlyNow v.device → IsKept v.device s → ReadsNothing v s c → meaning v.mime s.state [] c ≡ says text → IfOk r (λ x. bytes x ≡ text) → (t : EventStep D) × Takes v s c t s × IfOk r (λ x. bytes x ≡ t.text)
-said_told bytes r v s c text now kept none is h =
+pub said_told : {D : Type 0} (said : List ℕ) (v : Setting D) (s : OpenSpool D) (c : Command) (text : List ℕ) → OnlyNow v.device → IsKept v.device s → ReadsNothing v s c → meaning v.mime s.state [] c ≡ says text → (said ≡ text) → (t : EventStep D) × Takes v s c t s × (said ≡ t.text)
+said_told said v s c text now kept none is h =
     let (t, takes, told) = said_turn v s c text now kept none is in
-    (t, takes, same_bytes bytes r text t.text told h)
+    (t, takes, same_bytes said text t.text told h)
 
 -- A command whose text was not read, because memory ran out.
-pub unread_told : {X E D : Type 0} (bytes : X → List ℕ) (r : Result X E) (v : Setting D) (s : OpenSpool D) (c : Command) → OnlyNow v.device → IsKept v.device s → ReadsNothing v s c → MayBeRead c → IfOk r (λ x. bytes x ≡ codes "error memory\n") → (t : EventStep D) × Takes v s c t s × IfOk r (λ x. bytes x ≡ t.text)
-unread_told bytes r v s c now kept none may h = (
+pub unread_told : {D : Type 0} (said : List ℕ) (v : Setting D) (s : OpenSpool D) (c : Command) → OnlyNow v.device → IsKept v.device s → ReadsNothing v s c → MayBeRead c → (said ≡ codes "error memory\n") → (t : EventStep D) × Takes v s c t s × (said ≡ t.text)
+unread_told said v s c now kept none may h = (
   record { command = c; document = []; outcome = unread; text = codes "error memory\n"; next = s },
   record {
     legal = record {
@@ -257,8 +256,8 @@ pub no_create_event : (m : Mime) (s : State) (n : Creation) → job_options n.op
 no_create_event m s n is = ap (creating s n) is
 
 -- The same step under an equal command.
-pub same_command : {X E D : Type 0} (bytes : X → List ℕ) (r : Result X E) (v : Setting D) (s s' : OpenSpool D) (c c' : Command) → c ≡ c' → (t : EventStep D) × Takes v s c' t s' × IfOk r (λ x. bytes x ≡ t.text) → (t : EventStep D) × Takes v s c t s' × IfOk r (λ x. bytes x ≡ t.text)
-same_command bytes r v s s' c c' e (t, takes, told) = (t, record { legal = takes.legal; command = takes.command ∙ sym e; next = takes.next }, told)
+pub same_command : {D : Type 0} (said : List ℕ) (v : Setting D) (s s' : OpenSpool D) (c c' : Command) → c ≡ c' → (t : EventStep D) × Takes v s c' t s' × (said ≡ t.text) → (t : EventStep D) × Takes v s c t s' × (said ≡ t.text)
+same_command said v s s' c c' e (t, takes, told) = (t, record { legal = takes.legal; command = takes.command ∙ sym e; next = takes.next }, told)
 
 -- Nothing was done for the event, so the spool did not change.
 pub unasked : {D : Type 0} (v : DiskView D) (s : OpenSpool D) (e : Event) (fault : ApplyFault) → OnlyNow v → IsKept v s → IsAnswer v s e (Err fault) s → IsApplied v s e (Err fault) s
@@ -366,12 +365,12 @@ relisted_turn v s s' c (Err fault) quiet lists_it is h = listed_turn v s s' c (E
     (λ lives tells documents has. unlisted_documents v.device s s' fault documents h.cause lives has)
 
 -- A checkpoint, and the text of its reply.
-pub listing_told : {X E D : Type 0} (bytes : X → List ℕ) (r : Result X E) (v : Setting D) (s s' : OpenSpool D) (c : Command) → ReadsNothing v s c → is_checkpoint c ≡ true → meaning v.mime s.state [] c ≡ lists
-    → (a : Result (Unit {0}) CheckpointFault) × IsRelisted v.device s a s' × IfOk r (λ text. bytes text ≡ checkpoint_line a)
-    → (t : EventStep D) × Takes v s c t s' × IfOk r (λ text. bytes text ≡ t.text)
-listing_told bytes r v s s' c quiet lists_it is (a, went, text) =
+pub listing_told : {D : Type 0} (said : List ℕ) (v : Setting D) (s s' : OpenSpool D) (c : Command) → ReadsNothing v s c → is_checkpoint c ≡ true → meaning v.mime s.state [] c ≡ lists
+    → (a : Result (Unit {0}) CheckpointFault) × IsRelisted v.device s a s' × (said ≡ checkpoint_line a)
+    → (t : EventStep D) × Takes v s c t s' × (said ≡ t.text)
+listing_told said v s s' c quiet lists_it is (a, went, text) =
     let (t, takes, told) = relisted_turn v s s' c a quiet lists_it is went in
-    (t, takes, same_bytes bytes r (checkpoint_line a) t.text told text)
+    (t, takes, same_bytes said (checkpoint_line a) t.text told text)
 
 -- After every answer to a checkpoint a crash leaves the table that is shown.
 listing_kept : {D : Type 0} (v : DiskView D) (s s' : OpenSpool D) (a : Result (Unit {0}) CheckpointFault) → IsCheckpoint v s a s' → (IsSome (v.bytes s'.disk) ↔ IsSome (v.bytes s.disk))

@@ -19,6 +19,7 @@ use Rattle.print_rounds.specs.TickInputs.{RunTheirStages, TickHandsOn, FinishesH
 use Rattle.print_rounds.specs.Inputs.{AnsweredOrder, answered, AreRight, HaveDocuments, AreKeptFrom}
 use Rattle.print_rounds.specs.Rounds.{IsRoundOf, LeavesDocuments}
 use Rattle.print_rounds.specs.RoundTicks.{AreFinishings, Finishing, IsTickOf}
+use Rattle.print_rounds.specs.declared.start_room.TickLimits.{TickLimits}
 use Rattle.print_rounds.specs.declared.outcome.Round.{Round}
 use Rattle.print_rounds.specs.declared.outcome.RoundFault.{RoundFault}
 use Rattle.print_rounds.proofs.InputLaws.{documents_both}
@@ -36,8 +37,8 @@ use Rattle.spool_engine.proofs.StageHistoryLaws.{Laws, call_turn, how_turn, lega
 
 -- The laws of each tick, and of waiting for children.
 pub record TickHands {D : Type 0} (device : DiskView D) : Type 0 where
-  pub one : (place : Place) (earlier : List AnsweredOrder) (t : ChildTrace) (old new : RunState D) (result : Result Round RoundFault) → IsLegal old.spool.state → old.told ≡ Some t → HasTickets old.slots t → AreKeptFrom earlier old.slots → RunTheirStages t.orders old.slots
-      → (r : IsTickOf device place old new result) → TickHandsOn earlier t old r.steps new
+  pub one : (place : Place) (limits : Option TickLimits) (earlier : List AnsweredOrder) (t : ChildTrace) (old new : RunState D) (result : Result Round RoundFault) → IsLegal old.spool.state → old.told ≡ Some t → HasTickets old.slots t → AreKeptFrom earlier old.slots → RunTheirStages t.orders old.slots
+      → (r : IsTickOf device place limits old new result) → TickHandsOn earlier t old r.steps new
   pub finishes : (earlier : List AnsweredOrder) (t : ChildTrace) (slots : Slots) (told : Option ChildTrace) (fs : List Finishing) (new : Slots) (told_then : Option ChildTrace) → told ≡ Some t → HasTickets slots t → AreKeptFrom earlier slots → RunTheirStages t.orders slots
       → AreFinishings slots told fs new told_then → FinishesHandOn earlier t slots told fs new told_then
 
@@ -254,9 +255,9 @@ module _ {D : Type 0} (laws : Laws D) (v : Setting D) (lawful : IsLawful v.devic
           let adds : AddOrders s k.next = record { t = t; before = goes.tells; now = t; after = ap (λ (c : RunState D). c.told) is_old ∙ goes.tells; orders = []; added = sym (append-nil t.orders) } in
           ([], record { adds = adds; right = tt; given = inl (is_old, refl) }, renamed_part earlier (earlier ++ []) s (IsKnown v documents s) documents k.next (sym (append-nil earlier)) part)
 
-      made_on : s.spool.dead ≡ false → IsTickOf v.device v.place s k.next k.result → IsTickOn earlier s k documents
+      made_on : s.spool.dead ≡ false → IsTickOf v.device v.place k.limits s k.next k.result → IsTickOn earlier s k documents
       made_on lives made =
-          let on = ticks.one v.place earlier t s k.next k.result goes.legal goes.tells goes.has goes.kept goes.run made in
+          let on = ticks.one v.place k.limits earlier t s k.next k.result goes.legal goes.tells goes.has goes.kept goes.run made in
           let adds : AddOrders s k.next = record { t = t; before = goes.tells; now = on.now; after = on.tells; orders = on.orders; added = on.added } in
           let keeps = made.tickets t goes.tells goes.has in (
             answers_in s made.steps,

@@ -2,7 +2,7 @@
 use Rattle.std.proofs.Math.Seq.{take-append-add}
 use Rattle.std.proofs.lemmas.List.{take-append-le}
 use Rattle.std.proofs.Common.{◌≡◌, ℕ, ◌≤◌, ◌+◌, List, [], ◌∷◌, ◌++◌, length, length-append, take, refl, ap, sym, ◌∙◌, subst, inl, inr, ⊎_elim, arith, true, false, Bool, Option, Some, Result}
-use Rattle.std.specs.Prelude.{◌↔◌, IfOk, IsSome}
+use Rattle.std.specs.Prelude.{◌↔◌, IfSome, IsSome}
 use Rattle.std.specs.List.{flat_map}
 use Rattle.spool_types.specs.declared.event.Event.{Event}
 use Rattle.spool_types.specs.State.{State}
@@ -15,11 +15,12 @@ use Rattle.command_lines.specs.declared.command.Command.{Command}
 use Rattle.filter_args.specs.declared.place.Place.{Place}
 use Rattle.child_pipeline.specs.StageSlots.{Slots}
 use Rattle.child_pipeline.specs.ChildTraces.{ChildTrace}
-use Rattle.child_pipeline.specs.declared.children.StartRoom.{StartRoom}
+use Rattle.print_rounds.specs.declared.start_room.StartRoom.{StartRoom}
 use Rattle.print_rounds.specs.RunStates.{RunState, run_state}
 use Rattle.print_rounds.proofs.PrefixLaws.{after_both, none_of, some_first, some_later}
 use Rattle.print_rounds.specs.Finished.{EachFinishedOnce, HasNoneRunning}
-use Rattle.print_rounds.specs.RoundTicks.{IsTickAsked, IsTickBy}
+use Rattle.print_rounds.specs.RoundTicks.{IsTickAsked, IsTickBy, count_running}
+use Rattle.print_rounds.specs.declared.start_room.TickLimits.{TickLimits}
 use Rattle.print_rounds.specs.Rounds.{HasSomeOf, HasSomeWhole, LeavesDocuments, IsRoundBy, tried_in}
 use Rattle.print_rounds.specs.declared.outcome.Round.{Round}
 use Rattle.print_rounds.specs.declared.outcome.RoundFault.{RoundFault}
@@ -135,20 +136,21 @@ ran_of {D} v s slots slots' told told' new result false is settles now kept late
     h
 
 -- A tick, whatever room the children had for starts.
-pub tick_by : {D : Type 0} (asked : Option StartRoom → Type 0) (device : DiskView D) (place : Place) (old new : RunState D) (result : Result Round RoundFault) (b : Bool) → IsTickAsked asked device place old b new result → IsTickBy device place old b new result
-tick_by asked device place old new result true h = h
-tick_by asked device place old new result false (inl unbegun) = inl unbegun
-tick_by asked device place old new result false (inr made) = inr made.0
+pub tick_by : {D : Type 0} (asked : Option StartRoom → Type 0) (device : DiskView D) (place : Place) (limits : Option TickLimits) (old new : RunState D) (result : Result Round RoundFault) (b : Bool) → IsTickAsked asked device place limits old b new result → IsTickBy device place limits old b new result
+tick_by asked device place limits old new result true h = h
+tick_by asked device place limits old new result false (inl unbegun) = inl unbegun
+tick_by asked device place limits old new result false (inr made) = inr made.0
 
 -- A tick, by its result.
-pub ticked_of : {D : Type 0} (v : Setting D) (old new : RunState D) (result : Result Round RoundFault) (b : Bool) → old.spool.dead ≡ b → OnlyNow v.device → IsKept v.device old.spool → IsKept v.device new.spool
+pub ticked_of : {D : Type 0} (v : Setting D) (limits : Option TickLimits) (old new : RunState D) (result : Result Round RoundFault) (b : Bool) → old.spool.dead ≡ b → OnlyNow v.device → IsKept v.device old.spool → IsKept v.device new.spool
     → v.device.failures old.spool.disk ≤ v.device.failures new.spool.disk → (IsSome (v.device.bytes new.spool.disk) ↔ IsSome (v.device.bytes old.spool.disk))
-    → IsTickBy v.device v.place old b new result → (tried : List Event) × IsTicked v old (record { next = new; result = result; tried = tried })
-ticked_of {D} v old new result true is now kept later counted told h = (
+    → IfSome limits (λ l. count_running old.slots ≤ l.most → count_running new.slots ≤ l.most) → IsTickBy v.device v.place limits old b new result → (tried : List Event) × IsTicked v old (record { limits = limits; next = new; result = result; tried = tried })
+ticked_of {D} v limits old new result true is now kept later counted told most h = (
   [],
   record {
-    tick = subst (λ b. IsTickWith v.device v.place old b (record { next = new; result = result; tried = [] })) (sym is) (h, refl);
+    tick = subst (λ b. IsTickWith v.device v.place old b (record { limits = limits; next = new; result = result; tried = [] })) (sym is) (h, refl);
     counted = counted;
+    most = most;
     told = told;
     crash = λ alive tells. absurd cc;
     kept = later;
@@ -156,12 +158,13 @@ ticked_of {D} v old new result true is now kept later counted told h = (
     lasting = λ lives tells documents has. subst (λ (x : RunState D). LeavesDocuments v.device documents x.spool) (sym h.1) has;
   },
 )
-ticked_of {D} v old new result false is now kept later counted told h = ⊎_elim
+ticked_of {D} v limits old new result false is now kept later counted told most h = ⊎_elim
     (λ unbegun. (
       [],
       record {
-        tick = subst (λ b. IsTickWith v.device v.place old b (record { next = new; result = result; tried = [] })) (sym is) (inl (unbegun, refl));
+        tick = subst (λ b. IsTickWith v.device v.place old b (record { limits = limits; next = new; result = result; tried = [] })) (sym is) (inl (unbegun, refl));
         counted = counted;
+        most = most;
         told = told;
         crash = λ alive tells. subst (λ (x : RunState D). LeavesOnly v.device old.spool.disk x.spool.disk (HasSomeOf old.spool.state [])) (sym unbegun.1) (unmoved v.device old.spool (HasSomeOf old.spool.state []) now kept (none_of old.spool.state []) alive tells);
         kept = later;
@@ -173,8 +176,9 @@ ticked_of {D} v old new result false is now kept later counted told h = ⊎_elim
     (λ made. (
       tried_in old made.steps.parts,
       record {
-        tick = subst (λ b. IsTickWith v.device v.place old b (record { next = new; result = result; tried = tried_in old made.steps.parts })) (sym is) (inr (made, refl));
+        tick = subst (λ b. IsTickWith v.device v.place old b (record { limits = limits; next = new; result = result; tried = tried_in old made.steps.parts })) (sym is) (inr (made, refl));
         counted = counted;
+        most = most;
         told = told;
         crash = made.any_moment;
         kept = later;
@@ -254,9 +258,9 @@ module _ {D : Type 0} (v : Setting D) (now : OnlyNow v.device) where
   rounds_whole s (r ∷ rs) new documents kept h alive tells has = whole_by s r rs new documents r.next.spool.dead refl h.0 h.1 alive tells has (λ lives left. rounds_whole r.next rs new documents h.0.kept h.1 lives (h.0.told.1 tells) left)
 
   -- The step of a command that is answered with rounds.
-  pub rounds_turn : {X E : Type 0} (bytes : X → List ℕ) (result : Result X E) (s new : RunState D) (c : Command) (most : ℕ) (line : List Round → List ℕ) → IsKept v.device s.spool → meaning v.mime s.spool.state [] c ≡ runs most line
-      → (rs : List (Ran D)) × (reply : List ℕ) × AreRun v most line s rs new reply × IfOk result (λ x. bytes x ≡ reply) → (t : CommandStep D) × TakesStep v s c t new × IfOk result (λ x. bytes x ≡ t.text)
-  rounds_turn bytes result s new c most line kept is (rs, reply, run, told) = (
+  pub rounds_turn : (said : List ℕ) (s new : RunState D) (c : Command) (most : ℕ) (line : List Round → List ℕ) → IsKept v.device s.spool → meaning v.mime s.spool.state [] c ≡ runs most line
+      → (rs : List (Ran D)) × (reply : List ℕ) × AreRun v most line s rs new reply × (said ≡ reply) → (t : CommandStep D) × TakesStep v s c t new × (said ≡ t.text)
+  rounds_turn said s new c most line kept is (rs, reply, run, told) = (
     record { command = c; document = []; how = ran rs; text = reply; next = new },
     record {
       legal = record {
@@ -286,9 +290,9 @@ same_turn t c s' e f =
     ∙ ap (λ x. record { command = c; document = t.document; outcome = t.outcome; text = t.text; next = x }) f
 
 -- A purge of a job whose child runs changes nothing.
-pub withheld_turn : {X E D : Type 0} (bytes : X → List ℕ) (result : Result X E) (v : Setting D) (s : RunState D) (c : Command) → OnlyNow v.device → IsKept v.device s.spool → withholds s.slots c ≡ true
-    → IfOk result (λ x. bytes x ≡ withheld_line) → (t : CommandStep D) × TakesStep v s c t s × IfOk result (λ x. bytes x ≡ t.text)
-withheld_turn {D} bytes result v s c now kept is told = (
+pub withheld_turn : {D : Type 0} (said : List ℕ) (v : Setting D) (s : RunState D) (c : Command) → OnlyNow v.device → IsKept v.device s.spool → withholds s.slots c ≡ true
+    → (said ≡ withheld_line) → (t : CommandStep D) × TakesStep v s c t s × (said ≡ t.text)
+withheld_turn {D} said v s c now kept is told = (
   record { command = c; document = []; how = withheld; text = withheld_line; next = s },
   record {
     legal = record {
@@ -309,9 +313,9 @@ withheld_turn {D} bytes result v s c now kept is told = (
   told,
 )
 
-pub held_turn : {X E D : Type 0} (bytes : X → List ℕ) (result : Result X E) (v : Setting D) (s new : RunState D) (c : Command) → IsHeld s new → withholds s.slots c ≡ false
-    → (t : EventStep D) × Takes v s.spool c t new.spool × IfOk result (λ x. bytes x ≡ t.text) → (t : CommandStep D) × TakesStep v s c t new × IfOk result (λ x. bytes x ≡ t.text)
-held_turn bytes result v s new c held free (t, takes, told) =
+pub held_turn : {D : Type 0} (said : List ℕ) (v : Setting D) (s new : RunState D) (c : Command) → IsHeld s new → withholds s.slots c ≡ false
+    → (t : EventStep D) × Takes v s.spool c t new.spool × (said ≡ t.text) → (t : CommandStep D) × TakesStep v s c t new × (said ≡ t.text)
+held_turn said v s new c held free (t, takes, told) =
     let one = subst (IsEventStep v s.spool) (same_turn t c new.spool takes.command takes.next) takes.legal in (
       record { command = c; document = t.document; how = answered t.outcome; text = t.text; next = new },
       record {
@@ -323,20 +327,20 @@ held_turn bytes result v s new c held free (t, takes, told) =
     )
 
 -- The same from an equal run state.
-pub event_lifted : {X E D : Type 0} (bytes : X → List ℕ) (result : Result X E) (v : Setting D) (e e' : OpenSpool D) (slots : Slots) (told : Option ChildTrace) (s : RunState D) (c : Command) → run_state e slots told ≡ s → withholds slots c ≡ false
-    → (t : EventStep D) × Takes v e c t e' × IfOk result (λ x. bytes x ≡ t.text) → (t : CommandStep D) × TakesStep v s c t (run_state e' slots told) × IfOk result (λ x. bytes x ≡ t.text)
-event_lifted bytes result v e e' slots told s c is free h =
-    subst (λ y. (t : CommandStep _) × TakesStep v y c t (run_state e' slots told) × IfOk result (λ x. bytes x ≡ t.text)) is
-    (held_turn bytes result v (run_state e slots told) (run_state e' slots told) c (record { slots = refl; told = refl }) free h)
+pub event_lifted : {D : Type 0} (said : List ℕ) (v : Setting D) (e e' : OpenSpool D) (slots : Slots) (told : Option ChildTrace) (s : RunState D) (c : Command) → run_state e slots told ≡ s → withholds slots c ≡ false
+    → (t : EventStep D) × Takes v e c t e' × (said ≡ t.text) → (t : CommandStep D) × TakesStep v s c t (run_state e' slots told) × (said ≡ t.text)
+event_lifted said v e e' slots told s c is free h =
+    subst (λ y. (t : CommandStep _) × TakesStep v y c t (run_state e' slots told) × (said ≡ t.text)) is
+    (held_turn said v (run_state e slots told) (run_state e' slots told) c (record { slots = refl; told = refl }) free h)
 
 -- The same if the spool did not change.
-pub said_lifted : {X E D : Type 0} (bytes : X → List ℕ) (result : Result X E) (v : Setting D) (s : RunState D) (c : Command) → withholds s.slots c ≡ false
-    → (t : EventStep D) × Takes v s.spool c t s.spool × IfOk result (λ x. bytes x ≡ t.text) → (t : CommandStep D) × TakesStep v s c t s × IfOk result (λ x. bytes x ≡ t.text)
-said_lifted bytes result v s c free h = held_turn bytes result v s s c (record { slots = refl; told = refl }) free h
+pub said_lifted : {D : Type 0} (said : List ℕ) (v : Setting D) (s : RunState D) (c : Command) → withholds s.slots c ≡ false
+    → (t : EventStep D) × Takes v s.spool c t s.spool × (said ≡ t.text) → (t : CommandStep D) × TakesStep v s c t s × (said ≡ t.text)
+said_lifted said v s c free h = held_turn said v s s c (record { slots = refl; told = refl }) free h
 
 -- The same from an equal run state, if the spool did not change.
-pub listed : {X E D : Type 0} (bytes : X → List ℕ) (result : Result X E) (v : Setting D) (e : OpenSpool D) (slots : Slots) (told : Option ChildTrace) (s : RunState D) (c : Command) → run_state e slots told ≡ s → withholds slots c ≡ false
-    → (t : EventStep D) × Takes v e c t e × IfOk result (λ x. bytes x ≡ t.text) → (t : CommandStep D) × TakesStep v s c t s × IfOk result (λ x. bytes x ≡ t.text)
-listed bytes result v e slots told s c is free h =
-    subst (λ y. (t : CommandStep _) × TakesStep v y c t y × IfOk result (λ x. bytes x ≡ t.text)) is
-    (said_lifted bytes result v (run_state e slots told) c free h)
+pub listed : {D : Type 0} (said : List ℕ) (v : Setting D) (e : OpenSpool D) (slots : Slots) (told : Option ChildTrace) (s : RunState D) (c : Command) → run_state e slots told ≡ s → withholds slots c ≡ false
+    → (t : EventStep D) × Takes v e c t e × (said ≡ t.text) → (t : CommandStep D) × TakesStep v s c t s × (said ≡ t.text)
+listed said v e slots told s c is free h =
+    subst (λ y. (t : CommandStep _) × TakesStep v y c t y × (said ≡ t.text)) is
+    (said_lifted said v (run_state e slots told) c free h)

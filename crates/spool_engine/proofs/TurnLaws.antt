@@ -112,13 +112,6 @@ module _ {D : Type 0} (v : Setting D) (r : Result (Unit {0}) RunFault) where
     wrote = wrote_more r a b d ts (t ∷ []) h.wrote one.wrote;
   }
 
-pub drains_none : {D : Type 0} (v : Setting D) (s : RunState D) (p : Pending) (a : Option (List ℕ)) → Drains v s p [] s p (Ok tt) a a
-drains_none v s p a = record { lead = lead_none v s; commands = λ more. refl; wrote = Appends-nil a }
-
--- No whole command was buffered.
-pub drains_wait : {D : Type 0} (v : Setting D) (s : RunState D) (p q : Pending) (a : Option (List ℕ)) → Leads p [] q → Drains v s p [] s q (Ok tt) a a
-drains_wait v s p q a leads = record { lead = lead_none v s; commands = leads; wrote = Appends-nil a }
-
 -- No command was returned, and memory ran out in the reader of commands.
 pub drains_stop : {D : Type 0} (v : Setting D) (s m : RunState D) (p q q' : Pending) (ts : List (CommandStep D)) (a b : Option (List ℕ)) → Drains v s p ts m q (Ok tt) a b → Leads q [] q' → Drains v s p ts m q' (Err Wanted) a b
 drains_stop v s m p q q' ts a b h leads = record {

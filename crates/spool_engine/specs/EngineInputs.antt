@@ -37,7 +37,7 @@ pub record IsRoundRight {D : Type 0} (earlier : List AnsweredOrder) (s : RunStat
 
 -- The answers of a tick, by its steps. A tick that did nothing has none.
 abbrev pub IsTickGiven : {D : Type 0} → Setting D → RunState D → Ticked D → List AnsweredOrder → Type 0
-IsTickGiven v s k answers = ((k.next ≡ s) × (answers ≡ [])) ⊎ ((made : IsTickOf v.device v.place s k.next k.result) × (answers ≡ answers_in s made.steps))
+IsTickGiven v s k answers = ((k.next ≡ s) × (answers ≡ [])) ⊎ ((made : IsTickOf v.device v.place k.limits s k.next k.result) × (answers ≡ answers_in s made.steps))
 
 -- A tick after these earlier answers. Its orders depend only on them, because they precede the tick's own answers.
 pub record IsTickRight {D : Type 0} (v : Setting D) (earlier : List AnsweredOrder) (s : RunState D) (k : Ticked D) (answers : List AnsweredOrder) : Type 0 where

@@ -1,5 +1,5 @@
 -- The steps of a run, also if something failed.
-use Rattle.std.specs.Prelude.{◌≡◌, ℕ, zero, suc, ◌<◌, ◌≤◌, ◌↔◌, ◌⊎◌, Bool, true, false, List, [], ◌∷◌, ◌++◌, take, length, map, ⊤, IsSome, Option, None, Some, Result, Ok, Err, OnOk, IfErr, ◌≢◌}
+use Rattle.std.specs.Prelude.{◌≡◌, ℕ, zero, suc, ◌<◌, ◌≤◌, ◌↔◌, ◌⊎◌, Bool, true, false, List, [], ◌∷◌, ◌++◌, take, length, map, ⊤, IsSome, Option, None, Some, Result, Ok, Err, OnOk}
 use Rattle.std.specs.List.{flat_map}
 use Rattle.std.specs.Result.{IsOk}
 use Rattle.std.specs.Io.KnownBytes.{Appends}
@@ -11,7 +11,7 @@ use Rattle.job_table.specs.TableVersions.{raised}
 use Rattle.filter_args.specs.declared.place.Place.{Place}
 use Rattle.spool_disk.specs.Disk.{LeavesOnly}
 use Rattle.command_lines.specs.Text.{commands_of}
-use Rattle.command_lines.specs.PendingCommands.{Pending, Leads, IsPartial, to_come, weight}
+use Rattle.command_lines.specs.PendingCommands.{Pending, Leads, to_come}
 use Rattle.command_lines.specs.declared.command.Command.{Command}
 use Rattle.command_lines.specs.declared.command.Command.TheVariants as commands
 use Rattle.spool_core.specs.Driving.{documents_after}
@@ -26,10 +26,6 @@ use Rattle.spool_engine.specs.EngineRounds.{Ran, AreRunBy, counts_in, results_of
 use Rattle.spool_engine.specs.Script.{Documents, Asked, ScriptState, meaning, event_of, withheld_line, withholds, script_text, script_events, run_script_state, asked_on, documents_on}
 use Rattle.spool_engine.specs.declared.fault.RunFault.{RunFault}
 use Rattle.spool_engine.specs.declared.fault.RunFault.TheVariants.{Read, Write, Memory}
-
--- A call that reads nothing does not report a failed reader.
-abbrev pub ReadsNothing : {A : Type 0} → Result A RunFault → Type 0
-ReadsNothing result = IfErr result (λ fault. fault ≢ Read)
 
 -- An engine as its callers see it.
 pub record Engine (D : Type 0) : Type 0 where
@@ -216,22 +212,6 @@ pub record Drains {D : Type 0} (v : Setting D) (s : RunState D) (p : Pending) (t
   pub lead : Lead v s turns s'
   pub commands : Leads p (commands_in turns) p'
   pub wrote : Wrote result old new turns
-
--- The result without whether there was a command.
-abbrev pub without_count : Result Bool RunFault → Result (Unit {0}) RunFault
-without_count (Ok more) = Ok tt
-without_count (Err fault) = Err fault
-
--- One step if there was a command, and then less is buffered. None if no whole command was buffered.
-abbrev pub IsOneWhere : {D : Type 0} → Result Bool RunFault → Pending → List (CommandStep D) → Pending → Type 0
-IsOneWhere (Ok true) p turns p' = (length turns ≡ 1) × (weight p' < weight p)
-IsOneWhere (Ok false) p turns p' = (turns ≡ []) × IsPartial p'.mode p'.held
-IsOneWhere (Err fault) p turns p' = length turns ≤ 1
-
--- The next command was served, if a whole one was buffered.
-pub record ServesNext {D : Type 0} (v : Setting D) (s : RunState D) (p : Pending) (turns : List (CommandStep D)) (s' : RunState D) (p' : Pending) (result : Result Bool RunFault) (old new : Option (List ℕ)) : Type 0 where
-  pub served : Drains v s p turns s' p' (without_count result) old new
-  pub count : IsOneWhere result p turns p'
 
 -- The same for a piece, which after a fault may not have been fed.
 pub record DrainsPiece {D : Type 0} (v : Setting D) (piece : List ℕ) (s : RunState D) (p : Pending) (turns : List (CommandStep D)) (s' : RunState D) (p' : Pending) (result : Result (Unit {0}) RunFault) (old new : Option (List ℕ)) : Type 0 where

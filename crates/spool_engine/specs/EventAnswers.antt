@@ -27,9 +27,9 @@ fault_line Full = codes "error full\n"
 fault_line Disk = codes "error disk\n"
 
 -- The reply to an event, given the line for the table's reply.
-abbrev pub answer_line : (Reply → List ℕ) → Result Reply ApplyFault → List ℕ
-answer_line line (Ok reply) = line reply
-answer_line line (Err fault) = fault_line fault
+abbrev pub event_line : (Reply → List ℕ) → Result Reply ApplyFault → List ℕ
+event_line line (Ok reply) = line reply
+event_line line (Err fault) = fault_line fault
 
 -- An event with this answer, and the images that a crash leaves during it and after it.
 pub record IsApplied {D : Type 0} (device : DiskView D) (old : OpenSpool D) (e : Event) (answer : Result Reply ApplyFault) (new : OpenSpool D) : Type 0 where

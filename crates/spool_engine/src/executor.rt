@@ -7,7 +7,7 @@ ghost use Rattle.spool_types.specs.declared.event.Closing.{Closing as ClosingOf}
 ghost use Rattle.spool_types.specs.declared.event.Reply.{Reply};
 ghost use Rattle.job_table.specs.Over.{is_over};
 ghost use Rattle.job_table.specs.Step.{creation, refusal_of};
-ghost use Rattle.command_lines.specs.Replies.{jobs_text, queues_text, shown_text};
+ghost use Rattle.command_lines.specs.Replies.{jobs_text, queues_text};
 ghost use Rattle.command_lines.specs.declared.command.Command.{Command};
 ghost use Rattle.filter_args.specs.declared.place.Place.{Place as PlaceOf};
 ghost use Rattle.print_rounds.specs.RunStates.{RunState, run_state};
@@ -18,21 +18,22 @@ ghost use Rattle.spool_core.specs.declared.spool.checkpoint_fault.CheckpointFaul
 ghost use Rattle.spool_engine.specs.Mime.{Mime as MimeDatabase, IsEnough};
 ghost use Rattle.spool_engine.specs.Script.{closing_line, closing_of, filters_to, queue_of_job, reply_line, stages_of};
 ghost use Rattle.spool_engine.specs.Script.{next_number};
+ghost use Rattle.spool_engine.specs.AnswerTexts.{answer_text};
 ghost use Rattle.spool_engine.specs.EventSteps.{setting, EventStep, IsKept};
-ghost use Rattle.spool_engine.specs.EventAnswers.{IsApplied, IsFrontRead, IsRelisted, Takes, answer_line, checkpoint_line};
+ghost use Rattle.spool_engine.specs.EventAnswers.{IsApplied, IsFrontRead, IsRelisted, Takes, event_line, checkpoint_line};
 ghost use Rattle.spool_engine.specs.EngineRounds.{IsRan};
 ghost use Rattle.spool_engine.specs.EngineTicks.{IsTicked};
 ghost use Rattle.spool_types.specs.declared.event.Event.{Event as EventOf};
 
-use crate::answers::{answer_text, checkpoint_text, fault_text};
+use crate::answers::{checkpoint_answer, event_answer, fault_answer};
 use crate::mime::Mime;
 use crate::options::job_options;
 use child_pipeline::{Children, Content, Runner};
-use command_lines::{Answer, Creation, ShownQueue, print_reply};
+use command_lines::{Answer, Creation};
 use device_uri::{DeviceUri, UriFault};
 use filter_args::Place;
 use job_table::{Table, document_len};
-use print_rounds::{Round, RoundFault, finish_children};
+use print_rounds::{Round, RoundFault, TickLimits, finish_children};
 use spool_core::{ApplyFault, CheckpointFault, Spool, Unread, read_front};
 use spool_disk::Disk;
 use spool_types::{
@@ -111,34 +112,34 @@ impl<D: Disk> Executor<D> {
         self.spool.apply(event)
     }
 
-    /// Applies an event, and returns the text of its reply, which depends only on the spool's answer.
-    pub fn execute_event(&mut self, event: Event) -> Result<Vec<u8>, AllocError>
+    /// Applies an event, and returns the answer, which depends only on the spool's reply.
+    pub fn execute_event(&mut self, event: Event) -> Answer
         ensures { (answer : Result Reply ApplyFault) ×
             IsApplied D.device self.old event answer self.new ×
-            IfOk result (λ text. text.items ≡ answer_line reply_line answer) }
+            (answer_text self.new.state result ≡ event_line reply_line answer) }
     {
-        let answer = self.apply(event);
-        answer_text(self.alloc, answer)
+        let applied = self.apply(event);
+        event_answer(applied)
     }
 
-    /// Adds a queue if its URI is that of a device, and returns the text of the reply.
-    pub fn add_queue(&mut self, queue: NewQueue) -> Result<Vec<u8>, AllocError>
+    /// Adds a queue if its URI is that of a device, and returns the answer.
+    pub fn add_queue(&mut self, queue: NewQueue) -> Answer
         ensures { (m : MimeDatabase) (p : PlaceOf) → (t : EventStep D) ×
             Takes (setting D.device m p) self.old (Command.Queue queue) t self.new ×
-            IfOk result (λ text. text.items ≡ t.text) }
+            (answer_text self.new.state result ≡ t.text) }
     {
         match DeviceUri::parse(self.alloc, queue.uri.as_str()) {
             Ok(_) => self.execute_event(Event::AddQueue(queue)),
-            Err(UriFault::BadUri) => print_reply(self.alloc, &Answer::BadUri),
-            Err(UriFault::Memory) => print_reply(self.alloc, &Answer::NoMemory),
+            Err(UriFault::BadUri) => Answer::BadUri,
+            Err(UriFault::Memory) => Answer::NoMemory,
         }
     }
 
-    /// Creates a job if its options contain no error and are short enough, and returns the text of the reply.
-    pub fn create(&mut self, creation: Creation) -> Result<Vec<u8>, AllocError>
+    /// Creates a job if its options contain no error and are short enough, and returns the answer.
+    pub fn create(&mut self, creation: Creation) -> Answer
         ensures { (m : MimeDatabase) (p : PlaceOf) → (t : EventStep D) ×
             Takes (setting D.device m p) self.old (Command.Create creation) t self.new ×
-            IfOk result (λ text. text.items ≡ t.text) }
+            (answer_text self.new.state result ≡ t.text) }
     {
         match job_options(self.alloc, creation.options.as_str()) {
             Ok(Some(options)) => {
@@ -146,29 +147,29 @@ impl<D: Disk> Executor<D> {
                 let job = new_job(self.next_number(), creation, options);
                 self.execute_event(event_of_creation(job, by))
             }
-            Ok(None) => print_reply(self.alloc, &Answer::BadOptions),
-            Err(AllocError) => print_reply(self.alloc, &Answer::NoMemory),
+            Ok(None) => Answer::BadOptions,
+            Err(AllocError) => Answer::NoMemory,
         }
     }
 
-    /// Closes a job, and returns the text of the reply. The document is read only if the job can be closed, and only as far as its type
+    /// Closes a job, and returns the answer. The document is read only if the job can be closed, and only as far as its type
     /// depends on it.
-    pub fn close(&mut self, mime: &Mime<'_>, job: JobId, name: &str) -> Result<Vec<u8>, AllocError>
+    pub fn close(&mut self, mime: &Mime<'_>, job: JobId, name: &str) -> Answer
         ensures { (p : PlaceOf) → (t : EventStep D) ×
             Takes (setting D.device mime.now p) self.old (Command.Close job name.now) t self.new ×
-            IfOk result (λ text. text.items ≡ t.text) }
+            (answer_text self.new.state result ≡ t.text) }
     {
         if self.met_fault() {
-            return fault_text(self.alloc, ApplyFault::Dead);
+            return fault_answer(ApplyFault::Dead);
         }
         if let Some(refusal) = self.table().close_refusal(job) {
-            return fault_text(self.alloc, ApplyFault::Refused(refusal));
+            return fault_answer(ApplyFault::Refused(refusal));
         }
         let count = self.reach(mime, job);
         match self.front(job, count) {
             Ok(front) => self.close_typed(mime, job, name, front.as_slice()),
-            Err(Unread::Memory) => fault_text(self.alloc, ApplyFault::Memory),
-            Err(Unread::Disk) => fault_text(self.alloc, ApplyFault::Disk),
+            Err(Unread::Memory) => fault_answer(ApplyFault::Memory),
+            Err(Unread::Disk) => fault_answer(ApplyFault::Disk),
         }
     }
 
@@ -195,33 +196,29 @@ impl<D: Disk> Executor<D> {
         read_content(self.alloc, &mut self.spool, job, count)
     }
 
-    // Closes a job whose document begins with these bytes, and returns the text of the reply.
-    fn close_typed(
-        &mut self,
-        mime: &Mime<'_>,
-        job: JobId,
-        name: &str,
-        document: &[u8],
-    ) -> Result<Vec<u8>, AllocError>
+    // Closes a job whose document begins with these bytes, and returns the answer.
+    fn close_typed(&mut self, mime: &Mime<'_>, job: JobId, name: &str, document: &[u8]) -> Answer
         requires alive { self.old.dead ≡ false }
         requires accepted { (c : ClosingOf) → c.job ≡ job → refusal_of self.old.state (Event.Close c) ≡ None }
         ensures { (answer : Result Reply ApplyFault) ×
             IsApplied D.device
             self.old (Event.Close (closing_of mime.now self.old.state document.now job name.now)) answer self.new ×
-            IfOk result (λ text. text.items ≡ answer_line (closing_line (closing_of mime.now self.old.state document.now job name.now)) answer) }
+            (answer_text self.new.state result ≡ event_line (closing_line (closing_of mime.now self.old.state document.now job name.now)) answer) }
     {
+        // Until the device has failed, a crash leaves the table that is shown.
+        let _kept = self.met_fault();
         let (closing, media) = match self.closing(mime, job, name, document) {
             Ok(both) => both,
-            Err(_) => return fault_text(self.alloc, ApplyFault::Memory),
+            Err(_) => return fault_answer(ApplyFault::Memory),
         };
         let stages = stages(&closing);
         match self.apply(Event::Close(closing)) {
-            Ok(_) => print_reply(self.alloc, &Answer::Closed { media, stages }),
-            Err(fault) => fault_text(self.alloc, fault),
+            Ok(_) => Answer::Closed { media, stages },
+            Err(fault) => fault_answer(fault),
         }
     }
 
-    // Returns the event that closes the job with this document, and a copy of its media type for the reply.
+    // Returns the event that closes the job with this document, and a copy of its media type for the answer.
     fn closing(
         &self,
         mime: &Mime<'_>,
@@ -265,14 +262,14 @@ impl<D: Disk> Executor<D> {
         self.table().queue(&row.job.queue)
     }
 
-    /// Lists the table in the other area, so that the journal has room again, and returns the text of the reply.
-    pub fn checkpoint(&mut self) -> Result<Vec<u8>, AllocError>
+    /// Lists the table in the other area, so that the journal has room again, and returns the answer.
+    pub fn checkpoint(&mut self) -> Answer
         ensures { (answer : Result (Unit {0}) CheckpointFault) ×
             IsRelisted D.device self.old answer self.new ×
-            IfOk result (λ text. text.items ≡ checkpoint_line answer) }
+            (answer_text self.new.state result ≡ checkpoint_line answer) }
     {
         let done = self.relist();
-        checkpoint_text(self.alloc, done)
+        checkpoint_answer(done)
     }
 
     fn relist(&mut self) -> Result<(), CheckpointFault>
@@ -299,18 +296,28 @@ impl<D: Disk> Executor<D> {
         ran
     }
 
-    /// Runs a tick, which waits for no child.
+    /// Runs a tick, which waits for no child, within these limits.
     pub fn tick<C: Children>(
         &mut self,
         place: &Place,
         runner: &mut Runner<C>,
         children: &mut C,
+        limits: Option<TickLimits>,
+        turn: &mut usize,
     ) -> Result<Round, RoundFault>
         ensures { (m : MimeDatabase) → (tried : List EventOf) × IsTicked (setting D.device m place.now)
             (run_state self.old runner.old (C.tells children.old))
-            (record { next = run_state self.new runner.new (C.tells children.new); result = result; tried = tried }) }
+            (record { limits = limits; next = run_state self.new runner.new (C.tells children.new); result = result; tried = tried }) }
     {
-        let ran = print_rounds::tick(self.alloc, place, &mut self.spool, runner, children);
+        let ran = print_rounds::tick(
+            self.alloc,
+            place,
+            &mut self.spool,
+            runner,
+            children,
+            limits,
+            turn,
+        );
         // `table` states that a crash leaves this table, which is the executor's invariant.
         let _table = self.spool.table();
         ran
@@ -323,27 +330,22 @@ impl<D: Disk> Executor<D> {
         JobId::new(next.min(JobId::GREATEST)).unwrap()
     }
 
-    /// Returns the listing of the jobs.
-    pub fn jobs(&self) -> Result<Vec<u8>, AllocError>
-        ensures text { IfOk result (λ text.
-            text.items ≡ jobs_text self.now.state.moment (finite.values self.now.state.jobs)) }
+    /// Returns the answer that lists the jobs.
+    pub fn jobs(&self) -> Answer
+        ensures text { answer_text self.now.state result ≡ jobs_text self.now.state.moment (finite.values self.now.state.jobs) }
         // Until the device has failed, a crash leaves the table that is listed.
         ensures kept { IsKept D.device self.now }
     {
-        let rows = self.table().jobs();
-        let now = self.table().now();
-        print_reply(self.alloc, &Answer::Jobs { rows, now })
+        Answer::Jobs(self.spool.table().jobs().len())
     }
 
-    /// Returns the listing of the queues.
-    pub fn queues(&self) -> Result<Vec<u8>, AllocError>
-        ensures text { IfOk result (λ text.
-            text.items ≡ queues_text (finite.values self.now.state.jobs) (finite.values self.now.state.queues)) }
+    /// Returns the answer that lists the queues.
+    pub fn queues(&self) -> Answer
+        ensures text { answer_text self.now.state result ≡ queues_text (finite.values self.now.state.jobs) (finite.values self.now.state.queues) }
         // Until the device has failed, a crash leaves the table that is listed.
         ensures kept { IsKept D.device self.now }
     {
-        let shown = shown_queues(self.alloc, self.table())?;
-        print_reply(self.alloc, &Answer::Queues(&shown))
+        Answer::Queues(self.spool.table().queues().len())
     }
 }
 
@@ -363,20 +365,6 @@ fn read_content<D: Disk>(
         Ok(bytes) => Ok(Content::new(bytes)),
         Err(why) => Err(why),
     }
-}
-
-// Returns the queues of a table, each with whether it is processing. That is read from its lane, so no job is examined.
-fn shown_queues(alloc: Global, table: &Table) -> Result<Vec<ShownQueue<'_>>, AllocError>
-    ensures { IfOk result (λ shown.
-        shown_text shown.items ≡ queues_text (finite.values table.now.state.jobs) (finite.values table.now.state.queues)) }
-{
-    let rows = table.queues();
-    let mut shown = Vec::with_capacity(alloc, rows.len())?;
-    for row in rows {
-        let busy = table.processing(&row.name).is_some();
-        shown.push(ShownQueue { row, busy })?;
-    }
-    Ok(shown)
 }
 
 // Returns the number of stages of a closed job: its filters and the backend. `None` if no chain of conversions exists.

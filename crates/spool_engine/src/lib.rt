@@ -2,8 +2,9 @@
 //!
 //! An [`Engine`] has a spool, the children of its jobs, the MIME rules, the conversions, and the `Place` of the children (their folder,
 //! locale and search path). Each command is one *step*: the engine reads the command, serves it on the spool that it finds, and writes the
-//! reply before it takes the next command. The commands are those of the whole text, however the reader splits it into pieces. Several
-//! clients can be served by one engine, each with its own reader of commands and its own writer ([`Engine::serve_next`]).
+//! reply before it takes the next command. The commands are those of the whole text, however the reader splits it into pieces. A server of
+//! several clients reads the commands itself: [`Engine::execute`] executes one and returns its [`command_lines::Answer`], a value, whose
+//! text [`append_answer`] appends.
 //!
 //! - Most commands ask for one event. A queue's URI and a job's options are checked before the spool is asked, so their errors also come
 //!   before a refusal and from a dead spool. Options that contain an error, or whose printed form has more than 2,048 bytes, are
@@ -18,14 +19,15 @@
 //!   the event of its end (`print_rounds`). A round first waits for the children that run when it begins. Their finishes are stored in
 //!   their slots, and the round applies their events. `drain` runs rounds until one starts and finishes nothing, and at most the given
 //!   number. The idle round counts too. A fault ends the drain.
-//! - A tick does the same as a round and waits for no child ([`Engine::tick`]), so children may run between two calls.
+//! - A tick does the same as a round and waits for no child ([`Engine::tick`]), so children may run between two calls. It may have limits
+//!   of running children and of starts. [`Engine::is_running`], [`Engine::group_of`] and [`Engine::count_free`] tell which children run.
 //! - A `purge` of a job whose child runs is withheld by the engine, because the table knows no children: the reply is `error 16 NotEnded`,
 //!   and nothing changes.
 //! - `checkpoint` lists the table in the other area of the disk, so that the journal has room again (`Spool::checkpoint`). The table is
 //!   then in the newest version of the format. Nothing else in it changes (`raised`).
 //!
-//! There are three layers. `Executor` applies events over the spool alone. `Printer` serves the commands over it, with the slots and the
-//! children. `Engine` lends both the rules, the conversions and the `Place`, which never change, so no clause of a step has to state that
+//! There are three layers. `Executor` applies events over the spool alone. `Printer` executes the commands over it, with the slots and the
+//! children, and serves the text of a run. `Engine` lends both the rules, the conversions and the `Place`, which never change, so no clause of a step has to state that
 //! they stay. The definitions in `specs/`:
 //!
 //! - `Mime`: the MIME rules, the conversions and the locale of the `Place`, as each call borrows them. `media_of` is the type of a
@@ -38,14 +40,15 @@
 //! - `EventSteps`, `EngineRounds`, `EngineTicks`, `EngineRuns`: each step, round, tick and run, also if something fails. A command of one
 //!   event is defined over the spool alone (`IsEventStep`), a command with rounds over the run state of spool, slots and children
 //!   (`IsCommandStep`). Both list the events that were tried. `Setting` groups the view of the device, the MIME database and the `Place`.
+//! - `AnswerTexts`: the text of an answer over a table (`answer_text`). `StepReplies`: the reply of a step in which nothing failed.
 //! - `EngineLives`: `IsEngineLife` and `IsEngineHistory` are the lives and the stage histories of engines.
 //!
 //! # Promises
 //!
 //! - The clauses: [`Engine::run`] has one clause, `IsRun`, over its steps. A step has its command, outcome, reply and the run state that it
-//!   left. [`Engine::round`] has `IsRan`, [`Engine::tick`] `IsTicked`, [`Engine::serve_next`] `ServesNext`, and [`Engine::answer`]
-//!   `Serves`. The last two read nothing, so they never report a failed reader (`reads`). [`Engine::new`] sets the rules, the conversions
-//!   and the `Place`, and no call changes them (`mime`, `place`).
+//!   left. [`Engine::round`] has `IsRan`, [`Engine::tick`] `IsTicked`, and [`Engine::execute`] `TakesStep`: the text of its answer over the
+//!   table that it leaves is the reply of the step (`executed`). [`Engine::new`] sets the rules, the conversions and the `Place`, and no
+//!   call changes them (`mime`, `place`).
 //! - *ExactScript* (`exact`): if a run returns Ok and every command was served, the bytes that it wrote are the replies of Script over
 //!   these rules and conversions, and the table is Script's (`table`). If no checkpoint raises the version in between, it is the fold of
 //!   Script's events (`fold`). If the children report, and the slots have the tickets of the running children, the new orders and the slots
@@ -63,8 +66,8 @@
 //!   URI is within its limits, or for a job whose options contain no error (`IsUnread`); no clause shows that memory had run out.
 //! - *HonestReplies*, rounds: a `round`, and each round of a `drain`, makes its steps (`IsRoundOf`) and is answered with its counts or with
 //!   its first fault in time. The table is that of the events acknowledged in it, so a round that is answered with an error may have
-//!   printed. A drain has no round after an idle one or after a fault (`AreAll`). A caller that serves a round by a tick builds the same
-//!   bytes with [`rounded_text`] (`round_line`).
+//!   printed. A drain has no round after an idle one or after a fault (`AreAll`). A caller that serves a round by a tick gives the
+//!   same answer with [`round_answer`] (`round_line`).
 //! - *Crashes* (`crash` and `kept` of each step): unless the device had failed before, a crash at any moment of a step leaves the table
 //!   before its command or the one after it. In a checkpoint it leaves that table in its version or in the newest, and in rounds the table
 //!   after some of the events that were tried in them, the first of them. The documents are those after the same events (`whole`). A crash
@@ -89,10 +92,8 @@
 //! - *RightInput* ([`stages_have_right_input`]): over any number of calls of one engine each later stage of an attempt gets the whole
 //!   output of the stage before it, whichever calls its child was started in and ended in. Each first stage gets its job's document, if the
 //!   disk reports its bytes. An attempt never continues in another life of an engine.
-//! - *ClientsApart* ([`clients_stay_apart`]): over any list of acts (a client sends, one command of a client is served, a tick) the
-//!   commands that are served for a client are the first of those in its own bytes (`commands`, `first`). The client gets exactly their
-//!   replies, as long as no call for it has a fault (`replies`), and each reply is Script's on the table that its command found (`script`).
-//!   The acts are calls of the engine (`calls`).
+//! - [`replies_are_scripts`]: the reply of each step in which nothing failed is Script's on the run state that the step found. So an answer
+//!   depends on its own command and on the state alone, whichever client sent the command.
 //! - [`quiet_states_stay`]: if no child runs, a round of Script waits for none.
 //! - Output (`wrote`): a run that returns Ok, or that ends with a fault of the reader, wrote all replies of its steps. After a fault of the
 //!   writer it wrote the earlier replies and a part of the last one, but not all of it. If memory ran out, it wrote all replies, or all but
@@ -110,7 +111,7 @@
 //! # Invariants
 //!
 //! 1. Until the device has failed, a crash leaves the table that the engine shows (`IsKept`, the invariant of `Executor`).
-//! 2. If no child runs before a `round`, a `run` or a `serve_next`, none runs after it (`rests`).
+//! 2. If no child runs before a `round` or a `run`, none runs after it (`rests`).
 //!
 //! # Errors
 //!
@@ -122,7 +123,8 @@
 //!
 //! # Cost
 //!
-//! - A run reads at most 16,384 bytes at a time. Each reply is built in memory and written whole.
+//! - A run reads at most 16,384 bytes at a time. Each reply is built in memory and written whole. An answer takes no memory, except for the
+//!   name of a type.
 //! - `close` reads only the first bytes of the document, up to the last one that a rule examines (`Types::reach`). The definition has the
 //!   whole document, with the bytes that are read as its front (`IsFrontOf`).
 //! - Options are first checked for errors without allocating. A URI's parser allocates before it knows whether the URI is valid.
@@ -138,10 +140,10 @@ mod mime;
 mod options;
 mod printer;
 
-pub use answers::rounded_text;
+pub use answers::{append_answer, round_answer};
 pub use engine::Engine;
 pub use fault::RunFault;
 pub use laws::{
-    calls_are_steps, clients_stay_apart, crashes_between_calls, crashes_between_replies, lives_law,
-    no_stage_is_ordered_twice, quiet_states_stay, stages_have_right_input,
+    calls_are_steps, crashes_between_calls, crashes_between_replies, lives_law,
+    no_stage_is_ordered_twice, quiet_states_stay, replies_are_scripts, stages_have_right_input,
 };

@@ -1,30 +1,32 @@
-//! The printer: serves the commands of a text, each on the run state that it finds.
-ghost use Rattle.std.specs.Prelude.{◌≡◌, ℕ, List, [], IfOk, OnOk};
+//! The printer: executes commands, each on the run state that it finds, and serves the commands of a text.
+ghost use Rattle.std.specs.Prelude.{◌≡◌, ◌-◌, ℕ, false, List, [], IfOk, IsNone, IsSome, IsTrue, OnOk};
 ghost use Rattle.std.specs.FinMap as finite;
 ghost use Rattle.spool_types.specs.declared.event.Event.{Event as EventOf};
 ghost use Rattle.command_lines.specs.declared.command.Command.{Command};
-ghost use Rattle.child_pipeline.specs.StageSlots.{Slots};
+ghost use Rattle.child_pipeline.specs.StageSlots.{Slots, IsRunning, IsTicketless};
+ghost use Rattle.print_rounds.specs.RoundTicks.{count_running};
 ghost use Rattle.print_rounds.specs.RunStates.{RunState, run_state};
+ghost use Rattle.spool_engine.specs.AnswerTexts.{answer_text};
 ghost use Rattle.spool_engine.specs.EventSteps.{setting, IsKept};
 ghost use Rattle.spool_engine.specs.Mime.{Mime as MimeDatabase};
 ghost use Rattle.spool_engine.specs.EngineTicks.{IsTicked};
 ghost use Rattle.spool_engine.specs.EngineRounds.{Ran, IsRan, IsSettled, AreRan, AreAll, AreRun, counts_in, results_of, rounds_run};
 ghost use Rattle.filter_args.specs.declared.place.Place.{Place as PlaceOf};
 ghost use Rattle.spool_engine.specs.Script.{is_idle, round_text, drain_text, withholds_event};
-ghost use Rattle.spool_engine.specs.EngineRuns.{CommandStep, TakesStep, Serves, IsRun, Drains, DrainsEnd, DrainsPiece, ReadsNothing, ServesNext};
+ghost use Rattle.spool_engine.specs.EngineRuns.{CommandStep, TakesStep, Serves, IsRun, Drains, DrainsEnd, DrainsPiece};
 
-use crate::answers::{drained_text, rounded_text};
+use crate::answers::{append_answer, drain_answer, round_answer};
 use crate::executor::Executor;
 use crate::fault::RunFault;
 use crate::mime::Mime;
 use child_pipeline::{Children, Runner, tickets_stay};
-use command_lines::{Answer, Command, Commands, Rounds, print_reply};
+use command_lines::{Answer, Command, Commands, Rounds};
 use filter_args::Place;
 use job_table::{Table, versions_rise};
-use print_rounds::{Round, RoundFault, finish_children};
+use print_rounds::{Round, RoundFault, TickLimits, count_free, finish_children};
 use spool_core::Spool;
 use spool_disk::Disk;
-use spool_types::{Event, Refusal};
+use spool_types::{Event, JobId, Refusal};
 use std::alloc::{AllocError, Global};
 use std::io::{ErrorKind, Read, Write};
 use std::marker::Model;
@@ -41,6 +43,8 @@ pub(crate) struct Printer<D: Disk, C: Children> {
     executor: Executor<D>,
     runner: Runner<C>,
     children: C,
+    // The position of the queue that is first in the queue order of a tick.
+    turn: usize,
 }
 
 impl<D: Disk, C: Children> Model for Printer<D, C> {
@@ -65,6 +69,7 @@ impl<D: Disk, C: Children> Printer<D, C> {
             executor: Executor::new(alloc, spool),
             runner: Runner::new(alloc),
             children,
+            turn: 0,
         }
     }
 
@@ -116,13 +121,37 @@ impl<D: Disk, C: Children> Printer<D, C> {
             .round(place, &mut self.runner, &mut self.children)
     }
 
-    /// Runs a tick, which waits for no child.
-    pub fn tick(&mut self, place: &Place) -> Result<Round, RoundFault>
+    /// Runs a tick, which waits for no child, within these limits.
+    pub fn tick(&mut self, place: &Place, limits: Option<TickLimits>) -> Result<Round, RoundFault>
         ensures { (m : MimeDatabase) → (tried : List EventOf) × IsTicked (setting D.device m place.now) self.old
-            (record { next = self.new; result = result; tried = tried }) }
+            (record { limits = limits; next = self.new; result = result; tried = tried }) }
     {
+        let turn = &mut self.turn;
         self.executor
-            .tick(place, &mut self.runner, &mut self.children)
+            .tick(place, &mut self.runner, &mut self.children, limits, turn)
+    }
+
+    /// Returns how many more children may run, if at most `most` may.
+    pub fn count_free(&self, most: usize) -> usize
+        ensures { result ≡ most - count_running self.now.slots }
+    {
+        count_free(&self.runner, most)
+    }
+
+    /// Returns whether the child of a job runs.
+    pub fn is_running(&self, job: JobId) -> bool
+        ensures yes { IsTrue result → IsRunning (finite.get self.now.slots job) }
+        ensures no { result ≡ false → IsTicketless (finite.get self.now.slots job) }
+    {
+        self.runner.is_running(job)
+    }
+
+    /// Returns the process group of a job's child, if one runs.
+    pub fn group_of(&self, job: JobId) -> Option<u32>
+        ensures some { IsSome result → IsRunning (finite.get self.now.slots job) }
+        ensures none { IsNone result → IsTicketless (finite.get self.now.slots job) }
+    {
+        self.runner.group_of(job)
     }
 
     // Runs rounds until one starts and finishes nothing, at most `most`, and returns how many it ran.
@@ -143,24 +172,24 @@ impl<D: Disk, C: Children> Printer<D, C> {
         Ok(most.get())
     }
 
-    // Runs a round, and returns the text of the reply.
-    fn round_text(&mut self, place: &Place) -> Result<Vec<u8>, AllocError>
+    // Runs a round, and returns the answer.
+    fn answer_round(&mut self, place: &Place) -> Answer
         ensures { (m : MimeDatabase) → (rs : List (Ran D)) × (reply : List ℕ)
             × AreRun (setting D.device m place.now) 1 round_text self.old rs self.new reply
-            × IfOk result (λ text. text.items ≡ reply) }
+            × (answer_text self.new.spool.state result ≡ reply) }
     {
         let ran = self.round(place);
-        rounded_text(self.alloc, ran)
+        round_answer(ran)
     }
 
-    // Runs the rounds of a drain, and returns the text of the reply.
-    fn drain_text(&mut self, place: &Place, most: Rounds) -> Result<Vec<u8>, AllocError>
+    // Runs the rounds of a drain, and returns the answer.
+    fn answer_drain(&mut self, place: &Place, most: Rounds) -> Answer
         ensures { (m : MimeDatabase) → (rs : List (Ran D)) × (reply : List ℕ)
             × AreRun (setting D.device m place.now) most drain_text self.old rs self.new reply
-            × IfOk result (λ text. text.items ≡ reply) }
+            × (answer_text self.new.spool.state result ≡ reply) }
     {
         let run = self.drain(place, most);
-        drained_text(self.alloc, run)
+        drain_answer(run)
     }
 
     // Returns whether the event is a purge of a job whose child runs.
@@ -173,31 +202,26 @@ impl<D: Disk, C: Children> Printer<D, C> {
         }
     }
 
-    // Applies an event, unless it is a purge of a job whose child runs, and returns the text of the reply.
-    fn apply(&mut self, event: Event) -> Result<Vec<u8>, AllocError>
+    // Applies an event, unless it is a purge of a job whose child runs, and returns the answer.
+    fn apply(&mut self, event: Event) -> Answer
         ensures { (m : MimeDatabase) (p : PlaceOf) → (t : CommandStep D) ×
             TakesStep (setting D.device m p) self.old (Command.Apply event) t self.new ×
-            IfOk result (λ text. text.items ≡ t.text) }
+            (answer_text self.new.spool.state result ≡ t.text) }
     {
         // Until the device has failed, a crash leaves the table that is shown.
         let _kept = self.met_fault();
         if self.withholds(&event) {
-            print_reply(self.alloc, &Answer::Refused(Refusal::NotEnded))
+            Answer::Refused(Refusal::NotEnded)
         } else {
             self.executor.execute_event(event)
         }
     }
 
-    // Serves a command, and returns the text of the reply.
-    fn execute(
-        &mut self,
-        mime: &Mime<'_>,
-        place: &Place,
-        command: Command,
-    ) -> Result<Vec<u8>, AllocError>
+    /// Executes a command, and returns the answer.
+    pub fn execute(&mut self, mime: &Mime<'_>, place: &Place, command: Command) -> Answer
         ensures { (t : CommandStep D) ×
             TakesStep (setting D.device mime.now place.now) self.old command t self.new ×
-            IfOk result (λ text. text.items ≡ t.text) }
+            (answer_text self.new.spool.state result ≡ t.text) }
     {
         // Until the device has failed, a crash leaves the table that is shown.
         let _kept = self.met_fault();
@@ -206,20 +230,18 @@ impl<D: Disk, C: Children> Printer<D, C> {
             Command::Queue(queue) => self.executor.add_queue(queue),
             Command::Create(creation) => self.executor.create(creation),
             Command::Close { job, name } => self.executor.close(mime, job, name.as_str()),
-            Command::OversizedSend => {
-                print_reply(self.alloc, &Answer::Refused(Refusal::TooLong))
-            }
+            Command::OversizedSend => Answer::Refused(Refusal::TooLong),
             Command::Jobs => self.executor.jobs(),
             Command::Queues => self.executor.queues(),
-            Command::Round => self.round_text(place),
-            Command::Drain(most) => self.drain_text(place, most),
+            Command::Round => self.answer_round(place),
+            Command::Drain(most) => self.answer_drain(place, most),
             Command::Checkpoint => self.executor.checkpoint(),
-            Command::Malformed => print_reply(self.alloc, &Answer::Malformed),
+            Command::Malformed => Answer::Malformed,
         }
     }
 
-    /// Serves a command and writes the reply.
-    pub fn answer<W: Write>(
+    // Serves a command: executes it, and writes the text of the answer.
+    fn answer<W: Write>(
         &mut self,
         mime: &Mime<'_>,
         place: &Place,
@@ -228,9 +250,9 @@ impl<D: Disk, C: Children> Printer<D, C> {
     ) -> Result<(), RunFault>
         ensures served { (t : CommandStep D) × Serves (setting D.device mime.now place.now)
             self.old command t self.new result (W.contents writer.old) (W.contents writer.new) }
-        ensures reads { ReadsNothing result }
     {
-        match self.execute(mime, place, command) {
+        let answer = self.execute(mime, place, command);
+        match self.text(&answer) {
             Ok(text) => match write_whole(writer, &text) {
                 Ok(()) => Ok(()),
                 Err(_) => Err(RunFault::Write),
@@ -239,26 +261,13 @@ impl<D: Disk, C: Children> Printer<D, C> {
         }
     }
 
-    /// If a whole command is buffered, serves it. Returns whether there was one.
-    pub fn serve_next<W: Write>(
-        &mut self,
-        mime: &Mime<'_>,
-        place: &Place,
-        commands: &mut Commands,
-        writer: &mut W,
-    ) -> Result<bool, RunFault>
-        ensures next { (turns : List (CommandStep D)) × ServesNext (setting D.device mime.now place.now)
-            self.old commands.old turns self.new commands.new result (W.contents writer.old) (W.contents writer.new) }
-        ensures reads { ReadsNothing result }
+    // Returns the text of an answer over the current table.
+    fn text(&self, answer: &Answer) -> Result<Vec<u8>, AllocError>
+        ensures { IfOk result (λ text. text.items ≡ answer_text self.now.spool.state answer.now) }
     {
-        match commands.next() {
-            Ok(Some(command)) => match self.answer(mime, place, command, writer) {
-                Ok(()) => Ok(true),
-                Err(fault) => Err(fault),
-            },
-            Ok(None) => Ok(false),
-            Err(_) => Err(RunFault::Memory),
-        }
+        let mut text = Vec::new(self.alloc);
+        append_answer(&mut text, self.table(), answer)?;
+        Ok(text)
     }
 
     // Serves the commands that are whole.

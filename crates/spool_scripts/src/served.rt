@@ -15,8 +15,9 @@ use mime_costs::Convs;
 use mime_rules::Types;
 use spool_core::{Spool, make};
 use spool_disk::{Disk, FuseDisk, MemDisk};
-use spool_engine::{Engine, RunFault};
+use spool_engine::{Engine, RunFault, append_answer};
 use std::alloc::Global;
+use whole_writes::write_whole;
 
 // The byte offset of the version of the first area.
 const VERSION_PLACE: u64 = 1;
@@ -202,7 +203,7 @@ fn serve_ticks(
         }
         writer.lift();
         reader_fails = false;
-        push_tick(account, printer.tick())?;
+        push_tick(account, printer.tick(None))?;
     }
     Ok(())
 }
@@ -244,10 +245,14 @@ fn serve_client(
     let mut commands = Commands::new(alloc);
     commands.feed(text)?;
     for _ in 0..u64::MAX {
-        match printer.serve_next(&mut commands, writer) {
-            Ok(true) => {}
-            Ok(false) => break,
-            Err(fault) => return push_fault(account, fault),
+        let Some(command) = commands.next()? else {
+            break;
+        };
+        let answer = printer.execute(command);
+        let mut reply = Vec::new(alloc);
+        append_answer(&mut reply, printer.table(), &answer)?;
+        if write_whole(writer, &reply).is_err() {
+            return push_fault(account, RunFault::Write);
         }
     }
     Ok(())

@@ -5,22 +5,22 @@ use Rattle.spool_types.specs.declared.phase.Policy.TheVariants.{AbortJob}
 use Rattle.spool_types.specs.declared.phase.Phase.TheVariants.{Processing}
 use Rattle.spool_types.specs.declared.refusal.Refusal.TheVariants.{NoNumberLeft, NeedsCheckpoint}
 use Rattle.spool_types.specs.declared.rows.QueueRow.{QueueRow}
-use Rattle.command_lines.specs.Replies.{answer_text, queues_text}
+use Rattle.command_lines.specs.Replies.{answer_line, queues_text}
 use Rattle.command_lines.specs.declared.reply.Answer.TheVariants.{Done, Created, Sent, Closed, Rounded, Drained, Refused, Malformed, Dead, NoMemory, Full, Disk, EpochEnd}
 use Rattle.text_examples.specs.Written.{text}
 
 abbrev pub DoneRows : Type 0
-DoneRows = map answer_text (Done ∷ Created 7 ∷ Sent 65536 ∷ Rounded 0 1 ∷ Drained 2 ∷ [])
+DoneRows = map answer_line (Done ∷ Created 7 ∷ Sent 65536 ∷ Rounded 0 1 ∷ Drained 2 ∷ [])
     ≡ text "ok|" ∷ text "ok job 7|" ∷ text "ok bytes 65536|" ∷ text "ok started 0 finished 1|" ∷ text "ok rounds 2|" ∷ []
 
 abbrev pub ErrorRows : Type 0
-ErrorRows = map answer_text (Refused NoNumberLeft ∷ Refused NeedsCheckpoint ∷ Malformed ∷ NoMemory ∷ Dead ∷ Full ∷ Disk ∷ EpochEnd ∷ [])
+ErrorRows = map answer_line (Refused NoNumberLeft ∷ Refused NeedsCheckpoint ∷ Malformed ∷ NoMemory ∷ Dead ∷ Full ∷ Disk ∷ EpochEnd ∷ [])
     ≡ text "error 9 NoNumberLeft|" ∷ text "error 17 NeedsCheckpoint|" ∷ text "error syntax|" ∷ text "error memory|" ∷ text "error dead|"
     ∷ text "error full|" ∷ text "error disk|" ∷ text "error epoch|" ∷ []
 
 -- The reply to a closed job has its type and its stages.
 abbrev pub ClosedRows : Type 0
-ClosedRows = answer_text (Closed (codes "text/plain") (Some 3)) ≡ text "ok type text/plain stages 3|"
+ClosedRows = answer_line (Closed (codes "text/plain") (Some 3)) ≡ text "ok type text/plain stages 3|"
 
 -- The queue `lab`, and its processing job.
 abbrev pub lab : QueueRow

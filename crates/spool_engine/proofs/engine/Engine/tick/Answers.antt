@@ -9,5 +9,5 @@ use Rattle.spool_engine.proofs.engine.Engine.tick.Goals as goal
 
 pub returns-clause-tick : goal.returns-clause-tick
 returns-clause-tick g c =
-    subst (λ (e : Engine g.row.D.Denot). (tried : List Event) × IsTicked (setting g.D.Disk.device e.mime e.place) e.run_state (record { next = c.tick.new.self; result = c.tick.result; tried = tried })) c.self.view_is
+    subst (λ (e : Engine g.row.D.Denot). (tried : List Event) × IsTicked (setting g.D.Disk.device e.mime e.place) e.run_state (record { limits = c.args.limits; next = c.tick.new.self; result = c.tick.result; tried = tried })) c.self.view_is
     (c.tick.ensures (record { types = c.self.inside.types; convs = c.self.inside.convs; locale = string_bytes c.self.inside.place.lang }))

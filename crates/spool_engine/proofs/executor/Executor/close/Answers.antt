@@ -3,6 +3,7 @@ use Rattle.std.proofs.Common.{List, ℕ, refl, sym, ap, ◌∙◌, codes, []}
 use Rattle.spool_types.specs.declared.event.Event.TheVariants.{Close as Closes}
 use Rattle.job_table.specs.Step.{refusal_of}
 use Rattle.command_lines.specs.Replies.{refusal_line}
+use Rattle.spool_engine.specs.AnswerTexts.{answer_text}
 use Rattle.spool_engine.specs.EventSteps.{setting}
 use Rattle.spool_engine.specs.Mime.{media_of}
 use Rattle.spool_engine.specs.Script.{closing_of}
@@ -13,9 +14,9 @@ pub returns-then-met_fault : goal.returns-then-met_fault
 returns-then-met_fault g c = λ p.
     let s = c.args.self.now in
     let v = setting g.D.Disk.device c.args.mime.now p in
-    told_as (λ x. x.items) c.fault_text.result v s s c.args.job c.args.name.now (codes "error dead\n")
+    told_as (answer_text s.state c.fault_answer.result) v s s c.args.job c.args.name.now (codes "error dead\n")
     (dead_close v s c.args.job c.args.name.now g.met.D.Disk.lawful c.if-met_fault.ensures.kept (sym c.if-met_fault.ensures.dead))
-    c.fault_text.ensures
+    (c.fault_answer.ensures s.state)
 
 pub returns-in-Some : goal.returns-in-Some
 returns-in-Some g c = λ p.
@@ -23,9 +24,9 @@ returns-in-Some g c = λ p.
     let v = setting g.D.Disk.device c.args.mime.now p in
     let n = closing_of v.mime s.state [] c.args.job c.args.name.now in
     let is = ap (λ t. refusal_of t (Closes n)) (sym c.table.ensures) ∙ sym (c.close_refusal.ensures n refl) ∙ c.in-Some.is in
-    told_as (λ x. x.items) c.fault_text-in-Some.result v s s c.args.job c.args.name.now (refusal_line c.in-Some.refusal)
+    told_as (answer_text s.state c.fault_answer-in-Some.result) v s s c.args.job c.args.name.now (refusal_line c.in-Some.refusal)
     (refused_close v s c.args.job c.args.name.now c.in-Some.refusal g.met.D.Disk.lawful c.if-met_fault.ensures.kept (sym c.if-met_fault.ensures.dead) is)
-    c.fault_text-in-Some.ensures
+    (c.fault_answer-in-Some.ensures s.state)
 
 pub reach-count-requires : goal.reach-count-requires
 reach-count-requires g c =
@@ -53,7 +54,7 @@ returns-in-Ok g c = λ p.
     let n = closing_of v.mime s.state read.document c.args.job c.args.name.now in
     let none = ap (λ t. refusal_of t (Closes n)) (sym c.table.ensures) ∙ sym (c.close_refusal.ensures n refl) ∙ c.in_default.is in
     let typed = ap (λ (front : List ℕ). media_of v.mime c.args.name.now front) (c.as_slice.ensures ∙ read.front_is) ∙ c.reach-count.ensures.enough c.args.name.now read.document read.own.long in
-    closed_by_front (λ x. x.items) c.close_typed.result v s c.front.new.self c.close_typed.new.self c.args.job c.args.name.now c.as_slice.result.now read.document g.met.D.Disk.lawful c.if-met_fault.ensures.kept (sym c.if-met_fault.ensures.dead) none still read.own typed
+    closed_by_front (answer_text c.close_typed.new.self.state c.close_typed.result) v s c.front.new.self c.close_typed.new.self c.args.job c.args.name.now c.as_slice.result.now read.document g.met.D.Disk.lawful c.if-met_fault.ensures.kept (sym c.if-met_fault.ensures.dead) none still read.own typed
     c.close_typed.ensures
 
 pub returns-in-Err-Memory : goal.returns-in-Err-Memory
@@ -63,9 +64,9 @@ returns-in-Err-Memory g c = λ p.
     let n = closing_of v.mime s.state [] c.args.job c.args.name.now in
     let none = ap (λ t. refusal_of t (Closes n)) (sym c.table.ensures) ∙ sym (c.close_refusal.ensures n refl) ∙ c.in_default.is in
     let same = rw c.in-Err-Memory.field-0-is at c.in-Err-Memory.ensures in
-    told_as (λ x. x.items) c.fault_text-in-Err-Memory.result v s c.front.new.self c.args.job c.args.name.now (codes "error memory\n")
+    told_as (answer_text c.front.new.self.state c.fault_answer-in-Err-Memory.result) v s c.front.new.self c.args.job c.args.name.now (codes "error memory\n")
     (unread_document v s c.front.new.self c.args.job c.args.name.now g.met.D.Disk.lawful c.if-met_fault.ensures.kept (sym c.if-met_fault.ensures.dead) none same)
-    c.fault_text-in-Err-Memory.ensures
+    (c.fault_answer-in-Err-Memory.ensures c.front.new.self.state)
 
 pub returns-in-Err-Disk : goal.returns-in-Err-Disk
 returns-in-Err-Disk g c = λ p.
@@ -74,6 +75,6 @@ returns-in-Err-Disk g c = λ p.
     let n = closing_of v.mime s.state [] c.args.job c.args.name.now in
     let none = ap (λ t. refusal_of t (Closes n)) (sym c.table.ensures) ∙ sym (c.close_refusal.ensures n refl) ∙ c.in_default.is in
     let cut = rw c.in-Err-Disk.field-0-is at c.in-Err-Disk.ensures in
-    told_as (λ x. x.items) c.fault_text-in-Err-Disk.result v s c.front.new.self c.args.job c.args.name.now (codes "error disk\n")
+    told_as (answer_text c.front.new.self.state c.fault_answer-in-Err-Disk.result) v s c.front.new.self c.args.job c.args.name.now (codes "error disk\n")
     (unreadable_document v s c.front.new.self c.args.job c.args.name.now c.if-met_fault.ensures.kept none cut)
-    c.fault_text-in-Err-Disk.ensures
+    (c.fault_answer-in-Err-Disk.ensures c.front.new.self.state)

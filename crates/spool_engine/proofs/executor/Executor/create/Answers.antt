@@ -1,9 +1,10 @@
 -- A job is created if its options can be stored.
-use Rattle.std.proofs.Common.{sym, ap, subst, ◌∙◌, codes}
+use Rattle.std.proofs.Common.{refl, sym, ap, subst, ◌∙◌, codes}
 use Rattle.std.specs.Result.{IsOk}
 use Rattle.job_table.specs.Step.{creation}
 use Rattle.filter_args.specs.OptionTexts.{reading}
 use Rattle.command_lines.specs.declared.command.Command.TheVariants.{Create}
+use Rattle.spool_engine.specs.AnswerTexts.{answer_text}
 use Rattle.spool_engine.specs.EventSteps.{setting}
 use Rattle.spool_engine.specs.Script.{asks, job_options, reply_line}
 use Rattle.spool_engine.proofs.EventLaws.{event_told, said_told, unread_told, create_event, no_create_event, kept_as}
@@ -18,15 +19,15 @@ returns-in-Ok-Some g c = λ m p.
     ∙ ap (λ j. asks (creation (record { queue = n.queue; job = j; user = n.user; title = n.title; copies = n.copies; priority = n.priority; options = c.in-Ok-Some.options }) n.by) reply_line) (sym c.next_number.ensures)
     ∙ ap (λ j. asks (creation j n.by) reply_line) (sym c.new_job-job.ensures)
     ∙ ap (λ e. asks e reply_line) (sym c.event_of_creation.ensures) in
-    event_told (λ v. v.items) c.execute_event.result (setting g.D.Disk.device m p) s _ (Create n) c.event_of_creation.result reply_line g.met.D.Disk.lawful.only_now (λ o. tt) is c.execute_event.ensures
+    event_told (answer_text c.execute_event.new.self.state c.execute_event.result) (setting g.D.Disk.device m p) s _ (Create n) c.event_of_creation.result reply_line g.met.D.Disk.lawful.only_now (λ o. tt) is c.execute_event.ensures
 
 pub returns-in-Ok-None : goal.returns-in-Ok-None
 returns-in-Ok-None g c = λ m p.
     let s = c.args.self.now in
     let n = c.args.creation in
     let is = no_create_event m s.state n (ap job_options (sym c.as_str.ensures.value) ∙ sym c.in-Ok-None.ensures.value ∙ c.in-Ok-None.field-0-is) in
-    said_told (λ v. v.items) c.print_reply.result (setting g.D.Disk.device m p) s (Create n) (codes "error options\n") g.met.D.Disk.lawful.only_now (kept_as g.D.Disk.device _ _ c.self.view_is c.self.invariant) (λ o. tt) is c.print_reply.ensures
+    said_told (codes "error options\n") (setting g.D.Disk.device m p) s (Create n) (codes "error options\n") g.met.D.Disk.lawful.only_now (kept_as g.D.Disk.device _ _ c.self.view_is c.self.invariant) (λ o. tt) is refl
 
 pub returns-in-Err : goal.returns-in-Err
 returns-in-Err g c = λ m p.
-    unread_told (λ v. v.items) c.print_reply-in-Err.result (setting g.D.Disk.device m p) c.args.self.now (Create c.args.creation) g.met.D.Disk.lawful.only_now (kept_as g.D.Disk.device _ _ c.self.view_is c.self.invariant) (λ o. tt) (subst (λ text. IsOk (reading text)) c.as_str.ensures.value c.in-Err.ensures.memory) c.print_reply-in-Err.ensures
+    unread_told (codes "error memory\n") (setting g.D.Disk.device m p) c.args.self.now (Create c.args.creation) g.met.D.Disk.lawful.only_now (kept_as g.D.Disk.device _ _ c.self.view_is c.self.invariant) (λ o. tt) (subst (λ text. IsOk (reading text)) c.as_str.ensures.value c.in-Err.ensures.memory) refl

@@ -10,4 +10,4 @@ pub returns : goal.returns
 returns g c = λ m.
     let v = setting g.D.Disk.device m c.args.place.now in
     let new = run_state c.tick.new.self c.tick.new.runner (g.C.Children.tells c.tick.new.children) in
-    subst (λ (s : RunState g.row.D.Denot). (tried : List Event) × IsTicked v s (record { next = new; result = c.tick.result; tried = tried })) c.self.view_is (c.tick.ensures m)
+    subst (λ (s : RunState g.row.D.Denot). (tried : List Event) × IsTicked v s (record { limits = c.args.limits; next = new; result = c.tick.result; tried = tried })) c.self.view_is (c.tick.ensures m)
