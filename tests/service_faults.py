@@ -229,6 +229,39 @@ def a_device_that_fails_without_a_command(folder):
     Client(folder).until_state(held, "4 job-incoming")
 
 
+# ---- standard streams
+
+CLOSES = ["sh", "-c", 'exec "$@" <&- >&- 2>&-', "sh"]
+
+
+def closed_streams(folder):
+    """A program that is started without standard streams writes neither its log nor its errors into a file of the spool."""
+    folder.start()
+    client = Client(folder)
+    folder.queue(client, "q", 1)
+    held = client.create("q")
+    folder.shut_down()
+    usual = folder.before
+    folder.before = [*usual, *CLOSES]
+    folder.start("--verbose")
+    client = Client(folder)
+    job = client.submit("q")
+    client.until_state(job, "9")
+    rows = client.listing("jobs\n")
+    numbers = {os.readlink(f"/proc/{folder.running.pid}/fd/{number}") for number in range(3)}
+    same("the files of its streams", numbers, {os.devnull})
+    folder.kill()
+    for name, words in (("spool_shell", ["--root", folder.at("spool")]), ("spool_admin", ["grow", folder.at("spool"), "4096"])):
+        program = os.path.join(HERE, "..", "crates", name, "out", name)
+        if os.path.exists(program):
+            subprocess.run([*CLOSES, program, *words], timeout=60, check=False)
+    same("the lock's file", folder.read(os.path.join("spool", LOCK)), "")
+    folder.before = usual
+    folder.start()
+    client = Client(folder)
+    same("the jobs", (client.listing("jobs\n"), client.state(held)[0]), (rows, "4"))
+
+
 # ---- ends of children that cannot be known
 
 
@@ -431,6 +464,7 @@ TESTS = [
     a_device_that_fails,
     a_device_that_fails_under_a_supervisor,
     a_device_that_fails_without_a_command,
+    closed_streams,
     ignored_child_signals,
     memory_for_one_reply,
     refused_allocations,

@@ -1,7 +1,5 @@
 -- The engine of a service changes by calls.
-use Rattle.std.proofs.Common.{◌≡◌, ℕ, zero, suc, List, [], ◌∷◌, ◌++◌, Option, None, Some, Result, refl, ap, sym, ◌∙◌, subst}
-use Rattle.std.specs.Prelude.{Ok, Err, OnOk}
-use Rattle.std.specs.declared.alloc.AllocError.{AllocError}
+use Rattle.std.proofs.Common.{◌≡◌, ℕ, zero, suc, List, [], ◌∷◌, ◌++◌, Option, None, Some, refl, ap, sym, ◌∙◌, subst}
 use Rattle.slab.specs.Slab.{Slab, get}
 use Rattle.spool_types.specs.State.{State}
 use Rattle.spool_types.specs.declared.event.Event.TheVariants.{Purge}
@@ -16,9 +14,8 @@ use Rattle.print_rounds.specs.StageHistory.{keys_in}
 use Rattle.spool_engine.specs.EngineCalls.{Call, tick_call, run_call, left_by, AreCalls, IsAlongCalls, last_by}
 use Rattle.spool_engine.specs.EventSteps.{Setting, setting}
 use Rattle.spool_engine.specs.EngineLives.{EngineLife, IsEngineLife, AreEngineLives, IsEngineHistory, keys_told, last_of}
-use Rattle.spool_engine.specs.EngineRuns.{Engine, Serves, CommandStep}
+use Rattle.spool_engine.specs.EngineRuns.{Engine, TakesStep, CommandStep}
 use Rattle.spool_engine.specs.EngineTicks.{Ticked, IsTicked}
-use Rattle.spool_engine.specs.declared.fault.RunFault.{RunFault}
 use Rattle.service_loop.specs.ServiceCalls.{GoesByCalls, HasAnswered, HasAnsweredAll, purges, ServiceLife, IsServiceLife, AreServiceLives, IsServiceHistory, keys_ordered}
 use Rattle.service_loop.specs.ConnectionViews.{ConnectionView}
 use Rattle.service_loop.specs.ClientSlots.{HaveTurns, SlotHadTurn}
@@ -64,35 +61,24 @@ module _ {D : Type 0} (device : DiskView D) where
   calls_none e e1 same = subst (λ (x : Engine D). GoesByCalls device e x) (sym same) (no_calls e)
 
   -- A command that was answered.
-  pub by_turn : (e e1 : Engine D) (command : Command) (t : CommandStep D) (result : Result (Unit {0}) RunFault) (before after : Option (List ℕ)) → e1.mime ≡ e.mime → e1.place ≡ e.place →
-      Serves (setting device e.mime e.place) e.run_state command t e1.run_state result before after → GoesByCalls device e e1
-  by_turn e e1 command t result before after mime place served = record {
+  pub by_turn : (e e1 : Engine D) (command : Command) (t : CommandStep D) → e1.mime ≡ e.mime → e1.place ≡ e.place →
+      TakesStep (setting device e.mime e.place) e.run_state command t e1.run_state → GoesByCalls device e e1
+  by_turn e e1 command t mime place takes = record {
     mime = mime;
     place = place;
     calls = run_call (t ∷ []) ∷ [];
-    are = ((served.legal, tt), tt);
-    last = served.next;
+    are = ((takes.legal, tt), tt);
+    last = takes.next;
   }
 
   -- A tick.
   pub by_tick : (e e1 : Engine D) (t : Ticked D) → e1.mime ≡ e.mime → e1.place ≡ e.place → IsTicked (setting device e.mime e.place) e.run_state t → t.next ≡ e1.run_state → GoesByCalls device e e1
   by_tick e e1 t mime place ticked next = record { mime = mime; place = place; calls = tick_call t ∷ []; are = (ticked, tt); last = next }
 
-  -- A command that was served was answered.
-  pub answered_by : (e e1 : Engine D) (command : Command) (t : CommandStep D) (result : Result (Unit {0}) RunFault) (before after : Option (List ℕ)) → GoesByCalls device e e1 →
-      Serves (setting device e.mime e.place) e.run_state command t e1.run_state result before after → HasAnswered device e command e1
-  answered_by e e1 command t result before after goes served = record {
-    mime = goes.mime;
-    place = goes.place;
-    turn = t;
-    takes = record { legal = served.legal; command = served.command; next = served.next };
-  }
-
-  -- The same, unless memory ran out.
-  pub answered_as : (e e1 : Engine D) (command : Command) (result : Result (Unit {0}) AllocError) (before after : List ℕ) → GoesByCalls device e e1 →
-      OnOk result ((t : CommandStep D) × Serves (setting device e.mime e.place) e.run_state command t e1.run_state (Ok tt) (Some before) (Some after)) → OnOk result (HasAnswered device e command e1)
-  answered_as e e1 command (Ok done) before after goes served = answered_by e e1 command served.0 (Ok tt) (Some before) (Some after) goes served.1
-  answered_as e e1 command (Err error) before after goes served = tt
+  -- A command that was executed was answered.
+  pub answered_by : (e e1 : Engine D) (command : Command) (t : CommandStep D) → GoesByCalls device e e1 →
+      TakesStep (setting device e.mime e.place) e.run_state command t e1.run_state → HasAnswered device e command e1
+  answered_by e e1 command t goes takes = record { mime = goes.mime; place = goes.place; turn = t; takes = takes }
 
   -- A job was purged, and then the others.
   pub purged_next : (e e1 e2 : Engine D) (jobs : List ℕ) (job : ℕ) (others : List ℕ) → jobs ≡ job ∷ others → HasAnswered device e (Apply (Purge job)) e1 → HasAnsweredAll device e1 (purges others) e2 →

@@ -1,7 +1,6 @@
 -- Two client steps in order are one client step.
 use Rattle.std.proofs.Common.{◌≡◌, ◌⊎◌, inl, inr, Result, ℕ, ◌+◌, ◌-◌, ◌≤◌, take, List, [], ◌∷◌, ◌++◌, length, drop, Option, None, Some, Ok, true, false, refl, ap, sym, ◌∙◌, subst, append_assoc, arith}
 use Rattle.std.specs.Io.KnownBytes.{Appends, Consumes, Keeps, append_known}
-use Rattle.std.proofs.lemmas.List.Concat.{flat_map-cons}
 use Rattle.std.proofs.lemmas.List.{append-nil, drop-append-le, drop-drop, length-append, length-drop, take-append-drop, take_all}
 use Rattle.spool_disk.specs.Disk.{DiskView}
 use Rattle.service_texts.specs.declared.own_words.OwnWord.{OwnWord}
@@ -20,7 +19,7 @@ use Rattle.command_lines.specs.declared.command.Command.TheVariants as commands
 use Rattle.spool_engine.specs.EventSteps.{Setting, setting}
 use Rattle.spool_engine.specs.EngineRounds.{round_line}
 use Rattle.spool_engine.specs.EngineTicks.{Ticked, IsTicked}
-use Rattle.spool_engine.specs.EngineRuns.{Engine, Serves, CommandStep, is_round, texts_of}
+use Rattle.spool_engine.specs.EngineRuns.{Engine, TakesStep, CommandStep, is_round}
 use Rattle.service_loop.specs.ClientActions.{Action, answers, ticks, says, ends, IsSaid, IsEndReported, IsTimely, AreActions, after_action, wait_after, asks_by, asks_in, text_by, texts_in}
 use Rattle.service_loop.specs.ConnectionViews.{ConnectionView}
 use Rattle.service_loop.specs.Progress.{IsRead}
@@ -31,7 +30,7 @@ first_then : (a b c : Option (List ℕ)) (f g h : List ℕ → List Ask) (xs ys 
 first_then None b c f g h xs ys p q = tt
 first_then (Some r) None c f g h xs ys p q = absurd p
 first_then (Some r) (Some s) None f g h xs ys p q = q
-first_then (Some r) (Some s) (Some t) f g h xs ys p q = p ∙ ap (λ l. xs ++ l) q ∙ sym (append_assoc xs ys (h t))
+first_then (Some r) (Some s) (Some t) f g h xs ys p q = λ more. p more ∙ ap (λ l. xs ++ l) (q more) ∙ sym (append_assoc xs ys (h (t ++ more)))
 
 appends_then : (a b c : Option (List ℕ)) (xs ys : List ℕ) → Appends a b xs → Appends b c ys → Appends a c (xs ++ ys)
 appends_then None b c xs ys p q = tt
@@ -56,11 +55,11 @@ module _ {L : Type 0} (view : ConnectionView L) where
 
 asks_none : (known : Option (List ℕ)) (f : List ℕ → List Ask) → AsksFirst known f [] known f
 asks_none None f = tt
-asks_none (Some rest) f = refl
+asks_none (Some rest) f = λ more. refl
 
 asks_one : (known : Option (List ℕ)) (f g : List ℕ → List Ask) (ask : Ask) → ((more : List ℕ) → f more ≡ ask ∷ g more) → AsksFirst known f (ask ∷ []) known g
 asks_one None f g ask gives = tt
-asks_one (Some rest) f g ask gives = gives rest
+asks_one (Some rest) f g ask gives = λ more. gives (rest ++ more)
 
 keeps_same : (known : Option (List ℕ)) → Keeps known known
 keeps_same None = tt
@@ -87,7 +86,7 @@ module _ {L : Type 0} (view : ConnectionView L) where
 asks_kept : (old new : Option (List ℕ)) (f : List ℕ → List Ask) → Keeps old new → AsksFirst old f [] new f
 asks_kept None new f kept = tt
 asks_kept (Some rest) None f kept = absurd kept
-asks_kept (Some rest) (Some left) f kept = ap f (sym kept)
+asks_kept (Some rest) (Some left) f kept = λ more. ap (λ l. f (l ++ more)) (sym kept)
 
 appends_moved : (old new : Option (List ℕ)) (untaken : List ℕ) (count : ℕ) → Appends old new (take count untaken) →
     Appends (append_known old untaken) (append_known new (drop count untaken)) []
@@ -128,7 +127,7 @@ goes_written view old count new written = record {
 asks_read : (old new : Option (List ℕ)) (f : List ℕ → List Ask) (piece : List ℕ) → Consumes old new piece → AsksFirst old f [] new (λ more. f (piece ++ more))
 asks_read None new f piece consumes = tt
 asks_read (Some rest) None f piece consumes = absurd consumes
-asks_read (Some rest) (Some left) f piece consumes = ap f consumes
+asks_read (Some rest) (Some left) f piece consumes = λ more. ap (λ l. f (l ++ more)) consumes ∙ ap f (append_assoc piece left more)
 
 appends_kept : (old new : Option (List ℕ)) (untaken : List ℕ) → Keeps old new → Appends (append_known old untaken) (append_known new untaken) []
 appends_kept None new untaken kept = tt
@@ -177,9 +176,6 @@ goes_none view c = goes_added view c [] c (added_none c c refl refl refl refl)
 -- ## Actions
 
 module _ {D : Type 0} where
-  text_of_one : (t : CommandStep D) → texts_of (t ∷ []) ≡ t.text
-  text_of_one t = flat_map-cons (λ (x : CommandStep D). x.text) t [] ∙ append-nil t.text
-
   actions_then : (v : Setting D) (s : RunState D) (w : Option ℕ) (xs : List (Action D)) (m : RunState D) (w1 : Option ℕ) (ys : List (Action D)) (t : RunState D) (w2 : Option ℕ) →
       AreActions v s w xs m w1 → AreActions v m w1 ys t w2 → AreActions v s w (xs ++ ys) t w2
   actions_then v s w [] m w1 ys t w2 one two = subst (λ x. AreActions v x w ys t w2) one.0 (subst (λ x. AreActions v m x ys t w2) one.1 two)
@@ -198,9 +194,9 @@ module _ {D : Type 0} where
 module _ {D L : Type 0} (device : DiskView D) where
   -- The engine answered a command.
   pub answered_by_turn : (e e1 : Engine D) (c c1 : Client L) (command : Command) (t : CommandStep D) → e1.mime ≡ e.mime → e1.place ≡ e.place → is_round command ≡ false →
-      Serves (setting device e.mime e.place) e.run_state command t e1.run_state (Ok tt) (Some c.replies.items) (Some c1.replies.items) →
-      c1.connection ≡ c.connection → c1.reader ≡ c.reader → c1.taken ≡ c.taken → c.waits ≡ None → c1.waits ≡ c.waits → IsAnswered device e c (asking.Command command) e1 c1
-  answered_by_turn e e1 c c1 command t mime place other served connection reader taken none waits = record {
+      TakesStep (setting device e.mime e.place) e.run_state command t e1.run_state → (text : List ℕ) → text ≡ t.text → IsAdded c text c1 →
+      c.waits ≡ None → c1.waits ≡ c.waits → IsAnswered device e c (asking.Command command) e1 c1
+  answered_by_turn e e1 c c1 command t mime place other served text is added none waits = record {
     mime = mime;
     place = place;
     action = answers t;
@@ -209,7 +205,7 @@ module _ {D L : Type 0} (device : DiskView D) where
     next = served.next;
     timely = none;
     waits = sym waits;
-    added = record { connection = connection; reader = reader; taken = taken; replies = served.wrote ∙ ap (λ l. c.replies.items ++ l) (text_of_one t) };
+    added = subst (λ said. IsAdded c said c1) is added;
   }
 
   -- A round was answered by a tick.
@@ -310,10 +306,10 @@ is_no_round command not_round not_drain = refl
 
 -- ## All steps of a client
 
-first_of : (known left : Option (List ℕ)) (text : List ℕ) (f g : List ℕ → List Ask) (asks : List Ask) → known ≡ Some text → AsksFirst known f asks left g → AreFirstOf asks (f text)
-first_of None left text f g asks e first = absurd (cc)
-first_of (Some rest) None text f g asks e first = absurd first
-first_of (Some rest) (Some more) text f g asks e first = (g more, ap f (let same : text ≡ rest = cc in same) ∙ first)
+first_of : (known left : Option (List ℕ)) (text : List ℕ) (f g : List ℕ → List Ask) (asks : List Ask) → known ≡ Some text → AsksFirst known f asks left g → (more : List ℕ) → AreFirstOf asks (f (text ++ more))
+first_of None left text f g asks e first more = absurd (cc)
+first_of (Some rest) None text f g asks e first more = absurd first
+first_of (Some rest) (Some still) text f g asks e first more = (g (still ++ more), ap (λ l. f (l ++ more)) (let same : text ≡ rest = cc in same) ∙ first more)
 
 module _ {D L : Type 0} (device : DiskView D) (view : ConnectionView L) where
   goes_by : (c : Client L) (x : ClientStep D L) → IsClientStepBy device view c x → Goes view c (asks_in (actions_by x)) (texts_in (actions_by x)) (client_after x)
@@ -329,7 +325,7 @@ module _ {D L : Type 0} (device : DiskView D) (view : ConnectionView L) where
       (goes_by c x are.0) (goes_all (client_after x) xs c1 are.1))
 
   pub answers_come_in_order : (own : L) (c : Client L) (xs : List (ClientStep D L)) (c1 : Client L) → IsEntry own c → AreClientSteps device view c xs c1 →
-      (text : List ℕ) → view.remaining own ≡ Some text → AreFirstOf (asks_in (actions_of xs)) (asks_of text)
+      (text : List ℕ) → view.remaining own ≡ Some text → (more : List ℕ) → AreFirstOf (asks_in (actions_of xs)) (asks_of (text ++ more))
   answers_come_in_order own c xs c1 entry are text brings =
       let asked = (goes_all c xs c1 are).asked asks_of entry.reader in
       first_of (view.remaining c.connection) (view.remaining c1.connection) text asks_of asked.0 (asks_in (actions_of xs)) (ap view.remaining entry.connection ∙ brings) asked.2

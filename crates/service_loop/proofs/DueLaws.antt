@@ -1,7 +1,7 @@
--- Before the next due moment a Clock changes nothing but the moment.
-use Rattle.std.proofs.Common.{◌≡◌, ⊎_elim, ℕ, ◌+◌, ◌<◌, ◌≤◌, max, Bool, true, false, cond, not, ◌&&◌, ◌||◌, nat_lt, nat_le, List, [], ◌∷◌, codes, Option, Some, None, Ok, refl, ap, subst, ◌∙◌, arith}
+-- Before the next due moment a Clock changes nothing but the moment. The lists of ended jobs and of jobs that a Clock changes.
+use Rattle.std.proofs.Common.{◌≡◌, ⊎_elim, ℕ, zero, suc, ◌+◌, ◌<◌, ◌≤◌, max, Bool, true, false, cond, not, ◌&&◌, ◌||◌, nat_lt, nat_le, List, [], ◌∷◌, ◌++◌, codes, Option, Some, None, Ok, refl, sym, ap, subst, ◌∙◌, arith}
 use Rattle.std.specs.Prelude.{IfSome}
-use Rattle.std.specs.List.{Contains}
+use Rattle.std.specs.List.{Contains, slice_get}
 use Rattle.std.specs.FinMap as finite
 use Rattle.std.specs.Cmp.Lexicographic.{bytes_decides}
 use Rattle.std.proofs.lemmas.Bool.Decides.{nat_tests}
@@ -17,13 +17,15 @@ use Rattle.spool_types.specs.Limits.{greatest_moment}
 use Rattle.spool_types.specs.Phases.{hold_word, is_in_force, is_waiting, job_reason, job_state, waiting_word}
 use Rattle.spool_types.specs.State.{State, Job, job_at, queue_at}
 use Rattle.queue_sched.specs.Next.{is_eligible, is_ready, may_start}
-use Rattle.service_rules.specs.ChildPolling.{earlier}
+use Rattle.job_table.specs.DueTimes.{due_among, due_in, due_of, earlier, end_of_hold, next_due, is_stopped, is_stopped_row, late_from, next_moment, start_of}
 use Rattle.job_table.specs.EventChanges.{at_moment, change_jobs, is_passed}
 use Rattle.job_table.specs.Step.{step}
 use Rattle.job_table.proofs.Choice.{value_there}
 use Rattle.job_table.proofs.Clocked.{none_late}
 use Rattle.slab.proofs.SlabLemmas.{Contains-cons_cases}
-use Rattle.service_loop.specs.Due.{due_among, due_in, due_of, end_of_hold, next_due, is_stopped, is_stopped_row, late_from, next_moment, start_of, IsQuietUntil}
+use Rattle.service_rules.specs.declared.purges.Candidate.{Candidate}
+use Rattle.service_texts.specs.Notices.{Noted, with_job}
+use Rattle.service_loop.specs.Due.{with_jobs, AreListed, IsQuietUntil}
 
 abbrev IsLater : ℕ → Option ℕ → Type 0
 IsLater m due = IfSome due (λ d. m < d)
@@ -189,7 +191,7 @@ module _ (s : State) (m : ℕ) (quiet : IsQuietUntil s m) where
   pub reason_stays : (j : ℕ) (r : Job) → job_at s j ≡ Some r → job_reason m r.phase ≡ job_reason s.moment r.phase
   reason_stays j r there = reason_in r r.phase (quiet.none_due j r there)
 
--- ## Due moments found by examining all jobs
+-- ## The due moments of all jobs
 
 before_all : (s : State) (m : ℕ) (due : Option ℕ) (rs : List Job) → IsLater m (due_among s due rs) → IsLater m due × ((r : Job) → Contains rs r → IsLater m (due_of s r))
 before_all s m due [] later = (later, λ r there. absurd (omega (arith, there.1)))
@@ -200,3 +202,33 @@ before_all s m due (x ∷ rs) later =
 
 pub quiet_until : (s : State) (m : ℕ) → s.moment < m → m ≤ greatest_moment → IsLater m (next_due s) → IsQuietUntil s m
 quiet_until s m later most due = record { later = later; at_most = most; none_due = λ j r there. (before_all s m None (finite.values s.jobs) due).1 r (value_there s j r there) }
+
+-- ## The oldest ended jobs
+
+pub none_listed : (js : List ℕ) → AreListed 0 js []
+none_listed [] = refl
+none_listed (j ∷ js) = refl
+
+-- The next job is listed last.
+pub listed_next : (n : ℕ) (js : List ℕ) (cs : List Candidate) (c : Candidate) → AreListed n js cs → slice_get js n ≡ Some c.id → c.ended ≡ true → AreListed (suc n) js (cs ++ c ∷ [])
+listed_next n [] cs c is at over = absurd (cc)
+listed_next zero (j ∷ js) cs c is at over = subst (λ xs. AreListed 1 (j ∷ js) (xs ++ c ∷ [])) (sym is) (own at, over, none_listed js)
+  where
+    own : Some j ≡ Some c.id → c.id ≡ j
+    own e = cc
+listed_next (suc n) (j ∷ js) [] c is at over = absurd is
+listed_next (suc n) (j ∷ js) (x ∷ cs) c is at over = (is.0, is.1, listed_next n js cs c is.2 at over)
+
+-- All jobs are listed.
+pub all_listed : (n m : ℕ) (js : List ℕ) (cs : List Candidate) → n ≤ m → slice_get js n ≡ None → AreListed n js cs → AreListed m js cs
+all_listed n m [] cs le none is = is
+all_listed zero m (j ∷ js) cs le none is = absurd (cc)
+all_listed (suc n) zero (j ∷ js) cs le none is = absurd (omega (arith, le))
+all_listed (suc n) (suc m) (j ∷ js) [] le none is = absurd is
+all_listed (suc n) (suc m) (j ∷ js) (x ∷ cs) le none is = (is.0, is.1, all_listed n m js cs (omega (arith, le)) none is.2)
+
+-- ## The jobs that a Clock changes
+
+pub with_next : (noted : Noted) (js : List ℕ) (j : ℕ) → with_jobs noted (js ++ j ∷ []) ≡ with_job (with_jobs noted js) j
+with_next noted [] j = refl
+with_next noted (x ∷ js) j = with_next (with_job noted x) js j

@@ -52,9 +52,9 @@ part-whole f i n items xs same le len =
     ap (λ l. take n (items ++ l)) none ∙ ap (take n) (append-nil items) ∙ take_all n items (omega arith) ∙ all
 
 pub sends_then : (a b c : Option (List (ℕ × Signal))) (xs ys : List (ℕ × Signal)) → Sends a b xs → Sends b c ys → Sends a c (xs ++ ys)
-sends_then None b c xs ys p q = tt
-sends_then (Some r) None c xs ys p q = absurd p
-sends_then (Some r) (Some s) None xs ys p q = q
+sends_then a b None xs ys p q = tt
+sends_then a None (Some t) xs ys p q = absurd q
+sends_then None (Some s) (Some t) xs ys p q = absurd p
 sends_then (Some r) (Some s) (Some t) xs ys p q = q ∙ ap (λ l. l ++ ys) p ∙ append_assoc r xs ys
 
 -- The signals of one more child.

@@ -1,6 +1,8 @@
 pub mod CallLaws
 pub mod DueLaws
 pub mod EndingLaws
+pub mod HistoryLaws
+pub mod LeavingLaws
 pub mod PlaceLaws
 pub mod ProgressLaws
 pub mod TurnLaws

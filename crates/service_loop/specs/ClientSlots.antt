@@ -6,6 +6,7 @@ use Rattle.spool_engine.specs.EngineRuns.{Engine}
 use Rattle.service_rules.specs.declared.slots.Admission.{Admission}
 use Rattle.service_rules.specs.declared.slots.Admission.TheVariants.{InsteadOf}
 use Rattle.service_loop.specs.ServiceCalls.{GoesByCalls}
+use Rattle.service_loop.specs.AdmissionViews.{watches}
 use Rattle.service_loop.specs.ClientActions.{Action}
 use Rattle.service_loop.specs.ConnectionViews.{ConnectionView, IsUntouched}
 use Rattle.service_loop.specs.Progress.{EndsTurn, IsBacklogged, misses, signed, text_for}
@@ -63,10 +64,10 @@ abbrev pub leaves_more : Option Turn → Bool
 leaves_more None = false
 leaves_more (Some turn) = turn.more
 
--- The effect of a notice on a slot: its client was sent its part of it, or was disconnected because memory ran out.
+-- The effect of a notice on a slot: its client was sent its part of it, or it watches and was disconnected because memory ran out.
 abbrev pub IsSlotNotified : {L : Type 0} → List ℕ → Option (Client L) → Option (Client L) → Type 0
 IsSlotNotified text None left = left ≡ None
-IsSlotNotified text (Some c) None = Unit {0}
+IsSlotNotified text (Some c) None = watches c ≡ true
 IsSlotNotified text (Some c) (Some left) = IsNotified text (text_for c text) × IsAdded c (text_for c text) left × (left.missed ≡ misses c) × (left.waits ≡ c.waits)
 
 -- The effect of readiness on a slot.

@@ -23,11 +23,12 @@ IsWithin c = c.taken ≤ length c.replies.items
 abbrev pub told_to : {L : Type 0} → ConnectionView L → Client L → Option (List ℕ)
 told_to view c = append_known (view.contents c.connection) (drop c.taken c.replies.items)
 
--- These are the first of the awaited requests, and the rest is awaited now, if the connection reports the bytes that it will bring.
+-- These are the first of the awaited requests, and the rest is awaited now, if the connection reports the bytes that it will bring. It is
+-- so whatever text may follow those bytes: no request is answered that its end leaves incomplete.
 abbrev pub AsksFirst : Option (List ℕ) → (List ℕ → List Ask) → List Ask → Option (List ℕ) → (List ℕ → List Ask) → Type 0
 AsksFirst None old asks known new = ⊤
 AsksFirst (Some rest) old asks None new = ⊥
-AsksFirst (Some rest) old asks (Some left) new = old rest ≡ asks ++ new left
+AsksFirst (Some rest) old asks (Some left) new = (more : List ℕ) → old (rest ++ more) ≡ asks ++ new (left ++ more)
 
 -- The requests were the first of those awaited, each once.
 abbrev pub Asks : {L : Type 0} → ConnectionView L → Client L → List Ask → Client L → Type 0

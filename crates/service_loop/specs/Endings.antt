@@ -42,8 +42,8 @@ due_to now e = option_map (λ signal. (e.group, signal)) (signal_of e.sent now)
 abbrev pub signals_due : ℕ → List Ending → List (ℕ × Signal)
 signals_due now endings = filter_map (due_to now) endings
 
--- These signals follow those sent before, if they are reported.
+-- These signals follow those sent before, if they are still reported. What reports none never begins to report.
 abbrev pub Sends : Option (List (ℕ × Signal)) → Option (List (ℕ × Signal)) → List (ℕ × Signal) → Type 0
-Sends None new signals = Unit {0}
-Sends (Some sent) None signals = ⊥
+Sends old None signals = Unit {0}
+Sends None (Some now) signals = ⊥
 Sends (Some sent) (Some now) signals = now ≡ sent ++ signals

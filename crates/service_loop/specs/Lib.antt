@@ -7,4 +7,5 @@ pub mod ConnectionViews
 pub mod ClientSlots
 pub mod Progress
 pub mod ServiceTurns
+pub mod SlotHistories
 pub mod ClientSteps

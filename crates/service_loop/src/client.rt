@@ -4,6 +4,7 @@
 ghost use Rattle.std.specs.Prelude.{◌≡◌, ◌⊎◌, ◌<◌, ◌&&◌, ◌||◌, ℕ, nat_lt, vec_len, is_some, true, false, List, [], None, Some, IfOk, OnOk};
 ghost use Rattle.service_rules.specs.Bounds.{most_unread};
 ghost use Rattle.service_loop.specs.ServiceCalls.{GoesByCalls};
+ghost use Rattle.spool_engine.specs.AnswerTexts.{answer_text};
 ghost use Rattle.service_loop.specs.AdmissionViews.{listens, unread, watches};
 ghost use Rattle.service_loop.specs.ClientActions.{Action};
 ghost use Rattle.service_loop.specs.Progress.{EndsTurn, HasLeft, HasRead, IsAtRest, IsBacklogged, IsCut, IsGiven, IsMarked, IsReadAs, IsUnheard, as_given, as_read, as_served, as_told, heard_after, is_shutdown, is_watch, misses, signed, text_for};
@@ -14,12 +15,13 @@ use crate::connection::{Connection, read_of, write_to};
 use crate::shared::Shared;
 use child_pipeline::Children;
 use client_reader::{Ask, Next, Reader};
-use command_lines::Command;
+use command_lines::{Answer, Command};
+use job_table::Table;
 use service_rules::bounds::MOST_UNREAD;
 use service_rules::is_served_on;
 use service_texts::{OwnWord, has_settled, job_told, shown_job};
 use spool_disk::Disk;
-use spool_engine::rounded_text;
+use spool_engine::{append_answer, round_answer};
 use spool_types::JobId;
 use std::alloc::{AllocError, Global};
 use std::io::ErrorKind;
@@ -39,8 +41,6 @@ pub enum Disconnect {
     Left,
     /// Memory ran out for its text or a reply.
     Memory,
-    /// A new client got its slot.
-    Idle,
 }
 
 /// Why a client cannot be served.
@@ -179,7 +179,7 @@ impl<L: Connection> Client<L> {
     }
 
     /// Gives the client a turn: writes pending replies, serves some requests and writes their replies.
-    pub fn serve<D: Disk, C: Children>(&mut self, shared: &mut Shared<'_, D, C>, now: u64) -> Turn
+    pub fn serve<D: Disk, C: Children>(&mut self, shared: &mut Shared<D, C>, now: u64) -> Turn
         // Unless memory ran out for it, its next requests were answered in order, and it was sent nothing else.
         ensures client_step { is_starved result.disconnect ≡ false → (actions : List (Action D)) ×
             IsClientStep D.device L.view shared.old.engine self.old actions shared.new.engine self.new }
@@ -200,7 +200,7 @@ impl<L: Connection> Client<L> {
     // Does the same. Returns whether the client stays.
     fn try_serve<D: Disk, C: Children>(
         &mut self,
-        shared: &mut Shared<'_, D, C>,
+        shared: &mut Shared<D, C>,
         now: u64,
         turn: &mut Turn,
     ) -> Result<bool, ClientFault>
@@ -254,7 +254,7 @@ impl<L: Connection> Client<L> {
     // Serves complete requests, up to the bounds of a turn. Returns whether the client stays.
     fn serve_some<D: Disk, C: Children>(
         &mut self,
-        shared: &mut Shared<'_, D, C>,
+        shared: &mut Shared<D, C>,
         now: u64,
         turn: &mut Turn,
     ) -> Result<bool, ClientFault>
@@ -291,7 +291,7 @@ impl<L: Connection> Client<L> {
     // Reports the end that it waits for, or serves its next request, or reads more of its text.
     fn step<D: Disk, C: Children>(
         &mut self,
-        shared: &mut Shared<'_, D, C>,
+        shared: &mut Shared<D, C>,
         now: u64,
         turn: &mut Turn,
     ) -> Result<Step, ClientFault>
@@ -330,7 +330,7 @@ impl<L: Connection> Client<L> {
     // Reports the end of the job that it waits for, if the job has ended. Returns whether it waits for no job now.
     fn has_reported_end<D: Disk, C: Children>(
         &mut self,
-        shared: &Shared<'_, D, C>,
+        shared: &Shared<D, C>,
     ) -> Result<bool, AllocError>
         ensures client_step { OnOk result ((actions : List (Action D)) ×
             IsClientStep D.device L.view shared.now.engine self.old actions shared.now.engine self.new) }
@@ -355,7 +355,7 @@ impl<L: Connection> Client<L> {
     // Serves a request.
     fn answer<D: Disk, C: Children>(
         &mut self,
-        shared: &mut Shared<'_, D, C>,
+        shared: &mut Shared<D, C>,
         ask: Ask,
         turn: &mut Turn,
     ) -> Result<(), ClientFault>
@@ -376,7 +376,7 @@ impl<L: Connection> Client<L> {
     // Serves a command of the engine. A `round` or `drain` is one tick: a round would wait for the children, and block all other clients.
     fn answer_command<D: Disk, C: Children>(
         &mut self,
-        shared: &mut Shared<'_, D, C>,
+        shared: &mut Shared<D, C>,
         command: Command,
     ) -> Result<(), ClientFault>
         requires { self.old.waits ≡ None }
@@ -388,12 +388,12 @@ impl<L: Connection> Client<L> {
         match command {
             Command::Round | Command::Drain(_) => {
                 let counts = shared.tick();
-                let text = rounded_text(*self.replies.allocator(), counts)?;
-                self.add(&text)?;
+                self.add_answer(shared.engine.table(), &round_answer(counts))?;
                 Ok(())
             }
             command => {
-                shared.answer(command, &mut self.replies)?;
+                let answer = shared.execute(command)?;
+                self.add_answer(shared.engine.table(), &answer)?;
                 Ok(())
             }
         }
@@ -402,7 +402,7 @@ impl<L: Connection> Client<L> {
     // Answers a word of the service.
     fn answer_own<D: Disk, C: Children>(
         &mut self,
-        shared: &mut Shared<'_, D, C>,
+        shared: &mut Shared<D, C>,
         word: OwnWord,
         turn: &mut Turn,
     ) -> Result<(), ClientFault>
@@ -425,7 +425,7 @@ impl<L: Connection> Client<L> {
                 self.add(DONE)?;
             }
             OwnWord::End(job) => {
-                let ends = shared.endings.ask(shared.watch, job)?;
+                let ends = shared.endings.ask(&shared.engine, job)?;
                 self.add(if ends { DONE } else { NO_JOB })?;
             }
             OwnWord::Shutdown => {
@@ -448,6 +448,7 @@ impl<L: Connection> Client<L> {
         ensures told { result ≡ true → IsAdded self.old (text_for self.old text.now) self.new }
         ensures of { IsNotified text.now (text_for self.old text.now) }
         ensures missed { result ≡ true → self.new.missed ≡ misses self.old }
+        ensures starved { result ≡ false → watches self.old ≡ true }
         ensures waits { self.new.waits ≡ self.old.waits }
         ensures kept { self.new ≡ as_told self.old self.new }
     {
@@ -465,6 +466,15 @@ impl<L: Connection> Client<L> {
             }
         }
         self.add(text).is_ok()
+    }
+
+    // Appends the text of an answer over this table to its replies.
+    fn add_answer(&mut self, table: &Table, answer: &Answer) -> Result<(), AllocError>
+        ensures added { OnOk result (IsAdded self.old (answer_text table.now.state answer.now) self.new) }
+        ensures waits { self.new.waits ≡ self.old.waits }
+        ensures kept { self.new ≡ record self.old { replies = self.new.replies } }
+    {
+        append_answer(&mut self.replies, table, answer)
     }
 
     // Appends a text to its replies.

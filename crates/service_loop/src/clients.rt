@@ -7,6 +7,7 @@ ghost use Rattle.service_loop.specs.AdmissionViews.{heard_of, is_watched};
 ghost use Rattle.service_loop.specs.ClientSlots.{HadOwnTurn, HasNoneNow, HasTurn, HaveTurns, IsEntered, IsLetIn, IsSlotSignaled, IsSlotNotified, KeepsOthers};
 ghost use Rattle.service_loop.specs.Progress.{IsGiven};
 ghost use Rattle.service_loop.specs.ClientSteps.{is_starved};
+ghost use Rattle.service_loop.specs.SlotHistories.{HasAdmitted};
 
 use crate::client::{Client, Disconnect, Turn};
 use crate::connection::Connection;
@@ -97,6 +98,8 @@ impl<L: Connection> Clients<L> {
     ) -> Result<Admission, AllocError>
         ensures admission { IfOk result (IsAdmission (heard_of self.old.slots) now) }
         ensures lets_in { IfOk result (λ admission. IsLetIn L.view connection admission self.old.slots self.new.slots) }
+        // Also if memory runs out, only an idle client has left, and only for a new one.
+        ensures admitted { HasAdmitted L.view connection now self.old.slots self.new.slots }
     {
         list_heard(&self.slots, &mut self.heard)?;
         let admission = admit(&self.heard, now);
@@ -121,7 +124,7 @@ impl<L: Connection> Clients<L> {
         connection: L,
         now: u64,
     ) -> Result<(), AllocError>
-        ensures { OnOk result (IsEntered L.view connection self.old.slots self.new.slots) }
+        ensures { IsEntered L.view connection self.old.slots self.new.slots }
     {
         let mut connection = connection;
         self.slots.reserve(1)?;
@@ -186,7 +189,7 @@ impl<L: Connection> Clients<L> {
     }
 
     /// Gives each client a turn.
-    pub fn serve<D: Disk, C: Children>(&mut self, shared: &mut Shared<'_, D, C>, now: u64) -> Turns
+    pub fn serve<D: Disk, C: Children>(&mut self, shared: &mut Shared<D, C>, now: u64) -> Turns
         // The slots had their turns in order, each on the engine that the previous one left.
         ensures turns { HaveTurns D.device L.view shared.old.engine self.old.slots MOST_CLIENTS shared.new.engine self.new.slots }
         ensures calls { GoesByCalls D.device shared.old.engine shared.new.engine }
@@ -215,7 +218,7 @@ impl<L: Connection> Clients<L> {
     // Gives the client in this slot a turn, and frees the slot if the client is disconnected.
     fn serve_at<D: Disk, C: Children>(
         &mut self,
-        shared: &mut Shared<'_, D, C>,
+        shared: &mut Shared<D, C>,
         key: usize,
         now: u64,
     ) -> Option<Turn>

@@ -1,10 +1,14 @@
 //! The children that clients want ended: each is sent SIGTERM, and SIGKILL 10 s later.
 ghost use Rattle.std.specs.Prelude.{◌≡◌, ◌↔◌, ℕ, ◌+◌, ◌≤◌, true, false, List, [], ◌∷◌, Some, IsNone, IfOk, IsTrue, OnOk, OnErr, map, vec_len};
+ghost use Rattle.std.specs.FinMap as finite;
+ghost use Rattle.child_pipeline.specs.StageSlots.{IsRunning, IsTicketless};
 ghost use Rattle.service_loop.specs.Endings.{AreAmong, Sends, grace, is_listed, signal_of, signalled, signals_due, with_ending};
 ghost use Rattle.service_loop.specs.declared.endings.Ending.{Ending as AnyEnding};
 
-use crate::children::Watch;
 use crate::signals::{Signal, Signals};
+use child_pipeline::Children;
+use spool_disk::Disk;
+use spool_engine::Engine;
 use spool_types::JobId;
 use std::alloc::{AllocError, Global};
 
@@ -36,12 +40,19 @@ impl Endings {
     }
 
     /// Notes that the child of a job must end. Returns whether one runs.
-    pub fn ask(&mut self, watch: &Watch, job: JobId) -> Result<bool, AllocError>
+    pub fn ask<D: Disk, C: Children>(
+        &mut self,
+        engine: &Engine<D, C>,
+        job: JobId,
+    ) -> Result<bool, AllocError>
         ensures runs { IfOk result (λ runs. runs ≡ true → (group : ℕ) × (self.new.list.items ≡ with_ending job group self.old.list.items)) }
         ensures none { IfOk result (λ runs. runs ≡ false → self.new.list.items ≡ self.old.list.items) }
+        // A child of the job runs exactly if the answer says so.
+        ensures found { IfOk result (λ runs. runs ≡ true → IsRunning (finite.get engine.now.run_state.slots job)) }
+        ensures missed { IfOk result (λ runs. runs ≡ false → IsTicketless (finite.get engine.now.run_state.slots job)) }
         ensures err { OnErr result (self.new.list.items ≡ self.old.list.items) }
     {
-        let Some(group) = watch.group_of(job) else {
+        let Some(group) = engine.group_of(job) else {
             return Ok(false);
         };
         self.note(job, group)?;
@@ -74,13 +85,18 @@ impl Endings {
     }
 
     /// Sends SIGTERM to the new ones, kills those whose grace period is over, and forgets those that have ended.
-    pub fn act<S: Signals>(&mut self, watch: &Watch, signals: &mut S, now: u64)
+    pub fn act<D: Disk, C: Children, S: Signals>(
+        &mut self,
+        engine: &Engine<D, C>,
+        signals: &mut S,
+        now: u64,
+    )
         ensures few { vec_len self.new.list ≤ vec_len self.old.list }
         // The children still noted are among those noted before. They were sent their due signals, and nothing else was sent.
         ensures sent { (kept : List AnyEnding) × AreAmong self.old.list.items kept × (self.new.list.items ≡ map (signalled now) kept) × Sends (S.sent signals.old) (S.sent signals.new) (signals_due now kept) }
     {
         self.list
-            .retain(|ending| watch.group_of(ending.job) == Some(ending.group));
+            .retain(|ending| engine.group_of(ending.job) == Some(ending.group));
         self.send_due(signals, now);
     }
 

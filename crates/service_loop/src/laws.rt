@@ -1,6 +1,7 @@
 //! Laws on the service's clock, its clients and its engine. The functions do nothing: their clauses are the laws.
-ghost use Rattle.std.specs.Prelude.{◌≡◌, ◌<◌, ◌≤◌, ℕ, List, false, Some, Ok, IfSome, IsSome};
+ghost use Rattle.std.specs.Prelude.{◌≡◌, ◌<◌, ◌≤◌, ◌++◌, ℕ, List, false, None, Some, Ok, IfSome, IsSome};
 ghost use Rattle.std.specs.FinMap as finite;
+ghost use Rattle.slab.specs.Slab.{Slab, get};
 ghost use Rattle.spool_types.specs.Limits.{greatest_moment};
 ghost use Rattle.spool_types.specs.Phases.{job_state, job_reason};
 ghost use Rattle.spool_types.specs.State.{State, Job, queue_at, job_at};
@@ -18,8 +19,10 @@ ghost use Rattle.client_reader.specs.Asks.{asks_of};
 ghost use Rattle.client_reader.specs.ReaderCalls.{AreFirstOf};
 ghost use Rattle.service_loop.specs.ServiceCalls.{GoesByCalls, ServiceLife, IsServiceHistory, keys_ordered};
 ghost use Rattle.service_loop.specs.ClientActions.{asks_in, texts_in};
-ghost use Rattle.service_loop.specs.Due.{IsQuietUntil, next_due};
+ghost use Rattle.job_table.specs.DueTimes.{next_due};
+ghost use Rattle.service_loop.specs.Due.{IsQuietUntil};
 ghost use Rattle.service_loop.specs.ClientSteps.{AreClientSteps, HasAll, IsEntry, ClientStep, actions_of};
+ghost use Rattle.service_loop.specs.SlotHistories.{HasServed, IsCause, IsLoopEvent, IsServedRight, LoopEvent};
 ghost use Rattle.service_loop.specs.declared.client.Client.{Client};
 
 use crate::connection::Connection;
@@ -45,17 +48,34 @@ pub fn nothing_is_due_before()
         job_reason m r.phase ≡ job_reason s.moment r.phase }
 {}
 
-/// *ClientsApart*, through the loop: over any list of a client's steps since its admission (a turn, a text of changes, readiness), whatever
+/// *ClientsApart*: over any list of a client's steps since its admission (a turn, a text of changes, readiness), whatever
 /// the engine does for others between them.
 pub fn clients_of_the_loop_stay_apart<L: Connection, D: Disk>()
-    // Its actions answer, one for one and in order, the first of the requests in the text of its connection.
+    // Its actions answer, one for one and in order, the first of the requests in the text of its connection, whatever may follow this text. So
+    // a last line without its line feed is never served: `cancel 1` may have been cut from `cancel 12`.
     ensures asks { (own : L) (c : Client L) (client_steps : List (ClientStep D L)) (last : Client L) →
         IsEntry own c → AreClientSteps D.device L.view c client_steps last →
-        (text : List ℕ) → L.view.remaining own ≡ Some text → AreFirstOf (asks_in (actions_of client_steps)) (asks_of text) }
+        (text : List ℕ) → L.view.remaining own ≡ Some text → (more : List ℕ) → AreFirstOf (asks_in (actions_of client_steps)) (asks_of (text ++ more)) }
     // The bytes written to its connection, followed by the replies not taken, are the texts of these actions, in order and each byte once.
     ensures texts { (own : L) (c : Client L) (client_steps : List (ClientStep D L)) (last : Client L) →
         IsEntry own c → AreClientSteps D.device L.view c client_steps last →
         (said : List ℕ) → L.view.contents own ≡ Some said → HasAll L.view said (texts_in (actions_of client_steps)) last }
+{}
+
+/// *ClientsApart*, through `serve`: each client that has a slot after the events of a service that began without clients was admitted in one of
+/// them, with a connection from which nothing was read, and made client steps since. So [`clients_of_the_loop_stay_apart`] holds for it.
+/// `history` of [`crate::Service::serve`] shows that a service goes by such events. Each moment of a service ends a list of its events.
+pub fn clients_of_a_service_stay_apart<L: Connection, D: Disk>()
+    ensures { (old : Engine D) (slots : Slab (Client L)) (events : List (LoopEvent L)) (new : Engine D) (left : Slab (Client L)) →
+        HasServed D.device L.view old slots events new left → (key : ℕ) (c : Client L) → get left key ≡ Some c → IsServedRight D.device L.view events c }
+{}
+
+/// A client leaves its slot for one of the listed causes alone (`IsCause`): in its own turn it had left, or memory ran out for it; it was the
+/// idle client that a new one replaced; or memory ran out for a notice while it watched.
+pub fn clients_leave_for_a_cause<L: Connection, D: Disk>()
+    ensures { (old : Engine D) (slots : Slab (Client L)) (event : LoopEvent L) (new : Engine D) (left : Slab (Client L)) →
+        IsLoopEvent D.device L.view old slots event new left → (key : ℕ) (c : Client L) → get slots key ≡ Some c → get left key ≡ None →
+        IsCause D.device L.view old slots event new key c }
 {}
 
 /// *NoStageTwice*, through the service: over any number of services, each made on the table that the previous one left and perhaps some

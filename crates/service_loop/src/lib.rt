@@ -30,7 +30,7 @@
 //!
 //! | Reply to | Made by |
 //! |---|---|
-//! | a command | `Client::answer_command`: the engine appends it (`Shared::answer`) |
+//! | a command | `Client::answer_command`: the engine's answer (`Shared::execute`), as text (`spool_engine::append_answer`) |
 //! | `round`, `drain` | `Client::answer_command`: one tick, and its counts at once; no client waits for the children |
 //! | `job`, `watch`, `end`, `shutdown` | `Client::answer_own`; texts of `service_texts` |
 //! | `wait` | `Client::has_reported_end`, in the first step after the job's end |
@@ -66,7 +66,7 @@
 //!   it has a run of no commands.
 //! - [`crashes_lose_no_call`]: for each moment when the disk has not failed, a later crash leaves the table of that moment, or the table
 //!   after a prefix of the events since then.
-//! - **Commands and ticks.** `Shared::answer` serves a command as the engine does (`served`, `Serves`). `Shared::tick` is one tick of the
+//! - **Commands and ticks.** `Shared::execute` executes a command as the engine does (`executed`, `TakesStep`). `Shared::tick` is one tick of the
 //!   engine (`tick`, `IsTicked`). A `round` or a `drain` is answered with one tick.
 //! - **Isolation.** A client's turn is a client step (`client_step` of `Client::serve`, `IsClientStep`): actions that answer, one for one
 //!   and in order, the first requests of its own connection. Their texts, each byte once, follow the texts sent before (`Goes`). An action
@@ -77,9 +77,16 @@
 //!   only its own turn changes a client (`own`, `others`, `HadOwnTurn`). No other client changes when a watching client is sent what
 //!   changed (`told` of `Clients::notify`: that text, with or without `missed` before it, or none of it), when a connection is ready
 //!   (`Clients::signal`), or when a client is admitted; nothing has been read from the new connection then (`lets_in` of `Clients::admit`).
+//! - **History** (`history` of [`Service::serve`], `GoesByEvents`). However `serve` ends, its engine and the slots of its clients changed by
+//!   events of the loop alone, in one list: calls of the service itself, readiness, admissions, turns and notices. So each text that a
+//!   client was sent is an answer of its own turn, given on the engine of that moment, or a notice, perhaps after `missed`.
+//! - [`clients_leave_for_a_cause`]: in such an event a client leaves its slot only in its own turn (for a cause of `leaves`, or because
+//!   memory ran out), because memory ran out for a notice while it watched, or because it was idle when a new client found no free slot.
+//! - [`clients_of_a_service_stay_apart`]: each client that has a slot after such events was admitted in one of them, nothing having been read
+//!   from its connection, and made client steps since. Each moment of a service is the end of a list of its events.
 //! - [`clients_of_the_loop_stay_apart`]: over any list of a client's steps since its admission, its actions answer the first of the
-//!   requests in its connection's bytes (`asks`). The bytes written to its connection, followed by the replies not taken, are the texts of
-//!   those actions (`texts`).
+//!   requests in its connection's bytes, whatever may follow them (`asks`). So a last line without its line feed is never served. The bytes
+//!   written to its connection, followed by the replies not taken, are the texts of those actions (`texts`).
 //! - **A turn** (`turned` of `Service::turn`, `HasTurned`) is the clients' commands, one tick, and the commands of maintenance. **Nothing
 //!   is left undone** unless the turn reports that there is more to do at once: each client was sent all that its connection takes and
 //!   cannot be served further (`clients`, `AreAtRest`); the tick started and ended nothing, and maintenance sent no command or tried a
@@ -96,13 +103,16 @@
 //!   takes a piece, finds none now, or finds the end (`HasRead`). Readiness sets the marks of the connection (`signed`).
 //! - **Watching clients.** Each text is sent to each watching client, or nothing if too much is unread, and then `missed` before the next
 //!   text (`told` of `Clients::notify`, `text_for`, `misses`).
-//! - [`WatchedChildren`]: at most the given number of children run at once (`most`, `counted`, `bound`).
-//! - **Due times.** `due_of` is the earliest moment that changes something about a job; `Maintenance::look` finds the earliest of all jobs
-//!   (`due`, `next_due`). [`nothing_is_due_before`]: before it the clock changes no row, starts no job and changes no shown state, so an
-//!   idle service sends no clock. A due time is sent to the engine as a Clock command, and the engine answers it (`said` and `found` of
-//!   `Maintenance::announce_time`, `HasAnswered`).
-//! - **Purges.** `Maintenance::look` lists the first 1,024 ended jobs (`listed`, `AreListed`). A purged job is removed from the list and no
-//!   longer counted (`crossed`, `counted` of `Maintenance::purge`). Each purge is a command that the engine answers (`purged`).
+//! - **Running children.** The service asks its engine which children run, and in which process group. Each tick has the limit of running
+//!   children that [`Service::new`] was given (`tick` and `most` of `Shared::tick`), so no more run after it (`most` of `IsTicked`).
+//! - **Due times.** `Maintenance::look` takes the earliest moment that changes something about a job from the table (`due`, `next_due` of
+//!   `job_table`). [`nothing_is_due_before`]: before it the clock changes no row, starts no job and changes no shown state, so an idle
+//!   service sends no clock. A due time is sent to the engine as a Clock command, and the engine answers it (`said` and `found` of
+//!   `Maintenance::announce_time`, `HasAnswered`). If a client watches, the jobs that this clock cancels or whose hold it ends are noted
+//!   first, and no others (`watched` of `Shared::note_due`, `HasNotedDue`).
+//! - **Purges.** `Maintenance::look` takes the first 1,024 ended jobs and their number from the table (`listed`, `AreListed`, `ended`). A
+//!   purged job is removed from the list and no longer counted (`crossed`, `counted` of `Maintenance::purge`). Each purge is a command that
+//!   the engine answers (`purged`).
 //! - **Checkpoints.** A checkpoint is wanted by the room that the last one left (`wants_checkpoint`, `left` of `checkpoint`), before the
 //!   first one by half of the disk (`keeping_of` of `spool_service`). It is a command that the engine answers (`answered`).
 //! - **Admission.** A new client is admitted according to when each client was heard last and which clients listen (`admission` of
@@ -123,12 +133,11 @@
 //!   is changed.
 //! - No clause states that a turn that leaves more to do has done something, or that a new client gets a slot. So these bodies meet their
 //!   clauses: a `serve_clients` that serves no client and reports that there is more; a `wait` that fails at once; a `note_readiness`,
-//!   `let_in`, `handle_turns`, `make_checkpoint`, `note_stages` or `notify_changes` that does nothing; a `note_due` and an `end_children`
-//!   of `Shared` that do nothing.
-//! - No clause states which marks a command or a tick leaves (`full`, `active`, `watched` of `Shared`), which queues are at rest
-//!   (`at_rest`), or which children stay noted: an `act` that forgets all meets its clauses.
-//! - No clause states the contents of cells ([`Watch`]: which children run), or what sockets, clocks and signals do. The service itself
-//!   advances the queue order, after the last queue that started a job, because the launcher does not know the queues.
+//!   `let_in`, `handle_turns`, `make_checkpoint`, `note_stages` or `notify_changes` that does nothing; an `end_children` of `Shared` that
+//!   does nothing.
+//! - No clause states which marks a command or a tick leaves (`full`, `active`, `watched` of `Shared`), how many starts a tick is given
+//!   (`starts`), or which children stay noted: an `act` that forgets all meets its clauses.
+//! - No clause states what sockets, clocks and signals do.
 //!
 //! # Errors
 //!
@@ -138,12 +147,12 @@
 //!
 //! # Cost
 //!
-//! No step of a turn waits for a client or a child; only the disk's syncs take time. The table is examined for due times at most once a
-//! second, and only if something was done.
+//! No step of a turn waits for a client or a child; only the disk's syncs take time. The table is asked for the next due moment and the
+//! ended jobs at most once a second, and only if something was done. It finds them, and the jobs that a clock changes, without a search of
+//! its jobs (`job_table`). `bench/due.py` measures this.
 #![tactic(auto)]
 
 mod bounds;
-mod children;
 mod client;
 mod clients;
 mod connection;
@@ -157,12 +166,11 @@ mod shared;
 mod signals;
 mod times;
 
-pub use children::{Run, Watch, WatchedChildren, WatchedTicket};
 pub use connection::Connection;
 pub use fault::ServiceFault;
 pub use laws::{
-    clients_of_the_loop_stay_apart, crashes_lose_no_call, nothing_is_due_before,
-    services_order_no_stage_twice,
+    clients_leave_for_a_cause, clients_of_a_service_stay_apart, clients_of_the_loop_stay_apart,
+    crashes_lose_no_call, nothing_is_due_before, services_order_no_stage_twice,
 };
 pub use listener::{AcceptOutcome, Listener, Readiness};
 pub use service::{Keeping, Service};

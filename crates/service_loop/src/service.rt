@@ -4,10 +4,10 @@ ghost use Rattle.slab.specs.Slab.{get};
 ghost use Rattle.std.specs.Option.{option_map};
 ghost use Rattle.service_rules.specs.Bounds.{millisecond};
 ghost use Rattle.service_loop.specs.ServiceCalls.{GoesByCalls};
+ghost use Rattle.service_loop.specs.SlotHistories.{GoesByEvents};
 ghost use Rattle.service_loop.specs.ServiceTurns.{AreAtRest, HasNoneToPurge, HasTicked, HasTriedAtMost, HasTurned, IsTimely, KeepsTime, has_moved, has_new_client_waiting};
 
 use crate::bounds::{LONGEST_END, LONGEST_IDLE, MOST_ACCEPTED};
-use crate::children::Watch;
 use crate::clients::{Clients, Turns};
 use crate::fault::ServiceFault;
 use crate::listener::{AcceptOutcome, Listener, Readiness};
@@ -42,7 +42,7 @@ pub struct Keeping {
 pub struct Service<'a, L, D: Disk, C: Children, R: Listener> {
     log: &'a L,
     alloc: Global,
-    shared: Shared<'a, D, C>,
+    shared: Shared<D, C>,
     clients: Clients<R::Stream>,
     maintenance: Maintenance,
     // When the youngest child was started, and how long it had run when a child's end was last seen, in microseconds.
@@ -58,15 +58,16 @@ pub struct Service<'a, L, D: Disk, C: Children, R: Listener> {
 }
 
 impl<'a, L: Log, D: Disk + Drop, C: Children + Drop, R: Listener> Service<'a, L, D, C, R> {
-    /// A service of an engine whose children are watched.
+    /// A service of an engine. At most `most` children run at once.
     pub fn new(
         log: &'a L,
         alloc: Global,
-        watch: &'a Watch,
+        most: usize,
         engine: Engine<D, C>,
         keeping: Keeping,
     ) -> Result<Service<'a, L, D, C, R>, AllocError>
         ensures engine { IfOk result (λ service. service.shared.engine ≡ engine) }
+        ensures most { IfOk result (λ service. service.shared.most ≡ most) }
         ensures clients { IfOk result (λ service. (key : ℕ) → get service.clients.slots key ≡ None) }
         ensures maintenance { IfOk result (λ service. (service.maintenance.keep ≡ keeping.jobs) × (service.maintenance.percent ≡ keeping.room) × (service.maintenance.area ≡ keeping.area)) }
         ensures starts { IfOk result (λ service. (service.more ≡ true) × (service.has_new_client ≡ true) × (service.barred ≡ false) × (service.ends ≡ None) × (service.begun ≡ 0) × (service.lasted ≡ 0)) }
@@ -75,7 +76,7 @@ impl<'a, L: Log, D: Disk + Drop, C: Children + Drop, R: Listener> Service<'a, L,
         Ok(Service {
             log,
             alloc,
-            shared: Shared::new(alloc, watch, engine),
+            shared: Shared::new(alloc, most, engine),
             clients: Clients::new(alloc)?,
             maintenance,
             begun: 0,
@@ -96,6 +97,8 @@ impl<'a, L: Log, D: Disk + Drop, C: Children + Drop, R: Listener> Service<'a, L,
     ) -> Result<(), ServiceFault>
         // However it ends, its engine changed by calls alone.
         ensures calls { GoesByCalls D.device self.old.shared.engine self.new.shared.engine }
+        // A client was sent the texts of its own turns and changes alone, and left its slot for one of the listed causes alone.
+        ensures history { GoesByEvents D.device R.Stream.view self.old.shared.engine self.old.clients.slots self.new.shared.engine self.new.clients.slots }
         ensures disk { result ≡ Err ServiceFault.Disk → self.new.shared.engine.run_state.spool.dead ≡ true }
     {
         for _ in 0..u64::MAX {
@@ -115,6 +118,7 @@ impl<'a, L: Log, D: Disk + Drop, C: Children + Drop, R: Listener> Service<'a, L,
         signals: &mut S,
     ) -> Result<bool, ServiceFault>
         ensures calls { GoesByCalls D.device self.old.shared.engine self.new.shared.engine }
+        ensures history { GoesByEvents D.device R.Stream.view self.old.shared.engine self.old.clients.slots self.new.shared.engine self.new.clients.slots }
         ensures turned { OnOk result (HasTurned D.device self.old.shared.engine self.new.maintenance (T.told times.new) self.new.more self.new.shared.engine) }
         // Unless there is more to do at once, nothing is left undone, so no client waits for the next wait to end.
         ensures clients { OnOk result (self.new.more ≡ false → AreAtRest self.new.clients.slots) }
@@ -152,6 +156,7 @@ impl<'a, L: Log, D: Disk + Drop, C: Children + Drop, R: Listener> Service<'a, L,
     // Gives each client a turn, and handles the results.
     fn serve_clients<S: Signals>(&mut self, signals: &mut S, now: u64) -> Turns
         ensures calls { GoesByCalls D.device self.old.shared.engine self.new.shared.engine }
+        ensures history { GoesByEvents D.device R.Stream.view self.old.shared.engine self.old.clients.slots self.new.shared.engine self.new.clients.slots }
         ensures rests { result.more ≡ false → AreAtRest self.new.clients.slots }
     {
         let turns = self.clients.serve(&mut self.shared, now);
@@ -163,6 +168,7 @@ impl<'a, L: Log, D: Disk + Drop, C: Children + Drop, R: Listener> Service<'a, L,
     // Waits until something is ready, and notes it.
     fn wait<T: Times>(&mut self, listener: &mut R, times: &mut T) -> Result<(), ServiceFault>
         ensures engine { self.new.shared.engine ≡ self.old.shared.engine }
+        ensures history { GoesByEvents D.device R.Stream.view self.old.shared.engine self.old.clients.slots self.new.shared.engine self.new.clients.slots }
         ensures fault { OnErr result (result ≡ Err ServiceFault.Socket) }
     {
         let millis = match self.pause(times) {
@@ -186,27 +192,36 @@ impl<'a, L: Log, D: Disk + Drop, C: Children + Drop, R: Listener> Service<'a, L,
 
     // Notes the readiness that the wait has found.
     fn note_readiness(&mut self, listener: &mut R)
-        ensures { self.new.shared.engine ≡ self.old.shared.engine }
+        ensures engine { self.new.shared.engine ≡ self.old.shared.engine }
+        ensures history { GoesByEvents D.device R.Stream.view self.old.shared.engine self.old.clients.slots self.new.shared.engine self.new.clients.slots }
     {
         for _ in 0..u32::MAX {
-            match listener.next_readiness() {
-                Some(Readiness::NewClient) => self.has_new_client = true,
-                Some(
-                    Readiness::Client {
-                        key,
-                        writable,
-                        gone,
-                    },
-                ) => self.clients.signal(key, writable, gone),
-                None => return,
-            }
+            let Some(readiness) = listener.next_readiness() else {
+                return;
+            };
+            self.note_ready(readiness);
+        }
+    }
+
+    // Notes that a new client may be connecting, or that a client's connection is ready.
+    fn note_ready(&mut self, readiness: Readiness)
+        ensures engine { self.new.shared.engine ≡ self.old.shared.engine }
+        ensures history { GoesByEvents D.device R.Stream.view self.old.shared.engine self.old.clients.slots self.new.shared.engine self.new.clients.slots }
+    {
+        match readiness {
+            Readiness::NewClient => self.has_new_client = true,
+            Readiness::Client {
+                key,
+                writable,
+                gone,
+            } => self.clients.signal(key, writable, gone),
         }
     }
 
     // How long the next wait is at most, in microseconds: until the next check of the children, or until maintenance has something to do.
     fn pause<T: Times>(&self, times: &mut T) -> Option<u64> {
         let ran = times.micros().saturating_sub(self.begun);
-        let look = next_look(self.lasted, ran, self.shared.watch.running());
+        let look = next_look(self.lasted, ran, self.shared.running());
         let maintenance = match times.system() {
             Some(millis) => micros_of(self.maintenance.wait(&self.shared, millis)),
             None => Some(LONGEST_IDLE),
@@ -220,32 +235,49 @@ impl<'a, L: Log, D: Disk + Drop, C: Children + Drop, R: Listener> Service<'a, L,
 
     // Accepts new clients.
     fn let_in(&mut self, listener: &mut R, now: u64) -> Result<(), AllocError>
-        ensures { self.new.shared.engine ≡ self.old.shared.engine }
+        ensures engine { self.new.shared.engine ≡ self.old.shared.engine }
+        ensures history { GoesByEvents D.device R.Stream.view self.old.shared.engine self.old.clients.slots self.new.shared.engine self.new.clients.slots }
     {
         if !self.has_new_client || self.ends.is_some() {
             return Ok(());
         }
         for _ in 0..MOST_ACCEPTED {
-            match listener.accept() {
-                AcceptOutcome::Client(connection) => {
-                    self.barred = false;
-                    let admission = self.clients.admit(listener, connection, now)?;
-                    self.log_admission(admission);
-                }
-                AcceptOutcome::Nobody => {
-                    self.has_new_client = false;
-                    break;
-                }
-                AcceptOutcome::Failed => {
-                    if !self.barred {
-                        error!(self.log; "cannot accept a client");
-                    }
-                    self.barred = true;
-                    break;
-                }
+            if !self.let_one_in(listener, now)? {
+                return Ok(());
             }
         }
         Ok(())
+    }
+
+    // Accepts a new client. Returns whether one was there and could be accepted.
+    fn let_one_in(&mut self, listener: &mut R, now: u64) -> Result<bool, AllocError>
+        ensures engine { self.new.shared.engine ≡ self.old.shared.engine }
+        ensures history { GoesByEvents D.device R.Stream.view self.old.shared.engine self.old.clients.slots self.new.shared.engine self.new.clients.slots }
+    {
+        match listener.accept() {
+            AcceptOutcome::Client(connection) => {
+                self.barred = false;
+                let admission = self.clients.admit(listener, connection, now)?;
+                self.log_admission(admission);
+                Ok(true)
+            }
+            AcceptOutcome::Nobody => {
+                self.has_new_client = false;
+                Ok(false)
+            }
+            AcceptOutcome::Failed => {
+                self.log_refusal();
+                self.barred = true;
+                Ok(false)
+            }
+        }
+    }
+
+    // Logs once that clients cannot be accepted.
+    fn log_refusal(&self) {
+        if !self.barred {
+            error!(self.log; "cannot accept a client");
+        }
     }
 
     fn log_admission(&self, admission: Admission) {
@@ -266,7 +298,7 @@ impl<'a, L: Log, D: Disk + Drop, C: Children + Drop, R: Listener> Service<'a, L,
     {
         self.log_starved(turns.starved);
         if turns.shutdown && self.ends.is_none() {
-            info!(self.log; "shutting down: {} children running", self.shared.watch.running());
+            info!(self.log; "shutting down: {} children running", self.shared.running());
             self.ends = Some(now);
             self.shared.ends = true;
         }
@@ -303,14 +335,16 @@ impl<'a, L: Log, D: Disk + Drop, C: Children + Drop, R: Listener> Service<'a, L,
         counts: &Result<Round, RoundFault>,
         looked: u64,
     )
-        ensures { self.new ≡ record self.old { begun = self.new.begun; lasted = self.new.lasted } }
+        ensures kept { self.new ≡ record self.old { shared = self.new.shared; begun = self.new.begun; lasted = self.new.lasted } }
+        ensures shared { self.new.shared ≡ record self.old.shared { started = self.new.shared.started } }
     {
         if let Ok(round) = counts {
             if 0 < round.finished {
                 self.lasted = looked.saturating_sub(self.begun);
             }
         }
-        if self.shared.watch.take_started() {
+        if self.shared.started {
+            self.shared.started = false;
             self.begun = times.micros();
         }
     }
@@ -331,10 +365,12 @@ impl<'a, L: Log, D: Disk + Drop, C: Children + Drop, R: Listener> Service<'a, L,
         ensures idle { result ≡ Ok false → HasNoneToPurge self.new.maintenance × HasTriedAtMost D.device self.old.shared.engine self.new.shared.engine }
         ensures kept { self.new ≡ record self.old { shared = self.new.shared; maintenance = self.new.maintenance } }
     {
-        let told = self.announce_time(times)?;
+        // Before the table is asked for further ended jobs: a client that waits for one of these has its row in the next turn.
         let purged = self.maintenance.purge(&mut self.shared)?;
+        let told = self.announce_time(times)?;
         let made = self.make_checkpoint(times)?;
-        Ok(told || purged || made)
+        let left = self.maintenance.has_some_to_purge();
+        Ok(told || purged || made || left)
     }
 
     // Sends the engine the system's time, if it can be read and something is due. Returns whether it did.
@@ -388,6 +424,7 @@ impl<'a, L: Log, D: Disk + Drop, C: Children + Drop, R: Listener> Service<'a, L,
     // Sends the watching clients what changed.
     fn notify_changes(&mut self) -> Result<(), AllocError>
         ensures engine { self.new.shared.engine ≡ self.old.shared.engine }
+        ensures history { GoesByEvents D.device R.Stream.view self.old.shared.engine self.old.clients.slots self.new.shared.engine self.new.clients.slots }
         ensures still { OnOk result (self.new.more ≡ false → (self.old.more ≡ false) × (self.new.clients ≡ self.old.clients)) }
         ensures kept { self.new ≡ record self.old { shared = self.new.shared; clients = self.new.clients; more = self.new.more } }
     {
@@ -396,11 +433,12 @@ impl<'a, L: Log, D: Disk + Drop, C: Children + Drop, R: Listener> Service<'a, L,
         }
         let mut text = Vec::new(self.alloc);
         self.shared.notify_changes(&mut text)?;
-        if !text.is_empty() {
-            let starved = self.clients.notify(&text);
-            self.log_starved(starved);
-            self.more = true;
+        if text.is_empty() {
+            return Ok(());
         }
+        let starved = self.clients.notify(&text);
+        self.log_starved(starved);
+        self.more = true;
         Ok(())
     }
 

@@ -1,35 +1,36 @@
 //! State that clients and maintenance share: the engine, and the record of its changes.
-ghost use Rattle.std.specs.Prelude.{◌≡◌, ◌≤◌, ◌++◌, true, false, length, List, [], Ok, OnOk, Some};
+ghost use Rattle.std.specs.Prelude.{◌≡◌, ◌≤◌, ◌++◌, ℕ, true, false, length, List, [], IfOk, OnOk, Some};
 ghost use Rattle.std.specs.FinMap as finite;
 ghost use Rattle.service_texts.specs.Notices.{nothing_noted, told, with_stages};
+ghost use Rattle.print_rounds.specs.RoundTicks.{count_running};
 ghost use Rattle.spool_types.specs.declared.event.Event.{Event};
+ghost use Rattle.service_loop.specs.Due.{HasNotedDue};
 ghost use Rattle.service_loop.specs.ServiceCalls.{GoesByCalls};
 ghost use Rattle.spool_engine.specs.EventSteps.{setting};
-ghost use Rattle.spool_engine.specs.EngineRuns.{CommandStep, Serves};
+ghost use Rattle.spool_engine.specs.AnswerTexts.{answer_text};
+ghost use Rattle.spool_engine.specs.EngineRuns.{CommandStep, TakesStep};
 ghost use Rattle.spool_engine.specs.EngineTicks.{IsTicked};
 
-use crate::children::Watch;
 use crate::endings::Endings;
-use crate::maintenance::is_changed_by;
 use crate::signals::Signals;
 use child_pipeline::Children;
-use command_lines::Command;
-use job_table::Table;
-use print_rounds::{Round, RoundFault};
+use command_lines::{Answer, Command};
+use print_rounds::{Round, RoundFault, TickLimits};
 use service_texts::Changes;
 use spool_disk::Disk;
 use spool_engine::Engine;
-use spool_types::{Event, JobId, Moment};
+use spool_types::{JobId, Moment};
 use std::alloc::{AllocError, Global};
 
-// The reply to an event that does not fit into the journal.
-const FULL: &[u8; 11] = b"error full\n";
-
-/// An engine, its running children, the children that must end, and the changes since the watching clients were last sent some.
+/// An engine, the number of children that may run at once, those that must end, and the changes since the watching clients were last sent
+/// some.
 #[derive(Drop)]
-pub(crate) struct Shared<'a, D: Disk, C: Children> {
+pub(crate) struct Shared<D: Disk, C: Children> {
     pub engine: Engine<D, C>,
-    pub watch: &'a Watch,
+    /// How many children may run at once.
+    pub most: usize,
+    /// Whether a child was started since the service last noted when one was.
+    pub started: bool,
     pub endings: Endings,
     pub changes: Changes,
     /// Whether a client watches.
@@ -42,15 +43,17 @@ pub(crate) struct Shared<'a, D: Disk, C: Children> {
     pub ends: bool,
 }
 
-impl<'a, D: Disk, C: Children> Shared<'a, D, C> {
-    pub fn new(alloc: Global, watch: &'a Watch, engine: Engine<D, C>) -> Shared<'a, D, C>
+impl<D: Disk, C: Children> Shared<D, C> {
+    pub fn new(alloc: Global, most: usize, engine: Engine<D, C>) -> Shared<D, C>
         ensures engine { result.engine ≡ engine }
-        ensures marks { (result.watched ≡ false) × (result.full ≡ false) × (result.active ≡ true) × (result.ends ≡ false) }
+        ensures most { result.most ≡ most }
+        ensures marks { (result.started ≡ false) × (result.watched ≡ false) × (result.full ≡ false) × (result.active ≡ true) × (result.ends ≡ false) }
         ensures none { (result.endings.list.items ≡ []) × (result.changes.noted ≡ nothing_noted) × (result.changes.stages ≡ []) }
     {
         Shared {
             engine,
-            watch,
+            most,
+            started: false,
             endings: Endings::new(alloc),
             changes: Changes::new(alloc),
             watched: false,
@@ -60,39 +63,35 @@ impl<'a, D: Disk, C: Children> Shared<'a, D, C> {
         }
     }
 
-    /// Serves a command of the engine, and appends its reply.
-    pub fn answer(&mut self, command: Command, replies: &mut Vec<u8>) -> Result<(), AllocError>
-        ensures served { OnOk result ((t : CommandStep D) × Serves (setting D.device self.old.engine.mime self.old.engine.place)
-            self.old.engine.run_state command t self.new.engine.run_state (Ok tt) (Some replies.old.items) (Some replies.new.items)) }
+    /// Executes a command, and returns the answer.
+    pub fn execute(&mut self, command: Command) -> Result<Answer, AllocError>
+        ensures executed { IfOk result (λ answer. (t : CommandStep D) × TakesStep (setting D.device self.old.engine.mime self.old.engine.place)
+            self.old.engine.run_state command t self.new.engine.run_state × (answer_text self.new.engine.run_state.spool.state answer ≡ t.text)) }
         ensures calls { GoesByCalls D.device self.old.engine self.new.engine }
     {
         self.active = true;
-        let creates = matches!(
-            command,
-            Command::Create(_) | Command::Apply(Event::Create { .. })
-        );
         let watched = self.watched;
         note(&mut self.changes, watched, &command)?;
-        let before = replies.len();
-        serve(&mut self.engine, command, replies)?;
-        self.full = self.full || replies.as_slice().get(before..) == Some(FULL.as_slice());
-        if creates && watched {
-            if let Some(job) = JobId::new(self.engine.table().highest()) {
-                self.changes.note_job(job)?;
-            }
-        }
-        Ok(())
+        let answer = execute(&mut self.engine, command);
+        self.full = self.full | is_full(&answer);
+        note_created(&mut self.changes, watched, &answer)?;
+        Ok(answer)
     }
 
-    /// One tick.
+    /// One tick. No more children run after it than may at once.
     pub fn tick(&mut self) -> Result<Round, RoundFault>
-        ensures tick { (tried : List Event) × IsTicked (setting D.device self.old.engine.mime self.old.engine.place) self.old.engine.run_state
-            (record { next = self.new.engine.run_state; result = result; tried = tried }) }
+        ensures tick { (tried : List Event) × (starts : ℕ) × IsTicked (setting D.device self.old.engine.mime self.old.engine.place) self.old.engine.run_state
+            (record { limits = Some (record { most = self.old.most; starts = starts }); next = self.new.engine.run_state; result = result; tried = tried }) }
+        ensures most { self.new.most ≡ self.old.most }
         ensures calls { GoesByCalls D.device self.old.engine self.new.engine }
     {
-        self.bound_starts();
-        let counts = self.engine.tick();
-        self.pass_turn();
+        let limits = TickLimits {
+            most: self.most,
+            starts: self.starts(),
+        };
+        let before = self.running();
+        let counts = self.engine.tick(Some(limits));
+        self.started = self.started | has_started(&counts, before < self.running());
         match counts {
             Ok(
                 Round {
@@ -120,18 +119,16 @@ impl<'a, D: Disk, C: Children> Shared<'a, D, C> {
     }
 
     /// Notes the jobs that a Clock of this moment cancels or whose hold it ends, if a client watches.
-    pub fn note_due(&mut self, moment: Moment) -> Result<(), AllocError>
+    pub fn note_due(&mut self, alloc: Global, moment: Moment) -> Result<(), AllocError>
+        ensures watched { self.old.watched ≡ true → OnOk result (HasNotedDue self.old.engine.run_state.spool.state moment self.old.changes self.new.changes) }
         ensures unwatched { self.old.watched ≡ false → self.new ≡ self.old }
         ensures kept { self.new ≡ record self.old { changes = self.new.changes } }
     {
         if !self.watched {
             return Ok(());
         }
-        let known = self.engine.table().now();
-        for row in self.engine.table().jobs().iter() {
-            if is_changed_by(&row.job, known, moment) {
-                self.changes.note_job(row.job.id)?;
-            }
+        for job in self.engine.table().changed_by(alloc, moment)? {
+            self.changes.note_job(job)?;
         }
         Ok(())
     }
@@ -149,8 +146,7 @@ impl<'a, D: Disk, C: Children> Shared<'a, D, C> {
     pub fn end_children<S: Signals>(&mut self, signals: &mut S, now: u64)
         ensures { self.new ≡ record self.old { endings = self.new.endings } }
     {
-        let watch = self.watch;
-        self.endings.act(watch, signals, now);
+        self.endings.act(&self.engine, signals, now);
     }
 
     /// The number of processing jobs without a running child.
@@ -161,7 +157,7 @@ impl<'a, D: Disk, C: Children> Shared<'a, D, C> {
         let mut count = 0;
         for queue in table.queues() {
             if let Some(job) = table.processing(&queue.name) {
-                if self.watch.group_of(job).is_none() {
+                if !self.engine.is_running(job) {
                     count += 1;
                 }
             }
@@ -169,35 +165,14 @@ impl<'a, D: Disk, C: Children> Shared<'a, D, C> {
         count
     }
 
-    // Lets the next tick start the stages at rest and, unless the service must end, the next job of each queue. If nothing can be started,
-    // the children are not asked how many they can start, which takes a while.
-    fn bound_starts(&self) {
-        let starts = if self.ends {
+    // How many children the next tick may start: those of the stages at rest and, unless the service must end, of the next job of each queue.
+    // If none can be started, the children are not asked for their room, which takes a while.
+    fn starts(&self) -> usize {
+        if self.ends {
             self.at_rest()
         } else {
             self.startable()
-        };
-        self.watch.bound_starts(starts);
-    }
-
-    // Advances the queue order to the queue after the last one, in this order, that has started a job.
-    fn pass_turn(&self) {
-        let table = self.engine.table();
-        let queues = table.queues().len();
-        if queues == 0 {
-            return;
         }
-        let first = self.watch.first() % queues;
-        let mut steps = 0;
-        for _ in 0..queues {
-            let Some(job) = self.watch.next_begun() else {
-                break;
-            };
-            if let Some(at) = place_of(table, job) {
-                steps = usize::max(steps, steps_behind(first, at, queues));
-            }
-        }
-        self.watch.pass_to(first.saturating_add(steps) % queues);
     }
 
     // The number of queues with a processing job at rest or, if none is processing, with a next job.
@@ -206,7 +181,7 @@ impl<'a, D: Disk, C: Children> Shared<'a, D, C> {
         let mut count = 0;
         for queue in table.queues() {
             let starts = match table.processing(&queue.name) {
-                Some(job) => self.watch.group_of(job).is_none(),
+                Some(job) => !self.engine.is_running(job),
                 None => table.next(&queue.name).is_some(),
             };
             if starts {
@@ -216,9 +191,16 @@ impl<'a, D: Disk, C: Children> Shared<'a, D, C> {
         count
     }
 
+    /// The number of running children, if no more run than may at once.
+    pub fn running(&self) -> usize
+        ensures { count_running self.now.engine.run_state.slots ≤ self.now.most → result ≡ count_running self.now.engine.run_state.slots }
+    {
+        self.most - self.engine.count_free(self.most)
+    }
+
     /// Whether no job is processing and no child runs.
     pub fn is_quiet(&self) -> bool {
-        self.watch.running() == 0 && self.at_rest() == 0
+        self.running() == 0 && self.at_rest() == 0
     }
 }
 
@@ -236,37 +218,32 @@ fn note(changes: &mut Changes, watched: bool, command: &Command) -> Result<(), A
     }
 }
 
-// Serves a command of an engine. The replies are in memory, so the only error is out of memory.
-fn serve<D: Disk, C: Children>(
-    engine: &mut Engine<D, C>,
-    command: Command,
-    replies: &mut Vec<u8>,
-) -> Result<(), AllocError>
-    ensures served { OnOk result ((t : CommandStep D) × Serves (setting D.device engine.old.mime engine.old.place)
-        engine.old.run_state command t engine.new.run_state (Ok tt) (Some replies.old.items) (Some replies.new.items)) }
-    ensures calls { GoesByCalls D.device engine.old engine.new }
-{
-    match engine.answer(command, replies) {
-        Ok(()) => Ok(()),
-        Err(_) => Err(AllocError),
+// Notes the job that a command created, if a client watches.
+fn note_created(changes: &mut Changes, watched: bool, answer: &Answer) -> Result<(), AllocError> {
+    match answer {
+        Answer::Created(job) if watched => changes.note_job(*job),
+        _ => Ok(()),
     }
 }
 
-// The position of a job's queue among the queues.
-fn place_of(table: &Table, job: JobId) -> Option<usize> {
-    let row = table.job(job)?;
-    table
-        .queues()
-        .iter()
-        .position(|queue| queue.name == row.job.queue)
+// Whether the event of a command did not fit into the journal.
+fn is_full(answer: &Answer) -> bool {
+    matches!(answer, Answer::Full)
 }
 
-// The number of steps from one queue to the position after another, cyclically. No sum here overflows.
-fn steps_behind(first: usize, at: usize, queues: usize) -> usize {
-    let steps = if first <= at {
-        at - first
-    } else {
-        queues.saturating_sub(first).saturating_add(at)
-    };
-    steps.saturating_add(1)
+// Executes a command of an engine.
+fn execute<D: Disk, C: Children>(engine: &mut Engine<D, C>, command: Command) -> Answer
+    ensures executed { (t : CommandStep D) × TakesStep (setting D.device engine.old.mime engine.old.place)
+        engine.old.run_state command t engine.new.run_state × (answer_text engine.new.run_state.spool.state result ≡ t.text) }
+    ensures calls { GoesByCalls D.device engine.old engine.new }
+{
+    engine.execute(command)
+}
+
+// Whether a tick started a child. After a fault `more` tells it: whether more children run than before.
+fn has_started(counts: &Result<Round, RoundFault>, more: bool) -> bool {
+    match counts {
+        Ok(round) => 0 < round.started,
+        Err(_) => more,
+    }
 }

@@ -15,7 +15,7 @@ pub enum Signal {
 pub trait Signals {
     ghost use Rattle.service_loop.specs.declared.signals.Signal.{Signal};
 
-    /// The signals sent so far, each with its group, or none if they are not reported.
+    /// The signals sent so far, each with its group, or none if they are not reported, or not any more.
     ghost sent: { Self → Option (List (ℕ × Signal)) };
 
     /// Sends a signal to all processes of a group. Returns whether it was sent.

@@ -9,8 +9,8 @@
 //!
 //! - [`words`]: the arguments. The program requires `--root`, not clap, because `spool_shell` shares the option. MODE is read as Rust reads
 //!   octal digits, so it may begin with a plus sign.
-//! - [`start`]: takes the folder's locks, then opens the spool, and creates the socket last. So a `spool.sock` that exists then was left
-//!   by a killed service. A file of the socket's name is removed.
+//! - [`start`]: opens the empty device in place of missing standard streams, takes the folder's locks, then opens the spool, and creates the
+//!   socket last. So a `spool.sock` that exists then was left by a killed service. A file of the socket's name is removed.
 //! - [`socket`]: the listening socket and the clients' connections. Anyone who can open the socket can print, and USER is what the client
 //!   sends. A token is the key of a client plus one, because the listener has token 0. The readiness of a wait is taken in reverse order;
 //!   no order is promised.

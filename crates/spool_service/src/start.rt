@@ -11,7 +11,7 @@ use filter_args::Place;
 use log::{Log, info};
 use mime_costs::Convs;
 use mime_rules::Types;
-use service_loop::{Keeping, Service, ServiceFault, Watch, WatchedChildren};
+use service_loop::{Keeping, Service, ServiceFault};
 use spool_disk::Disk;
 use spool_engine::Engine;
 use spool_runtime::{
@@ -19,13 +19,25 @@ use spool_runtime::{
     read_rules, remove_if_there,
 };
 use std::alloc::{AllocError, Global};
-use std::fs;
-use std::fs::{File, Files, Metadata};
+use std::fs::{File, Files, Metadata, OpenOptions};
 use std::io::ErrorKind;
 use std::net::Net;
 use std::path::Path;
 use std::process::Processes;
 use std::time::Clock;
+use std::{fs, io};
+use watched_children::WatchedChildren;
+
+// The empty device.
+const NOTHING: &str = "/dev/null";
+
+// The empty device, opened as often as a program has standard streams.
+#[derive(Drop)]
+struct Streams {
+    input: File,
+    output: File,
+    errors: File,
+}
 
 /// Opens the spool, and serves the clients of the socket until a client ends the service.
 pub fn run<L, H>(logged: &L, rt: &H, words: ServiceWords<'_>) -> Result<(), ShellFault>
@@ -33,17 +45,36 @@ where
     L: Files<File = File> + AllocGlobal + Log,
     H: Files<File = File> + Net + Processes + Clock + Clone + Drop + AllocGlobal,
 {
+    let streams = occupy_streams(rt)?;
     if words.programs.is_some() {
         check_child_ends(rt)?;
     }
     let (types, convs, programs) = read_rules(logged, words.types, words.convs, words.programs)?;
     log_programs(logged, rt, &programs);
     let (launcher, place) = launcher_in(logged, rt, words.root, programs)?;
-    let most = words.children;
-    let watch = Watch::new(rt.alloc(), most)?;
-    let children = WatchedChildren::new(logged, rt.alloc(), &watch, launcher, most);
+    let children = WatchedChildren::new(logged, rt.alloc(), launcher);
     let rules = (types, convs);
-    serve_children(logged, rt, &words, &watch, (children, place), rules)
+    let served = serve_children(logged, rt, &words, (children, place), rules);
+    // They are open until the files of the spool are closed.
+    drop(streams);
+    served
+}
+
+// Opens the empty device for each standard stream, before any other file. The system gives out the lowest number that is free. So if the
+// program was started without a stream, no file of the spool gets its number, and the log is not written into it.
+fn occupy_streams<H: Files<File = File>>(rt: &H) -> Result<Streams, ShellFault> {
+    Ok(Streams {
+        input: open_nothing(rt)?,
+        output: open_nothing(rt)?,
+        errors: open_nothing(rt)?,
+    })
+}
+
+fn open_nothing<H: Files<File = File>>(rt: &H) -> io::Result<File> {
+    OpenOptions::new()
+        .read(true)
+        .write(true)
+        .open(rt, Path::new(NOTHING))
 }
 
 // Opens the spool, and serves the clients of the socket with these children.
@@ -51,7 +82,6 @@ fn serve_children<L, H, C>(
     logged: &L,
     rt: &H,
     words: &ServiceWords<'_>,
-    watch: &Watch,
     children: (C, Place),
     rules: (Types, Convs),
 ) -> Result<(), ShellFault>
@@ -61,7 +91,7 @@ where
     C: Children + Drop,
 {
     let (folder, engine) = open_folder_engine(logged, rt, words.root, words.size, children, rules)?;
-    let served = serve_engine(logged, rt, words, watch, engine);
+    let served = serve_engine(logged, rt, words, engine);
     // The program owns the folder until the service has ended.
     drop(folder);
     served
@@ -72,7 +102,6 @@ fn serve_engine<L, H, D, C>(
     logged: &L,
     rt: &H,
     words: &ServiceWords<'_>,
-    watch: &Watch,
     engine: Engine<D, C>,
 ) -> Result<(), ShellFault>
 where
@@ -82,7 +111,7 @@ where
     C: Children + Drop,
 {
     let keeping = keeping_of(words, disk_size(rt, words.root)?);
-    let mut service = Service::new(logged, rt.alloc(), watch, engine, keeping)?;
+    let mut service = Service::new(logged, rt.alloc(), words.children, engine, keeping)?;
     serve_at_socket(logged, rt, words, &mut service)
 }
 

@@ -1,15 +1,13 @@
--- The result so far, continued over the remaining jobs, is the result over all jobs.
-use Rattle.std.proofs.Common.{◌≡◌, List, [], map}
-use Rattle.std.specs.FinMap as finite
-use Rattle.spool_types.specs.State.{job_of}
-use Rattle.service_rules.specs.declared.purges.Candidate.{Candidate}
-use Rattle.service_loop.specs.Due.{AreListed, due_among, ended_among, next_due}
+-- The jobs at the visited positions are listed.
+use Rattle.std.proofs.Common.{◌≡◌, length}
+use Rattle.job_table.specs.DueTimes.{ended_numbers, next_due}
+use Rattle.service_loop.specs.Due.{AreListed}
 use Rattle.service_loop.proofs.maintenance.Maintenance.look.Given as goal
 
-abbrev pub invariant-loop-row : goal.invariant-loop-row
-invariant-loop-row g l = record {
-  due : due_among l.table.state l.self.due (map job_of l.row-iterator) ≡ next_due l.shared.engine.run_state.spool.state;
-  ended : ended_among l.self.ended (map job_of l.row-iterator) ≡ ended_among 0 (finite.values l.shared.engine.run_state.spool.state.jobs);
-  listed : (all : List Candidate) → AreListed l.self.listed.items (map job_of l.row-iterator) all → AreListed [] (finite.values l.shared.engine.run_state.spool.state.jobs) all;
+abbrev pub invariant-loop-at : goal.invariant-loop-at
+invariant-loop-at g l = record {
+  due : l.self.due ≡ next_due l.shared.engine.run_state.spool.state;
+  ended : l.self.ended ≡ length (ended_numbers l.shared.engine.run_state.spool.state);
+  listed : AreListed l.at (ended_numbers l.shared.engine.run_state.spool.state) l.self.listed.items;
   kept : l.self ≡ record l.fn.self { due = l.self.due; ended = l.self.ended; listed = l.self.listed };
 }

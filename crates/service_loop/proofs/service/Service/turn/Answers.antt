@@ -3,35 +3,36 @@ use Rattle.std.proofs.Common.{ap, sym, subst, ◌∙◌, Ok}
 use Rattle.service_loop.specs.ServiceCalls.{GoesByCalls}
 use Rattle.service_loop.specs.ServiceTurns.{HasTriedAtMost, KeepsTime, has_new_client_waiting}
 use Rattle.service_loop.proofs.CallLaws.{calls_kept, turn_calls}
+use Rattle.service_loop.proofs.HistoryLaws.{history_kept, history_then, turn_history}
 use Rattle.service_loop.proofs.TurnLaws.{no_reason}
 use Rattle.service_loop.proofs.service.Service.turn.Goals as goal
 
 pub returns-in_err-kept-clause-calls : goal.returns-in_err-kept-clause-calls
 returns-in_err-kept-clause-calls g c =
-    turn_calls g.D.Disk.device _ _ _ _ _ _ c.wait.ensures.engine c.let_in.ensures c.serve_clients-turns.ensures.calls c.tick-ticked.ensures.calls c.maintain.ensures.calls
+    turn_calls g.D.Disk.device _ _ _ _ _ _ c.wait.ensures.engine c.let_in.ensures.engine c.serve_clients-turns.ensures.calls c.tick-ticked.ensures.calls c.maintain.ensures.calls
 
 pub returns-in_err-note_stages-clause-calls : goal.returns-in_err-note_stages-clause-calls
 returns-in_err-note_stages-clause-calls g c =
     calls_kept g.D.Disk.device _ _ _
-    (turn_calls g.D.Disk.device _ _ _ _ _ _ c.wait.ensures.engine c.let_in.ensures c.serve_clients-turns.ensures.calls c.tick-ticked.ensures.calls c.maintain.ensures.calls)
+    (turn_calls g.D.Disk.device _ _ _ _ _ _ c.wait.ensures.engine c.let_in.ensures.engine c.serve_clients-turns.ensures.calls c.tick-ticked.ensures.calls c.maintain.ensures.calls)
     (c.note_stages.ensures.engine ∙ ap (λ s. s.shared.engine) c.note_more.ensures.kept)
 
 pub returns-in_err-notify_changes-clause-calls : goal.returns-in_err-notify_changes-clause-calls
 returns-in_err-notify_changes-clause-calls g c =
     calls_kept g.D.Disk.device _ _ _
-    (turn_calls g.D.Disk.device _ _ _ _ _ _ c.wait.ensures.engine c.let_in.ensures c.serve_clients-turns.ensures.calls c.tick-ticked.ensures.calls c.maintain.ensures.calls)
+    (turn_calls g.D.Disk.device _ _ _ _ _ _ c.wait.ensures.engine c.let_in.ensures.engine c.serve_clients-turns.ensures.calls c.tick-ticked.ensures.calls c.maintain.ensures.calls)
     (c.notify_changes.ensures.engine ∙ c.note_stages.ensures.engine ∙ ap (λ s. s.shared.engine) c.note_more.ensures.kept)
 
 pub returns-then-met_fault-clause-calls : goal.returns-then-met_fault-clause-calls
 returns-then-met_fault-clause-calls g c =
     calls_kept g.D.Disk.device _ _ _
-    (turn_calls g.D.Disk.device _ _ _ _ _ _ c.wait.ensures.engine c.let_in.ensures c.serve_clients-turns.ensures.calls c.tick-ticked.ensures.calls c.maintain.ensures.calls)
+    (turn_calls g.D.Disk.device _ _ _ _ _ _ c.wait.ensures.engine c.let_in.ensures.engine c.serve_clients-turns.ensures.calls c.tick-ticked.ensures.calls c.maintain.ensures.calls)
     (c.notify_changes.ensures.engine ∙ c.note_stages.ensures.engine ∙ ap (λ s. s.shared.engine) c.note_more.ensures.kept)
 
 pub returns-clause-calls : goal.returns-clause-calls
 returns-clause-calls g c =
     calls_kept g.D.Disk.device _ _ _
-    (turn_calls g.D.Disk.device _ _ _ _ _ _ c.wait.ensures.engine c.let_in.ensures c.serve_clients-turns.ensures.calls c.tick-ticked.ensures.calls c.maintain.ensures.calls)
+    (turn_calls g.D.Disk.device _ _ _ _ _ _ c.wait.ensures.engine c.let_in.ensures.engine c.serve_clients-turns.ensures.calls c.tick-ticked.ensures.calls c.maintain.ensures.calls)
     (c.notify_changes.ensures.engine ∙ c.note_stages.ensures.engine ∙ ap (λ s. s.shared.engine) c.note_more.ensures.kept)
 
 pub returns-clause-turned : goal.returns-clause-turned
@@ -42,7 +43,7 @@ returns-clause-turned g c =
       before = c.serve_clients-turns.new.self.shared.engine;
       behind = c.tick-ticked.new.self.shared.engine;
       moved = c.tick-ticked.result;
-      clients = subst (λ e. GoesByCalls g.D.Disk.device e c.serve_clients-turns.new.self.shared.engine) (c.let_in.ensures ∙ c.wait.ensures.engine) c.serve_clients-turns.ensures.calls;
+      clients = subst (λ e. GoesByCalls g.D.Disk.device e c.serve_clients-turns.new.self.shared.engine) (c.let_in.ensures.engine ∙ c.wait.ensures.engine) c.serve_clients-turns.ensures.calls;
       tick = c.tick-ticked.ensures.ticked;
       kept =
           subst (λ e. KeepsTime g.D.Disk.device c.tick-ticked.new.self.shared.engine c.notify_changes.new.self.maintenance (g.T.Times.told c.maintain.new.times) e) (sym same_engine)
@@ -53,3 +54,41 @@ returns-clause-turned g c =
           (has_new_client_waiting c.maintain.new.self.has_new_client c.maintain.new.self.barred c.maintain.new.self.ends) (sym c.note_more.ensures.more ∙ sym more ∙ (c.in_ok-notify_changes.ensures.still rests).0) in
           (reasons.0, subst (λ e. HasTriedAtMost g.D.Disk.device c.tick-ticked.new.self.shared.engine e) (sym same_engine) (c.maintain.ensures.idle (c.in_ok-kept.was ∙ ap Ok reasons.1)).1);
     }
+
+pub returns-in_err-let_in-clause-history : goal.returns-in_err-let_in-clause-history
+returns-in_err-let_in-clause-history g c =
+    history_then _ _ _ _ _ _ _ _ c.wait.ensures.history c.let_in.ensures.history
+
+pub returns-in_err-kept-clause-history : goal.returns-in_err-kept-clause-history
+returns-in_err-kept-clause-history g c =
+    turn_history _ _ _ _ _ _ _ _ _ _ _ _ _ _ c.wait.ensures.history c.let_in.ensures.history c.serve_clients-turns.ensures.history c.tick-ticked.ensures.calls (ap (λ s. s.clients.slots) c.tick-ticked.ensures.kept) c.maintain.ensures.calls (ap (λ s. s.clients.slots) c.maintain.ensures.kept)
+
+pub returns-in_err-note_stages-clause-history : goal.returns-in_err-note_stages-clause-history
+returns-in_err-note_stages-clause-history g c =
+    history_kept _ _ _ _ _ _ _ _
+    (turn_history _ _ _ _ _ _ _ _ _ _ _ _ _ _ c.wait.ensures.history c.let_in.ensures.history c.serve_clients-turns.ensures.history c.tick-ticked.ensures.calls (ap (λ s. s.clients.slots) c.tick-ticked.ensures.kept) c.maintain.ensures.calls (ap (λ s. s.clients.slots) c.maintain.ensures.kept))
+    (c.note_stages.ensures.engine ∙ ap (λ s. s.shared.engine) c.note_more.ensures.kept) (ap (λ s. s.clients.slots) c.note_stages.ensures.kept ∙ ap (λ s. s.clients.slots) c.note_more.ensures.kept)
+
+pub returns-in_err-notify_changes-clause-history : goal.returns-in_err-notify_changes-clause-history
+returns-in_err-notify_changes-clause-history g c =
+    history_then _ _ _ _ _ _ _ _
+    (history_kept _ _ _ _ _ _ _ _
+    (turn_history _ _ _ _ _ _ _ _ _ _ _ _ _ _ c.wait.ensures.history c.let_in.ensures.history c.serve_clients-turns.ensures.history c.tick-ticked.ensures.calls (ap (λ s. s.clients.slots) c.tick-ticked.ensures.kept) c.maintain.ensures.calls (ap (λ s. s.clients.slots) c.maintain.ensures.kept))
+    (c.note_stages.ensures.engine ∙ ap (λ s. s.shared.engine) c.note_more.ensures.kept) (ap (λ s. s.clients.slots) c.note_stages.ensures.kept ∙ ap (λ s. s.clients.slots) c.note_more.ensures.kept))
+    c.notify_changes.ensures.history
+
+pub returns-then-met_fault-clause-history : goal.returns-then-met_fault-clause-history
+returns-then-met_fault-clause-history g c =
+    history_then _ _ _ _ _ _ _ _
+    (history_kept _ _ _ _ _ _ _ _
+    (turn_history _ _ _ _ _ _ _ _ _ _ _ _ _ _ c.wait.ensures.history c.let_in.ensures.history c.serve_clients-turns.ensures.history c.tick-ticked.ensures.calls (ap (λ s. s.clients.slots) c.tick-ticked.ensures.kept) c.maintain.ensures.calls (ap (λ s. s.clients.slots) c.maintain.ensures.kept))
+    (c.note_stages.ensures.engine ∙ ap (λ s. s.shared.engine) c.note_more.ensures.kept) (ap (λ s. s.clients.slots) c.note_stages.ensures.kept ∙ ap (λ s. s.clients.slots) c.note_more.ensures.kept))
+    c.notify_changes.ensures.history
+
+pub returns-clause-history : goal.returns-clause-history
+returns-clause-history g c =
+    history_then _ _ _ _ _ _ _ _
+    (history_kept _ _ _ _ _ _ _ _
+    (turn_history _ _ _ _ _ _ _ _ _ _ _ _ _ _ c.wait.ensures.history c.let_in.ensures.history c.serve_clients-turns.ensures.history c.tick-ticked.ensures.calls (ap (λ s. s.clients.slots) c.tick-ticked.ensures.kept) c.maintain.ensures.calls (ap (λ s. s.clients.slots) c.maintain.ensures.kept))
+    (c.note_stages.ensures.engine ∙ ap (λ s. s.shared.engine) c.note_more.ensures.kept) (ap (λ s. s.clients.slots) c.note_stages.ensures.kept ∙ ap (λ s. s.clients.slots) c.note_more.ensures.kept))
+    c.notify_changes.ensures.history

@@ -1,0 +1,91 @@
+#!/usr/bin/env python3
+"""Measures what falls due in the service while jobs wait and a client watches: due.py [PROGRAM]
+
+It runs crates/spool_service/out/spool_service (built by `rt run` in that crate) or PROGRAM over spools of 10 to 1,000,000 waiting jobs in
+one stopped queue, in TMPDIR, whose files it writes byte by byte. A client watches. Another holds one job until the next second, TURNS
+times, once a second. So in each second the service looks for what is due, sends its engine the clock, and notes the job whose hold is over.
+The script prints the processor time of the service for each turn, and its ratio to that with the fewest jobs.
+
+The job is in a stopped queue of its own: when a hold ends, the index of the job's queue examines its waiting jobs (`Index::advance`). Apart
+from that, a turn should take as long whatever the number of waiting jobs, so the ratios should be near 1. Times depend on the machine, so
+only the ratios are of interest. No test checks them. The largest spool takes several seconds to open.
+"""
+import os
+import sys
+import time
+
+here = os.path.dirname(os.path.abspath(__file__))
+sys.path.insert(0, os.path.join(here, "..", "tests"))
+
+from opening import rows, spool
+from service_parts import BUILT, Client, Folder, same, until
+
+COUNTS = (10, 1_000, 100_000, 1_000_000)
+TURNS = 10
+# The time in seconds until a large spool is open.
+LONGEST = 300
+
+
+def stopped(count):
+    """The listing of a table with this number of waiting jobs in a stopped queue."""
+    for place, row in enumerate(rows(count + 2)):
+        yield row[:-5] + b"\x01" + row[-4:] if place == 1 else row
+
+
+def submit(folder, client):
+    """A job in a stopped queue of its own."""
+    folder.queue(client, "alone")
+    same("disable", client.ask("disable alone\n"), "ok")
+    return client.submit("alone")
+
+
+def hold_once(client, watcher, job):
+    """Holds the job until the next second, and waits until the watching client is sent that the hold is over."""
+    same("hold", client.ask(f"hold {job} {int(time.time()) + 1}\n"), "ok")
+    while True:
+        words = watcher.reply().split()
+        if words[:2] == ["job", str(job)] and words[3] == "3":
+            return
+
+
+def processor_time(folder):
+    """The milliseconds that the service has run."""
+    with open(f"/proc/{folder.running.pid}/schedstat") as file:
+        return int(file.read().split()[0]) / 1e6
+
+
+def measured(count):
+    """The milliseconds of processor time of a turn."""
+    folder = Folder()
+    try:
+        with open(folder.at("spool", "spool.disk"), "wb") as file:
+            file.write(spool(stopped(count)))
+        folder.launch("--quiet", "--keep", "1000000")
+        until("the service", folder.serves, LONGEST)
+        client, watcher = Client(folder), Client(folder)
+        job = submit(folder, client)
+        same("watch", watcher.ask("watch\n"), "ok")
+        hold_once(client, watcher, job)
+        before = processor_time(folder)
+        for _ in range(TURNS):
+            hold_once(client, watcher, job)
+        took = processor_time(folder) - before
+    finally:
+        folder.end()
+        folder.remove()
+    return took / TURNS
+
+
+def main():
+    Folder.service = os.path.abspath(sys.argv[1]) if len(sys.argv) > 1 else BUILT
+    if not os.path.exists(Folder.service):
+        sys.exit("no program: run `rt run` in crates/spool_service first")
+    first = None
+    for count in COUNTS:
+        took = measured(count)
+        first = first or took
+        print(f"{count:9,} waiting jobs: {took:8.2f} ms a turn, ratio {took / first:5.2f}", flush=True)
+
+
+if __name__ == "__main__":
+    main()

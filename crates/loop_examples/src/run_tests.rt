@@ -1,0 +1,147 @@
+//! A run of the service over parts in memory.
+use crate::clocks::MemTimes;
+use crate::connections::MemConnection;
+use crate::listeners::MemListener;
+use crate::senders::MemSignals;
+use child_pipeline::MemChildren;
+use filter_args::Place;
+use log::sink::Discard;
+use mime_costs::Convs;
+use mime_rules::Types;
+use service_loop::{Keeping, Service};
+use spool_core::{Spool, make};
+use spool_disk::MemDisk;
+use spool_engine::Engine;
+use std::alloc::Global;
+use std::cell::RefCell;
+use std::test::Fail;
+
+// The length of the disk.
+const LEN: usize = 65_536;
+
+// How many children may run at once.
+const MOST: usize = 4;
+
+// The first moment of the system's clock, in milliseconds.
+const FIRST_MOMENT: u64 = 1_000_000;
+
+// What the clients send, in the order in which they connect. The first one stays connected.
+const WATCHES: &[u8] = b"watch\n";
+
+const CREATES: &[u8] =
+    b"queue q s:/ application/octet-stream abort-job 0 0\ncreate q u \"t\" 1 50 \"\"\n";
+
+const CANCELS: &[u8] = b"cancel 1\njobs\ncancel 1";
+
+const ENDS: &[u8] = b"shutdown\n";
+
+// What they are sent. The last line of the third one lacks its line feed, so it is not served.
+const CREATED: &str = "ok\nok job 1\n";
+
+const CANCELED: &str = "ok\njob 1 q 7 canceled \"u\" 0 0 \"t\"\nok 1\n";
+
+const WATCHED: &str =
+    "ok\njob 1 q 4 job-incoming \"u\" 0 0 \"t\"\nqueue q 3 accepting application/octet-stream abort-job 0 0 none \"\"\njob 1 q 7 canceled \"u\" 0 0 \"t\"\n";
+
+const KEEPING: Keeping = Keeping {
+    jobs: 100,
+    room: 10,
+    area: 32_768,
+};
+
+fn new_disk(alloc: Global) -> Result<MemDisk, Fail> {
+    let mut disk = MemDisk::new(alloc, LEN)?;
+    make(&mut disk)?;
+    Ok(disk)
+}
+
+fn new_place(alloc: Global) -> Result<Place, Fail> {
+    Ok(Place {
+        root: String::from_str(alloc, "/r")?,
+        lang: String::from_str(alloc, "C")?,
+        path: String::from_str(alloc, "/bin")?,
+        side: false,
+    })
+}
+
+// An engine over an empty spool in memory, whose children all fail to start.
+fn new_engine(alloc: Global) -> Result<Engine<MemDisk, MemChildren>, Fail> {
+    let (types, _) = Types::read(alloc, "")?;
+    let (convs, _) = Convs::read(alloc, "")?;
+    let place = new_place(alloc)?;
+    let children = MemChildren::new(alloc, Vec::new(alloc), Vec::new(alloc), Vec::new(alloc))?;
+    let disk = new_disk(alloc)?;
+    match Spool::open(alloc, disk) {
+        Ok(spool) => Ok(Engine::new(alloc, spool, children, types, convs, place)),
+        Err(error) => Err(Fail::from(error.fault)),
+    }
+}
+
+// An empty text for each of four clients.
+fn nothing_seen(alloc: Global) -> Result<Vec<RefCell<Vec<u8>>>, Fail> {
+    let mut seen = Vec::new(alloc);
+    for _ in 0..4 {
+        seen.push(RefCell::new(Vec::new(alloc)))?;
+    }
+    Ok(seen)
+}
+
+// The clients connect in the order of their texts.
+fn push_clients<'a>(
+    coming: &mut Vec<MemConnection<'a>>,
+    alloc: Global,
+    seen: &'a [RefCell<Vec<u8>>],
+) -> Result<(), Fail> {
+    if let [watcher, creator, canceler, ender] = seen {
+        coming.push(MemConnection::new(alloc, ENDS, false, ender))?;
+        coming.push(MemConnection::new(alloc, CANCELS, false, canceler))?;
+        coming.push(MemConnection::new(alloc, CREATES, false, creator))?;
+        coming.push(MemConnection::new(alloc, WATCHES, true, watcher))?;
+    }
+    Ok(())
+}
+
+// Serves the clients of a listener until one of them ends the service.
+fn serve(
+    alloc: Global,
+    engine: Engine<MemDisk, MemChildren>,
+    listener: &mut MemListener<'_>,
+    signals: &mut MemSignals,
+) -> Result<(), Fail> {
+    let mut times = MemTimes::new(FIRST_MOMENT);
+    let mut service = Service::new(&Discard, alloc, MOST, engine, KEEPING)?;
+    service.serve(listener, &mut times, signals)?;
+    Ok(())
+}
+
+// Serves the clients. Returns whether no child had to be ended.
+fn serve_all(alloc: Global, seen: &[RefCell<Vec<u8>>]) -> Result<bool, Fail> {
+    let mut coming = Vec::new(alloc);
+    push_clients(&mut coming, alloc, seen)?;
+    let mut listener = MemListener::new(coming);
+    let mut signals = MemSignals::new(alloc, 4)?;
+    serve(alloc, new_engine(alloc)?, &mut listener, &mut signals)?;
+    Ok(signals.sent().is_empty())
+}
+
+// Whether exactly this was sent to the client at this position.
+fn was_sent(seen: &[RefCell<Vec<u8>>], at: usize, text: &str) -> bool {
+    let Some(cell) = seen.get(at) else {
+        return false;
+    };
+    match cell.try_borrow() {
+        Ok(bytes) => bytes.as_slice() == text.as_bytes(),
+        Err(_) => false,
+    }
+}
+
+#[test]
+fn each_client_gets_its_replies(rt: HostRuntime) -> Result<(), Fail> {
+    let seen = nothing_seen(rt.alloc())?;
+    assert!(rt; serve_all(rt.alloc(), &seen)?);
+    assert!(rt; was_sent(&seen, 0, WATCHED));
+    assert!(rt; was_sent(&seen, 1, CREATED));
+    assert!(rt; was_sent(&seen, 2, CANCELED));
+    assert!(rt; was_sent(&seen, 3, "ok\n"));
+    Ok(())
+}

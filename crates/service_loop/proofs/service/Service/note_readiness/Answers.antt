@@ -1,0 +1,25 @@
+-- One more connection was ready.
+use Rattle.std.proofs.Common.{refl, ◌∙◌}
+use Rattle.service_loop.proofs.HistoryLaws.{history_none, history_then}
+use Rattle.service_loop.proofs.service.Service.note_readiness.Goals as goal
+
+pub loop-init : goal.loop-init
+loop-init g c = record { engine = refl; history = history_none _ _ _ _ }
+
+pub loop-preserved : goal.loop-preserved
+loop-preserved g c = record {
+  engine = c.note_ready.ensures.engine ∙ c.loop.invariant.engine;
+  history = history_then _ _ _ _ _ _ _ _ c.loop.invariant.history c.note_ready.ensures.history;
+}
+
+pub returns-in_default-clause-engine : goal.returns-in_default-clause-engine
+returns-in_default-clause-engine g c = c.loop.invariant.engine
+
+pub returns-in_default-clause-history : goal.returns-in_default-clause-history
+returns-in_default-clause-history g c = c.loop.invariant.history
+
+pub returns-clause-engine : goal.returns-clause-engine
+returns-clause-engine g c = c.loop.invariant.engine
+
+pub returns-clause-history : goal.returns-clause-history
+returns-clause-history g c = c.loop.invariant.history

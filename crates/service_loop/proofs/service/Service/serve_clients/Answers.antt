@@ -1,0 +1,9 @@
+-- The turns of all clients; what follows changes no client.
+use Rattle.std.proofs.Common.{ap, ◌∙◌}
+use Rattle.service_loop.proofs.HistoryLaws.{history_kept, history_turns}
+use Rattle.service_loop.proofs.service.Service.serve_clients.Goals as goal
+
+pub returns-clause-history : goal.returns-clause-history
+returns-clause-history g c =
+    history_kept _ _ _ _ _ _ _ _ (history_turns _ _ _ _ 64 _ _ c.serve-turns.ensures.turns) (ap (λ s. s.engine) c.end_children.ensures ∙ c.handle_turns.ensures.engine)
+    (ap (λ s. s.slots) c.handle_turns.ensures.clients)
