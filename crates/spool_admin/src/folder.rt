@@ -1,19 +1,16 @@
 //! A folder that is owned, and the names in it.
-ghost use Rattle.std.specs.Prelude.{IfErr, OnOk, replicate};
-ghost use Rattle.std.specs.Io.KnownBytes.{Appends};
+ghost use Rattle.std.specs.Prelude.{IfErr};
 ghost use Rattle.spool_runtime.specs.ProgramFaults.{IsOfFolder};
 
 use spool_disk::FileDisk;
-use spool_runtime::{ShellFault, SpoolFolder, remove_if_there};
+use spool_runtime::{ShellFault, SpoolFolder, new_file, remove_if_there};
+use std::fs;
 use std::fs::{File, Files, Metadata, OpenFile, OpenOptions};
 use std::io::{ErrorKind, Write};
 use std::os::unix::fs::{MetadataExt, OpenOptionsExt, fchown};
 use std::path::Path;
 use std::time::Clock;
-use std::{fs, io};
-
-// Number of zeros written at once.
-const BLOCK: usize = 65_536;
+use whole_writes::write_zeros;
 
 /// A folder that no other program owns meanwhile.
 #[derive(Drop)]
@@ -143,26 +140,4 @@ impl<'a> Folder<'a> {
     {
         Ok(self.folder.sync_all()?)
     }
-}
-
-// Creates an empty file that only its owner may read. Fails if the name exists.
-fn new_file<R: Files<File = File>>(rt: &R, path: Path<'_>) -> io::Result<File> {
-    OpenOptions::new()
-        .read(true)
-        .write(true)
-        .create_new(true)
-        .mode(0o600)
-        .open(rt, path)
-}
-
-// Writes `count` zeros.
-fn write_zeros<W: Write>(writer: &mut W, count: u64) -> io::Result<()>
-    ensures { OnOk result (Appends (W.contents writer.old) (W.contents writer.new) (replicate count 0)) }
-{
-    let zeros = [0u8; BLOCK];
-    let block = BLOCK as u64;
-    for _ in 0..count / block {
-        writer.write_all(&zeros)?;
-    }
-    writer.write_all(&zeros[..(count % block) as usize])
 }

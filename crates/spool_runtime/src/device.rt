@@ -23,9 +23,8 @@
 //! `memory` if memory ran out. Otherwise `disk`: the folder cannot be opened or locked, another program owns it or its
 //! file, the locks of its file system exclude nobody, or the file cannot be examined, opened, made or synced. The
 //! contents of the file are checked later, by `Spool::open`.
-ghost use Rattle.std.specs.Prelude.{◌≡◌, ◌≢◌, IfErr, OnOk, replicate};
+ghost use Rattle.std.specs.Prelude.{◌≡◌, ◌≢◌, IfErr};
 ghost use Rattle.std.specs.IoError.{error_kind};
-ghost use Rattle.std.specs.Io.KnownBytes.{Appends};
 ghost use Rattle.spool_runtime.specs.ProgramFaults.{IsOfFolder};
 
 use crate::fault::{DiskCause, ShellFault};
@@ -35,19 +34,17 @@ use spool_core::make;
 use spool_disk::FileDisk;
 use std::alloc::AllocError;
 use std::fs::{File, Files, Metadata, OpenFile, OpenOptions};
-use std::io::{ErrorKind, Write};
+use std::io::ErrorKind;
 use std::os::unix::fs::{MetadataExt, OpenOptionsExt, fchown};
 use std::path::Path;
 use std::time::Clock;
 use std::{fs, io};
+use whole_writes::write_zeros;
 
 // The name of the spool's file in its folder, and its name until it is a whole spool.
 const NAME: &str = "spool.disk";
 
 const UNFINISHED: &str = "spool.disk.new";
-
-// The number of zeros written at once.
-const BLOCK: usize = 65_536;
 
 /// The folder of a spool, owned by this program. While this value exists, no other program owns the same folder.
 #[derive(Drop)]
@@ -273,23 +270,12 @@ fn make_spool(file: &File) -> Result<(), ShellFault>
     }
 }
 
-// Makes an empty file that only its owner may read. Fails if the name is taken.
-pub(crate) fn new_file<R: Files<File = File>>(rt: &R, path: Path<'_>) -> io::Result<File> {
+/// Makes an empty file that only its owner may read. Fails if the name is taken.
+pub fn new_file<R: Files<File = File>>(rt: &R, path: Path<'_>) -> io::Result<File> {
     OpenOptions::new()
         .read(true)
         .write(true)
         .create_new(true)
         .mode(0o600)
         .open(rt, path)
-}
-
-fn write_zeros<W: Write>(writer: &mut W, count: u64) -> io::Result<()>
-    ensures { OnOk result (Appends (W.contents writer.old) (W.contents writer.new) (replicate count 0)) }
-{
-    let zeros = [0u8; BLOCK];
-    let block = BLOCK as u64;
-    for _ in 0..count / block {
-        writer.write_all(&zeros)?;
-    }
-    writer.write_all(&zeros[..(count % block) as usize])
 }

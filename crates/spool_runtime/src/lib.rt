@@ -142,7 +142,7 @@ mod warnings;
 mod words;
 
 pub use begun::check_child_ends;
-pub use device::{SpoolFolder, remove_if_there};
+pub use device::{SpoolFolder, new_file, remove_if_there};
 pub use devices::{ChildDiscovery, Discovery, print_devices};
 pub use ends::{given_words, no_words, report_end, report_words_fault};
 pub use fault::{DiskCause, ShellFault};

@@ -4,7 +4,7 @@ use Rattle.std.specs.Prelude.{OnOk}
 use Rattle.std.specs.Io.KnownBytes.{Appends}
 use Rattle.std.proofs.KnownBytes.{Appends-trans}
 use Rattle.std.proofs.lemmas.List.{replicate-append-replicate, take-replicate}
-use Rattle.spool_admin.proofs.folder.write_zeros.Goals as goal
+use Rattle.whole_writes.proofs.write_zeros.Goals as goal
 
 more : (a b d : Option (List ℕ)) (m n k : ℕ) (zeros : List ℕ) → zeros ≡ replicate n 0 → m + n ≡ k
     → Appends a b (replicate m 0) → Appends b d zeros → Appends a d (replicate k 0)
@@ -16,7 +16,7 @@ on_ok : {A E : Type 0} (P Q : Type 0) (r : Result A E) → (P → Q) → OnOk r 
 on_ok P Q (Ok x) f h = f h
 on_ok P Q (Err e) f h = tt
 
--- The whole blocks and the remaining bytes are all bytes.
+-- The whole blocks, and the rest of the last block.
 all : (count blocks : ℕ) → blocks ≤ count / 65536 → count / 65536 ≤ blocks → blocks * 65536 + count % 65536 ≡ count
 all count blocks most least = omega (arith, most, least)
 
