@@ -11,7 +11,7 @@ spool_tools must be in the same folder. That compiler inlines fewer functions th
 `Engine::new`, `answer`, `read_extent`) cannot be checked like this. It inlines the code for deadlines into `Table::commit`, which is
 checked.
 
-Two controls must be seen to allocate: `Table::prepare` and `Executor::create`. A call that does not exist in the program, or does not occur
+Two controls must be seen to allocate: `Table::prepare` and `Executor::close`. A call that does not exist in the program, or does not occur
 in the run, is a failure. The last line is `none`, with status 0, or `N of M calls`, with status 1. It takes about 15 seconds.
 """
 import concurrent.futures
@@ -34,7 +34,7 @@ CALLS = [
     "job_table::table::Table::next",
     "job_table::store::Store::stage_verdict",
     "queue_sched::index::Index::insert",
-    "queue_sched::turns::Turns::take",
+    "queue_sched::waiting_entries::WaitingEntries::take",
     "gate_journal::add::add",
     "child_pipeline::runner::Runner::exchange",
     "child_pipeline::runner::Runner::exchange_progress",
@@ -43,7 +43,7 @@ CALLS = [
 ]
 
 # Calls that do allocate in this run: if they are not seen to allocate, the check does not work.
-CONTROLS = ["job_table::table::Table::prepare", "spool_engine::executor::Executor::create"]
+CONTROLS = ["job_table::table::Table::prepare", "spool_engine::executor::Executor::close"]
 
 # The functions that allocate or reallocate.
 ALLOCATES = re.compile(r"^(?:rattle_alloc|rattle_realloc|malloc|calloc|realloc|aligned_alloc|posix_memalign|memalign)\b")

@@ -40,6 +40,9 @@ fn checkpoints(
     }
     let answered = driven.replies.len();
     let first = spool.checkpoint();
+    if first == Err(CheckpointFault::Memory) {
+        return Err("memory")?;
+    }
     Ok((answered, [first, spool.checkpoint()]))
 }
 
