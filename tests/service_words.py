@@ -136,7 +136,7 @@ def watch_changes(folder):
 
 
 def watch_what_the_service_does(folder):
-    """Clients that watch are told of the jobs whose hold or deadline passes, and of those that the service purges."""
+    """Clients that watch are sent the jobs whose hold or deadline passes, and those that the service purges."""
     folder.start("--keep", "1")
     client, watcher = Client(folder), Client(folder)
     folder.queue(client, "q")

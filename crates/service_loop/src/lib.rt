@@ -62,12 +62,12 @@
 //!   for the service. The list does not say why a call was made: the client steps say so for clients, and `HasAnswered` for maintenance.
 //!   `serve` fails with `Disk` only if the disk has failed (`disk`).
 //! - [`services_order_no_stage_twice`]: over any number of services, each made on the state that the previous one left plus perhaps further
-//!   events, no stage of an attempt is ordered twice. A life of a service may have no call, if its first wait fails; as a life of an engine
-//!   it has a run of no commands.
+//!   events, no stage of an attempt is ordered twice, if the children report their orders. A life of a service may have no call, if its
+//!   first wait fails; as a life of an engine it has a run of no commands.
 //! - [`crashes_lose_no_call`]: for each moment when the disk has not failed, a later crash leaves the table of that moment, or the table
 //!   after a prefix of the events since then.
-//! - **Commands and ticks.** `Shared::execute` executes a command as the engine does (`executed`, `TakesStep`). `Shared::tick` is one tick of the
-//!   engine (`tick`, `IsTicked`). A `round` or a `drain` is answered with one tick.
+//! - **Commands and ticks.** `Shared::execute` executes a command as the engine does (`executed`, `TakesStep`). `Shared::tick` is one tick
+//!   of the engine (`tick`, `IsTicked`). A `round` or a `drain` is answered with one tick.
 //! - **Isolation.** A client's turn is a client step (`client_step` of `Client::serve`, `IsClientStep`): actions that answer, one for one
 //!   and in order, the first requests of its own connection. Their texts, each byte once, follow the texts sent before (`Goes`). An action
 //!   is a command served by the engine, one tick for a `round` or a `drain`, a word of the service answered from the current table, or the
@@ -137,7 +137,10 @@
 //!   does nothing.
 //! - No clause states which marks a command or a tick leaves (`full`, `active`, `watched` of `Shared`), how many starts a tick is given
 //!   (`starts`), or which children stay noted: an `act` that forgets all meets its clauses.
-//! - No clause states what sockets, clocks and signals do.
+//! - No clause states what sockets, clocks and signals do, or which number the process group of a child has: a `group_of` of the engine that
+//!   returns 1 for each running child meets its clauses. `one_of_several_children_is_ended` of `tests/service.py` refuses it.
+//! - The launcher of the program reports no orders, so the clauses on children say nothing of it. `watched_children_tests` has the laws for
+//!   an engine over children in memory.
 //!
 //! # Errors
 //!

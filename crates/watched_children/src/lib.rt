@@ -9,11 +9,13 @@
 //!   the inner ticket (`number`). So each call is exactly one call of the inner children: `start` passes the order as it is, and `finish`
 //!   and `has_ended` return the inner answers. Each law of an engine's children (no stage is ordered twice, the right input, each child is
 //!   finished once) applies to wrapped children. [`WatchedChildren::new`] takes the inner children as they are (`inner`).
-//! - The answer of `start_room` is that of the inner children (`rooms`), and a ticket has the group of the inner ticket.
+//! - The answer of `start_room` is that of the inner children (`rooms`).
 //!
 //! # Not proved
 //!
 //! - What is logged. If memory for the name of a child runs out, its lines say `a child`.
+//! - That a ticket has the group of the inner ticket: a group has no contract. `one_of_several_children_is_ended` of `tests/service.py`
+//!   shows it.
 #![tactic(auto)]
 
 mod watched;
