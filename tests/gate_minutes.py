@@ -2,8 +2,10 @@
 """Measures the processor time of the gate from scratch: gate_minutes.py [MINUTES]
 
 It runs `rt ci` in a clean clone of the committed state, with `--anew` if this toolchain has that option, so that no results of earlier runs
-are used, and prints a table by crate: the processor minutes of its proof, of its tests and of its edits. The last line is `N processor
-minutes`, with status 0, or says that these are more than MINUTES (default 150), or that the gate failed, with status 1.
+are used, and prints a table by crate: the processor minutes of its proof, of its tests and of its edits. A second table has the seconds of
+each check of an edit. The first check of a crate proves all of it, and the last one, without an edit, shows that the kept work is that of
+the crate. The last line is `N processor minutes`, with status 0, or says that these are more than MINUTES (default 150), or that the gate
+failed, with status 1.
 
 The sum is the time that the system counted for the gate and all processes that it started. The table comes from polls of the running
 provers, so its parts may lack half a second for each of them. Do not run other heavy work at the same time: two provers on one core slow
@@ -16,6 +18,7 @@ import sys
 import tempfile
 import threading
 import time
+from itertools import zip_longest
 
 TOP = os.path.join(os.path.dirname(os.path.abspath(__file__)), "..")
 TICKS = os.sysconf("SC_CLK_TCK")
@@ -69,6 +72,21 @@ class Polls:
             row[part] += seconds / 60
         return minutes
 
+    def checks_of_edits(self):
+        """The seconds of the checks of each crate's edits, in their order, which is that of their starts."""
+        checks = {}
+        for key, work in self.works.items():
+            if work and work[1] == "edits":
+                checks.setdefault(work[0], []).append((int(key[1]), self.seconds[key]))
+        return {crate: [seconds for _, seconds in sorted(row)] for crate, row in checks.items()}
+
+
+def names_of_checks(crate):
+    """The names of a crate's edits in the order in which `rt ci` tries them, and then that of the check without an edit."""
+    folder = os.path.join(TOP, "crates", crate, "must-fail")
+    edits = sorted(name.removesuffix(".edit") for name in os.listdir(folder) if name.endswith(".edit"))
+    return [*edits, "no edit"] if len(edits) > 1 else edits
+
 
 def words_of_gate():
     """The command that runs the gate from scratch. A toolchain that reuses earlier results has the option `--anew`; others reuse none."""
@@ -109,6 +127,10 @@ def main():
         print(f"{crate:24}" + "".join(f"{row[part]:8.1f}" for part in PARTS) + f"{sum(row.values()):8.1f}")
     sums = [sum(row[part] for row in minutes.values()) for part in PARTS]
     print(f"{'all provers':24}" + "".join(f"{it:8.1f}" for it in [*sums, sum(sums)]))
+    print(f"\n{'crate':24}{'seconds':>8}  edit")
+    for crate, checks in sorted(polls.checks_of_edits().items()):
+        for name, taken in zip_longest(names_of_checks(crate), checks):
+            print(f"{crate:24}{taken or 0:8.0f}  {name or 'another check'}")
     said = re.findall(r"^\d+ passed, \d+ failed.*$", text, re.M)
     print(f"{said[-1] if said else 'no last line'}; {(time.monotonic() - start) / 60:.0f} minutes by the clock")
     if status:

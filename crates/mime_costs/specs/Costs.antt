@@ -3,23 +3,13 @@ use Rattle.std.specs.Prelude.{◌≡◌, ◌⊎◌, ℕ, zero, suc, ◌+◌, ◌
 use Rattle.std.specs.List.{find, All}
 use Rattle.std.specs.declared.alloc.Global.{Global}
 use Rattle.std.specs.declared.vec.Vec.{Vec}
+pub use Rattle.walk_costs.specs.WalkCosts.{lesser, plus, IsSmall}
 use Rattle.mime_costs.specs.Conversions.{same, matches}
 use Rattle.mime_costs.specs.declared.chain.Size.{Size}
 use Rattle.mime_costs.specs.SourceIndex.{position_in, positions_in, sources_of, takes}
 use Rattle.mime_costs.specs.declared.links.Positions.{Positions}
 use Rattle.mime_costs.specs.declared.links.Link.{Link}
 use Rattle.mime_costs.specs.declared.conversion.Conversion.{Conversion}
-
--- The lower of the costs that exist.
-abbrev pub lesser : Option ℕ → Option ℕ → Option ℕ
-lesser None b = b
-lesser (Some a) None = Some a
-lesser (Some a) (Some b) = Some (min a b)
-
--- The cost plus c, if it exists.
-abbrev pub plus : ℕ → Option ℕ → Option ℕ
-plus c None = None
-plus c (Some n) = Some (c + n)
 
 -- The cost exists and is m.
 abbrev pub is_at : Option ℕ → ℕ → Bool
@@ -46,10 +36,6 @@ least file to (suc k) media = least_of (λ c. matches c.source media) (λ c. plu
 
 abbrev pub row_of : List Conversion → List ℕ → ℕ → List (Option ℕ)
 row_of file to k = map (λ c. least file to k c.destination) file
-
--- Far from any limit of a sum.
-abbrev pub IsSmall : Option ℕ → Type 0
-IsSmall cost = IfSome cost (λ n. n ≤ 150000)
 
 abbrev pub cost_in_groups : List (Option ℕ) → Positions → Option ℕ
 cost_in_groups groups positions = lesser (get_or groups positions.of_type None) (lesser (get_or groups positions.of_super None) (get_or groups positions.of_any None))

@@ -10,30 +10,17 @@ use crate::conversion::Conversion;
 use crate::links::{Link, Positions};
 use spool_types::MediaType;
 use std::alloc::{AllocError, Global};
+use walk_costs::lesser;
 
 /// The maximum number of lines of a walk.
 pub const MOST_LINES: usize = 15;
-
-/// Returns the lower of the costs that exist.
-pub fn lesser(a: Option<u32>, b: Option<u32>) -> Option<u32>
-    ensures { result ≡ lesser a b }
-{
-    match (a, b) {
-        (Some(a), Some(b)) => Some(a.min(b)),
-        (Some(a), None) => Some(a),
-        (None, b) => b,
-    }
-}
 
 /// Returns the cost of a conversion and of the walk after it, if that walk exists.
 pub fn cost_with(conversion: &Conversion, rest: Option<u32>) -> Option<u32>
     requires { IsSmall rest }
     ensures { result ≡ plus conversion.now.cost rest }
 {
-    match rest {
-        Some(rest) => Some(conversion.cost.get() + rest),
-        None => None,
-    }
+    walk_costs::cost_with(conversion.cost.get(), rest)
 }
 
 // The same, if the conversion accepts the type at these positions.
