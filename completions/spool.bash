@@ -40,7 +40,7 @@ _spool() {
     COMPREPLY=()
     case $before in
     --policy) words='abort-job retry-job retry-current-job stop-printer' ;;
-    --media) words='application/pdf application/postscript text/plain image/png image/jpeg' ;;
+    --media | --type) words='application/pdf application/postscript text/plain image/png image/jpeg' ;;
     -q) words=$(_spool_queues) ;;
     --socket)
         compopt -o filenames
@@ -52,16 +52,17 @@ _spool() {
     if [[ -z $words && $COMP_CWORD -eq 1 ]]; then
         words='submit status queues watch cancel hold release purge end queue devices check page --help --version'
     elif [[ -z $words && $task == queue && $COMP_CWORD -eq 2 ]]; then
-        words='add set accept reject enable disable'
+        words='show add set accept reject enable disable'
     elif [[ -z $words ]]; then
         if [[ $task == queue ]]; then
             task="queue ${COMP_WORDS[2]}" first=3
         fi
         if [[ $current == -* ]]; then
             case $task in
-            submit) words='--title --user --copies --priority --pages -o --hold --at --by --wait --quiet' ;;
+            submit) words='--title --user --copies --priority --pages --type -o --hold --at --by --wait --quiet' ;;
             status) words='-q --json' ;;
             queues) words='--json' ;;
+            cancel) words='--keep-printing' ;;
             hold) words='--until' ;;
             'queue add') words='--media --policy --interval --limit' ;;
             'queue set') words='--info --location' ;;

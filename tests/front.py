@@ -169,7 +169,7 @@ def played_dead_for_good(folder):
 
 def played_lost_order(folder):
     # A command that is not repeated: only its reply shows whether it was executed.
-    service = Played(folder, [[("cancel 7", None)], [("cancel 8", "ok\n")], [("accept", None)]])
+    service = Played(folder, [[("cancel 7", None)], [("cancel 8", "ok\n"), ("end 8", "error job\n")], [("accept", None)]])
     front = Front(folder, 1)
     output = front.fails("spool", "cancel", "7", "8", status=3)
     holds(f"printed {output!r}", output.startswith("spool: job 7: ") and "job 8" not in output)
@@ -414,6 +414,14 @@ def status_page(folder):
     text = folder.read("page.html")
     holds("no script", "<script" not in text and "&lt;script" in text)
     holds("nothing unfinished", not os.path.exists(folder.at("page.html.new")))
+    # A link, or a pipe without a reader, under the name of the new file is removed and neither followed nor opened.
+    folder.write("other", "kept")
+    os.symlink(folder.at("other"), folder.at("page.html.new"))
+    front.says("spool", "page", folder.at("page.html"))
+    same("a link is not followed", (folder.read("other"), os.path.islink(folder.at("page.html"))), ("kept", False))
+    os.mkfifo(folder.at("page.html.new"))
+    front.says("spool", "page", folder.at("page.html"))
+    holds("a pipe is not opened", "</html>" in folder.read("page.html"))
     child = front.start("spool", "page", folder.at("live.html"), "--follow")
     until("a page", lambda: "refresh" in folder.read("live.html"))
     client.create("q", "later")

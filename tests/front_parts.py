@@ -87,7 +87,11 @@ def number_of(text):
 class Played:
     """A service that a test simulates: for each connection a list of steps. A step is the prefix of the expected command, and the reply, or
     None if the connection is closed instead. After the last list no connection is served.
+
+    It is an older service: the words of `UNKNOWN` are answered `error syntax`, unless a step expects them.
     """
+
+    UNKNOWN = ("i-am\n", "find ", "stop ", "list")
 
     def __init__(self, folder, connections):
         self.heard = []
@@ -121,6 +125,9 @@ class Played:
     def serve_steps(self, line, stream, steps):
         for wanted, reply in steps:
             said = stream.readline().decode()
+            while said.startswith(self.UNKNOWN) and not said.startswith(wanted):
+                line.sendall(b"error syntax\n")
+                said = stream.readline().decode()
             if not said.startswith(wanted):
                 raise Difference(f"said {said!r} in place of {wanted!r}")
             self.heard.append(said.strip())

@@ -151,8 +151,9 @@ def front():
         return
     code = "\n".join(source(it.relative_to(CRATES)) for it in sorted(folder.rglob("*.rt")))
     said, completed = page(FRONT[0]), (HERE / "completions" / "spool.bash").read_text(encoding="utf-8")
-    long = set(re.findall(r'\b(?:text_option|flag_option)\(\s*alloc,\s*"([a-z][a-z-]*)"', code))
-    short = set(re.findall(r"\b(?:letter_option|letter_flag|lettered)\((?:[^'\"]*?),\s*'(.)'", code))
+    rows = source(f"{FRONT[1]}/tables.rt")
+    long = set(re.findall(r'\b(?:Text|Flag|text_option)\(\s*(?:alloc,\s*)?"([a-z][a-z-]*)"', code))
+    short = set(re.findall(r"'(.)'", rows))
     tasks = set(re.findall(r'task == "([a-z]+)"', code)) | set(re.findall(r'"spool (?:queue )?([a-z]+)"', code))
     check(long and short and tasks, "the tasks and options of front_words cannot be read")
     for option in sorted(long):

@@ -4,7 +4,7 @@ ghost use Rattle.std.specs.Prelude.{◌≤◌};
 
 use front_texts::{
     JobLine, LastLine, QueueLine, WatchLine, escape, fitted, job_page, job_shown_json, jobs_json,
-    jobs_table, lpq, lpstat_accepting, lpstat_jobs, lpstat_printers, moment_text, page,
+    jobs_table, lpq, lpstat_accepting, lpstat_jobs, lpstat_printers, moment_text, page, queue_page,
     queues_json, queues_table, read_job_line, read_job_shown, read_last_line, read_queue_line,
     read_watch_line, safe_text, size_text,
 };
@@ -19,6 +19,9 @@ const WAITING: &str = "job 8 lab 3 none \"bob\" 3 0 \"<b>&'x'\"";
 
 const ARRIVING: &str = "job 10 lab 4 job-incoming \"ann\" 0 0 \"\"";
 
+// A job that the service does not show to the client.
+const HIDDEN: &str = "job 11 lab 3 none \"\" 5 0 \"\"";
+
 const LAB: &str = "queue lab 4 accepting application/x-prn abort-job 30 5 none \"\"";
 
 const DEN: &str =
@@ -26,6 +29,9 @@ const DEN: &str =
 
 const SHOWN: &str =
     "job 7\nqueue lab\nuser \"ann\"\ntitle \"P \\\"1\\\"\"\noptions \"media=A4\"\ncopies 2\npriority 50\nsize 65536\npages 1\nattempts 1\ntype text/plain\nby 1700000000\nstate 5\nreason job-printing\nstage 1 of 2 attempt 1\n";
+
+// The lines that a service adds which reports times.
+const TIMES: &str = "created 1700000000\nclosed 1700000001\nstarted unknown\n";
 
 const FOOTER: &str = with_version!(
     "</tbody>\n</table>\n<p class=\"faint\">Cegmandi ",
@@ -86,15 +92,17 @@ fn ended(line: &str) -> (&'static str, &str) {
 }
 
 // Returns the job as it is printed.
-fn shown_lines(alloc: Global) -> Result<String, AllocError> {
-    match read_job_shown(alloc, SHOWN.as_bytes())? {
+fn shown_lines(alloc: Global, times: &str) -> Result<String, AllocError> {
+    let text = format!(in alloc; "{SHOWN}{times}")?;
+    match read_job_shown(alloc, text.as_bytes())? {
         Some(job) => joined(alloc, &job_page(alloc, &job, 60)?),
         None => Ok(String::new(alloc)),
     }
 }
 
 fn shown_json(alloc: Global) -> Result<String, AllocError> {
-    match read_job_shown(alloc, SHOWN.as_bytes())? {
+    let text = format!(in alloc; "{SHOWN}{TIMES}")?;
+    match read_job_shown(alloc, text.as_bytes())? {
         Some(job) => job_shown_json(alloc, &job)?.to_string(alloc),
         None => Ok(String::new(alloc)),
     }
@@ -140,7 +148,10 @@ fn has(text: &[u8], part: &[u8]) -> bool {
 #[test]
 fn rows(rt: HostRuntime) -> Result<(), Fail> {
     let alloc = rt.alloc();
-    assert_eq!(rt; jobs(alloc, &[PRINTING, WAITING, ARRIVING])?.len(), 3);
+    assert_eq!(rt;
+        jobs(alloc, &[PRINTING, WAITING, ARRIVING, HIDDEN])?.len(),
+        4
+    );
     assert_eq!(rt;
         jobs(
             alloc,
@@ -200,12 +211,19 @@ fn tables(rt: HostRuntime) -> Result<(), Fail> {
 fn one_job(rt: HostRuntime) -> Result<(), Fail> {
     let alloc = rt.alloc();
     assert_eq!(rt;
-        shown_lines(alloc)?.as_str(),
+        shown_lines(alloc, "")?.as_str(),
         "job         7\nqueue       lab\nuser        ann\ntitle       P \"1\"\noptions     media=A4\ncopies      2\npriority    50\nsize        64 KiB\npages       1\nattempts    1\ntype        text/plain\nstate       processing\nreason      job-printing\nstart by    Tue, 14 Nov 2023 22:13:20 GMT\nstage       1 of 2 in attempt 1\n"
     );
+    assert!(rt;
+        shown_lines(alloc, TIMES)?.as_str().ends_with(
+            "attempt 1\ncreated     Tue, 14 Nov 2023 22:13:20 GMT\nclosed      Tue, 14 Nov 2023 22:13:21 GMT\nstarted     unknown\n"
+        )
+    );
+    assert_eq!(rt; shown_lines(alloc, "ended soon\n")?.as_str(), "");
+    assert_eq!(rt; shown_lines(alloc, "ended 1\nmore 2\n")?.as_str(), "");
     assert_eq!(rt;
         shown_json(alloc)?.as_str(),
-        "{\"asked\":{\"copies\":2,\"number\":7,\"options\":\"media=A4\",\"priority\":50,\"queue\":\"lab\",\"title\":\"P \\\"1\\\"\",\"user\":\"ann\"},\"course\":{\"attempts\":1,\"moments\":{\"by\":1700000000,\"hold_until\":null,\"not_before\":null},\"pages\":1,\"reason\":\"job-printing\",\"size\":65536,\"stage\":{\"attempt\":1,\"stage\":1,\"stages\":2},\"state\":\"processing\",\"type\":\"text/plain\"}}"
+        "{\"asked\":{\"copies\":2,\"number\":7,\"options\":\"media=A4\",\"priority\":50,\"queue\":\"lab\",\"title\":\"P \\\"1\\\"\",\"user\":\"ann\"},\"course\":{\"attempts\":1,\"moments\":{\"by\":1700000000,\"hold_until\":null,\"not_before\":null},\"pages\":1,\"reason\":\"job-printing\",\"size\":65536,\"stage\":{\"attempt\":1,\"stage\":1,\"stages\":2},\"state\":\"processing\",\"type\":\"text/plain\"},\"times\":{\"closed\":1700000001,\"created\":1700000000,\"ended\":null,\"started\":\"unknown\"}}"
     );
     Ok(())
 }
@@ -238,8 +256,8 @@ fn forms(rt: HostRuntime) -> Result<(), Fail> {
             == b"lab accepting requests since -\nden not accepting requests since - -\n\ttray \"2\" is empty\n".as_slice()
     );
     assert!(rt;
-        lpstat_jobs(alloc, &jobs(alloc, &[PRINTING, ARRIVING])?)?.as_slice()
-            == b"lab-7                   ann              65536 -\nlab-10                  ann                  0 -\n".as_slice()
+        lpstat_jobs(alloc, &jobs(alloc, &[PRINTING, HIDDEN])?)?.as_slice()
+            == b"lab-7                   ann              65536 -\nlab-11                  unknown              5 -\n".as_slice()
     );
     Ok(())
 }
@@ -252,6 +270,25 @@ fn ranks(rt: HostRuntime) -> Result<(), Fail> {
             == b"lab is ready and printing\nRank    Owner   Job     File(s)                         Total Size\nactive  ann     7       Report \"Q1\"                     65536 bytes\n1st     bob     8       <b>&'x'                         3 bytes\n2nd     ann     10                                      0 bytes\n".as_slice()
     );
     assert!(rt; entries(alloc, DEN)?.as_slice() == b"den is not ready\nno entries\n".as_slice());
+    Ok(())
+}
+
+#[test]
+fn one_queue(rt: HostRuntime) -> Result<(), Fail> {
+    let alloc = rt.alloc();
+    let mut rows = Vec::new(alloc);
+    for row in [
+        "queue lab",
+        "info \"The \\\"lab\\\"\"",
+        "changed 1700000000",
+        "changed unknown",
+    ] {
+        rows.push(Vec::from_slice(alloc, row.as_bytes())?)?;
+    }
+    assert_eq!(rt;
+        joined(alloc, &queue_page(alloc, rows.as_slice(), 60)?)?.as_str(),
+        "queue       lab\ninfo        The \"lab\"\nchanged     Tue, 14 Nov 2023 22:13:20 GMT\nchanged     unknown\n"
+    );
     Ok(())
 }
 

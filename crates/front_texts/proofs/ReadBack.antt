@@ -13,7 +13,8 @@ use Rattle.line_words.specs.Blanks.{first_word, after_word}
 use Rattle.line_words.specs.DecimalNumbers.{decimal as number_in}
 use Rattle.spool_types.specs.Limits.{greatest_number}
 use Rattle.spool_types.specs.Phases.{is_in_force, hold_word, hold_reason_word, waiting_word, abort_reason_word, job_state, job_reason}
-use Rattle.spool_types.specs.Values.{is_queue_byte, is_queue_name, is_user_name, is_title, text_in}
+use Rattle.spool_types.specs.Values.{is_queue_byte, is_queue_name, is_title, text_in}
+use Rattle.front_texts.specs.ShownUsers.{is_shown_user}
 use Rattle.spool_types.specs.declared.phase.Phase.{Phase}
 use Rattle.spool_types.specs.declared.phase.Phase.TheVariants.{Incoming, Waiting, Processing, Completed, Canceled, Aborted}
 use Rattle.spool_types.specs.declared.phase.Hold.{Hold}
@@ -190,16 +191,16 @@ words_read d q s w tail wd wq ws ww =
     five : {a1 a2 a3 a4 b1 b2 b3 b4 t u : List ℕ} → a1 ≡ b1 → a2 ≡ b2 → a3 ≡ b3 → a4 ≡ b4 → t ≡ u → joined (head_row a1 a2 a3 a4) (tail_row t) ≡ joined (head_row b1 b2 b3 b4) (tail_row u)
     five e1 e2 e3 e4 e5 = cc
 
-tail_value : (user : Option (List ℕ)) (line z p t title : List ℕ) → first_word line ≡ z → first_word (after_word line) ≡ p → after_word (after_word line) ≡ t → quoted_text t ≡ Some title → after_quoted t ≡ [] → tail_from user line ≡ tail_of (option_and_then (text_in is_user_name) user) (count_in z) (count_in p) (option_and_then (text_in is_title) (Some title))
+tail_value : (user : Option (List ℕ)) (line z p t title : List ℕ) → first_word line ≡ z → first_word (after_word line) ≡ p → after_word (after_word line) ≡ t → quoted_text t ≡ Some title → after_quoted t ≡ [] → tail_from user line ≡ tail_of (option_and_then (text_in is_shown_user) user) (count_in z) (count_in p) (option_and_then (text_in is_title) (Some title))
 tail_value user line z p t title e1 e2 e3 e4 e5 =
-    let u = option_and_then (text_in is_user_name) user in
+    let u = option_and_then (text_in is_shown_user) user in
     ap (λ x. cond (is_end (after_quoted x)) (tail_of u (count_in (first_word line)) (count_in (first_word (after_word line))) (option_and_then (text_in is_title) (quoted_text x))) None) e3
     ∙ ap (λ x. cond (is_end x) (tail_of u (count_in (first_word line)) (count_in (first_word (after_word line))) (option_and_then (text_in is_title) (quoted_text t))) None) e5
     ∙ ap (λ x. tail_of u (count_in x) (count_in (first_word (after_word line))) (option_and_then (text_in is_title) (quoted_text t))) e1
     ∙ ap (λ x. tail_of u (count_in z) (count_in x) (option_and_then (text_in is_title) (quoted_text t))) e2
     ∙ ap (λ x. tail_of u (count_in z) (count_in p) (option_and_then (text_in is_title) x)) e4
 
-tail_read : (user z p title : List ℕ) → IsWhole z → IsWhole p → tail_row (32 ∷ (34 ∷ (escaped_text user ++ 34 ∷ (32 ∷ (z ++ 32 ∷ (p ++ 32 ∷ (34 ∷ (escaped_text title ++ 34 ∷ [])))))))) ≡ tail_of (option_and_then (text_in is_user_name) (Some user)) (count_in z) (count_in p) (option_and_then (text_in is_title) (Some title))
+tail_read : (user z p title : List ℕ) → IsWhole z → IsWhole p → tail_row (32 ∷ (34 ∷ (escaped_text user ++ 34 ∷ (32 ∷ (z ++ 32 ∷ (p ++ 32 ∷ (34 ∷ (escaped_text title ++ 34 ∷ [])))))))) ≡ tail_of (option_and_then (text_in is_shown_user) (Some user)) (count_in z) (count_in p) (option_and_then (text_in is_title) (Some title))
 tail_read user z p title wz wp =
     let last = 34 ∷ (escaped_text title ++ 34 ∷ []) in
     let rest = 32 ∷ (z ++ 32 ∷ (p ++ 32 ∷ last)) in
@@ -223,7 +224,7 @@ job_rows now r line is printed =
     let words = words_read (decimal r.id) r.queue state (job_reason now r.phase) _ (decimal_whole r.id small) (queue_whole r.queue is.queue) (decimal_whole (job_state now r.phase) (state_small now r.phase)) word.whole in
     let rest = tail_read r.user (decimal r.size) (decimal r.pages) r.title (decimal_whole r.size (let h = is.size in omega arith)) (decimal_whole r.pages (let h = is.pages in omega arith)) in
     let head = heads (number_reads r.id is.least is.most) (text_reads is_queue_name r.queue is.queue_text is.queue) (state_reads now r.phase) word.reads in
-    let tail = tails (text_reads is_user_name r.user is.user_text is.user) z p (text_reads is_title r.title is.title_text is.title) in
+    let tail = tails (text_reads is_shown_user r.user is.user_text is.user) z p (text_reads is_title r.title is.title_text is.title) in
     ap job_row same ∙ words ∙ both head (rest ∙ tail)
   where
     heads : {n n' : Option ℕ} {q q' : Option (List ℕ)} {s s' : Option JobState} {w w' : Option (Option (List ℕ))} → n ≡ n' → q ≡ q' → s ≡ s' → w ≡ w' → head_of n q s w ≡ head_of n' q' s' w'

@@ -3,7 +3,8 @@ use Rattle.std.specs.Prelude.{ℕ, Bool, ◌&&◌, cond, nat_le, ◌==◌, List,
 use Rattle.std.specs.Option.{option_map, option_and_then}
 use Rattle.line_words.specs.Blanks.{after_blanks, first_word, after_word}
 use Rattle.command_lines.specs.CommandGrammar.{job_in}
-use Rattle.spool_types.specs.Values.{is_queue_name, is_user_name, is_title, is_options, text_in, media_in}
+use Rattle.spool_types.specs.Values.{is_queue_name, is_title, is_options, text_in, media_in}
+use Rattle.front_texts.specs.ShownUsers.{is_shown_user}
 use Rattle.front_texts.specs.ReplyFields.{is_word, is_empty, is_end, quoted_text, after_quoted, count_in, moment_in, job_state_of, reason_in}
 use Rattle.front_texts.specs.declared.states.JobState.{JobState}
 use Rattle.front_texts.specs.declared.job_shown.JobShown.{JobShown}
@@ -16,6 +17,9 @@ use Rattle.front_texts.specs.declared.job_shown.JobCounts.{JobCounts}
 use Rattle.front_texts.specs.declared.job_shown.JobMarks.{JobMarks}
 use Rattle.front_texts.specs.declared.job_shown.StateAndReason.{StateAndReason}
 use Rattle.front_texts.specs.declared.job_shown.JobMoments.{JobMoments}
+use Rattle.front_texts.specs.declared.job_times.JobTimes.{JobTimes}
+use Rattle.front_texts.specs.declared.job_times.TimeShown.{TimeShown}
+use Rattle.front_texts.specs.declared.job_times.TimeShown.TheVariants.{Unknown, At}
 
 -- ## Lines
 
@@ -66,7 +70,7 @@ names_of (Some number) (Some queue) (Some user) = Some (record { number = number
 names_of number queue user = None
 
 abbrev pub names_in : Option (List ℕ) → Option (List ℕ) → Option (List ℕ) → Option JobNames
-names_in (Some number) (Some queue) (Some user) = names_of (job_in number) (text_in is_queue_name queue) (whole_text is_user_name user)
+names_in (Some number) (Some queue) (Some user) = names_of (job_in number) (text_in is_queue_name queue) (whole_text is_shown_user user)
 names_in number queue user = None
 
 abbrev pub wishes_of : Option (List ℕ) → Option (List ℕ) → Option ℕ → Option ℕ → Option JobWishes
@@ -174,14 +178,16 @@ abbrev pub moments_of : Option (Option ℕ) → Option (Option ℕ) → Option (
 moments_of (Some until) (Some before) (Some stage) = Some (record { hold_until = until; not_before = before; stage = stage })
 moments_of until before stage = None
 
--- The moments and the stage, up to the end of the text.
+-- The moments and the stage.
 abbrev pub moments_in : List ℕ → Option JobMoments
 moments_in text =
     let before = after_field text (codes "hold-until") in
     let stage = after_field before (codes "not-before") in
-    cond (is_empty (after_field stage (codes "stage")))
-    (moments_of (moment_of (field text (codes "hold-until"))) (moment_of (field before (codes "not-before"))) (stage_of (field stage (codes "stage"))))
-    None
+    moments_of (moment_of (field text (codes "hold-until"))) (moment_of (field before (codes "not-before"))) (stage_of (field stage (codes "stage")))
+
+-- The text after these lines.
+abbrev pub after_moments : List ℕ → List ℕ
+after_moments text = after_field (after_field (after_field text (codes "hold-until")) (codes "not-before")) (codes "stage")
 
 abbrev pub job_status_of : Option JobCounts → Option JobMarks → Option StateAndReason → Option JobMoments → Option JobStatus
 job_status_of (Some counts) (Some marks) (Some state_and_reason) (Some moments) = Some (record {
@@ -212,11 +218,44 @@ job_status_in text =
     (state_and_reason_in (field state (codes "state")) (field reason (codes "reason")))
     (moments_in (after_field reason (codes "reason")))
 
+-- The text after the lines of the fields that change.
+abbrev pub after_counts : List ℕ → List ℕ
+after_counts text = after_field (after_field (after_field text (codes "size")) (codes "pages")) (codes "attempts")
+
+abbrev pub after_status : List ℕ → List ℕ
+after_status text =
+    after_moments (after_field (after_field (after_field (after_field (after_counts text) (codes "type")) (codes "by")) (codes "state")) (codes "reason"))
+
+-- ## Its times
+
+-- A moment, or the word `unknown`.
+abbrev pub time_in : List ℕ → Option TimeShown
+time_in word = cond (is_word word (codes "unknown")) (Some Unknown) (option_map (λ moment. At moment) (moment_in word))
+
+-- No time if its line is missing.
+abbrev pub time_of : Option (List ℕ) → Option (Option TimeShown)
+time_of None = Some None
+time_of (Some word) = option_map (λ time. Some time) (time_in word)
+
+abbrev pub times_of : Option (Option TimeShown) → Option (Option TimeShown) → Option (Option TimeShown) → Option (Option TimeShown) → Option JobTimes
+times_of (Some created) (Some closed) (Some started) (Some ended) = Some (record { created = created; closed = closed; started = started; ended = ended })
+times_of created closed started ended = None
+
+-- The times, up to the end of the text.
+abbrev pub times_in : List ℕ → Option JobTimes
+times_in text =
+    let closed = after_field text (codes "created") in
+    let started = after_field closed (codes "closed") in
+    let ended = after_field started (codes "started") in
+    cond (is_empty (after_field ended (codes "ended")))
+    (times_of (time_of (field text (codes "created"))) (time_of (field closed (codes "closed"))) (time_of (field started (codes "started"))) (time_of (field ended (codes "ended"))))
+    None
+
 -- ## The job
 
-abbrev pub shown_of : Option JobAsked → Option JobStatus → Option JobShown
-shown_of (Some asked) (Some job_status) = Some (record { asked = asked; job_status = job_status })
-shown_of asked job_status = None
+abbrev pub shown_of : Option JobAsked → Option JobStatus → Option JobTimes → Option JobShown
+shown_of (Some asked) (Some job_status) (Some times) = Some (record { asked = asked; job_status = job_status; times = times })
+shown_of asked job_status times = None
 
 abbrev pub shown_job : List ℕ → Option JobShown
-shown_job text = shown_of (asked_in text) (job_status_in (after_asked text))
+shown_job text = shown_of (asked_in text) (job_status_in (after_asked text)) (times_in (after_status (after_asked text)))

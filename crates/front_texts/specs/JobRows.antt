@@ -3,7 +3,8 @@ use Rattle.std.specs.Prelude.{ℕ, cond, List, codes, Option, None, Some}
 use Rattle.std.specs.Option.{option_and_then}
 use Rattle.line_words.specs.Blanks.{first_word, after_word}
 use Rattle.command_lines.specs.CommandGrammar.{job_in}
-use Rattle.spool_types.specs.Values.{is_queue_name, is_user_name, is_title, text_in}
+use Rattle.spool_types.specs.Values.{is_queue_name, is_title, text_in}
+use Rattle.front_texts.specs.ShownUsers.{is_shown_user}
 use Rattle.front_texts.specs.ReplyFields.{is_word, quoted_text, after_quoted, is_end, count_in, job_state_of, reason_in}
 use Rattle.front_texts.specs.declared.job_line.JobLine.{JobLine}
 use Rattle.front_texts.specs.declared.job_line.JobHead.{JobHead}
@@ -28,7 +29,7 @@ tail_from user line =
     let pages = after_word line in
     let title = after_word pages in
     cond (is_end (after_quoted title))
-    (tail_of (option_and_then (text_in is_user_name) user) (count_in (first_word line)) (count_in (first_word pages)) (option_and_then (text_in is_title) (quoted_text title)))
+    (tail_of (option_and_then (text_in is_shown_user) user) (count_in (first_word line)) (count_in (first_word pages)) (option_and_then (text_in is_title) (quoted_text title)))
     None
 
 abbrev pub tail_row : List ℕ → Option JobTail

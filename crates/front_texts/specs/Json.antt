@@ -9,6 +9,9 @@ use Rattle.front_texts.specs.declared.job_shown.JobAsked.{JobAsked}
 use Rattle.front_texts.specs.declared.job_shown.JobStatus.{JobStatus}
 use Rattle.front_texts.specs.declared.job_shown.JobShown.{JobShown}
 use Rattle.front_texts.specs.declared.job_shown.StageShown.{StageShown}
+use Rattle.front_texts.specs.declared.job_times.JobTimes.{JobTimes}
+use Rattle.front_texts.specs.declared.job_times.TimeShown.{TimeShown}
+use Rattle.front_texts.specs.declared.job_times.TimeShown.TheVariants.{Unknown, At}
 use Rattle.front_texts.specs.declared.queue_line.QueueLine.{QueueLine}
 
 -- ## Jobs
@@ -79,8 +82,31 @@ with_waits c ms = put (codes "stage") (stage_data c.stage) (put (codes "moments"
 abbrev pub job_status_data : JobStatus → Data
 job_status_data c = object (with_waits c (with_state_and_reason c (with_counts c no_members)))
 
+-- A time, `unknown` or null.
+abbrev pub shown_time_data : TimeShown → Data
+shown_time_data Unknown = string (codes "unknown")
+shown_time_data (At moment) = number (unsigned moment)
+
+abbrev pub time_data : Option TimeShown → Data
+time_data None = null
+time_data (Some time) = shown_time_data time
+
+abbrev pub times_data : JobTimes → Data
+times_data t =
+    object
+    (member (codes "closed") (time_data t.closed)
+    (member (codes "created") (time_data t.created)
+    (member (codes "ended") (time_data t.ended)
+    (member (codes "started") (time_data t.started)
+    no_members))))
+
 abbrev pub shown_data : JobShown → Data
-shown_data j = object (member (codes "asked") (asked_data j.asked) (member (codes "course") (job_status_data j.job_status) no_members))
+shown_data j =
+    object
+    (member (codes "asked") (asked_data j.asked)
+    (member (codes "course") (job_status_data j.job_status)
+    (member (codes "times") (times_data j.times)
+    no_members)))
 
 abbrev pub jobs_data : List JobLine → Data
 jobs_data jobs = array (items_of (map job_data jobs))

@@ -1,5 +1,6 @@
 pub mod StateWords
 pub mod ReplyFields
+pub mod ShownUsers
 pub mod JobRows
 pub mod QueueRows
 pub mod ReplyLines

@@ -3,6 +3,7 @@ use Rattle.std.specs.Prelude.{ℕ, ◌+◌, ◌/◌, ◌%◌, Bool, ◌&&◌, no
 use Rattle.std.specs.Cmp.Lexicographic.{pointwise}
 use Rattle.std.specs.Fmt.{decimal}
 use Rattle.std.specs.List.{list_any}
+use Rattle.front_texts.specs.ShownUsers.{owner_word}
 use Rattle.front_texts.specs.Cells.{safe_text}
 use Rattle.front_texts.specs.Lpstat.{padded, is_processing}
 use Rattle.front_texts.specs.StateWords.{is_ended}
@@ -41,7 +42,7 @@ abbrev pub rank_cell : ℕ → JobLine → List ℕ
 rank_cell rank j = padded 7 (rank_word rank j)
 
 abbrev pub owner_cell : JobLine → List ℕ
-owner_cell j = padded 7 (safe_text j.user)
+owner_cell j = padded 7 (safe_text (owner_word j.user))
 
 abbrev pub number_cell : JobLine → List ℕ
 number_cell j = padded 7 (decimal j.number)

@@ -4,7 +4,8 @@ use Rattle.std.specs.Str.{is_utf8}
 use Rattle.spool_types.specs.Limits.{greatest_number}
 use Rattle.spool_types.specs.Phases.{is_in_force, job_reason}
 use Rattle.spool_types.specs.State.{Job}
-use Rattle.spool_types.specs.Values.{is_queue_name, is_user_name, is_title}
+use Rattle.spool_types.specs.Values.{is_queue_name, is_title}
+use Rattle.front_texts.specs.ShownUsers.{is_shown_user}
 use Rattle.spool_types.specs.declared.phase.Phase.{Phase}
 use Rattle.spool_types.specs.declared.phase.Phase.TheVariants.{Incoming, Waiting, Processing, Completed, Canceled, Aborted}
 use Rattle.command_lines.specs.Replies.{job_line}
@@ -14,13 +15,13 @@ use Rattle.front_texts.specs.declared.job_line.JobLine.{JobLine}
 use Rattle.front_texts.specs.declared.states.JobState.{JobState}
 use Rattle.front_texts.specs.declared.states.JobState.TheVariants as states
 
--- The property that each job of the spooler has, by the types of its fields.
+-- The property that each job of the spooler has, by the types of its fields, also one whose user and title are hidden.
 pub record IsJob (r : Job) : Type 0 where
   pub least : 1 ≤ r.id
   pub most : r.id ≤ greatest_number
   pub queue : IsTrue (is_queue_name r.queue)
   pub queue_text : IsTrue (is_utf8 r.queue)
-  pub user : IsTrue (is_user_name r.user)
+  pub user : IsTrue (is_shown_user r.user)
   pub user_text : IsTrue (is_utf8 r.user)
   pub title : IsTrue (is_title r.title)
   pub title_text : IsTrue (is_utf8 r.title)

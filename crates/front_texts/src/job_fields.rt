@@ -4,6 +4,7 @@ ghost use Rattle.front_texts.specs.Cells.{AllFit};
 
 use crate::cells::{fitted, push_cell, safe_text};
 use crate::job_shown::{JobAsked, JobShown, JobStatus, StageShown};
+use crate::job_times::{JobTimes, TimeShown};
 use crate::sizes::{moment_text, size_text};
 use spool_types::Moment;
 use std::alloc::{AllocError, Global};
@@ -20,11 +21,12 @@ pub fn job_page(alloc: Global, job: &JobShown, width: usize) -> Result<Vec<Strin
     push_asked(alloc, &mut lines, &job.asked, width)?;
     push_job_status(alloc, &mut lines, &job.job_status, width)?;
     push_moments(alloc, &mut lines, &job.job_status, width)?;
+    push_times(alloc, &mut lines, job.times, width)?;
     Ok(lines)
 }
 
-// Appends a line of a name and a value.
-fn push_line(
+/// Appends a line of a name and a value.
+pub(crate) fn push_line(
     alloc: Global,
     lines: &mut Vec<String>,
     name: &str,
@@ -147,6 +149,56 @@ fn push_moment(
     };
     let text = moment_text(alloc, moment)?;
     push_line(alloc, lines, name, text.as_str(), width)
+}
+
+fn push_times(
+    alloc: Global,
+    lines: &mut Vec<String>,
+    times: JobTimes,
+    width: usize,
+) -> Result<(), AllocError>
+    requires there { 1 ≤ width }
+    requires fit { AllFit width lines.old.items }
+    ensures { OnOk result (AllFit width lines.new.items) }
+{
+    push_time(alloc, lines, "created", times.created, width)?;
+    push_time(alloc, lines, "closed", times.closed, width)?;
+    push_time(alloc, lines, "started", times.started, width)?;
+    push_time(alloc, lines, "ended", times.ended, width)
+}
+
+fn push_time(
+    alloc: Global,
+    lines: &mut Vec<String>,
+    name: &str,
+    time: Option<TimeShown>,
+    width: usize,
+) -> Result<(), AllocError>
+    requires there { 1 ≤ width }
+    requires fit { AllFit width lines.old.items }
+    ensures { OnOk result (AllFit width lines.new.items) }
+{
+    match time {
+        Some(time) => push_shown_time(alloc, lines, name, time, width),
+        None => Ok(()),
+    }
+}
+
+fn push_shown_time(
+    alloc: Global,
+    lines: &mut Vec<String>,
+    name: &str,
+    time: TimeShown,
+    width: usize,
+) -> Result<(), AllocError>
+    requires there { 1 ≤ width }
+    requires fit { AllFit width lines.old.items }
+    ensures { OnOk result (AllFit width lines.new.items) }
+{
+    match time {
+        TimeShown::At(moment) => push_moment(alloc, lines, name, Some(moment), width),
+        TimeShown::Unknown => push_line(alloc, lines, name, "unknown", width),
+    }
 }
 
 fn push_stage(

@@ -5,10 +5,11 @@ ghost use Rattle.front_texts.specs.JobRows.{job_row, job_words, head_row, tail_r
 ghost use Rattle.front_texts.specs.StateWords.{is_arriving, is_ended, shown_word};
 
 use crate::fields::{count, is_end, is_word, job_state, quoted_text, reason, text_of_word};
+use crate::shown_user::ShownUser;
 use crate::states::JobState;
 use command_lines::job_number;
 use line_words::first_word;
-use spool_types::{JobId, QueueName, Reason, Title, UserName};
+use spool_types::{JobId, QueueName, Reason, Title};
 use std::alloc::{AllocError, Global};
 
 /// A row of `jobs`, of `wait` or of `watch`.
@@ -19,7 +20,7 @@ pub struct JobLine {
     pub state: JobState,
     /// The reason of the state, if it has one.
     pub reason: Option<Reason>,
-    pub user: UserName,
+    pub user: ShownUser,
     /// The size of the document in bytes.
     pub size: u32,
     /// The number of printed pages.
@@ -39,7 +40,7 @@ pub(crate) struct JobHead {
 // The fields of a row from the user on.
 #[derive(Drop)]
 pub(crate) struct JobTail {
-    pub user: UserName,
+    pub user: ShownUser,
     pub size: u32,
     pub pages: u32,
     pub title: Title,

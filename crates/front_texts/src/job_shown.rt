@@ -1,16 +1,18 @@
 //! One job with all its fields, as `job N` returns it.
 ghost use Rattle.std.specs.Prelude.{◌≡◌, IfOk, option_copied};
 ghost use Rattle.front_texts.specs.StateWords.{shown_word};
-ghost use Rattle.front_texts.specs.JobPage.{copies_in, priority_in, line_here, behind_line, field, after_field, whole_text, names_in, wishes_in, asked_of, asked_in, after_asked, counts_in, media_of, moment_of, marks_in, state_and_reason_in, stage_of, moments_in, job_status_of, job_status_in, shown_job};
+ghost use Rattle.front_texts.specs.JobPage.{copies_in, priority_in, line_here, behind_line, field, after_field, whole_text, names_in, wishes_in, asked_of, asked_in, after_asked, counts_in, media_of, moment_of, marks_in, state_and_reason_in, stage_of, moments_in, moments_of, after_moments, after_status, job_status_of, job_status_in, shown_job};
 
 use crate::fields::{count, is_end, is_word, job_state, moment, quoted_text, reason, text_of_word};
 use crate::job_line::is_arriving;
+use crate::job_times::{JobTimes, read_times};
+use crate::shown_user::ShownUser;
 use crate::states::JobState;
 use command_lines::job_number;
 use line_words::{after_blanks, first_word};
 use spool_types::{
     Copies, JobId, MediaType, Moment, OptionText, Priority, QueueName, Reason, Text, TextKind,
-    Title, UserName,
+    Title,
 };
 use std::alloc::{AllocError, Global};
 
@@ -19,6 +21,7 @@ use std::alloc::{AllocError, Global};
 pub struct JobShown {
     pub asked: JobAsked,
     pub job_status: JobStatus,
+    pub times: JobTimes,
 }
 
 /// The fields that were given when the job was created.
@@ -26,7 +29,7 @@ pub struct JobShown {
 pub struct JobAsked {
     pub number: JobId,
     pub queue: QueueName,
-    pub user: UserName,
+    pub user: ShownUser,
     pub title: Title,
     pub options: OptionText,
     pub copies: Copies,
@@ -66,7 +69,7 @@ pub struct StageShown {
 pub(crate) struct JobNames {
     pub number: JobId,
     pub queue: QueueName,
-    pub user: UserName,
+    pub user: ShownUser,
 }
 
 #[derive(Drop)]
@@ -109,9 +112,13 @@ pub fn read_job_shown(alloc: Global, text: &[u8]) -> Result<Option<JobShown>, Al
     ensures value { IfOk result (λ job. job ≡ shown_job text.now) }
 {
     let (asked, rest) = asked(alloc, text)?;
-    let job_status = job_status(alloc, rest)?;
-    match (asked, job_status) {
-        (Some(asked), Some(job_status)) => Ok(Some(JobShown { asked, job_status })),
+    let (job_status, rest) = job_status(alloc, rest)?;
+    match (asked, job_status, read_times(rest)) {
+        (Some(asked), Some(job_status), Some(times)) => Ok(Some(JobShown {
+            asked,
+            job_status,
+            times,
+        })),
         _ => Ok(None),
     }
 }
@@ -200,9 +207,10 @@ fn wishes(
     }
 }
 
-// Reads the fields that change.
-fn job_status(alloc: Global, text: &[u8]) -> Result<Option<JobStatus>, AllocError>
-    ensures { IfOk result (λ job_status. job_status ≡ job_status_in text.now) }
+// Reads the fields that change, and returns the rest of the text.
+fn job_status(alloc: Global, text: &[u8]) -> Result<(Option<JobStatus>, &[u8]), AllocError>
+    ensures value { IfOk result (λ found. found.0 ≡ job_status_in text.now) }
+    ensures rest { IfOk result (λ found. found.1.now ≡ after_status text.now) }
 {
     let (size, rest) = field(text, b"size");
     let (pages, rest) = field(rest, b"pages");
@@ -214,7 +222,11 @@ fn job_status(alloc: Global, text: &[u8]) -> Result<Option<JobStatus>, AllocErro
     let counts = counts(size, pages, attempts);
     let marks = marks(alloc, media, by)?;
     let state_and_reason = state_and_reason(alloc, state, reason)?;
-    Ok(job_status_of(counts, marks, state_and_reason, moments(rest)))
+    let (moments, rest) = moments(rest);
+    Ok((
+        job_status_of(counts, marks, state_and_reason, moments),
+        rest,
+    ))
 }
 
 fn counts(size: Option<&[u8]>, pages: Option<&[u8]>, attempts: Option<&[u8]>) -> Option<JobCounts>
@@ -280,16 +292,24 @@ fn state_and_reason(
     }
 }
 
-// Reads the moments that a job waits for and the running stage, up to the end of the text.
-fn moments(text: &[u8]) -> Option<JobMoments>
-    ensures { result ≡ moments_in text.now }
+// Reads the moments that a job waits for and the running stage, and returns the rest of the text.
+fn moments(text: &[u8]) -> (Option<JobMoments>, &[u8])
+    ensures value { result.0 ≡ moments_in text.now }
+    ensures rest { result.1.now ≡ after_moments text.now }
 {
     let (until, rest) = field(text, b"hold-until");
     let (before, rest) = field(rest, b"not-before");
     let (stage, rest) = field(rest, b"stage");
-    if !rest.is_empty() {
-        return None;
-    }
+    (moments_of(until, before, stage), rest)
+}
+
+fn moments_of(
+    until: Option<&[u8]>,
+    before: Option<&[u8]>,
+    stage: Option<&[u8]>,
+) -> Option<JobMoments>
+    ensures { result ≡ moments_of (moment_of (option_copied until.entry)) (moment_of (option_copied before.entry)) (stage_of (option_copied stage.entry)) }
+{
     match (moment_of(until), moment_of(before), stage_of(stage)) {
         (Some(hold_until), Some(not_before), Some(stage)) => Some(JobMoments {
             hold_until,
@@ -372,7 +392,7 @@ fn priority_of(word: &[u8]) -> Option<Priority>
 
 // Returns the value of the first line and the rest of the text if the line has this name. Otherwise returns no value and the same text.
 #[tactic(auto, unfolding(crate::specs::JobPage::field, crate::specs::JobPage::after_field))]
-fn field<'a>(text: &'a [u8], name: &[u8]) -> (Option<&'a [u8]>, &'a [u8])
+pub(crate) fn field<'a>(text: &'a [u8], name: &[u8]) -> (Option<&'a [u8]>, &'a [u8])
     ensures value { option_copied result.0 ≡ field text.now name.now }
     ensures rest { result.1.now ≡ after_field text.now name.now }
 {

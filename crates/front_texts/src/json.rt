@@ -1,10 +1,11 @@
 //! Jobs and queues as JSON.
 ghost use Rattle.std.specs.Prelude.{◌≡◌, IfOk, OnOk, option_copied};
 ghost use Rattle.serde_json.specs.View.{view, members_view};
-ghost use Rattle.front_texts.specs.Json.{text_data, text_item, texts_data, job_data, jobs_data, queue_data, queues_data, with_queue_state, with_queue_rules, with_queue_notes, with_counts, with_state_and_reason, with_waits, asked_data, job_status_data, shown_data, moment_data, moments_data, stage_data};
+ghost use Rattle.front_texts.specs.Json.{text_data, text_item, texts_data, job_data, jobs_data, queue_data, queues_data, with_queue_state, with_queue_rules, with_queue_notes, with_counts, with_state_and_reason, with_waits, asked_data, job_status_data, shown_data, moment_data, moments_data, shown_time_data, stage_data, time_data, times_data};
 
 use crate::job_line::JobLine;
 use crate::job_shown::{JobAsked, JobShown, JobStatus, StageShown};
+use crate::job_times::{JobTimes, TimeShown};
 use crate::queue_line::QueueLine;
 use serde_json::{Map, Value, json, put};
 use spool_types::{MediaType, Moment, Reason};
@@ -166,7 +167,37 @@ pub fn job_shown_json(alloc: Global, job: &JobShown) -> Result<Value, AllocError
 {
     let asked = asked_json(alloc, &job.asked)?;
     let job_status = job_status_json(alloc, &job.job_status)?;
-    json!(in alloc; {"asked": &asked, "course": &job_status})
+    let times = times_json(alloc, job.times)?;
+    json!(in alloc; {"asked": &asked, "course": &job_status, "times": &times})
+}
+
+fn times_json(alloc: Global, times: JobTimes) -> Result<Value, AllocError>
+    ensures { IfOk result (λ object. view object ≡ times_data times) }
+{
+    let created = time_json(alloc, times.created)?;
+    let closed = time_json(alloc, times.closed)?;
+    let started = time_json(alloc, times.started)?;
+    let ended = time_json(alloc, times.ended)?;
+    json!(in alloc; {"created": &created, "closed": &closed, "started": &started, "ended": &ended})
+}
+
+// Returns a moment, the text `unknown` or null.
+fn time_json(alloc: Global, time: Option<TimeShown>) -> Result<Value, AllocError>
+    ensures { IfOk result (λ value. view value ≡ time_data time) }
+{
+    match time {
+        Some(time) => shown_time_json(alloc, time),
+        None => Ok(Value::Null),
+    }
+}
+
+fn shown_time_json(alloc: Global, time: TimeShown) -> Result<Value, AllocError>
+    ensures { IfOk result (λ value. view value ≡ shown_time_data time) }
+{
+    match time {
+        TimeShown::At(moment) => Ok(moment_json(Some(moment))),
+        TimeShown::Unknown => text_json(alloc, "unknown"),
+    }
 }
 
 fn asked_json(alloc: Global, asked: &JobAsked) -> Result<Value, AllocError>

@@ -11,7 +11,7 @@
 //!   `JobRows`, `QueueRows`, `ReplyLines`). [`read_job_shown`]: returns exactly the value of the lines `NAME VALUE` of a job (`value`,
 //!   `JobPage`). Lines that a job need not have are optional.
 //! - [`job_rows_read_back`]: each row that the spooler prints for a job reads as that job at that moment (`ReadBack`).
-//! - [`jobs_table`], [`queues_table`], [`job_page`]: no line takes more columns than allowed, as Unicode counts them (`fits`), and a table
+//! - [`jobs_table`], [`queues_table`], [`job_page`], [`queue_page`]: no line takes more columns than allowed, as Unicode counts them (`fits`), and a table
 //!   has a line of column names and one for each row (`count`).
 //! - [`fitted`]: cuts a text between characters and appends `…`, and leaves a text that fits as it is (`fits`, `whole`). [`safe_text`]:
 //!   replaces each character that controls a terminal with U+FFFD (`value`).
@@ -45,12 +45,15 @@ mod fields;
 mod job_fields;
 mod job_line;
 mod job_shown;
+mod job_times;
 mod json;
 mod laws;
 mod lpq_form;
 mod lpstat;
+mod queue_fields;
 mod queue_line;
 mod reply_lines;
+mod shown_user;
 mod sizes;
 mod states;
 mod tables;
@@ -61,12 +64,15 @@ pub use escaping::{escape, push_escaped};
 pub use job_fields::job_page;
 pub use job_line::{JobLine, read_job_line};
 pub use job_shown::{JobAsked, JobShown, JobStatus, StageShown, read_job_shown};
+pub use job_times::{JobTimes, TimeShown};
 pub use json::{job_json, job_shown_json, jobs_json, queue_json, queues_json};
 pub use laws::{escaped_texts_have_no_markup, job_rows_read_back};
 pub use lpq_form::lpq;
 pub use lpstat::{lpstat_accepting, lpstat_jobs, lpstat_printers};
+pub use queue_fields::queue_page;
 pub use queue_line::{QueueLine, read_queue_line};
 pub use reply_lines::{LastLine, WatchLine, read_last_line, read_watch_line};
+pub use shown_user::{ShownUser, ShownUserKind};
 pub use sizes::{moment_text, size_text};
 pub use states::{JobState, PrinterState};
 pub use tables::{jobs_table, queues_table};

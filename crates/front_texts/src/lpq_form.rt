@@ -6,6 +6,7 @@ use crate::cells::safe_text;
 use crate::job_line::JobLine;
 use crate::lpstat::push_padded;
 use crate::queue_line::QueueLine;
+use crate::shown_user::owner_word;
 use crate::states::{JobState, PrinterState};
 use spool_types::QueueName;
 use std::alloc::{AllocError, Global};
@@ -161,7 +162,7 @@ fn rank_ending(rank: usize) -> &'static str
 fn push_owner(alloc: Global, text: &mut Vec<u8>, job: &JobLine) -> Result<(), AllocError>
     ensures { OnOk result (text.new.items ≡ text.old.items ++ owner_cell job.now) }
 {
-    let user = safe_text(alloc, job.user.as_str())?;
+    let user = safe_text(alloc, owner_word(job.user.as_str()))?;
     push_padded(text, user.as_str(), 7)
 }
 

@@ -6,6 +6,7 @@ ghost use Rattle.front_texts.specs.Lpstat.{padded, is_printing, printing_job, me
 use crate::cells::safe_text;
 use crate::job_line::JobLine;
 use crate::queue_line::QueueLine;
+use crate::shown_user::owner_word;
 use crate::states::{JobState, PrinterState};
 use spool_types::{JobId, QueueName};
 use std::alloc::{AllocError, Global};
@@ -155,7 +156,7 @@ fn push_request(alloc: Global, text: &mut Vec<u8>, job: &JobLine) -> Result<(), 
 fn push_owner(alloc: Global, text: &mut Vec<u8>, job: &JobLine) -> Result<(), AllocError>
     ensures { OnOk result (text.new.items ≡ text.old.items ++ owner_cell job.now) }
 {
-    let user = safe_text(alloc, job.user.as_str())?;
+    let user = safe_text(alloc, owner_word(job.user.as_str()))?;
     push_padded(text, user.as_str(), 13)
 }
 

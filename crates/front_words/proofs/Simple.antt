@@ -15,6 +15,7 @@ is_simple form_is.Hold = refl
 is_simple form_is.Release = refl
 is_simple form_is.Purge = refl
 is_simple form_is.End = refl
+is_simple form_is.QueueShow = refl
 is_simple form_is.QueueAdd = refl
 is_simple form_is.QueueSet = refl
 is_simple form_is.QueueAccept = refl

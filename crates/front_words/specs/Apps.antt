@@ -3,9 +3,11 @@ use Rattle.std.specs.Prelude.{[], ◌∷◌, codes, true}
 use Rattle.clap.specs.Simple.{on_top}
 use Rattle.clap.specs.Words.{App, Rule, Text, new_app, with_rule}
 use Rattle.front_words.specs.CommandOptions.{flag_rule, letter_flag_rule, letter_rule, listed, named_app, needed, several, task_app, text_rule, word_rule}
+use Rattle.front_words.specs.declared.commands.Base.{Base}
+use Rattle.front_words.specs.declared.commands.Base.TheVariants.{Task, Program, Spool}
 use Rattle.front_words.specs.declared.forms.Form.{Form}
 use Rattle.front_words.specs.declared.forms.Form.TheVariants.{Submit, Status, Queues, Watch, Cancel, Hold, Release, Purge, End}
-use Rattle.front_words.specs.declared.forms.Form.TheVariants.{QueueAdd, QueueSet, QueueAccept, QueueReject, QueueEnable, QueueDisable}
+use Rattle.front_words.specs.declared.forms.Form.TheVariants.{QueueShow, QueueAdd, QueueSet, QueueAccept, QueueReject, QueueEnable, QueueDisable}
 use Rattle.front_words.specs.declared.forms.Form.TheVariants.{Devices, Check, Page, Lp, Lpr, Lpstat, CancelJobs, Lpq, Lprm, Other}
 
 -- ---- the tasks of `spool`
@@ -14,11 +16,11 @@ use Rattle.front_words.specs.declared.forms.Form.TheVariants.{Devices, Check, Pa
 abbrev pub with_titles : App → App
 with_titles app = with_rule (with_rule app (text_rule (codes "title"))) (text_rule (codes "user"))
 
--- These options, and `[--copies N] [--priority P] [--pages PAGES] [-o NAME=VALUE]..`
+-- These options, and `[--copies N] [--priority P] [--pages PAGES] [--type TYPE] [-o NAME=VALUE]..`
 abbrev pub with_document : App → App
 with_document app =
-    with_rule (with_rule (with_rule (with_rule (with_titles app) (text_rule (codes "copies"))) (text_rule (codes "priority")))
-    (text_rule (codes "pages"))) (several (letter_rule 111 (codes "option")))
+    with_rule (with_rule (with_rule (with_rule (with_rule (with_titles app) (text_rule (codes "copies"))) (text_rule (codes "priority")))
+    (text_rule (codes "pages"))) (text_rule (codes "type"))) (several (letter_rule 111 (codes "option")))
 
 -- `[--hold] [--at MOMENT] [--by MOMENT] [--wait] [--quiet]`
 abbrev pub with_handling : App → App
@@ -46,6 +48,10 @@ queues_app = with_rule (task_app (codes "spool queues")) (flag_rule (codes "json
 abbrev pub jobs_app : Text → App
 jobs_app name = with_rule (task_app name) (needed (several (word_rule (codes "job"))))
 
+-- `spool cancel JOB.. [--keep-printing]`
+abbrev pub stop_app : App
+stop_app = with_rule (jobs_app (codes "spool cancel")) (flag_rule (codes "keep-printing"))
+
 -- `spool hold JOB.. [--until MOMENT]`
 abbrev pub hold_app : App
 hold_app = with_rule (jobs_app (codes "spool hold")) (text_rule (codes "until"))
@@ -68,9 +74,13 @@ set_app = with_rule (with_rule (queue_app (codes "spool queue set")) (text_rule 
 abbrev pub page_app : App
 page_app = with_rule (with_rule (task_app (codes "spool page")) (needed (word_rule (codes "file")))) (flag_rule (codes "follow"))
 
+-- `spool [--version]`
+abbrev pub spool_app : Text → App
+spool_app name = on_top (λ s. record s { has_version = true }) (new_app name)
+
 -- `spool [--version] TASK..` without a known task.
 abbrev pub other_app : App
-other_app = with_rule (on_top (λ s. record s { has_version = true }) (new_app (codes "spool"))) (needed (several (word_rule (codes "task"))))
+other_app = with_rule (spool_app (codes "spool")) (needed (several (word_rule (codes "task"))))
 
 -- ---- the programs with their own names
 
@@ -131,16 +141,51 @@ lprm_app = with_rule (with_rule (named_app (codes "lprm")) (needed (several (wor
 
 -- ---- all forms
 
+abbrev pub name_of : Form → Text
+name_of Submit = codes "spool submit"
+name_of Status = codes "spool status"
+name_of Queues = codes "spool queues"
+name_of Watch = codes "spool watch"
+name_of Cancel = codes "spool cancel"
+name_of Hold = codes "spool hold"
+name_of Release = codes "spool release"
+name_of Purge = codes "spool purge"
+name_of End = codes "spool end"
+name_of QueueShow = codes "spool queue show"
+name_of QueueAdd = codes "spool queue add"
+name_of QueueSet = codes "spool queue set"
+name_of QueueAccept = codes "spool queue accept"
+name_of QueueReject = codes "spool queue reject"
+name_of QueueEnable = codes "spool queue enable"
+name_of QueueDisable = codes "spool queue disable"
+name_of Devices = codes "spool devices"
+name_of Check = codes "spool check"
+name_of Page = codes "spool page"
+name_of Lp = codes "lp"
+name_of Lpr = codes "lpr"
+name_of Lpstat = codes "lpstat"
+name_of CancelJobs = codes "cancel"
+name_of Lpq = codes "lpq"
+name_of Lprm = codes "lprm"
+name_of Other = codes "spool"
+
+-- A command with this name, without its parameters.
+abbrev pub bare_app : Base → Text → App
+bare_app Task name = task_app name
+bare_app Program name = named_app name
+bare_app Spool name = spool_app name
+
 abbrev pub app_for : Form → App
 app_for Submit = submit_app
 app_for Status = status_app
 app_for Queues = queues_app
 app_for Watch = task_app (codes "spool watch")
-app_for Cancel = jobs_app (codes "spool cancel")
+app_for Cancel = stop_app
 app_for Hold = hold_app
 app_for Release = jobs_app (codes "spool release")
 app_for Purge = jobs_app (codes "spool purge")
 app_for End = jobs_app (codes "spool end")
+app_for QueueShow = queue_app (codes "spool queue show")
 app_for QueueAdd = add_app
 app_for QueueSet = set_app
 app_for QueueAccept = queue_app (codes "spool queue accept")

@@ -55,6 +55,7 @@ pub record IsSubmission (found : List Row) (s : Submission) : Type 0 where
   pub user : option_map (λ text. text.now) s.user ≡ first_of (codes "user") found
   pub copies : number_or 1 9999 1 (first_of (codes "copies") found) ≡ Some s.copies
   pub priority : number_or 1 100 50 (first_of (codes "priority") found) ≡ Some s.priority
+  pub media : option_map (λ text. text.now) s.media ≡ first_of (codes "type") found
   pub options : map (λ text. text.now) s.options.items ≡ all_in (codes "option") found
   pub pages : option_map (λ text. text.now) s.pages ≡ first_of (codes "pages") found
   pub hold : hold_of found ≡ Some s.hold
@@ -102,6 +103,14 @@ until_of found = option_map act_is.Hold (moment_or_none (first_of (codes "until"
 
 abbrev pub FitHold : List Row → Type 0
 FitHold found = IsSome (moment_or_none (first_of (codes "until") found)) × FitJobs found
+
+-- `spool cancel`: with --keep-printing the filter or backend of a job is not terminated.
+abbrev pub IsStopBy : Bool → List Row → Task → Type 0
+IsStopBy true found asked = IsJobs (Some act_is.CancelOnly) found asked
+IsStopBy false found asked = IsJobs (Some act_is.Cancel) found asked
+
+abbrev pub IsStop : List Row → Task → Type 0
+IsStop found asked = IsStopBy (is_told (first_of (codes "keep-printing") found)) found asked
 
 -- The jobs of these queues are canceled.
 abbrev pub IsClear : List Text → Task → Type 0
@@ -207,6 +216,10 @@ IsSet found (queue_is.Set info location) =
     (info.now ≡ unwrap_or (first_of (codes "info") found) []) × (location.now ≡ unwrap_or (first_of (codes "location") found) [])
 IsSet found act = ⊥
 
+abbrev pub IsShow : List Row → Task → Type 0
+IsShow found (task_is.ShowQueue name) = first_of (codes "name") found ≡ Some name.now
+IsShow found other = ⊥
+
 abbrev pub IsPage : List Row → Task → Type 0
 IsPage found (task_is.Page file follow) = (first_of (codes "file") found ≡ Some file.now) × (follow ≡ is_told (first_of (codes "follow") found))
 IsPage found other = ⊥
@@ -219,11 +232,12 @@ IsTask form_is.Submit found asked = IsSubmit found asked
 IsTask form_is.Status found asked = IsStatusTask found asked
 IsTask form_is.Queues found asked = asked ≡ task_is.Queues (is_told (first_of (codes "json") found))
 IsTask form_is.Watch found asked = asked ≡ task_is.Watch
-IsTask form_is.Cancel found asked = IsJobs (Some act_is.Cancel) found asked
+IsTask form_is.Cancel found asked = IsStop found asked
 IsTask form_is.Hold found asked = IsJobs (until_of found) found asked
 IsTask form_is.Release found asked = IsJobs (Some act_is.Release) found asked
 IsTask form_is.Purge found asked = IsJobs (Some act_is.Purge) found asked
 IsTask form_is.End found asked = IsJobs (Some act_is.End) found asked
+IsTask form_is.QueueShow found asked = IsShow found asked
 IsTask form_is.QueueAdd found asked = IsQueue (IsAdd found) found asked
 IsTask form_is.QueueSet found asked = IsQueue (IsSet found) found asked
 IsTask form_is.QueueAccept found asked = IsQueue (λ act. act ≡ queue_is.Accept) found asked
@@ -252,6 +266,7 @@ Fit form_is.Hold found = FitHold found
 Fit form_is.Release found = FitJobs found
 Fit form_is.Purge found = FitJobs found
 Fit form_is.End found = FitJobs found
+Fit form_is.QueueShow found = FitQueue found
 Fit form_is.QueueAdd found = FitNew found
 Fit form_is.QueueSet found = FitQueue found
 Fit form_is.QueueAccept found = FitQueue found

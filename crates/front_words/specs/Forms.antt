@@ -5,7 +5,7 @@ use Rattle.clap.specs.Words.{Text}
 use Rattle.front_words.specs.ArgumentValues.{last_part}
 use Rattle.front_words.specs.declared.forms.Form.{Form}
 use Rattle.front_words.specs.declared.forms.Form.TheVariants.{Submit, Status, Queues, Watch, Cancel, Hold, Release, Purge, End}
-use Rattle.front_words.specs.declared.forms.Form.TheVariants.{QueueAdd, QueueSet, QueueAccept, QueueReject, QueueEnable, QueueDisable}
+use Rattle.front_words.specs.declared.forms.Form.TheVariants.{QueueShow, QueueAdd, QueueSet, QueueAccept, QueueReject, QueueEnable, QueueDisable}
 use Rattle.front_words.specs.declared.forms.Form.TheVariants.{Devices, Check, Page, Lp, Lpr, Lpstat, CancelJobs, Lpq, Lprm, Other}
 
 -- A program's name: the part after the last slash of its path.
@@ -43,13 +43,14 @@ form_of_task task =
 -- The tasks of two words: `queue` and an action.
 abbrev pub form_of_act : Text → Form
 form_of_act act =
-    if bytes_eq act (codes "add") then QueueAdd
+    if bytes_eq act (codes "show") then QueueShow
+    else (if bytes_eq act (codes "add") then QueueAdd
     else (if bytes_eq act (codes "set") then QueueSet
     else (if bytes_eq act (codes "accept") then QueueAccept
     else (if bytes_eq act (codes "reject") then QueueReject
     else (if bytes_eq act (codes "enable") then QueueEnable
     else (if bytes_eq act (codes "disable") then QueueDisable
-    else Other)))))
+    else Other))))))
 
 abbrev pub queue_form : List Text → Form
 queue_form [] = Other
@@ -78,6 +79,7 @@ skipped CancelJobs = 0
 skipped Lpq = 0
 skipped Lprm = 0
 skipped Other = 0
+skipped QueueShow = 2
 skipped QueueAdd = 2
 skipped QueueSet = 2
 skipped QueueAccept = 2

@@ -1,6 +1,7 @@
 pub mod Forms
 pub mod WordFaults
 pub mod CommandOptions
+pub mod CommandParameters
 pub mod Apps
 pub mod ArgumentValues
 pub mod AskedTasks

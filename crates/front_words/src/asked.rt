@@ -25,6 +25,8 @@ pub enum Task<'a> {
     Clear { queues: Vec<&'a str> },
     /// Apply an action to a queue.
     Queue { name: &'a str, act: QueueAct<'a> },
+    /// Show one queue with all its fields.
+    ShowQueue { name: &'a str },
     /// List the devices that the backends find.
     Devices,
     /// Check whether the services can print.
@@ -52,6 +54,8 @@ pub struct Submission<'a> {
     pub copies: u32,
     /// The priority, from 1 to 100.
     pub priority: u32,
+    /// The media type of the documents. If it is missing, the service detects it.
+    pub media: Option<&'a str>,
     /// The options as given: each is `NAME=VALUE`, or several of these separated by blanks.
     pub options: Vec<&'a str>,
     /// The page ranges, which become the option `page-ranges=PAGES`.
@@ -89,7 +93,10 @@ pub enum Hold {
 /// An action on a job.
 #[derive(Clone, Copy)]
 pub enum JobAct {
+    /// Cancel the job, and stop its printer if the job is printing.
     Cancel,
+    /// Cancel the job. A filter or backend that runs for it is not terminated.
+    CancelOnly,
     /// Hold the job until this moment, or until it is released.
     Hold(Option<Moment>),
     Release,

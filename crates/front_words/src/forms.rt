@@ -17,6 +17,7 @@ pub enum Form {
     Release,
     Purge,
     End,
+    QueueShow,
     QueueAdd,
     QueueSet,
     QueueAccept,
@@ -68,7 +69,7 @@ fn skipped(form: Form) -> usize
     match form {
         Form::Lp | Form::Lpr | Form::Lpstat | Form::CancelJobs | Form::Lpq | Form::Lprm => 0,
         Form::Other => 0,
-        Form::QueueAdd | Form::QueueSet | Form::QueueAccept => 2,
+        Form::QueueShow | Form::QueueAdd | Form::QueueSet | Form::QueueAccept => 2,
         Form::QueueReject | Form::QueueEnable | Form::QueueDisable => 2,
         _ => 1,
     }
@@ -155,7 +156,9 @@ fn queue_form<S: AsStr>(words: &[S]) -> Form
 fn form_of_act(act: &str) -> Form
     ensures { result ≡ form_of_act act.now }
 {
-    if act == "add" {
+    if act == "show" {
+        Form::QueueShow
+    } else if act == "add" {
         Form::QueueAdd
     } else if act == "set" {
         Form::QueueSet

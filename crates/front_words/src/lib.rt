@@ -36,8 +36,9 @@ mod fault;
 mod forms;
 mod given;
 mod options;
-mod programs;
+mod parameters;
 mod reading;
+mod tables;
 mod words;
 
 pub use asked::{

@@ -2,7 +2,7 @@
 ghost use Rattle.std.specs.Prelude.{◌≡◌, ◌∷◌, [], ⊤, IfOk, IsSome, MatchResult, Some, codes, map};
 ghost use Rattle.clap.specs.Words.{first_of, found_of, rows_of};
 ghost use Rattle.front_words.specs.AskedTasks.{Fit, FitCancel, FitHold, FitJobs, FitNew, FitQueue, FitRemoval, FitStatus, FitSubmission};
-ghost use Rattle.front_words.specs.AskedTasks.{IsAdd, IsAskedIn, IsCancel, IsJobs, IsLpqTask, IsLpstatTask, IsPage, IsQueue, IsRemoval, IsSet, IsStatusTask, IsSubmit, IsTask};
+ghost use Rattle.front_words.specs.AskedTasks.{IsAdd, IsAskedIn, IsCancel, IsJobs, IsLpqTask, IsLpstatTask, IsPage, IsQueue, IsRemoval, IsSet, IsShow, IsStatusTask, IsStop, IsSubmit, IsTask};
 ghost use Rattle.front_words.specs.AskedTasks.{handling_of, hold_of, is_policy, until_of};
 ghost use Rattle.front_words.specs.WordFaults.{BlamesOnly};
 
@@ -39,11 +39,12 @@ fn task_in<'a>(alloc: Global, form: Form, matches: &ArgMatches<'a>) -> Result<Ta
             json: flag_given(matches, "json"),
         }),
         Form::Watch => Ok(Task::Watch),
-        Form::Cancel => jobs_in(alloc, JobAct::Cancel, matches),
+        Form::Cancel => stop_in(alloc, matches),
         Form::Hold => hold_in(alloc, matches),
         Form::Release => jobs_in(alloc, JobAct::Release, matches),
         Form::Purge => jobs_in(alloc, JobAct::Purge, matches),
         Form::End => jobs_in(alloc, JobAct::End, matches),
+        Form::QueueShow => show_in(matches),
         Form::QueueAdd => add_in(matches),
         Form::QueueSet => set_in(matches),
         Form::QueueAccept => queue_in(QueueAct::Accept, matches),
@@ -88,6 +89,7 @@ fn submit_in<'a>(alloc: Global, matches: &ArgMatches<'a>) -> Result<Task<'a>, Wr
         user: text_given(matches, "user"),
         copies,
         priority,
+        media: text_given(matches, "type"),
         options: texts_given(alloc, matches, "option")?,
         pages: text_given(matches, "pages"),
         hold,
@@ -149,6 +151,16 @@ fn jobs_in<'a>(alloc: Global, act: JobAct, matches: &ArgMatches<'a>) -> Result<T
     Ok(Task::Jobs { act, jobs })
 }
 
+fn stop_in<'a>(alloc: Global, matches: &ArgMatches<'a>) -> Result<Task<'a>, Wrong>
+    ensures asked { IfOk result (IsStop (rows_of (found_of matches.now))) }
+    ensures fit { MatchResult result (λ _. FitJobs (rows_of (found_of matches.now))) (BlamesOnly (FitJobs (rows_of (found_of matches.now)))) }
+{
+    if flag_given(matches, "keep-printing") {
+        return jobs_in(alloc, JobAct::CancelOnly, matches);
+    }
+    jobs_in(alloc, JobAct::Cancel, matches)
+}
+
 fn hold_in<'a>(alloc: Global, matches: &ArgMatches<'a>) -> Result<Task<'a>, Wrong>
     ensures asked { IfOk result (IsJobs (until_of (rows_of (found_of matches.now))) (rows_of (found_of matches.now))) }
     ensures fit { MatchResult result (λ _. FitHold (rows_of (found_of matches.now))) (BlamesOnly (FitHold (rows_of (found_of matches.now)))) }
@@ -163,6 +175,14 @@ fn queue_in<'a>(act: QueueAct<'a>, matches: &ArgMatches<'a>) -> Result<Task<'a>,
 {
     let name = text_needed(matches, "name")?;
     Ok(Task::Queue { name, act })
+}
+
+fn show_in<'a>(matches: &ArgMatches<'a>) -> Result<Task<'a>, Wrong>
+    ensures asked { IfOk result (IsShow (rows_of (found_of matches.now))) }
+    ensures fit { MatchResult result (λ _. FitQueue (rows_of (found_of matches.now))) (BlamesOnly (FitQueue (rows_of (found_of matches.now)))) }
+{
+    let name = text_needed(matches, "name")?;
+    Ok(Task::ShowQueue { name })
 }
 
 fn add_in<'a>(matches: &ArgMatches<'a>) -> Result<Task<'a>, Wrong>

@@ -59,12 +59,14 @@ fn submits(rt: HostRuntime) -> Result<(), Fail> {
             "media=A4 fit",
             "--socket",
             "/tmp/s",
+            "--type",
+            "text/plain",
         ],
     )?;
     assert!(rt; asked.queue == Some("office"));
     assert!(rt; asked.files.as_slice() == ["a.pdf", "-"].as_slice());
     assert!(rt; asked.title == Some("Letter") && asked.user.is_none());
-    assert!(rt; asked.copies == 3 && asked.priority == 7);
+    assert!(rt; asked.copies == 3 && asked.priority == 7 && asked.media == Some("text/plain"));
     assert!(rt; asked.options.as_slice() == ["sides=two", "media=A4 fit"].as_slice());
     assert!(rt; matches!(asked.hold, Hold::Until(Moment::FromNow(60))));
     assert!(rt; matches!(asked.by, Some(Moment::Epoch(4000))) && asked.wait && !asked.quiet);
@@ -166,6 +168,11 @@ fn names_jobs(rt: HostRuntime) -> Result<(), Fail> {
         return Err("another task")?;
     };
     assert!(rt; matches!(act, JobAct::Cancel) && jobs.as_slice() == [7].as_slice());
+    let Task::Jobs { act, jobs } = task_of(&rt, &["spool", "cancel", "8", "--keep-printing"])?
+    else {
+        return Err("another task")?;
+    };
+    assert!(rt; matches!(act, JobAct::CancelOnly) && jobs.as_slice() == [8].as_slice());
     let Task::Clear { queues } = task_of(&rt, &["cancel", "-a", "office"])? else {
         return Err("another task")?;
     };
@@ -234,5 +241,9 @@ fn sets_queues(rt: HostRuntime) -> Result<(), Fail> {
         return Err("another task")?;
     };
     assert!(rt; name == "office" && matches!(act, QueueAct::Reject));
+    let Task::ShowQueue { name } = task_of(&rt, &["spool", "queue", "show", "office"])? else {
+        return Err("another task")?;
+    };
+    assert!(rt; name == "office");
     Ok(())
 }

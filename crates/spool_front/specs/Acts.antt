@@ -1,25 +1,45 @@
 -- The commands for actions on jobs and queues.
-use Rattle.std.specs.Prelude.{◌≡◌, ℕ, Bool, true, ◌&&◌, ◌||◌, not, cond, ◌==◌, List, length, codes, Option, None, Some}
+use Rattle.std.specs.Prelude.{◌≡◌, ℕ, Bool, true, false, ◌&&◌, ◌||◌, not, cond, ◌==◌, List, length, codes, string_bytes, Option, None, Some, Result, Ok, Err}
 use Rattle.std.specs.List.{list_any}
 use Rattle.command_lines.specs.CommandGrammar.{is_word}
 use Rattle.front_texts.specs.StateWords.{is_ended}
 use Rattle.front_texts.specs.declared.job_line.JobLine.{JobLine}
 use Rattle.front_words.specs.declared.asked.JobAct.{JobAct}
-use Rattle.front_words.specs.declared.asked.JobAct.TheVariants.{Cancel, Hold, Release, Purge, End}
+use Rattle.front_words.specs.declared.asked.JobAct.TheVariants.{Cancel, CancelOnly, Hold, Release, Purge, End}
 use Rattle.front_words.specs.declared.asked.QueueAct.{QueueAct}
 use Rattle.front_words.specs.declared.asked.QueueAct.TheVariants.{Add, Set, Accept, Reject, Enable, Disable}
 use Rattle.spool_front.specs.SentCommands.{hold_line, info_line, job_line, name_line, queue_line}
 use Rattle.spool_front.specs.JobDrafts.{IsMoment}
 use Rattle.spool_front.specs.declared.commands.Until.TheVariants.{Released, Reached}
+use Rattle.spool_front.specs.declared.fault.Fault.{Fault}
+use Rattle.spool_front.specs.declared.fault.Fault.TheVariants.{Refused}
 
 -- The command for one job.
 abbrev pub IsActLine : JobAct → ℕ → List ℕ → Type 0
-IsActLine Cancel job line = line ≡ job_line (codes "cancel") job
+IsActLine Cancel job line = line ≡ job_line (codes "stop") job
+IsActLine CancelOnly job line = line ≡ job_line (codes "cancel") job
 IsActLine Release job line = line ≡ job_line (codes "release") job
 IsActLine Purge job line = line ≡ job_line (codes "purge") job
 IsActLine End job line = line ≡ job_line (codes "end") job
 IsActLine (Hold None) job line = line ≡ hold_line job Released
 IsActLine (Hold (Some moment)) job line = (told : ℕ) × IsMoment moment told × (line ≡ hold_line job (Reached told))
+
+-- The command of this action is `stop`, which an older service does not know.
+abbrev pub is_stop : JobAct → Bool
+is_stop Cancel = true
+is_stop act = false
+
+abbrev pub is_unknown : Result (Unit {0}) Fault → Bool
+is_unknown (Err (Refused text)) = is_word (string_bytes text) (codes "error syntax")
+is_unknown ended = false
+
+abbrev pub is_refused : Result (Unit {0}) Fault → Bool
+is_refused (Err (Refused text)) = true
+is_refused ended = false
+
+-- The result of a command that may be refused.
+abbrev pub unless_refused : Result (Unit {0}) Fault → Result (Unit {0}) Fault
+unless_refused ended = cond (is_refused ended) (Ok tt) ended
 
 -- The command for a queue.
 abbrev pub queue_act_line : List ℕ → QueueAct → List ℕ

@@ -13,3 +13,5 @@ pub mod QueueChoice
 pub mod ServiceReplies
 pub mod Submissions
 pub mod EnvironmentValues
+pub mod Proofs
+pub mod DeniedCommands

@@ -1,7 +1,10 @@
 -- The commands that are sent to a service.
-use Rattle.std.specs.Prelude.{ℕ, Bool, ◌||◌, nat_lt, ◌==◌, List, [], ◌++◌, length, codes, string_bytes, Option, None, Some}
+use Rattle.std.specs.Prelude.{ℕ, Bool, ◌||◌, nat_lt, ◌==◌, List, [], ◌++◌, length, cond, codes, String, string_bytes, Option, None, Some, unwrap_or}
+use Rattle.std.specs.Global.{Global}
 use Rattle.std.specs.Fmt.{decimal}
 use Rattle.command_lines.specs.Replies.{quoted}
+use Rattle.front_proof.specs.ProofReplies.{user_of}
+use Rattle.front_proof.specs.Standings.{Standing}
 use Rattle.front_words.specs.declared.asked.NewQueue.{NewQueue}
 use Rattle.spool_front.specs.declared.commands.Draft.{Draft}
 use Rattle.spool_front.specs.declared.commands.Until.{Until}
@@ -22,18 +25,34 @@ create_word (Some moment) = codes "createby"
 abbrev pub ranks : Draft → List ℕ
 ranks d = codes " " ++ decimal d.copies ++ codes " " ++ decimal d.priority
 
--- The queue, the owner and the title.
-abbrev pub names : Draft → List ℕ
-names d = text_word (string_bytes d.queue) ++ text_word (string_bytes d.user) ++ text_word (string_bytes d.title)
+-- The name of a user whom the service has identified, and who is no operator.
+abbrev pub identified_user : Option Standing → Option (List ℕ)
+identified_user None = None
+identified_user (Some standing) = user_of standing
 
-abbrev pub create_line : Draft → List ℕ
-create_line d = create_word d.by ++ names d ++ ranks d ++ text_word (string_bytes d.options) ++ moment_word d.by ++ codes "\n"
+-- The owner of the job: the identified user, unless the user has named the owner.
+abbrev pub job_user : Draft → Option Standing → List ℕ
+job_user d standing = cond d.is_named (string_bytes d.user) (unwrap_or (identified_user standing) (string_bytes d.user))
+
+-- The queue, the owner and the title.
+abbrev pub names : Draft → List ℕ → List ℕ
+names d owner = text_word (string_bytes d.queue) ++ text_word owner ++ text_word (string_bytes d.title)
+
+abbrev pub create_line : Draft → List ℕ → List ℕ
+create_line d owner = create_word d.by ++ names d owner ++ ranks d ++ text_word (string_bytes d.options) ++ moment_word d.by ++ codes "\n"
 
 abbrev pub send_line : ℕ → List ℕ → List ℕ
 send_line job piece = codes "send " ++ decimal job ++ codes " " ++ decimal (length piece) ++ codes "\n" ++ piece ++ codes "\n"
 
-abbrev pub close_line : ℕ → List ℕ → List ℕ
-close_line job name = codes "close " ++ decimal job ++ text_word name ++ codes "\n"
+abbrev pub media_word : Option (String Global) → List ℕ
+media_word None = []
+media_word (Some media) = text_word (string_bytes media)
+
+abbrev pub close_line : ℕ → Draft → List ℕ
+close_line job d = codes "close " ++ decimal job ++ text_word (string_bytes d.name) ++ media_word d.media ++ codes "\n"
+
+abbrev pub find_line : List ℕ → List ℕ
+find_line token = codes "find " ++ token ++ codes "\n"
 
 abbrev pub hold_line : ℕ → Until → List ℕ
 hold_line job Released = codes "hold " ++ decimal job ++ codes " indefinite\n"

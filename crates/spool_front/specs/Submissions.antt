@@ -1,6 +1,7 @@
 -- The steps of a submission.
-use Rattle.std.specs.Prelude.{◌≡◌, ℕ, ◌+◌, ◌⊎◌, Bool, true, false, min, List, codes, String, string_bytes, Option, None, Some}
+use Rattle.std.specs.Prelude.{◌≡◌, ℕ, ◌+◌, ◌⊎◌, Bool, true, false, ◌&&◌, cond, is_some, min, List, codes, String, string_bytes, Option, None, Some}
 use Rattle.std.specs.Global.{Global}
+use Rattle.command_lines.specs.CommandGrammar.{is_word}
 use Rattle.front_submission.specs.SubmissionSteps.{deserted, heard, lost, supplied, unread}
 use Rattle.front_submission.specs.declared.reply.Found.{Found}
 use Rattle.front_submission.specs.declared.reply.Reply.{Reply}
@@ -12,16 +13,29 @@ use Rattle.front_submission.specs.declared.step.End.TheVariants.{Accepted, Unpri
 use Rattle.front_submission.specs.declared.step.Step.{Step}
 use Rattle.front_submission.specs.declared.step.Step.TheVariants.{Holding, Closing, Checking, Ended}
 use Rattle.spool_front.specs.FoundJobs.{with_job}
+use Rattle.spool_front.specs.declared.commands.Draft.{Draft}
+
+-- Why a service denies a document, from whether the user has named the owner.
+abbrev pub denied_text : Bool → List ℕ
+denied_text true = codes "only operators may name another user (see spool_service(8), Roles)"
+denied_text false = codes "the service denies the document (see spool_service(8), Roles)"
+
+-- A refusal as a message, from whether the user has named the owner and the media type.
+abbrev pub refusal_text : Bool → Bool → List ℕ → List ℕ
+refusal_text named typed text =
+    cond (is_word text (codes "error denied")) (denied_text named)
+    (cond (typed && is_word text (codes "error syntax")) (codes "the service does not take the media type")
+    text)
 
 -- Why a document is refused, as a message, from the last refusal and whether memory ran out.
-abbrev pub cause_text : Option (String Global) → Bool → Cause → List ℕ
-cause_text (Some text) memory Declined = string_bytes text
-cause_text None memory Declined = codes "the service refused the document"
-cause_text refusal memory OtherSize = codes "the size of the job differs from the number of bytes sent"
-cause_text refusal memory EndedEarly = codes "the job was ended before the document was complete"
-cause_text refusal memory Unreadable = codes "cannot read the document"
-cause_text refusal true Deserted = codes "out of memory"
-cause_text refusal false Deserted = codes "cannot reach the service"
+abbrev pub cause_text : Draft → Option (String Global) → Bool → Cause → List ℕ
+cause_text draft (Some text) memory Declined = refusal_text draft.is_named (is_some draft.media) (string_bytes text)
+cause_text draft None memory Declined = codes "the service refused the document"
+cause_text draft refusal memory OtherSize = codes "the size of the job differs from the number of bytes sent"
+cause_text draft refusal memory EndedEarly = codes "the job was ended before the document was complete"
+cause_text draft refusal memory Unreadable = codes "cannot read the document"
+cause_text draft refusal true Deserted = codes "out of memory"
+cause_text draft refusal false Deserted = codes "cannot reach the service"
 
 -- One more lost or unclear reply, up to the greatest number.
 abbrev pub one_more : ℕ → ℕ

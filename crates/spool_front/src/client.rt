@@ -1,5 +1,7 @@
 //! The client of a service, which sends a command and reads the complete reply.
-ghost use Rattle.std.specs.Prelude.{◌≡◌, ◌*◌, ◌↔◌, IfErr, IfNone, IfOk, IfSome, IsSome, IsTrue, IsUtf8, MatchResult, None, filter_map, string_bytes};
+ghost use Rattle.std.specs.Prelude.{◌≡◌, ◌*◌, ◌↔◌, IfErr, IfNone, IfOk, IfSome, IsSome, IsTrue, IsUtf8, MatchResult, None, codes, filter_map, option_copied, string_bytes};
+ghost use Rattle.spool_front.specs.Proofs.{caller_of};
+ghost use Rattle.command_lines.specs.CommandGrammar.{is_word};
 ghost use Rattle.front_texts.specs.JobPage.{shown_job};
 ghost use Rattle.front_texts.specs.JobRows.{job_row};
 ghost use Rattle.front_texts.specs.QueueRows.{queue_row};
@@ -7,10 +9,12 @@ ghost use Rattle.front_texts.specs.ReplyLines.{last_line};
 ghost use Rattle.spool_front.specs.ReplyOutcomes.{accepted, is_done, rows_text};
 ghost use Rattle.spool_front.specs.TaskFaults.{IsNobodyAt};
 
-use crate::commands::job_line;
+use crate::commands::{job_line, name_line};
 use crate::connection::{Connection, ConnectionFault};
 use crate::fault::Fault;
+use crate::proving::first_exchange;
 use crate::replies::is_gone;
+use front_proof::Caller;
 use front_texts::{
     JobLine, JobShown, LastLine, QueueLine, read_job_line, read_job_shown, read_last_line,
     read_queue_line,
@@ -41,6 +45,20 @@ impl Answer {
         )
     }
 
+    /// Returns whether the service has no place for the connection.
+    pub fn is_busy(&self) -> bool
+        ensures { result ≡ is_word (string_bytes self.now.last) (codes "error busy") }
+    {
+        self.last.as_str() == "error busy"
+    }
+
+    /// Returns whether the service does not know the command.
+    pub fn is_unknown(&self) -> bool
+        ensures { result ≡ is_word (string_bytes self.now.last) (codes "error syntax") }
+    {
+        self.last.as_str() == "error syntax"
+    }
+
     /// Returns the rows, each with its line feed.
     pub fn text(&self, alloc: Global) -> Result<Vec<u8>, AllocError>
         ensures { IfOk result (λ text. text.items ≡ rows_text self.now.rows.items) }
@@ -66,18 +84,22 @@ pub struct Client<'a> {
     socket: &'a str,
     // The number of pauses before the client gives up.
     pauses: u64,
+    // Whether the client proves who it is.
+    proves: bool,
     connection: Option<Connection>,
 }
 
 impl<'a> Client<'a> {
-    pub fn new(rt: &'a HostRuntime, socket: &'a str, patience: u32) -> Client<'a>
+    pub fn new(rt: &'a HostRuntime, socket: &'a str, patience: u32, proves: bool) -> Client<'a>
         ensures patience { result.pauses ≡ patience * 10 }
+        ensures proves { result.proves ≡ proves }
         ensures socket { result.socket.now ≡ socket.now }
     {
         Client {
             rt,
             socket,
             pauses: u64::from(patience) * PAUSES_A_SECOND,
+            proves,
             connection: None,
         }
     }
@@ -143,20 +165,24 @@ impl<'a> Client<'a> {
     fn send_and_read(&mut self, text: &[u8]) -> Result<Answer, ConnectionFault>
         ensures { self.new ≡ record self.old { connection = self.new.connection } }
     {
-        let alloc = self.rt.alloc();
+        let rt = self.rt;
         let Some(connection) = &mut self.connection else {
             return Err(ConnectionFault::Lost);
         };
-        connection.send(text)?;
-        let mut rows = Vec::new(alloc);
-        for _ in 0..u64::MAX {
-            let row = connection.read_line(alloc)?;
-            if let Some(last) = last_line(alloc, &row)? {
-                return Ok(Answer { rows, last });
-            }
-            rows.push(row)?;
+        if self.proves && connection.caller().is_none() {
+            return first_exchange(rt, connection, text);
         }
-        Err(ConnectionFault::Lost)
+        exchange(rt.alloc(), connection, text)
+    }
+
+    /// Returns the identity of the client for the service, if this connection has one.
+    pub fn caller(&self) -> Option<&Caller>
+        ensures { option_copied result ≡ caller_of self.now.connection }
+    {
+        match &self.connection {
+            Some(connection) => connection.caller(),
+            None => None,
+        }
     }
 
     /// Returns the next line that the service sends without a request.
@@ -230,6 +256,21 @@ impl<'a> Client<'a> {
         shown_of_answer(self.rt.alloc(), accepted(answer)?)
     }
 
+    /// Returns the reply to a question about a queue, or `None` if the service does not know the question.
+    pub fn queue(&mut self, name: &str) -> Result<Option<Answer>, Fault> {
+        let line = name_line(self.rt.alloc(), "queue", name)?;
+        let answer = self.ask_or_refused(line.as_slice())?;
+        if answer.is_unknown() {
+            drop(answer);
+            return Ok(None);
+        }
+        if answer.last.as_str() == "error queue" {
+            drop(answer);
+            return Err(Fault::Words("no such queue"));
+        }
+        Ok(Some(accepted(answer)?))
+    }
+
     /// Returns the queues, in the order of their names.
     pub fn queues(&mut self) -> Result<Vec<QueueLine>, Fault> {
         let answer = self.ask(b"queues\n")?;
@@ -237,6 +278,29 @@ impl<'a> Client<'a> {
         drop(answer);
         Ok(queues?)
     }
+}
+
+/// Sends a command over a connection and reads its reply.
+pub fn exchange(
+    alloc: Global,
+    connection: &mut Connection,
+    text: &[u8],
+) -> Result<Answer, ConnectionFault> {
+    connection.send(text)?;
+    read_answer(alloc, connection)
+}
+
+/// Reads a reply.
+pub fn read_answer(alloc: Global, connection: &mut Connection) -> Result<Answer, ConnectionFault> {
+    let mut rows = Vec::new(alloc);
+    for _ in 0..u64::MAX {
+        let row = connection.read_line(alloc)?;
+        if let Some(last) = last_line(alloc, &row)? {
+            return Ok(Answer { rows, last });
+        }
+        rows.push(row)?;
+    }
+    Err(ConnectionFault::Lost)
 }
 
 // Returns the line as text if it is the last one of a reply.

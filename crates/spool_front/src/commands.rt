@@ -1,9 +1,12 @@
 //! The commands that are sent to a service.
 ghost use Rattle.std.specs.Prelude.{◌≡◌, ◌++◌, IfOk, OnOk};
 ghost use Rattle.std.specs.List.{list_any};
-ghost use Rattle.spool_front.specs.SentCommands.{close_line, create_line, create_word, hold_line, info_line, is_control, job_line, moment_word, name_line, names, queue_line, ranks, send_line, text_word};
+ghost use Rattle.std.specs.Option.{option_map};
+ghost use Rattle.front_proof.specs.Standings.{standing_of};
+ghost use Rattle.spool_front.specs.SentCommands.{close_line, create_line, create_word, find_line, hold_line, identified_user, info_line, is_control, job_line, job_user, media_word, moment_word, name_line, names, queue_line, ranks, send_line, text_word};
 
 use command_lines::push_quoted;
+use front_proof::Caller;
 use front_words::NewQueue;
 use std::alloc::{AllocError, Global};
 use std::io::Write;
@@ -19,7 +22,10 @@ pub enum Until {
 #[derive(Drop)]
 pub struct Draft {
     pub queue: String,
+    /// The owner, if the service does not know who the client is.
     pub user: String,
+    /// Whether the user has named the owner.
+    pub is_named: bool,
     pub title: String,
     pub copies: u32,
     pub priority: u32,
@@ -33,6 +39,8 @@ pub struct Draft {
     pub hold: Option<Until>,
     /// The name of its file, from which the type is detected.
     pub name: String,
+    /// The media type, if the user names it.
+    pub media: Option<String>,
 }
 
 /// Returns whether a text contains a control character. It could end the line of the command that contains the text.
@@ -42,12 +50,35 @@ pub fn has_control(text: &str) -> bool
     text.as_bytes().iter().any(|b| *b < 32 || *b == 127)
 }
 
-/// Returns `create`, or `createby` if the draft has a moment.
-pub fn create_line(alloc: Global, draft: &Draft) -> Result<Vec<u8>, AllocError>
-    ensures { IfOk result (λ line. line.items ≡ create_line draft.now) }
+/// Returns the owner of the job: a user who has proved who it is, unless the user has named the owner.
+pub fn job_user<'a>(draft: &'a Draft, caller: Option<&'a Caller>) -> &'a str
+    ensures { result.now ≡ job_user draft.now (option_map (λ caller. standing_of caller.now) caller.entry) }
+{
+    if draft.is_named {
+        return draft.user.as_str();
+    }
+    match user_of(caller) {
+        Some(name) => name,
+        None => draft.user.as_str(),
+    }
+}
+
+// Returns the name of a user whom the service has identified, and who is no operator.
+fn user_of(caller: Option<&Caller>) -> Option<&str>
+    ensures { option_map (λ name. name.now) result ≡ identified_user (option_map (λ caller. standing_of caller.now) caller.entry) }
+{
+    match caller {
+        Some(caller) => caller.user(),
+        None => None,
+    }
+}
+
+/// Returns `create` for this owner, or `createby` if the draft has a moment.
+pub fn create_line(alloc: Global, draft: &Draft, user: &str) -> Result<Vec<u8>, AllocError>
+    ensures { IfOk result (λ line. line.items ≡ create_line draft.now user.now) }
 {
     let mut line = create_word(alloc, draft.by)?;
-    push_names(&mut line, draft)?;
+    push_names(&mut line, draft, user)?;
     push_ranks(&mut line, draft)?;
     push_text(&mut line, draft.options.as_str())?;
     push_moment(&mut line, draft.by)?;
@@ -64,11 +95,11 @@ fn create_word(alloc: Global, by: Option<u64>) -> Result<Vec<u8>, AllocError>
     }
 }
 
-fn push_names(line: &mut Vec<u8>, draft: &Draft) -> Result<(), AllocError>
-    ensures { OnOk result (line.new.items ≡ line.old.items ++ names draft.now) }
+fn push_names(line: &mut Vec<u8>, draft: &Draft, user: &str) -> Result<(), AllocError>
+    ensures { OnOk result (line.new.items ≡ line.old.items ++ names draft.now user.now) }
 {
     push_text(line, draft.queue.as_str())?;
-    push_text(line, draft.user.as_str())?;
+    push_text(line, user)?;
     push_text(line, draft.title.as_str())
 }
 
@@ -109,13 +140,33 @@ pub fn send_line(alloc: Global, job: u32, piece: &[u8]) -> Result<Vec<u8>, Alloc
     Ok(line)
 }
 
-/// Returns `close`.
-pub fn close_line(alloc: Global, job: u32, name: &str) -> Result<Vec<u8>, AllocError>
-    ensures { IfOk result (λ line. line.items ≡ close_line job name.now) }
+/// Returns `close`, with the media type if the draft has one.
+pub fn close_line(alloc: Global, job: u32, draft: &Draft) -> Result<Vec<u8>, AllocError>
+    ensures { IfOk result (λ line. line.items ≡ close_line job draft.now) }
 {
     let mut line = Vec::new(alloc);
     write!(line, "close {job}").map_err(|_| AllocError)?;
-    push_text(&mut line, name)?;
+    push_text(&mut line, draft.name.as_str())?;
+    push_media(&mut line, &draft.media)?;
+    line.extend_from_slice(b"\n")?;
+    Ok(line)
+}
+
+fn push_media(line: &mut Vec<u8>, media: &Option<String>) -> Result<(), AllocError>
+    ensures { OnOk result (line.new.items ≡ line.old.items ++ media_word media.now) }
+{
+    match media {
+        Some(media) => push_text(line, media.as_str()),
+        None => Ok(()),
+    }
+}
+
+/// Returns `find`.
+pub fn find_line(alloc: Global, token: &str) -> Result<Vec<u8>, AllocError>
+    ensures { IfOk result (λ line. line.items ≡ find_line token.now) }
+{
+    let mut line = Vec::from_slice(alloc, b"find ")?;
+    line.extend_from_slice(token.as_bytes())?;
     line.extend_from_slice(b"\n")?;
     Ok(line)
 }

@@ -1,12 +1,14 @@
 //! A connection to a service, which sends bytes and reads lines.
-ghost use Rattle.std.specs.Prelude.{◌≡◌, ◌≢◌, ◌<◌, ℕ, IfOk, length, slice_index};
+ghost use Rattle.std.specs.Prelude.{◌≡◌, ◌≢◌, ◌<◌, ℕ, IfOk, Some, length, option_copied, slice_index};
 ghost use Rattle.std.specs.IoError.{error_kind};
 ghost use Rattle.spool_front.specs.TaskFaults.{lost_by};
 
+use front_proof::Caller;
 use std::alloc::{AllocError, AllocFailed, Global};
-use std::io;
 use std::io::{BufRead, BufReader, ErrorKind, Read, Write};
+use std::os::unix::fs::MetadataExt;
 use std::os::unix::net::UnixStream;
+use std::{fs, io};
 
 // The longest line that is read, in bytes.
 const LONGEST_LINE: u64 = 65_536;
@@ -51,16 +53,54 @@ impl From<io::Error> for ConnectionFault {
     }
 }
 
+// Returns the owner of the socket, without following a link.
+fn owner_of(rt: &HostRuntime, socket: &str) -> Option<u32> {
+    match fs::symlink_metadata(rt, socket) {
+        Ok(about) => Some(about.uid()),
+        Err(_) => None,
+    }
+}
+
 #[derive(Drop)]
 pub struct Connection {
     reader: BufReader<UnixStream>,
+    // The owner of the socket.
+    owner: Option<u32>,
+    // The identity of the client for the service. `None`: the service was not asked.
+    caller: Option<Caller>,
 }
 
 impl Connection {
     pub fn open(rt: &HostRuntime, socket: &str) -> Result<Connection, ConnectionFault> {
+        let owner = owner_of(rt, socket);
         let stream = UnixStream::connect(rt, socket)?;
         let reader = BufReader::new(rt.alloc(), stream)?;
-        Ok(Connection { reader })
+        Ok(Connection {
+            reader,
+            owner,
+            caller: None,
+        })
+    }
+
+    /// Returns the owner of the service's socket.
+    pub fn owner(&self) -> Option<u32>
+        ensures { result ≡ self.now.owner }
+    {
+        self.owner
+    }
+
+    /// Returns the identity of the client for the service, if it was asked.
+    pub fn caller(&self) -> Option<&Caller>
+        ensures { option_copied result ≡ self.now.caller }
+    {
+        self.caller.as_ref()
+    }
+
+    /// Stores the identity of the client for the service.
+    pub fn note_caller(&mut self, caller: Caller)
+        ensures { self.new ≡ record self.old { caller = Some caller } }
+    {
+        self.caller = Some(caller);
     }
 
     /// Sends all of these bytes.

@@ -1,5 +1,5 @@
 //! The fields of the job that a document becomes.
-ghost use Rattle.std.specs.Prelude.{◌≡◌, ◌++◌, IfOk, IfSome, OnOk, string_bytes, unwrap_or};
+ghost use Rattle.std.specs.Prelude.{◌≡◌, ◌++◌, IfOk, IfSome, OnOk, is_some, string_bytes, unwrap_or};
 ghost use Rattle.std.specs.Option.{option_map};
 ghost use Rattle.spool_front.specs.JobDrafts.{IsBy, IsMoment, IsUntil, option_text, options_of, pages_option, plain_char, plain_text};
 
@@ -21,6 +21,8 @@ pub fn draft_of(
 ) -> Result<Draft, Fault>
     ensures queue { IfOk result (λ draft. string_bytes draft.queue ≡ queue.now) }
     ensures user { IfOk result (λ draft. IfSome asked.now.user (λ user. string_bytes draft.user ≡ user.now)) }
+    ensures named { IfOk result (λ draft. draft.is_named ≡ is_some asked.now.user) }
+    ensures media { IfOk result (λ draft. option_map string_bytes draft.media ≡ option_map (λ media. media.now) asked.now.media) }
     ensures title { IfOk result (λ draft. string_bytes draft.title ≡ plain_text (unwrap_or (option_map (λ asked. asked.now) asked.now.title) title.now)) }
     ensures copies { IfOk result (λ draft. draft.copies ≡ asked.now.copies) }
     ensures priority { IfOk result (λ draft. draft.priority ≡ asked.now.priority) }
@@ -33,9 +35,11 @@ pub fn draft_of(
     let by = by_of(rt, asked.by)?;
     let hold = until_of(rt, asked.hold)?;
     let token = token_option(rt)?;
+    let media = media_of(alloc, asked.media)?;
     Ok(Draft {
         queue: String::from_str(alloc, queue)?,
         user: user_of(rt, asked.user)?,
+        is_named: asked.user.is_some(),
         title: plain_text(alloc, asked.title.unwrap_or(title))?,
         copies: asked.copies,
         priority: asked.priority,
@@ -44,7 +48,17 @@ pub fn draft_of(
         by,
         hold,
         name: plain_text(alloc, name)?,
+        media,
     })
+}
+
+fn media_of(alloc: Global, media: Option<&str>) -> Result<Option<String>, AllocError>
+    ensures { IfOk result (λ told. option_map string_bytes told ≡ option_map (λ media. media.now) media.entry) }
+{
+    match media {
+        Some(media) => Ok(Some(String::from_str(alloc, media)?)),
+        None => Ok(None),
+    }
 }
 
 fn by_of(rt: &HostRuntime, by: Option<Moment>) -> Result<Option<u64>, Fault>

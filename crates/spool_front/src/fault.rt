@@ -25,6 +25,9 @@ pub enum Fault {
     /// The service refused the command. The text is its reply.
     #[error("{0}")]
     Refused(String),
+    /// The service denied the command. The text explains why.
+    #[error("{0}")]
+    Denied(String),
     /// Standard output or standard error cannot be written.
     #[error("cannot write the output")]
     Write,

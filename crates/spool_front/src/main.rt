@@ -4,9 +4,13 @@
 //! environment variables are used:
 //!
 //! - `SPOOL_SOCKET`: the socket of the service. `SPOOL_PATIENCE`: how many seconds to wait for a service, by default 30.
-//! - `USER` or `LOGNAME`: the owner of jobs. `LPDEST` or `PRINTER`: the queue if none is named. `COLUMNS`: the width of the terminal.
+//! - `USER` or `LOGNAME`: the owner of jobs, unless the service identifies the user. `LPDEST` or `PRINTER`: the queue if none is named.
+//!   `COLUMNS`: the width of the terminal.
 //! - `SPOOL_TYPES`, `SPOOL_CONVS` and `SPOOL_PROGRAMS`: the service's files, from which `check` determines whether documents can be
 //!   converted for a printer and whether the programs can be run.
+//!
+//! Over each connection the program first proves which user runs it, if the service takes proofs ([`proving`]). The queues are listed
+//! without a proof, since they are the same for all clients.
 //!
 //! A command that changes something, and is not part of a submission, is sent once. If its reply is lost, the task ends with status 3. A
 //! job number is looked up at one service, since each service numbers its own jobs. The name of a queue is looked up at all services. A
@@ -15,6 +19,7 @@
 //! # Modules
 //!
 //! - [`connection`]: bytes and lines over a socket. [`client`]: commands and replies over a connection, and reconnecting.
+//! - [`proving`]: the proof of the user. [`denials`]: explanations of denied commands.
 //! - [`commands`], [`replies`]: the bytes of each command, and the meaning of each reply (`SentCommands`, `ServiceReplies`).
 //! - [`submit`]: submits one document as one job, by the decisions of `front_submission`. [`document`]: the pieces of a document.
 //!   [`draft`]: the fields of its job. [`printing`]: printing files.
@@ -23,9 +28,13 @@
 //!
 //! # Promises
 //!
-//! - Commands: the bytes of each command are exact, with each text in quotes (`create_line`, `send_line`, `close_line`, `hold_line`,
-//!   `job_line`, `name_line`, `info_line`, `queue_line`). A text with a control character, which could end its line, is detected
+//! - Commands: the bytes of each command are exact, with each text in quotes (`create_line`, `send_line`, `close_line`, `find_line`,
+//!   `hold_line`, `job_line`, `name_line`, `info_line`, `queue_line`). A text with a control character, which could end its line, is detected
 //!   (`has_control`). An action on a job or a queue is sent as the command for that action (`act_line`, `act_text`).
+//! - Owners: a job belongs to the user whom the service has identified, unless the user has named the owner or is an operator (`job_user`).
+//! - Denials: a denied command is explained by exactly one message (`explain_job`, `explain_queue`, `cause_text`). A client removes its
+//!   folder unless the service has taken the proof (`is_left`).
+//! - Older services: `cancel` and `end` replace `stop` exactly if the service does not know it (`is_stop`, `is_unknown`).
 //! - Replies: `reply_in` returns the meaning of a reply for a submission. After `error disk`, `error dead` or `error busy` it is unknown
 //!   whether the command was executed, so such a reply is never taken for a refusal (`failed_as`). `shown_as` returns the state of a job.
 //! - Pieces: a piece of a document consists of the bytes that were read last, up to 65,536 bytes, and fewer only at the document's end
@@ -61,8 +70,9 @@
 //!   `write_page`); a `variable` that is never set; a wait that ends at once with another status; a status for several files, jobs or
 //!   services that does not use `first_failure`; a submission that is refused at once (`submit`); a request that is sent twice, is another
 //!   request, or has another piece (`request`); a service that is never reachable (`is_connected`); jobs that are not inspected (`look`); a
-//!   queue that is refused although it exists (`queue_of`); a command with other text, or sent twice (`exchange`, `ask`); and job lines
-//!   that are not read (`shown_in`).
+//!   queue that is refused although it exists (`queue_of`); a command with other text, or sent twice (`exchange`, `ask`); job lines that
+//!   are not read (`shown_in`); a proof that is not attempted, or attempted more than once, and a folder that is not made (`first_exchange`);
+//!   and a search of the jobs that uses neither question (`find`). `tests/front_roles.py` tests the proof with a simulated service.
 //! - A command other than a submission that runs out of memory while reading its reply ends with 1, like a command that was not sent,
 //!   though it may have been executed.
 //!
@@ -92,6 +102,7 @@ mod client;
 mod commands;
 mod connection;
 mod cups_forms;
+mod denials;
 mod document;
 mod draft;
 mod fault;
@@ -100,6 +111,7 @@ mod host;
 mod output;
 mod printing;
 mod programs;
+mod proving;
 mod replies;
 mod services;
 mod submit;
@@ -242,6 +254,7 @@ fn run_task(
         Task::Jobs { act, jobs } => tasks::act_on_jobs(rt, services, *act, jobs.as_slice()),
         Task::Clear { queues } => tasks::clear(rt, services, queues.as_slice()),
         Task::Queue { name, act } => tasks::act_on_queue(rt, services, name, *act),
+        Task::ShowQueue { name } => tasks::show_queue(rt, services, name, screen),
         Task::Devices => Err(Fault::Words(
             "the service does not list devices; use `spool_shell --devices`",
         )),

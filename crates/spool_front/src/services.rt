@@ -1,5 +1,5 @@
 //! The choice of services and queues.
-ghost use Rattle.std.specs.Prelude.{◌≡◌, ◌≢◌, ◌*◌, IfErr, IfOk, IfSome, IsOk, OnOk, [], ◌∷◌, ◌++◌, length, map, string_bytes};
+ghost use Rattle.std.specs.Prelude.{◌≡◌, ◌≢◌, ◌*◌, IfErr, IfOk, IfSome, IsOk, OnOk, [], ◌∷◌, ◌++◌, length, map, string_bytes, true};
 ghost use Rattle.std.specs.List.{Contains};
 ghost use Rattle.spool_front.specs.QueueChoice.{has_queue, noted, place_at};
 ghost use Rattle.spool_front.specs.EnvironmentValues.{IsNumberOr};
@@ -42,12 +42,13 @@ fn patience_in(told: &Option<String>) -> u32
     number_or(told, MOST_PATIENCE, USUAL_PATIENCE) as u32
 }
 
-/// Returns the client of the service at a socket.
+/// Returns a client of the service at a socket, which proves who it is.
 pub fn client_at<'a>(rt: &'a HostRuntime, services: Services<'_, '_>, socket: &'a str) -> Client<'a>
     ensures patience { result.pauses ≡ services.entry.patience * 10 }
+    ensures proves { result.proves ≡ true }
     ensures socket { result.socket.now ≡ socket.now }
 {
-    Client::new(rt, socket, services.patience)
+    Client::new(rt, socket, services.patience, true)
 }
 
 /// Returns the socket of the only service. A job number is ambiguous if there are several services.
@@ -61,13 +62,13 @@ pub fn only_socket<'a>(services: Services<'_, 'a>) -> Result<&'a str, Fault>
     }
 }
 
-/// Returns the queues of the service at a socket.
+/// Returns the queues of the service at a socket. They are the same for all clients.
 pub fn queues_at(
     rt: &HostRuntime,
     services: Services<'_, '_>,
     socket: &str,
 ) -> Result<Vec<QueueLine>, Fault> {
-    let mut client = client_at(rt, services, socket);
+    let mut client = Client::new(rt, socket, services.patience, false);
     let queues = client.queues();
     drop(client);
     queues

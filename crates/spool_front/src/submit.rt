@@ -1,24 +1,35 @@
 //! Submitting a document as exactly one job.
 ghost use Rattle.std.specs.Prelude.{◌≡◌, ◌<◌, ◌↔◌, ◌⊎◌, IfOk, IsSome, IsTrue, None, Some, cond, false, is_some, length, string_bytes};
 ghost use Rattle.std.specs.Io.KnownBytes.{IsAtEnd};
+ghost use Rattle.std.specs.Option.{option_map};
 ghost use Rattle.std.specs.Str.Iter.{HasSubslice};
-ghost use Rattle.spool_front.specs.FoundJobs.{may_be_own, own_job, with_job};
+ghost use Rattle.front_proof.specs.Standings.{standing_of};
+ghost use Rattle.spool_front.specs.FoundJobs.{found_one, may_be_own, own_job, token_of, with_job};
+ghost use Rattle.spool_front.specs.SentCommands.{job_user};
 ghost use Rattle.spool_front.specs.DocumentPieces.{piece_of};
-ghost use Rattle.spool_front.specs.ServiceReplies.{reply_in};
-ghost use Rattle.spool_front.specs.Submissions.{IsAnswered, IsLooked, IsSupplied, cause_text, is_refusal, lost_after, one_more, was_closed};
+ghost use Rattle.spool_front.specs.ServiceReplies.{reply_in, shown_of};
+ghost use Rattle.spool_front.specs.Submissions.{IsAnswered, IsLooked, IsSupplied, cause_text, denied_text, is_refusal, refusal_text, lost_after, one_more, was_closed};
 ghost use Rattle.front_submission.specs.SubmissionSteps.{deserted, heard, lost, unread};
 ghost use Rattle.front_submission.specs.declared.step.Step.{Step};
 
 use crate::client::{Answer, Client, pause};
-use crate::commands::{Draft, close_line, create_line, hold_line, job_line, send_line};
+use crate::commands::{
+    Draft, close_line, create_line, find_line, hold_line, job_line, job_user, send_line,
+};
 use crate::connection::ConnectionFault;
 use crate::document::Document;
 use crate::host::Screen;
 use crate::replies::{has_reason, reply_in, shown_of};
-use front_submission::{Cause, End, Found, Own, Reply, Request, Step};
+use front_proof::Caller;
+use front_submission::{Cause, End, Found, Own, Reply, Request, Shown, Step};
 use front_texts::{JobLine, JobShown, read_job_line, read_job_shown};
 use std::alloc::{AllocError, Global};
 use std::io::Read;
+
+const NO_JOBS: Found = Found {
+    own: None,
+    another: None,
+};
 
 /// A submission and the data for its messages.
 #[derive(Drop)]
@@ -54,11 +65,17 @@ impl<'a> Submitting<'a> {
 
     /// Returns the message that explains why the document was refused.
     pub fn cause_text(&self, cause: Cause) -> &str
-        ensures { result.now ≡ cause_text self.now.refusal self.now.memory cause }
+        ensures { result.now ≡ cause_text self.now.draft.now self.now.refusal self.now.memory cause }
     {
         match cause {
             Cause::Declined => match &self.refusal {
-                Some(text) => text.as_str(),
+                Some(text) => {
+                    refusal_text(
+                        self.draft.is_named,
+                        self.draft.media.is_some(),
+                        text.as_str(),
+                    )
+                }
                 None => "the service refused the document",
             },
             Cause::OtherSize => "the size of the job differs from the number of bytes sent",
@@ -180,11 +197,9 @@ impl<'a> Submitting<'a> {
         match request {
             Request::Find => self.find(client),
             Request::Show { job } => self.show(client, job),
-            Request::Create => self.order(client, &create_line(alloc, self.draft)?),
+            Request::Create => self.create(client),
             Request::Send { job, .. } => self.order(client, &send_line(alloc, job, piece)?),
-            Request::Close { job } => {
-                self.order(client, &close_line(alloc, job, self.draft.name.as_str())?)
-            }
+            Request::Close { job } => self.order(client, &close_line(alloc, job, self.draft)?),
             Request::Cancel { job } => self.cancel(client, job),
             Request::Hold { job } => match self.draft.hold {
                 Some(until) => self.order(client, &hold_line(alloc, job, until)?),
@@ -192,6 +207,26 @@ impl<'a> Submitting<'a> {
             },
             Request::Read { .. } | Request::Nothing => Ok(Reply::Unclear),
         }
+    }
+
+    // Creates the job. The service's name for the user may come with the reply to `create` only: if that was denied for another name, it
+    // is sent again with this one.
+    fn create(&mut self, client: &mut Client<'_>) -> Result<Reply, ConnectionFault> {
+        let is_known = client.caller().is_some();
+        let reply = self.create_once(client)?;
+        if is_known
+            || !matches!(reply, Reply::Denied)
+            || job_user(self.draft, client.caller()) == self.draft.user.as_str()
+        {
+            return Ok(reply);
+        }
+        self.create_once(client)
+    }
+
+    fn create_once(&mut self, client: &mut Client<'_>) -> Result<Reply, ConnectionFault> {
+        let alloc = self.rt.alloc();
+        let line = create_line(alloc, self.draft, job_user(self.draft, client.caller()))?;
+        self.order(client, &line)
     }
 
     // Cancels the job. A refusal of `cancel` is not stored, since the message reports that of the document.
@@ -250,8 +285,35 @@ impl<'a> Submitting<'a> {
         }
     }
 
-    // Finds the incoming jobs that have the token.
+    // Finds the incoming job that has the token. A service that does not know `find` lists all jobs in its place.
     fn find(&mut self, client: &mut Client<'_>) -> Result<Reply, ConnectionFault> {
+        let line = find_line(self.rt.alloc(), token_of(self.draft.token.as_str()))?;
+        let answer = client.exchange(line.as_slice())?;
+        if answer.is_unknown() {
+            drop(answer);
+            return self.find_among_all(client);
+        }
+        match self.reply_of(answer) {
+            Reply::Created { job } => self.find_one(client, job),
+            Reply::Gone => Ok(Reply::Jobs { found: NO_JOBS }),
+            reply => Ok(reply),
+        }
+    }
+
+    // Returns the job that the service found, if it is incoming.
+    fn find_one(&mut self, client: &mut Client<'_>, job: u32) -> Result<Reply, ConnectionFault> {
+        match self.shown(client, job)? {
+            Ok(shown) => {
+                let found = found_one(job, &shown);
+                drop(shown);
+                Ok(Reply::Jobs { found })
+            }
+            Err(Reply::Gone) => Ok(Reply::Jobs { found: NO_JOBS }),
+            Err(reply) => Ok(reply),
+        }
+    }
+
+    fn find_among_all(&mut self, client: &mut Client<'_>) -> Result<Reply, ConnectionFault> {
         let answer = client.exchange(b"jobs\n")?;
         if !answer.is_done() {
             return Ok(self.reply_of(answer));
@@ -266,18 +328,22 @@ impl<'a> Submitting<'a> {
         client: &mut Client<'_>,
         rows: &[Vec<u8>],
     ) -> Result<Reply, ConnectionFault> {
-        let mut found = Found {
-            own: None,
-            another: None,
-        };
+        let mut found = NO_JOBS;
         for row in rows {
-            if let Some(job) = own_job(self.rt.alloc(), self.draft, row.as_slice())? {
+            if let Some(job) = self.own_job(client.caller(), row.as_slice())? {
                 if let Err(reply) = self.look(client, job, &mut found)? {
                     return Ok(reply);
                 }
             }
         }
         Ok(Reply::Jobs { found })
+    }
+
+    fn own_job(&self, caller: Option<&Caller>, row: &[u8]) -> Result<Option<u32>, AllocError>
+        ensures { IfOk result (λ job. job ≡ own_job self.now.draft.now (job_user self.now.draft.now (option_map (λ caller. standing_of caller.now) caller.entry)) row.now) }
+    {
+        let user = job_user(self.draft, caller);
+        own_job(self.rt.alloc(), self.draft, user, row)
     }
 
     // Adds a job to the found ones if it has the token.
@@ -303,14 +369,14 @@ impl<'a> Submitting<'a> {
     }
 }
 
-// Returns the number of the job in a row if it is incoming and has the draft's queue and owner.
-fn own_job(alloc: Global, draft: &Draft, row: &[u8]) -> Result<Option<u32>, AllocError>
-    ensures { IfOk result (λ job. job ≡ own_job draft.now row.now) }
+// Returns the number of the job in a row if it is incoming and has the draft's queue and this owner.
+fn own_job(alloc: Global, draft: &Draft, user: &str, row: &[u8]) -> Result<Option<u32>, AllocError>
+    ensures { IfOk result (λ job. job ≡ own_job draft.now user.now row.now) }
 {
     let Some(job) = read_job_line(alloc, row)? else {
         return Ok(None);
     };
-    let own = if may_be_own(draft, &job) {
+    let own = if may_be_own(draft, user, &job) {
         Some(job.number.get())
     } else {
         None
@@ -319,13 +385,59 @@ fn own_job(alloc: Global, draft: &Draft, row: &[u8]) -> Result<Option<u32>, Allo
     Ok(own)
 }
 
-// Returns whether a job is incoming and has the draft's queue and owner.
-fn may_be_own(draft: &Draft, job: &JobLine) -> bool
-    ensures { result ≡ may_be_own draft.now job.now }
+// Returns whether a job is incoming and has the draft's queue and this owner.
+fn may_be_own(draft: &Draft, user: &str, job: &JobLine) -> bool
+    ensures { result ≡ may_be_own draft.now user.now job.now }
 {
     has_reason(&job.reason, "job-incoming")
         && job.queue.as_str() == draft.queue.as_str()
-        && job.user.as_str() == draft.user.as_str()
+        && job.user.as_str() == user
+}
+
+// Returns the value of the option with the token.
+fn token_of(option: &str) -> &str
+    ensures { result.now ≡ token_of option.now }
+{
+    match option.split_once('=') {
+        Some((_, token)) => token,
+        None => "",
+    }
+}
+
+// Returns the job with the token, if it is incoming.
+fn found_one(job: u32, shown: &JobShown) -> Found
+    ensures { result ≡ found_one job (shown_of shown.now) }
+{
+    match shown_of(shown) {
+        Shown::Arriving { size } => Found {
+            own: Some(Own { job, size }),
+            another: None,
+        },
+        _ => NO_JOBS,
+    }
+}
+
+// Explains a refusal of the document.
+fn refusal_text(named: bool, typed: bool, text: &str) -> &str
+    ensures { result.now ≡ refusal_text named typed text.now }
+{
+    if text == "error denied" {
+        return denied_text(named);
+    }
+    if typed && text == "error syntax" {
+        return "the service does not take the media type";
+    }
+    text
+}
+
+fn denied_text(named: bool) -> &'static str
+    ensures { result.now ≡ denied_text named }
+{
+    if named {
+        "only operators may name another user (see spool_service(8), Roles)"
+    } else {
+        "the service denies the document (see spool_service(8), Roles)"
+    }
 }
 
 fn has_token(options: &str, token: &str) -> bool

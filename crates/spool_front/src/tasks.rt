@@ -3,11 +3,12 @@ ghost use Rattle.std.specs.Prelude.{◌≡◌, IfOk, filter, filter_map};
 ghost use Rattle.std.specs.List.{list_any};
 ghost use Rattle.std.specs.Option.{option_map};
 ghost use Rattle.command_lines.specs.CommandGrammar.{is_word};
-ghost use Rattle.spool_front.specs.Acts.{IsActLine, is_cleared, is_of, number_of, queue_act_line};
+ghost use Rattle.spool_front.specs.Acts.{IsActLine, is_cleared, is_of, is_refused, is_stop, is_unknown, number_of, queue_act_line, unless_refused};
 ghost use Rattle.spool_front.specs.TaskFaults.{status_of};
 
-use crate::client::Client;
+use crate::client::{Answer, Client};
 use crate::commands::{Until, hold_line, info_line, job_line, name_line, queue_line};
+use crate::denials::{explain_job, explain_queue};
 use crate::draft::seconds_of;
 use crate::fault::{Fault, first_failure};
 use crate::host::Screen;
@@ -16,8 +17,8 @@ use crate::services::{
     Services, all_jobs, all_queues, client_at, has_queue, only_socket, socket_of,
 };
 use front_texts::{
-    JobLine, JobShown, QueueLine, job_page, job_shown_json, jobs_json, jobs_table, queues_json,
-    queues_table,
+    JobLine, JobShown, QueueLine, job_page, job_shown_json, jobs_json, jobs_table, queue_page,
+    queues_json, queues_table,
 };
 use front_words::{JobAct, QueueAct, Status};
 use serde_json::Value;
@@ -147,6 +148,64 @@ fn print_queues(
     Ok(())
 }
 
+/// Shows a queue with all its fields, or its row if its service reports no more.
+pub fn show_queue(
+    rt: &HostRuntime,
+    services: Services<'_, '_>,
+    name: &str,
+    screen: Screen,
+) -> Result<u8, Fault>
+    ensures { IfOk result (λ status. status ≡ 0) }
+{
+    let socket = socket_of(rt, services, name)?;
+    let mut client = client_at(rt, services, socket);
+    let shown = show_queue_of(rt, &mut client, name, screen);
+    drop(client);
+    shown?;
+    Ok(0)
+}
+
+fn show_queue_of(
+    rt: &HostRuntime,
+    client: &mut Client<'_>,
+    name: &str,
+    screen: Screen,
+) -> Result<(), Fault> {
+    let Some(answer) = client.queue(name)? else {
+        return show_row(rt, client, name, screen);
+    };
+    let printed = print_fields(rt, &answer, screen);
+    drop(answer);
+    printed
+}
+
+fn print_fields(rt: &HostRuntime, answer: &Answer, screen: Screen) -> Result<(), Fault> {
+    let alloc = rt.alloc();
+    print_lines(
+        rt,
+        &queue_page(alloc, answer.rows.as_slice(), screen.width.max(1))?,
+    )?;
+    Ok(())
+}
+
+// Shows the row of a queue.
+fn show_row(
+    rt: &HostRuntime,
+    client: &mut Client<'_>,
+    name: &str,
+    screen: Screen,
+) -> Result<(), Fault> {
+    let mut queues = client.queues()?;
+    queues.retain(|queue| queue.name.as_str() == name);
+    let shown = if queues.is_empty() {
+        Err(Fault::Words("no such queue"))
+    } else {
+        print_queues(rt, &queues, false, screen)
+    };
+    drop(queues);
+    shown
+}
+
 /// Prints each line that the service sends about a change, until the connection is lost.
 pub fn watch(rt: &HostRuntime, services: Services<'_, '_>) -> Result<u8, Fault>
     ensures { IfOk result (λ status. status ≡ 0) }
@@ -191,7 +250,8 @@ fn act_by(
     let mut status = 0;
     for job in jobs {
         let line = act_line(rt, act, *job)?;
-        if let Err(fault) = client.order(line.as_slice()) {
+        if let Err(fault) = order_act(rt, client, act, *job, line.as_slice()) {
+            let fault = explain_job(rt.alloc(), act, *job, client.caller(), fault)?;
             let ended = report_fault(rt, *job, fault)?;
             status = first_failure(status, ended);
         }
@@ -199,15 +259,76 @@ fn act_by(
     Ok(status)
 }
 
+// Applies the action to a job. A service that does not know `stop` gets `cancel` and `end` in its place.
+fn order_act(
+    rt: &HostRuntime,
+    client: &mut Client<'_>,
+    act: JobAct,
+    job: u32,
+    line: &[u8],
+) -> Result<(), Fault> {
+    let ended = client.order(line);
+    if is_stop(act) && is_unknown(&ended) {
+        drop(ended);
+        return cancel_and_end(rt, client, job);
+    }
+    ended
+}
+
+// Returns whether the command of this action is `stop`.
+fn is_stop(act: JobAct) -> bool
+    ensures { result ≡ is_stop act }
+{
+    matches!(act, JobAct::Cancel)
+}
+
+// Returns whether the service does not know the command.
+fn is_unknown(ended: &Result<(), Fault>) -> bool
+    ensures { result ≡ is_unknown ended.now }
+{
+    match ended {
+        Err(Fault::Refused(text)) => text.as_str() == "error syntax",
+        _ => false,
+    }
+}
+
+// Cancels a job, and terminates its child if one runs.
+fn cancel_and_end(rt: &HostRuntime, client: &mut Client<'_>, job: u32) -> Result<(), Fault> {
+    let cancel = job_line(rt.alloc(), "cancel", job)?;
+    let end = job_line(rt.alloc(), "end", job)?;
+    client.order(cancel.as_slice())?;
+    unless_refused(client.order(end.as_slice()))
+}
+
+// Returns the result of a command that may be refused.
+fn unless_refused(ended: Result<(), Fault>) -> Result<(), Fault>
+    ensures { result ≡ unless_refused ended }
+{
+    if is_refused(&ended) {
+        drop(ended);
+        return Ok(());
+    }
+    ended
+}
+
+fn is_refused(ended: &Result<(), Fault>) -> bool
+    ensures { result ≡ is_refused ended.now }
+{
+    matches!(ended, Err(Fault::Refused(_)))
+}
+
 // Reports why the action failed for a job, and returns the status. Any other fault concerns all jobs.
 fn report_fault(rt: &HostRuntime, job: u32, fault: Fault) -> Result<u8, Fault>
     ensures { IfOk result (λ status. status ≡ status_of fault) }
 {
-    if !matches!(fault, Fault::Refused(_) | Fault::Unknown) {
+    if !matches!(fault, Fault::Refused(_) | Fault::Denied(_) | Fault::Unknown) {
         return Err(fault);
     }
     let status = fault.status();
-    let told = eprintln!(rt; "spool: job {job}: {fault}");
+    let told = match &fault {
+        Fault::Denied(text) => eprintln!(rt; "spool: {text}"),
+        _ => eprintln!(rt; "spool: job {job}: {fault}"),
+    };
     drop(fault);
     told?;
     Ok(status)
@@ -218,7 +339,8 @@ fn act_line(rt: &HostRuntime, act: JobAct, job: u32) -> Result<Vec<u8>, Fault>
 {
     let alloc = rt.alloc();
     let line = match act {
-        JobAct::Cancel => job_line(alloc, "cancel", job),
+        JobAct::Cancel => job_line(alloc, "stop", job),
+        JobAct::CancelOnly => job_line(alloc, "cancel", job),
         JobAct::Release => job_line(alloc, "release", job),
         JobAct::Purge => job_line(alloc, "purge", job),
         JobAct::End => job_line(alloc, "end", job),
@@ -297,8 +419,10 @@ pub fn act_on_queue(
     let mut client = client_at(rt, services, socket);
     let ended = client.order(line.as_slice());
     drop(client);
-    ended?;
-    Ok(0)
+    match ended {
+        Ok(()) => Ok(0),
+        Err(fault) => Err(explain_queue(rt.alloc(), name, act, fault)?),
+    }
 }
 
 fn act_text(alloc: Global, name: &str, act: QueueAct<'_>) -> Result<Vec<u8>, AllocError>

@@ -1,0 +1,5 @@
+pub mod ProofPaths
+pub mod Standings
+pub mod ProofReplies
+pub mod ProofSteps
+pub mod Denials

@@ -1,9 +1,0 @@
-use Rattle.std.proofs.Common.{rules, refl, ap₂, ◌∙◌}
-use Rattle.std.proofs.lemmas.Result.{IfOk-weaker}
-use Rattle.clap.specs.Words.{with_rule}
-use Rattle.front_words.proofs.commands.title_options.Goals as goal
-
-pub returns : goal.returns
-returns c = IfOk-weaker c.arg-2.result _ _ (λ command added. added.shape (search rules)
-    ∙ ap₂ with_rule (c.in_ok-arg.ensures.shape (search rules)
-    ∙ ap₂ with_rule refl c.text_option.ensures.rule) c.text_option-2.ensures.rule) c.arg-2.ensures

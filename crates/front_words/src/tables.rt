@@ -1,0 +1,263 @@
+//! The parameters of each command. `Apps` defines them in clap's terms.
+use crate::parameters::Parameter::{
+    self, Flag, Letter, LetterFlag, Letters, List, NeededWord, NeededWords, Text, ThreeLetters,
+    Word, Words,
+};
+
+pub static SUBMIT: [Parameter<'static>; 14] = [
+    NeededWord("queue", "QUEUE", "The queue"),
+    NeededWords("file", "FILE", "The files; `-` is standard input"),
+    Text(
+        "title",
+        "TITLE",
+        "The title of the job [default: the file's name]",
+    ),
+    Text(
+        "user",
+        "USER",
+        "The owner of the job [default: the current user]",
+    ),
+    Text(
+        "copies",
+        "N",
+        "The number of copies, from 1 to 9999 [default: 1]",
+    ),
+    Text("priority", "P", "The priority, from 1 to 100 [default: 50]"),
+    Text("pages", "PAGES", "Print only these pages, such as 1-4,7"),
+    Text(
+        "type",
+        "TYPE",
+        "The media type of the files [default: the service detects it]",
+    ),
+    Letters(
+        'o',
+        "option",
+        "NAME=VALUE",
+        "Set an option of the printer or of a filter",
+    ),
+    Flag("hold", "Hold the job until it is released"),
+    Text(
+        "at",
+        "MOMENT",
+        "Hold the job until then: seconds since 1970, or +SECONDS from now",
+    ),
+    Text(
+        "by",
+        "MOMENT",
+        "Cancel the job if it has not started by then",
+    ),
+    Flag("wait", "Wait until the job has ended"),
+    Flag("quiet", "Print nothing for an accepted job"),
+];
+
+pub static STATUS: [Parameter<'static>; 3] = [
+    Word("job", "JOB", "Show only this job"),
+    Letter('q', "queue", "QUEUE", "Show only the jobs of this queue"),
+    Flag("json", "Print JSON"),
+];
+
+pub static QUEUES: [Parameter<'static>; 1] = [Flag("json", "Print JSON")];
+
+pub static JOBS: [Parameter<'static>; 1] = [NeededWords(
+    "job",
+    "JOB",
+    "The jobs, such as 12 or office-12",
+)];
+
+pub static CANCEL_TASK: [Parameter<'static>; 2] = [
+    NeededWords("job", "JOB", "The jobs, such as 12 or office-12"),
+    Flag(
+        "keep-printing",
+        "Do not terminate the filter or backend that prints the job",
+    ),
+];
+
+pub static HOLD: [Parameter<'static>; 2] = [
+    NeededWords("job", "JOB", "The jobs, such as 12 or office-12"),
+    Text(
+        "until",
+        "MOMENT",
+        "Hold the jobs until then: seconds since 1970, or +SECONDS from now",
+    ),
+];
+
+pub static QUEUE: [Parameter<'static>; 1] = [NeededWord("name", "NAME", "The queue")];
+
+pub static QUEUE_ADD: [Parameter<'static>; 6] = [
+    NeededWord("name", "NAME", "The queue"),
+    NeededWord("uri", "URI", "The device"),
+    Text(
+        "media",
+        "TYPE",
+        "The media type that the device takes [default: application/pdf]",
+    ),
+    Text(
+        "policy",
+        "POLICY",
+        "What to do with a job that fails: abort-job, retry-job, retry-current-job or stop-printer [default: retry-job]",
+    ),
+    Text(
+        "interval",
+        "SECONDS",
+        "The time before another attempt, up to 86400 [default: 30]",
+    ),
+    Text(
+        "limit",
+        "N",
+        "The number of attempts at a job, up to 65535; 0 means no limit [default: 5]",
+    ),
+];
+
+pub static QUEUE_SET: [Parameter<'static>; 3] = [
+    NeededWord("name", "NAME", "The queue"),
+    Text("info", "TEXT", "The description [default: empty]"),
+    Text("location", "TEXT", "The location [default: empty]"),
+];
+
+pub static PAGE: [Parameter<'static>; 2] = [
+    NeededWord("file", "FILE", "The file to write"),
+    Flag("follow", "Rewrite the file every five seconds"),
+];
+
+pub static TASK: [Parameter<'static>; 1] = [NeededWords("task", "TASK", "One of the tasks below")];
+
+pub static LP: [Parameter<'static>; 11] = [
+    Words(
+        "file",
+        "FILE",
+        "The files; `-` or no file is standard input",
+    ),
+    Letter('d', "queue", "DEST", "The queue"),
+    Letter(
+        't',
+        "title",
+        "TITLE",
+        "The title of the job [default: the file's name]",
+    ),
+    Letter(
+        'U',
+        "user",
+        "USER",
+        "The owner of the job [default: the current user]",
+    ),
+    Letter(
+        'n',
+        "copies",
+        "N",
+        "The number of copies, from 1 to 9999 [default: 1]",
+    ),
+    Letter(
+        'q',
+        "priority",
+        "P",
+        "The priority, from 1 to 100 [default: 50]",
+    ),
+    Letters(
+        'o',
+        "option",
+        "NAME=VALUE",
+        "Set an option of the printer or of a filter",
+    ),
+    Letter(
+        'P',
+        "pages",
+        "PAGES",
+        "Print only these pages, such as 1-4,7",
+    ),
+    Letter(
+        'H',
+        "handling",
+        "WHEN",
+        "When to print: hold, immediate, seconds since 1970, or +SECONDS from now",
+    ),
+    LetterFlag('c', "copy", "Ignored: a copy of the file is always printed"),
+    LetterFlag('s', "quiet", "Do not print the number of the job"),
+];
+
+pub static LPR: [Parameter<'static>; 8] = [
+    Words(
+        "file",
+        "FILE",
+        "The files; `-` or no file is standard input",
+    ),
+    Letter('P', "queue", "DEST", "The queue"),
+    ThreeLetters(
+        'T',
+        'J',
+        'C',
+        "title",
+        "TITLE",
+        "The title of the job, also -J and -C [default: the file's name]",
+    ),
+    Letter(
+        'U',
+        "user",
+        "USER",
+        "The owner of the job [default: the current user]",
+    ),
+    Letter(
+        '#',
+        "copies",
+        "N",
+        "The number of copies, from 1 to 9999 [default: 1]",
+    ),
+    Letters(
+        'o',
+        "option",
+        "NAME=VALUE",
+        "Set an option of the printer or of a filter",
+    ),
+    LetterFlag('q', "hold", "Hold the job until it is released"),
+    LetterFlag('h', "no-banner", "Ignored: there is never a banner"),
+];
+
+pub static LPSTAT: [Parameter<'static>; 8] = [
+    Words(
+        "name",
+        "NAME",
+        "Show the jobs of these queues, and these jobs",
+    ),
+    LetterFlag('r', "scheduler", "Show whether the service is running"),
+    LetterFlag('d', "usual", "Show the default queue"),
+    LetterFlag('t', "all", "Show all of this"),
+    List('p', "printers", "Show whether these queues print"),
+    List('a', "accepting", "Show whether these queues accept jobs"),
+    List(
+        'v',
+        "devices",
+        "Not supported: the service does not report its devices",
+    ),
+    List('o', "jobs", "Show the jobs of these queues"),
+];
+
+pub static CANCEL: [Parameter<'static>; 2] = [
+    Words(
+        "job",
+        "JOB",
+        "The jobs, such as 12 or office-12; with -a, queues",
+    ),
+    LetterFlag(
+        'a',
+        "all",
+        "Cancel all jobs of these queues, or of all queues",
+    ),
+];
+
+pub static LPQ: [Parameter<'static>; 3] = [
+    Words(
+        "job",
+        "JOB",
+        "Show only these jobs, such as 12 or office-12",
+    ),
+    Letter('P', "queue", "DEST", "The queue"),
+    LetterFlag('a', "all", "Show the jobs of all queues"),
+];
+
+pub static LPRM: [Parameter<'static>; 2] = [
+    NeededWords(
+        "job",
+        "JOB",
+        "The jobs, such as 12 or office-12; `-` means all jobs of the queue of -P",
+    ),
+    Letter('P', "queue", "DEST", "The queue for `-`"),
+];
