@@ -178,6 +178,81 @@ def spoolfile(folder):
     check("spoolfile of no file", run(["spoolfile", *JOB, "/nowhere"], uri=f"spoolfile:{out}?exit=6"), fault)
 
 
+def targets(folder):
+    """The files that the backends refuse, and that none of them is changed."""
+    spool, printed = os.path.join(folder, "spool"), os.path.join(folder, "printed")
+    for it in (spool, os.path.join(spool, "below"), printed):
+        os.mkdir(it)
+    disk = write(os.path.join(spool, "spool.disk"), b"all jobs")
+    out, other = os.path.join(printed, "out"), write(os.path.join(printed, "other"), b"other")
+    os.symlink(spool, os.path.join(printed, "way"))
+    child = {"TMPDIR": spool, "SPOOL_STAGE": "1"}
+    refused = (b"", b"ERROR: cannot write\n", 1)
+
+    def at(path, query="", tool="spoolfile", **more):
+        env = {"PATH": "/usr/bin:/bin", "DEVICE_URI": f"{tool}:{path}{query}", **child, **more}
+        ended = subprocess.run([tools, tool, *JOB], input=b"page", capture_output=True, env=env, timeout=SECONDS)
+        return ended.stdout, ended.stderr, ended.returncode
+
+    for query in ("", "?replace"):
+        for name, path in (
+            ("the spool", disk),
+            ("a new file in the spool's folder", f"{spool}/new"),
+            ("a file below it", f"{spool}/below/new"),
+            ("the folder by dots", f"{printed}/../spool/spool.disk"),
+            ("the folder by a link", f"{printed}/way/spool.disk"),
+        ):
+            check(f"spoolfile to {name} {query}", (at(path, query), read(disk)), (refused, b"all jobs"))
+        check(f"nothing new {query}", (sorted(os.listdir(spool)), os.listdir(f"{spool}/below")), (["below", "spool.disk"], []))
+        check(f"a file by the spool's name {query}", (at(f"{spool}-2", query), read(f"{spool}-2")), ((b"", b"", 0), b"page"))
+        os.symlink(other, out)
+        check(f"a link {query}", (at(out, query), read(other), os.path.islink(out)), (refused, b"other", True))
+        os.remove(out)
+        os.symlink(f"{printed}/none", out)
+        check(f"a link to nothing {query}", (at(out, query), os.path.lexists(f"{printed}/none")), (refused, False))
+        os.remove(out)
+        os.mkfifo(out)
+        check(f"a pipe {query}", at(out, query), refused)
+        os.remove(out)
+        check(f"a device {query}", at("/dev/null", query), refused)
+        if os.geteuid() == 0:
+            write(out, b"theirs")
+            os.chown(out, 12345, 12345)
+            check(f"another user's file {query}", (at(out, query), read(out)), (refused, b"theirs"))
+            os.remove(out)
+        check(f"no new file is left {query}", sorted(os.listdir(printed)), ["other", "way"])
+    # A file with a second name may be one in the spool's folder: it is replaced under this name, and never written in place.
+    os.link(disk, out)
+    check("a second name, in place", (at(out, "?replace"), read(disk)), (refused, b"all jobs"))
+    check("a second name", (at(out), read(disk), read(out)), ((b"", b"", 0), b"all jobs", b"page"))
+    # A new file has the permissions of the old one, and a reader of the old one keeps it. In place it is the same file.
+    os.chmod(out, 0o640)
+    old = os.stat(out).st_ino
+    with open(out, "rb") as reader:
+        check("a new file", (at(out), os.stat(out).st_ino != old, os.stat(out).st_mode & 0o777, reader.read()),
+              ((b"", b"", 0), True, 0o640, b"page"))
+    old = os.stat(out).st_ino
+    check("in place", (at(out, "?replace"), os.stat(out).st_ino == old, read(out)), ((b"", b"", 0), True, b"page"))
+    # What a killed backend left under the name of the new file is removed; a link of that name is not followed.
+    write(f"{out}.new", b"half")
+    check("a file that was left", (at(out), read(out), os.path.exists(f"{out}.new")), ((b"", b"", 0), b"page", False))
+    os.symlink(other, f"{out}.new")
+    check("a link of that name", (at(out), read(out), read(other)), ((b"", b"", 0), b"page", b"other"))
+    os.mkdir(f"{out}.new")
+    check("a folder of that name", (at(out), read(out), os.path.isdir(f"{out}.new")), (refused, b"page", True))
+    os.rmdir(f"{out}.new")
+    # A failed attempt leaves the old file.
+    write(out, b"before")
+    ended = subprocess.run([tools, "spoolfile", *JOB, "/nowhere"], capture_output=True, env={**child, "DEVICE_URI": f"spoolfile:{out}"})
+    check("an unread document", (ended.returncode, read(out), os.path.exists(f"{out}.new")), (1, b"before", False))
+    # `meet` makes its mark by the same rules, and removes no file of the spool.
+    check("meet in the spool's folder", (at(disk, f"?partner={printed}/none&turns=1", "meet"), read(disk)), ((b"", b"", 1), b"all jobs"))
+    check("a new mark there", (at(f"{spool}/mark", f"?partner={disk}", "meet"), os.path.exists(f"{spool}/mark")), ((b"", b"", 1), False))
+    # A tool that the spooler did not start knows no spool.
+    ended = run(["spoolfile", *JOB], b"x", uri=f"spoolfile:{spool}/by-hand")
+    check("by hand", (ended, read(f"{spool}/by-hand")), ((b"", b"", 0), b"x"))
+
+
 def meet(folder):
     a, b = os.path.join(folder, "a"), os.path.join(folder, "b")
 
@@ -546,7 +621,7 @@ def words(folder):
 
 
 with tempfile.TemporaryDirectory() as folder:
-    for part in (filters, bounded, spoolfile, meet, side, appsocket, words):
+    for part in (filters, bounded, spoolfile, targets, meet, side, appsocket, words):
         place = os.path.join(folder, part.__name__)
         os.mkdir(place)
         part(place)

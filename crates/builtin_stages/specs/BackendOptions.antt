@@ -1,5 +1,5 @@
 -- The options of a device's URI that the backends use. If an option is repeated, the last one counts.
-use Rattle.std.specs.Prelude.{ℕ, codes, List, Option, None, Some, unwrap_or}
+use Rattle.std.specs.Prelude.{ℕ, Bool, codes, List, Option, None, Some, is_some, unwrap_or}
 use Rattle.device_options.specs.DeviceOptions.{last_value}
 use Rattle.builtin_stages.specs.ToolNumbers.{ranged}
 
@@ -14,6 +14,10 @@ number_of name most default pairs = number_in most default (last_value name pair
 -- The exit status of `spoolfile`.
 abbrev pub exit_of : List (List ℕ × List ℕ) → ℕ
 exit_of pairs = number_of (codes "exit") 255 0 pairs
+
+-- Whether `spoolfile` replaces the contents of an existing file in place.
+abbrev pub replaces_in_place : List (List ℕ × List ℕ) → Bool
+replaces_in_place pairs = is_some (last_value (codes "replace") pairs)
 
 -- The seconds that `appsocket` tries to connect, or 0 for the limit of the system.
 abbrev pub connect_seconds_of : List (List ℕ × List ℕ) → ℕ

@@ -8,3 +8,4 @@ pub mod Side
 pub mod ToolDevices
 pub mod Backends
 pub mod ToolEnding
+pub mod Targets

@@ -1,17 +1,18 @@
 //! The backends (backend(7)).
-ghost use Rattle.std.specs.Prelude.{◌≡◌, IfErr, IfOk, OnOk};
+ghost use Rattle.std.specs.Prelude.{◌≡◌, IfErr, IfOk, Ok, OnOk};
 ghost use Rattle.builtin_stages.specs.Backends.{Spooled, device_line};
 ghost use Rattle.builtin_stages.specs.BackendOptions.{exit_of};
 
 use crate::device::{Device, read_device};
 use crate::fault::ToolFault;
-use crate::options::{exit_of, partner_of, turns_of};
+use crate::options::{exit_of, partner_of, replaces_in_place, turns_of};
 use crate::results::{Form, Source, write_copies};
 use crate::side::{ask_id, end_session, id_in};
+use crate::targets::{Draft, open_in_place};
 use crate::words::Backend;
 use std::alloc::Global;
 use std::env::VarError;
-use std::fs::{File, Files, OpenOptions};
+use std::fs::{File, Files};
 use std::io::Write;
 use std::net::Net;
 use std::os::unix::net::UnixStream;
@@ -53,8 +54,32 @@ fn write_file<H: Files<File = File> + Env + AllocGlobal, S: Source>(
     copies: u32,
 ) -> Result<u8, ToolFault> {
     let device = given_device(rt)?;
-    let mut file = new_file(rt, device.path.as_str())?;
-    write_spooled(rt.alloc(), &device, source, copies, &mut file)
+    let path = device.path.as_str();
+    if replaces_in_place(&device.options) {
+        let mut file = open_in_place(rt, path)?;
+        return write_spooled(rt.alloc(), &device, source, copies, &mut file);
+    }
+    let mut draft = Draft::open(rt, path)?;
+    let written = write_spooled(rt.alloc(), &device, source, copies, &mut draft.file);
+    publish(rt, &draft, written)
+}
+
+// Gives the new file the target's name if it was written whole, and otherwise removes it.
+fn publish<H: Files<File = File>, T: Drop>(
+    rt: &H,
+    draft: &Draft,
+    written: Result<T, ToolFault>,
+) -> Result<T, ToolFault>
+    ensures ok { IfOk result (λ value. written ≡ Ok value) }
+{
+    let ended = match written {
+        Ok(value) => draft.publish(rt).map(|_| value),
+        Err(fault) => Err(fault),
+    };
+    if ended.is_err() {
+        draft.discard(rt);
+    }
+    ended
 }
 
 // Writes the copies unchanged, and returns the status that the device's options request.
@@ -92,9 +117,9 @@ pub fn side_ask<H: Files<File = File> + Env + Net + AllocGlobal>(rt: &H) -> Resu
     let Some(id) = id_in(&answer) else {
         return Err(ToolFault::Side);
     };
-    let mut file = new_file(rt, device.path.as_str())?;
-    write_whole(&mut file, id)?;
-    Ok(())
+    let mut draft = Draft::open(rt, device.path.as_str())?;
+    let written = write_whole(&mut draft.file, id).map_err(|fault| ToolFault::from(fault));
+    publish(rt, &draft, written)
 }
 
 /// Ends the session on a socket.
@@ -117,17 +142,17 @@ pub(crate) fn variable<H: Env + AllocGlobal>(rt: &H, name: &str) -> Result<Strin
     }
 }
 
-// Creates an empty file, or truncates an existing one.
-fn new_file<H: Files<File = File>>(rt: &H, path: &str) -> Result<File, ToolFault> {
-    File::create(rt, path).ok().ok_or(ToolFault::Write)
-}
-
 // Creates the mark. An existing one is not changed.
-fn make_mark<H: Files<File = File>>(rt: &H, path: &str) -> Result<(), ToolFault> {
-    match OpenOptions::new().write(true).create(true).open(rt, path) {
-        Ok(_) => Ok(()),
-        Err(_) => Err(ToolFault::Write),
+fn make_mark<H: Files<File = File> + Env + AllocGlobal>(
+    rt: &H,
+    path: &str,
+) -> Result<(), ToolFault> {
+    let draft = Draft::open(rt, path)?;
+    if draft.replaces() {
+        draft.discard(rt);
+        return Ok(());
     }
+    publish(rt, &draft, Ok(()))
 }
 
 // Checks for the partner's mark several times, with a second between two checks. Returns whether it was found.

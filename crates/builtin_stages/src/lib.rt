@@ -8,7 +8,7 @@
 //! |---|---|
 //! | `texttoprn` | writes CR LF for each LF of the document and a form feed at the end, and then `PAGE: 1 N` on standard error, N the number of copies |
 //! | `prncount` | writes the document unchanged, and then `PAGE: total N` on standard error, N the number of form feeds written |
-//! | `spoolfile` | writes the document to the device's file, and exits with the option `exit`, 0 to 255 |
+//! | `spoolfile` | writes the document to the device's file ([`targets`]), and exits with the option `exit`, 0 to 255 |
 //! | `meet` | creates the device's file as a mark, unless it exists, and checks up to `turns` times, a second apart, for the file of the option `partner`; if it does not find it, it removes the mark; without `partner` it exits with 1 |
 //! | `sideask` | requests the device id on the side channel, and writes it to the device's file |
 //! | `appsocket` | sends the document to the network printer of the URI, closes its half of the connection and waits until the printer closes the other ([`network`]) |
@@ -35,6 +35,8 @@
 //!   is repeated, the last one counts (`last_value` of `device_options`).
 //! - `report_end` returns the tool's status; after a fault this is 6 if a printer cannot be reached, otherwise 1 (`fault_status`).
 //!   `appsocket` exits with 0 and reports nothing, or reports a fault (`BackendEnds`). `spoolfile` exits with its option, by default 0.
+//! - A file that a backend may write ([`may_be_replaced`], [`may_be_written`]) is new, or a regular file of its own user. [`is_inside`]:
+//!   whether a folder is the spool's folder or below it; no backend writes there (`targets` is read for that, and `tests/tools.py` shows it).
 //! - [`ask_id`] writes 04 00 00 00 and returns the first packet received. Only an answer with the status OK whose data are stored has an id
 //!   ([`id_in`]). [`end_session`] writes FF 00 00 00. `end_silently` returns 0 or 1.
 //!
@@ -69,6 +71,7 @@ mod results;
 mod running;
 mod side;
 mod sources;
+mod targets;
 mod words;
 
 pub use device::{Device, read_device};
@@ -79,3 +82,4 @@ pub use printer::{Printer, read_printer};
 pub use results::{Form, Source, write_copies};
 pub use running::run_words;
 pub use side::{ask_id, end_session, id_in};
+pub use targets::{Named, is_inside, may_be_replaced, may_be_written};

@@ -2,6 +2,7 @@
 //!
 //! | Option | Backend | Value | Default |
 //! |---|---|---|---|
+//! | `replace` | `spoolfile` | any; an existing file is replaced in place | a new file takes its name |
 //! | `exit` | `spoolfile` | the exit status, 0 to 255 | 0 |
 //! | `partner` | `meet` | the name of the partner's file | none |
 //! | `turns` | `meet` | the number of checks, up to 4,294,967,295 | 20 |
@@ -13,7 +14,7 @@
 ghost use Rattle.std.specs.Prelude.{◌≡◌, codes, unwrap_or};
 ghost use Rattle.std.specs.Option.{option_map};
 ghost use Rattle.device_options.specs.DeviceOptions.{last_value};
-ghost use Rattle.builtin_stages.specs.BackendOptions.{connect_seconds_of, end_seconds_of, exit_of, number_of, turns_of};
+ghost use Rattle.builtin_stages.specs.BackendOptions.{connect_seconds_of, end_seconds_of, exit_of, number_of, replaces_in_place, turns_of};
 
 use crate::numbers::ranged;
 use device_options::last_value;
@@ -24,6 +25,13 @@ pub fn exit_of(options: &[DeviceOption]) -> u8
     ensures { result ≡ exit_of options.now }
 {
     number_of(options, "exit", 255, 0) as u8
+}
+
+/// Returns whether `spoolfile` replaces the contents of an existing file in place.
+pub fn replaces_in_place(options: &[DeviceOption]) -> bool
+    ensures { result ≡ replaces_in_place options.now }
+{
+    last_value(options, "replace").is_some()
 }
 
 /// Returns how often `meet` checks for its partner.
