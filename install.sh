@@ -142,9 +142,10 @@ put() {
         ln -s "$source" "$root$path"
     else
         echo "$kind $(sum_of "$source") $path" >> "$root$manifest"
-        cp "$source" "$root$path.new"
+        # A link of either name is replaced, not followed.
+        cp -T --remove-destination "$source" "$root$path.new"
         chmod "$mode" "$root$path.new"
-        mv "$root$path.new" "$root$path"
+        mv -T "$root$path.new" "$root$path"
     fi
 }
 

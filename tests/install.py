@@ -211,6 +211,24 @@ def killed(script, room):
         check(not files, f"left after a kill: {files}")
 
 
+def links(script, room):
+    """A link that stands under the name of a new file is replaced, and the file that it names is unchanged."""
+    below, victim = room / "links", room / "victim"
+    victim.write_text("kept")
+    (below / "usr/bin").mkdir(parents=True)
+    (below / "usr/bin/spool.new").symlink_to(victim)
+    (below / "usr/bin/folder").mkdir()
+    (below / "usr/sbin").mkdir()
+    (below / "usr/sbin/spool_service.new").symlink_to(below / "usr/bin/folder")
+    run = ran(script, "/usr", below=below)
+    check(run.returncode == 0, f"install over links: {run.stderr}")
+    check(victim.read_text() == "kept", "install.sh wrote through a link")
+    check(not list((below / "usr/bin/folder").iterdir()), "install.sh wrote into the folder of a link")
+    for name in ("usr/bin/spool", "usr/sbin/spool_service"):
+        check((below / name).is_file() and not (below / name).is_symlink(), f"{name} is a file")
+    shutil.rmtree(below / "usr/bin/folder")
+
+
 COMPLETED = {
     "spool s": {"submit", "status"},
     "spool submit ": {"lab", "hall"},
@@ -315,6 +333,7 @@ def main():
     refused(script, room)
     wrong_words(script, room)
     killed(script, room)
+    links(script, room)
     completion()
     prints(room)
     prints_in_debian(room, given)
