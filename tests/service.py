@@ -14,6 +14,7 @@ one, or of one of these files; without one all are run. --list prints their name
 | service_faults.py | a disk that fails, a spool without its name, refused memory, and SIGCHLD ignored |
 | service_crashes.py | a service that is killed, also at random, and the files that a power cut leaves |
 | service_times.py | a hold that ends, processor time, and the time until an end is seen |
+| service_limits.py | the longest waits, the polls of a child, and the descriptors that are left free |
 | service_office.py | the clock, the maintenance, a day of an office in fast motion, and thousands of jobs |
 
 The backends are small programs of sh in a fresh folder for each test. Some tests take long, and are shorter unless --long is given, or
@@ -31,13 +32,14 @@ import service_children
 import service_clients
 import service_crashes
 import service_faults
+import service_limits
 import service_office
 import service_printing
 import service_times
 import service_words
 from service_parts import Folder, run_test
 
-FILES = [service_words, service_clients, service_children, service_printing, service_faults, service_crashes, service_times, service_office]
+FILES = [service_words, service_clients, service_children, service_printing, service_faults, service_crashes, service_times, service_limits, service_office]
 
 
 def wanted_tests(names):
