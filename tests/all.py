@@ -42,6 +42,7 @@ CUPS_TYPES = "/usr/share/cups/mime/mime.types"
 SCRIPTS = {
     "service.py": [],
     "front.py": [],
+    "front_roles.py": [],
     "lives.py": [],
     "failover.py": [],
     "killed.py": [],
@@ -160,6 +161,8 @@ def missing_parts():
         missing["cups_types.py"] = (True, "CUPS's file of types (Debian's package cups-daemon)")
     if not shutil.which("chromium"):
         missing["front.py"] = (False, "the page in a browser (Debian's package chromium)")
+    if os.geteuid():
+        missing["front_roles.py"] = (False, "other users, and a folder of another owner (as root)")
     if not shutil.which("strace"):
         missing["syncs.py"] = (True, "strace (Debian's package strace)")
         missing["grow.py"] = missing["split.py"] = (False, "kills at each call (Debian's package strace)")

@@ -160,7 +160,7 @@ NUMBERS = {
     ("spool_disk", "sync"): ["u64::MAX"],
     ("spool_disk", "write"): ["u64::MAX"],
     ("spool_engine", "serve"): ["u32::MAX"],
-    ("spool_front", "send_and_read"): ["u64::MAX"],
+    ("spool_front", "read_answer"): ["u64::MAX"],
     ("spool_front", "submit"): ["u64::MAX"],
     ("spool_front", "wait_for"): ["u64::MAX"],
     ("spool_front", "watch_by"): ["u64::MAX"],
