@@ -231,6 +231,8 @@ def targets(folder):
     with open(out, "rb") as reader:
         check("a new file", (at(out), os.stat(out).st_ino != old, os.stat(out).st_mode & 0o777, reader.read()),
               ((b"", b"", 0), True, 0o640, b"page"))
+    os.chmod(out, 0o6750)
+    check("a new file sets no user or group", (at(out), os.stat(out).st_mode & 0o7777), ((b"", b"", 0), 0o750))
     old = os.stat(out).st_ino
     check("in place", (at(out, "?replace"), os.stat(out).st_ino == old, read(out)), ((b"", b"", 0), True, b"page"))
     # What a killed backend left under the name of the new file is removed; a link of that name is not followed.

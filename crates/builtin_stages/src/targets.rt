@@ -20,9 +20,9 @@ ghost use Rattle.builtin_stages.specs.Targets.{exists, may_be_replaced, may_be_w
 use crate::backends::variable;
 use crate::fault::ToolFault;
 use std::alloc::{AllocError, Global};
-use std::fs::{File, Files, Metadata, OpenFile, OpenOptions};
+use std::fs::{File, Files, Metadata, OpenFile, OpenOptions, Permissions};
 use std::io::ErrorKind;
-use std::os::unix::fs::MetadataExt;
+use std::os::unix::fs::{MetadataExt, PermissionsExt};
 use std::path::Path;
 use std::rt::Env;
 use std::{fs, io};
@@ -47,8 +47,8 @@ pub struct Draft {
 }
 
 impl Draft {
-    /// Makes an empty file next to the target. A file that a killed backend left there is removed. The new file has the permissions of the
-    /// one that it replaces.
+    /// Makes an empty file next to the target. A file that a killed backend left there is removed. The new file gets the permissions of the
+    /// one that it replaces, without the bits that set the user or the group: its contents are those of a document.
     pub fn open<H: Files<File = File> + Env + AllocGlobal>(
         rt: &H,
         path: &str,
@@ -105,15 +105,18 @@ impl Draft {
     fn finish<H: Files<File = File>>(&self, rt: &H) -> io::Result<()> {
         if self.replaces() {
             let old = fs::symlink_metadata(rt, self.target.as_str())?;
-            self.file.set_permissions(old.permissions())?;
+            let mode = old.permissions().mode() & 0o777;
+            self.file.set_permissions(Permissions::from_mode(mode))?;
         }
         self.file.sync_all()?;
         fs::rename(rt, self.path.as_str(), self.target.as_str())
     }
 
-    /// Removes the file.
+    /// Removes the file, unless another program has put one in its place meanwhile.
     pub fn discard<H: Files<File = File>>(&self, rt: &H) {
-        let _ = fs::remove_file(rt, self.path.as_str());
+        if is_file_of(rt, self.path.as_str(), &self.file) {
+            let _ = fs::remove_file(rt, self.path.as_str());
+        }
     }
 }
 
