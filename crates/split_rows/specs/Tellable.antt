@@ -6,7 +6,7 @@ use Rattle.spool_types.specs.State.{Job, job_of}
 use Rattle.spool_types.specs.declared.rows.JobRow.{JobRow}
 use Rattle.event_codec.specs.RowSpelling.{IsPhaseOf}
 
--- Its size is one that a job may have, and its phase fits its row, if it has at most as many filters as a job may have.
+-- Its size is one that a job may have, and its phase fits its row, if it has no more filters than a job may have.
 pub record IsTellable (r : Job) : Type 0 where
   pub size : r.size ≤ longest_document
   pub phase : length r.filters ≤ 15 → IsPhaseOf r r.phase

@@ -8,18 +8,20 @@
 //! - [`Half::takes`] returns exactly whether the half has a queue (`takes`). Each name is in one half and not in the other.
 //! - [`are_queues`] and [`are_jobs`] return true only if the rows are exactly those of the whole that the half takes, in order.
 //!   They compare the encodings of two rows; a row has only one encoding (`one_row` of `event_codec`).
-//! - [`begin`] and the steps of a [`Writing`] may be called in order (`MayWrite`). If the rows do not fit, they fail with
-//!   [`HalfFault::Full`] before anything is written after the area.
+//! - [`begin`] and the steps of a [`Writing`] may be called in order (`may`, `MayWrite`). [`Writing::put_queue`],
+//!   [`Writing::put_job`] and [`Writing::put_row`] add exactly the record of the row, after those that were added before it
+//!   (`added`, `AddsRows` of `listing_rows`). If it does not fit, they fail with [`HalfFault::Full`]. After
+//!   [`Writing::finish`] each image of the disk has the rows that were added, in the newest version (`written`), and nothing is
+//!   unsynced (`synced`).
 //!
 //! # Not proved
 //!
-//! - That the rows read back are those written: `spool_halves` compares them instead.
+//! - That the rows of a half are all added: `spool_halves` reads them back and compares them instead.
 //!
 //! # How rows are written
 //!
-//! `begin` makes the disk a spool without rows. The other area is filled by the steps of a checkpoint (`Areas` of `spool_areas`):
-//! rows are encoded into a block, which is written when it is long enough. After the last row room for the record of a reopening
-//! is left. Then the area is opened, and everything is synced.
+//! `begin` makes the disk a spool without rows. The other area is filled as a checkpoint fills it (`listing_rows`). After the
+//! last row room for the record of a reopening is left. Then the area is opened, and everything is synced.
 //!
 //! # Errors
 //!

@@ -1,9 +1,18 @@
 //! Writing rows to the other area of a disk that is made a spool for them.
-ghost use Rattle.std.specs.Prelude.{◌+◌, ◌≤◌, length, vec_len, vec_capacity, IfOk, IsTrue};
-ghost use Rattle.split_rows.specs.Writing.{MayWrite};
+ghost use Rattle.std.specs.Prelude.{◌≡◌, ◌+◌, ◌<◌, ◌≤◌, ◌^◌, ◌∷◌, [], List, ℕ, length, take, drop, vec_len, vec_capacity, IfOk, OnOk, IsTrue};
+ghost use Rattle.spool_types.specs.declared.listing.Row.{Row as RowOf};
+ghost use Rattle.spool_types.specs.declared.version.Version.TheVariants.{Two};
+ghost use Rattle.spool_disk.specs.Disk.{IsSynced};
+ghost use Rattle.spool_areas.specs.AreaFilling.{Change, Fills};
+ghost use Rattle.spool_areas.specs.Checkpoint.{other_base};
+ghost use Rattle.spool_areas.specs.Header.{newest_version};
+ghost use Rattle.spool_areas.specs.Payloads.{HasVersionAndPayloads};
+ghost use Rattle.event_codec.specs.RowSpelling.{row_spelling, IsLegalJob, IsLegalRow, IsOrderedQueue, IsRowSpellable};
+ghost use Rattle.listing_rows.specs.RowFilling.{filling, filling_at, AddsRows, IsChangeOf};
+ghost use Rattle.split_rows.specs.Writing.{MayWrite, MayEnd};
 
 use crate::fault::HalfFault;
-use event_codec::{encode_job_onto, encode_queue_onto, encode_row_onto};
+use listing_rows::{BLOCK_ROOM, Filler, end_record, put_job, put_queue, put_row};
 use spool_areas::{Areas, MakeFault, Opened, make};
 use spool_disk::Disk;
 use spool_types::{Job, QueueRow, Row};
@@ -15,23 +24,19 @@ const HEADER_LEN: u64 = 16;
 // Number of bytes left after the last row: the record of a reopening, and the gate after it.
 const LEFT: u64 = 8;
 
-// Greatest length of a block, in bytes.
-const LONGEST_BLOCK: usize = 4_294_967_295;
-
-/// A disk while its other area is filled: the place of the next rows, the end of that area, and the rows that are not written
-/// yet.
+/// A disk while its other area is filled: the rows that are not written yet with their place, and the end of that area.
 #[derive(Drop)]
 pub struct Writing<T: Disk> {
     areas: Areas<T>,
-    gate: u64,
+    filler: Filler,
     end: u64,
-    block: Vec<u8>,
 }
 
 /// Makes the disk a spool without rows, and begins the other area.
 pub fn begin<T: Disk + Drop>(alloc: Global, mut disk: T) -> Result<Writing<T>, HalfFault>
-    ensures may { IfOk result (λ w. MayWrite w.areas w.gate w.end) }
+    ensures may { IfOk result (λ w. MayWrite w.areas w.filler w.end) }
 {
+    let block = Vec::with_capacity(alloc, BLOCK_ROOM)?;
     match make(&mut disk) {
         Ok(()) => {}
         Err(MakeFault::Full) => return Err(HalfFault::Full),
@@ -45,9 +50,8 @@ pub fn begin<T: Disk + Drop>(alloc: Global, mut disk: T) -> Result<Writing<T>, H
     match areas.begin() {
         Ok(gate) => Ok(Writing {
             areas,
-            gate,
+            filler: Filler { gate, block },
             end: gate - HEADER_LEN + len,
-            block: Vec::new(alloc),
         }),
         Err(_) => Err(HalfFault::Disk),
     }
@@ -56,80 +60,67 @@ pub fn begin<T: Disk + Drop>(alloc: Global, mut disk: T) -> Result<Writing<T>, H
 impl<T: Disk + Drop> Writing<T> {
     /// Adds the row of a queue.
     pub fn put_queue(&mut self, queue: &QueueRow) -> Result<(), HalfFault>
-        requires may { MayWrite self.old.areas self.old.gate self.old.end }
-        ensures may { MayWrite self.new.areas self.new.gate self.new.end }
+        requires may { MayWrite self.old.areas self.old.filler self.old.end }
+        ensures may { OnOk result (MayWrite self.new.areas self.new.filler self.new.end) }
+        ensures added { OnOk result (IsOrderedQueue queue.now → AddsRows T.device (RowOf.Queue queue.now ∷ []) (filling_at self.old.areas self.old.filler) (filling_at self.new.areas self.new.filler)) }
     {
-        let start = self.begin_row()?;
-        encode_queue_onto(queue, &mut self.block)?;
+        let start = put_queue(&mut self.filler.block, queue);
         self.end_row(start)
     }
 
     /// Does the same for a job, without its document.
     pub fn put_job(&mut self, job: &Job) -> Result<(), HalfFault>
-        requires may { MayWrite self.old.areas self.old.gate self.old.end }
-        ensures may { MayWrite self.new.areas self.new.gate self.new.end }
+        requires may { MayWrite self.old.areas self.old.filler self.old.end }
+        ensures may { OnOk result (MayWrite self.new.areas self.new.filler self.new.end) }
+        ensures added { OnOk result (IsLegalJob job.now → AddsRows T.device (RowOf.Job job.now ∷ []) (filling_at self.old.areas self.old.filler) (filling_at self.new.areas self.new.filler)) }
     {
-        let start = self.begin_row()?;
-        encode_job_onto(job, &mut self.block)?;
+        let start = put_job(&mut self.filler.block, job);
         self.end_row(start)
     }
 
     /// Does the same for any row.
     pub fn put_row(&mut self, row: &Row) -> Result<(), HalfFault>
-        requires may { MayWrite self.old.areas self.old.gate self.old.end }
-        ensures may { MayWrite self.new.areas self.new.gate self.new.end }
+        requires may { MayWrite self.old.areas self.old.filler self.old.end }
+        ensures may { OnOk result (MayWrite self.new.areas self.new.filler self.new.end) }
+        ensures added { OnOk result (IsLegalRow row.now → AddsRows T.device (row.now ∷ []) (filling_at self.old.areas self.old.filler) (filling_at self.new.areas self.new.filler)) }
     {
-        let start = self.begin_row()?;
-        encode_row_onto(row, &mut self.block)?;
+        let start = put_row(&mut self.filler.block, row);
         self.end_row(start)
     }
 
-    /// Writes the remaining rows, opens the other area, and returns the disk, synced.
+    /// Writes the remaining rows, opens the other area, and returns the disk, synced. Each image has the rows that were added.
     pub fn finish(self) -> Result<T, HalfFault>
-        requires may { MayWrite self.areas self.gate self.end }
+        requires may { MayWrite self.areas self.filler self.end }
+        ensures synced { IfOk result (IsSynced T.device) }
+        ensures written { IfOk result (λ disk. (x : Change T) (rows : List (List ℕ)) → IsChangeOf x self.areas → x.new_epoch ≡ self.areas.epoch + 1 → Fills T.device x self.areas.disk self.filler.gate self.filler.block.items rows →
+            (c : List ℕ) → T.device.image disk c → HasVersionAndPayloads (other_base self.areas) newest_version rows c) }
     {
         let Writing {
             mut areas,
-            gate,
+            mut filler,
             end,
-            mut block,
         } = self;
-        block.reserve(1)?;
-        if !has_room(gate, block.len(), end) {
+        if !has_room(filler.gate, filler.block.len(), end) {
             return Err(HalfFault::Full);
         }
-        match write_rest(&mut areas, gate, &mut block) {
+        match write_rest(&mut areas, &mut filler) {
             Ok(()) => Ok(areas.into_disk()),
             Err(fault) => Err(fault),
         }
     }
 
-    // Adds the free bytes of a record's head. Returns the index of the first one.
-    fn begin_row(&mut self) -> Result<usize, HalfFault>
-        requires may { MayWrite self.old.areas self.old.gate self.old.end }
-        ensures may { MayWrite self.new.areas self.new.gate self.new.end }
-        ensures start { IfOk result (λ start. start + 5 ≤ length self.new.block.items) }
-    {
-        let start = self.block.len();
-        self.block.extend_from_slice(&[0; 5])?;
-        Ok(start)
-    }
-
-    // Ends the record that begins at `start`.
+    // Ends the record that begins at `start` of the block.
     fn end_row(&mut self, start: usize) -> Result<(), HalfFault>
-        requires may { MayWrite self.old.areas self.old.gate self.old.end }
-        requires whole { start + 5 ≤ length self.old.block.items }
-        ensures may { MayWrite self.new.areas self.new.gate self.new.end }
+        requires may { MayEnd self.old.areas self.old.filler self.old.end start }
+        ensures may { OnOk result (MayWrite self.new.areas self.new.filler self.new.end) }
+        ensures added { OnOk result ((row : RowOf) → drop (start + 5) self.old.filler.block.items ≡ row_spelling Two row → IsRowSpellable Two row →
+            AddsRows T.device (row ∷ []) (filling self.old.areas self.old.filler.gate (take start self.old.filler.block.items)) (filling_at self.new.areas self.new.filler)) }
     {
-        self.block.reserve(1)?;
-        if LONGEST_BLOCK < self.block.len() || !has_room(self.gate, self.block.len(), self.end) {
+        if !has_room(self.filler.gate, self.filler.block.len(), self.end) {
             return Err(HalfFault::Full);
         }
-        match self.areas.add_row(self.gate, &mut self.block, start) {
-            Ok(gate) => {
-                self.gate = gate;
-                Ok(())
-            }
+        match end_record(&mut self.areas, &mut self.filler, start) {
+            Ok(()) => Ok(()),
             Err(_) => Err(HalfFault::Disk),
         }
     }
@@ -146,15 +137,13 @@ fn has_room(gate: u64, len: usize, end: u64) -> bool
 }
 
 // Writes the last rows, and opens the area.
-fn write_rest<T: Disk>(
-    areas: &mut Areas<T>,
-    gate: u64,
-    block: &mut Vec<u8>,
-) -> Result<(), HalfFault>
-    requires may { MayWrite areas.old gate (gate + length block.old.items + 1) }
-    requires spare { vec_len block.old + 1 ≤ vec_capacity block.old }
+fn write_rest<T: Disk>(areas: &mut Areas<T>, filler: &mut Filler) -> Result<(), HalfFault>
+    requires may { MayWrite areas.old filler.old (filler.old.gate + length filler.old.block.items + 1) }
+    ensures synced { OnOk result (IsSynced T.device areas.new.disk) }
+    ensures written { OnOk result ((x : Change T) (rows : List (List ℕ)) → IsChangeOf x areas.old → x.new_epoch ≡ areas.old.epoch + 1 → Fills T.device x areas.old.disk filler.old.gate filler.old.block.items rows →
+        (c : List ℕ) → T.device.image areas.new.disk c → HasVersionAndPayloads (other_base areas.old) newest_version rows c) }
 {
-    let Ok(gate) = areas.write_rows(gate, block) else {
+    let Ok(gate) = areas.write_rows(filler.gate, &mut filler.block) else {
         return Err(HalfFault::Disk);
     };
     match areas.open_other(gate) {

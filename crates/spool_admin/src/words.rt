@@ -6,10 +6,9 @@ ghost use Rattle.spool_runtime.specs.ProgramArguments.{RefusesOnly, number_of};
 ghost use Rattle.spool_admin.specs.AdminArguments.{AreFaultless, ArePlaces, AreTaken, HasTask, IsAsked, IsFor, IsGrow, IsLook, IsOfTask, IsSize, IsSplit, admin_app, needed, rest_of, several};
 
 use clap::builder::ValueParser;
-use clap::error::ErrorKind;
 use clap::{Arg, ArgAction, ArgMatches, Command};
 use program_version::VERSION;
-use spool_runtime::{GREATEST_SIZE, LEAST_SIZE, WordsFault, words_fault};
+use spool_runtime::{GREATEST_SIZE, LEAST_SIZE, WordsFault, mistake, parse};
 use std::alloc::{AllocError, Global};
 use std::convert::AsStr;
 
@@ -47,24 +46,11 @@ pub fn read_words<'a, S: AsStr>(alloc: Global, words: &'a [S]) -> Result<Asked<'
     };
     match task_of(alloc, &matches) {
         Ok(Some(asked)) => Ok(asked),
-        Ok(None) => Err(no_task(&mut command)),
+        Ok(None) => Err(mistake(
+            &mut command,
+            "expected `look DIR`, `grow DIR BYTES` or `split DIR INTO QUEUE..`",
+        )),
         Err(_) => Err(WordsFault::Memory),
-    }
-}
-
-// Returns the values that clap finds in the words.
-fn parse<'a, S: AsStr>(
-    command: &mut Command<'a>,
-    words: &'a [S],
-) -> Result<ArgMatches<'a>, WordsFault>
-    requires { app_of command.old ≡ admin_app }
-    ensures found { IfOk result (λ m. rows_of (found_of m) ≡ matches_of admin_app (map S.text words.entry.now)) }
-    ensures taken { MatchResult result (λ _. AreFaultless (map S.text words.entry.now))
-        (RefusesOnly (AreFaultless (map S.text words.entry.now))) }
-{
-    match command.try_get_matches_from_mut(words) {
-        Ok(matches) => Ok(matches),
-        Err(error) => Err(words_fault(error)),
     }
 }
 
@@ -219,15 +205,4 @@ fn more_words<'a>(alloc: Global) -> Arg<'a>
         .help(
             "For `grow`, the new size of the file in bytes. For `split`, the folder of the new spool and the names of the queues",
         )
-}
-
-// Returns the error for values that are not those of a task, in clap's form.
-fn no_task(command: &mut Command<'_>) -> WordsFault {
-    match command.error(
-        ErrorKind::ValueValidation,
-        "expected `look DIR`, `grow DIR BYTES` or `split DIR INTO QUEUE..`",
-    ) {
-        Ok(error) => WordsFault::Refused(error),
-        Err(_) => WordsFault::Memory,
-    }
 }

@@ -1,12 +1,8 @@
 -- The change over to the other area.
-use Rattle.std.specs.Prelude.{◌≡◌, ◌⊎◌, ℕ, ◌+◌, ◌-◌, ◌<◌, ◌≤◌, ◌^◌, List, [], ◌∷◌, Bool, true, false, ◌&&◌, Some, IsSome, Result, Ok, Err, length, map, take, drop, slice_index_or, nat_le, ◌==◌, if◌then◌else◌}
-use Rattle.std.specs.declared.vec.Vec.{Vec}
-use Rattle.std.specs.declared.alloc.Global.{Global}
-use Rattle.std.specs.List.{AllByRecursion}
+use Rattle.std.specs.Prelude.{◌≡◌, ◌⊎◌, ℕ, ◌+◌, ◌-◌, ◌<◌, List, [], ◌∷◌, Bool, true, false, ◌&&◌, Some, IsSome, Result, Ok, Err, length, take, drop, slice_index_or, nat_le, ◌==◌, if◌then◌else◌}
 use Rattle.spool_disk.specs.Disk.{DiskView, IsOldOutside, IsSynced, LeavesOnly}
 use Rattle.gate_journal.specs.Appends.{kept_room}
 use Rattle.gate_journal.specs.Entries.{open_gate}
-use Rattle.gate_journal.specs.Frame.{payload_of}
 use Rattle.spool_areas.specs.declared.fault.AreaFault.{AreaFault}
 use Rattle.spool_areas.specs.declared.fault.AreaFault.TheVariants.{Dead, EpochEnd, Full}
 use Rattle.spool_areas.specs.Header.{header_len, header_at, header_behind_gate, newest_version, is_open, epoch_of}
@@ -55,22 +51,6 @@ IsClosedOrOlder base other bytes =
 abbrev pub HasOldOrNew : ℕ → ℕ → List (List ℕ) → ℕ → List (List ℕ) → List ℕ → Type 0
 HasOldOrNew base version old other new bytes =
     HasVersionAndPayloads base version old bytes ⊎ HasVersionAndPayloads other newest_version new bytes
-
--- Each row is passed as a frame: four free bytes, the payload and one free byte.
-abbrev pub frames_of : List (Vec ℕ Global) → List (List ℕ)
-frames_of rows = map (λ row. row.items) rows
-
-abbrev pub IsFrame : List ℕ → Type 0
-IsFrame frame = (5 ≤ length frame) × (length frame < 2 ^ 32)
-
-abbrev pub AreFrames : List (List ℕ) → Type 0
-AreFrames frames = AllByRecursion IsFrame frames
-
-abbrev pub payloads_in : List (List ℕ) → List (List ℕ)
-payloads_in frames = map payload_of frames
-
-abbrev pub lengths_in : List (List ℕ) → List ℕ
-lengths_in frames = map (λ frame. length frame - 5) frames
 
 -- The images of a crash while a gate is being closed: nothing has changed, or the gate was open and is any byte.
 abbrev pub IsClosing : {D : Type 0} → DiskView D → D → ℕ → List ℕ → Type 0

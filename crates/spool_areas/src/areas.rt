@@ -7,11 +7,11 @@ ghost use Rattle.spool_areas.specs.Header.{header_len, IsVersion};
 ghost use Rattle.spool_areas.specs.AreaFields.{IsArea};
 ghost use Rattle.spool_areas.specs.AreaAppends.{AreaAppends};
 ghost use Rattle.spool_areas.specs.Current.{KeepsPayloads};
-ghost use Rattle.spool_areas.specs.Checkpoint.{plan_of, frames_of, AreFrames, payloads_in, lengths_in, area_len, other_base, IsChanged, ChangesOver};
+ghost use Rattle.spool_areas.specs.Checkpoint.{plan_of};
 
-use crate::checkpoint::{change_over, have_room, rows_have_room};
 use crate::fault::{AreaFault, ReadFault};
-use crate::header::{HEADER_LEN, LAST_EPOCH, NEWEST_VERSION};
+use crate::header::{HEADER_LEN, LAST_EPOCH};
+use crate::room::have_room;
 use gate_journal::{Journal, JournalFault, Window};
 use spool_disk::Disk;
 use std::marker::Model;
@@ -139,64 +139,6 @@ impl<D: Disk> Areas<D> {
             Ok(self.len + HEADER_LEN)
         } else {
             Ok(HEADER_LEN)
-        }
-    }
-
-    /// Writes the rows into the other area and makes it current, with the next epoch and version 2, in three parts: the
-    /// gate of its header is closed if it reads open; the rest of the header and the records of the rows are written;
-    /// and that gate is opened. Each row is a frame, as in `append`.
-    pub fn checkpoint(&mut self, rows: &mut [Vec<u8>]) -> Result<(), AreaFault>
-        requires frames { AreFrames (frames_of rows.old) }
-
-        // The first three errors are those of a plan for rows of these lengths. Nothing has changed then.
-        ensures refused { (fault : AreaFault) → fault ≢ AreaFault.Disk →
-            (IsErrOf result fault ↔ (plan_of self.old (lengths_in (frames_of rows.old)) ≡ Err fault)) }
-        ensures untouched { (fault : AreaFault) → fault ≢ AreaFault.Disk → IsErrOf result fault → self.new ≡ self.old }
-        ensures blames { Blames (D.device.failures self.old.disk) (D.device.failures self.new.disk) (IsErrOf result AreaFault.Disk) }
-        ensures dies { IsTrue self.new.dead ↔ (IsTrue self.old.dead ⊎ IsErrOf result AreaFault.Disk) }
-        ensures changed { OnOk result (IsChanged self.old (payloads_in (frames_of rows.old)) self.new) }
-        ensures held { OnErr result ((self.new.base ≡ self.old.base) × (self.new.end ≡ self.old.end) × (self.new.epoch ≡ self.old.epoch) × (self.new.gate ≡ self.old.gate) × (self.new.version ≡ self.old.version)) }
-
-        // The bytes of the old area do not change, and a disk that reports nothing still reports nothing.
-        ensures changes { ChangesOnly D.device self.old.disk self.new.disk (other_base self.old) (area_len self.old) }
-
-        // If each image has these payloads and no others, each has the rows and no others after the call. A crash
-        // leaves the payloads in their version until the new header is opened, and after that these, or the rows in
-        // version 2.
-        ensures added { OnOk result ((payloads : List (List ℕ)) →
-            KeepsPayloads D.device self.old payloads → KeepsPayloads D.device self.new (payloads_in (frames_of rows.old))) }
-        ensures durable { OnOk result (IsSynced D.device self.new.disk) }
-        ensures any_moment { (payloads : List (List ℕ)) → KeepsPayloads D.device self.old payloads →
-            ChangesOver D.device self.old.disk self.new.disk self.old.base self.old.version payloads (other_base self.old) (payloads_in (frames_of rows.old)) }
-    {
-        let first = self.plan_rows(rows)?;
-        let other = first - HEADER_LEN;
-        self.window.clear();
-        match change_over(&mut self.disk, other, self.len, self.epoch + 1, rows) {
-            Ok(journal) => {
-                self.base = other;
-                self.epoch += 1;
-                self.version = NEWEST_VERSION;
-                self.journal = journal;
-                Ok(())
-            }
-            Err(_) => {
-                self.dead = true;
-                Err(AreaFault::Disk)
-            }
-        }
-    }
-
-    /// Returns the same for the payloads of these frames.
-    pub fn plan_rows(&self, rows: &[Vec<u8>]) -> Result<u64, AreaFault>
-        requires { AreFrames (frames_of rows.now) }
-        ensures { result ≡ plan_of self.now (lengths_in (frames_of rows.now)) }
-    {
-        let first = self.other_gate()?;
-        if rows_have_room(first - HEADER_LEN + self.len, first, rows) {
-            Ok(first)
-        } else {
-            Err(AreaFault::Full)
         }
     }
 

@@ -10,7 +10,7 @@
 //! (`other_header`), and the remaining bytes of the other area have no meaning.
 //!
 //! Areas of both versions have the same layout and are read in the same way. The version determines how callers decode the
-//! payloads (`known_version`, `Areas::version`). Version 1 is never written: `make` and `checkpoint` write version 2. An area of
+//! payloads (`known_version`, `Areas::version`). Version 1 is never written: `make` and a checkpoint write version 2. An area of
 //! version 1 remains one until the first checkpoint. `HasPayloads` does not state the version, because the payloads do not
 //! depend on it. Clauses about images include the version (`HasVersionAndPayloads`).
 //!
@@ -33,18 +33,16 @@
 //!   others (`KeepsPayloads`). After Ok every image has the old payloads and this one (`added`), and nothing is unsynced
 //!   (`durable`). A crash at any moment of the call leaves the old payloads, or these and this one (`any_moment`,
 //!   `HasBeforeOrAfter`), whatever the call returns. The version, the base and the epoch do not change.
-//! - [`Areas::checkpoint`] writes rows into the other area and makes it current. After Ok every image has these rows and no
-//!   others, with the next epoch and version 2 (`added`, `changed`), and nothing is unsynced (`durable`). A crash during the call
-//!   leaves the old payloads in their version until the new header is opened. After that it leaves these, or the rows in version
-//!   2, whatever the call returns (`any_moment`). The bytes of the old area do not change (`changes`). [`Areas::plan`] returns
-//!   where the rows will be, or the error.
-//! - The same can be done in steps, so that the caller need not have all rows in memory. [`Areas::plan_by_sum`] returns from the
-//!   sum of the records' lengths whether the rows fit (`exact`, `fits`). [`Areas::begin`] closes the header of the other area and
+//! - A checkpoint writes rows into the other area and makes it current, in steps, so that the caller need not have all rows in
+//!   memory. [`Areas::plan`] returns from the lengths of the rows where they will be, or the error, and [`Areas::plan_by_sum`]
+//!   does so from the sum of the records' lengths (`exact`, `fits`). [`Areas::begin`] closes the header of the other area and
 //!   writes the rest of the header. [`Areas::add_row`] adds a row to a block in memory, which is written as soon as it is long
-//!   enough. [`Areas::write_rows`] writes the rest of the block. [`Areas::open_other`] opens the header, and then every image has
-//!   the rows (`added`, `changed`), and nothing is unsynced (`durable`). `Fills` describes the state between the steps: each step
-//!   preserves it (`begun`, `added`), and so do reads ([`filling_law`]). A crash leaves the old payloads until that header is
-//!   opened. After that it leaves these, or the rows, whatever the steps return (`any_moment`).
+//!   enough. [`Areas::write_rows`] writes the rest of the block. [`Areas::open_other`] opens the header. Then every image has
+//!   these rows and no others, with the next epoch and version 2 (`added`, `changed`), and nothing is unsynced (`durable`).
+//!   `Fills` describes the state between the steps: each step preserves it (`begun`, `added`), and so do reads
+//!   ([`filling_law`]). A crash leaves the old payloads in their version until the new header is opened. After that it leaves
+//!   these, or the rows in version 2, whatever the steps return (`any_moment`). The bytes of the old area do not change
+//!   (`changes`).
 //! - [`Areas::read_extent`] reads bytes of the current area after its header (`behind`, `inside`), and returns what the disk
 //!   reports (`data`). It changes nothing (`keeps`).
 //!
@@ -85,7 +83,6 @@
 #![tactic(auto)]
 
 mod areas;
-mod checkpoint;
 mod fault;
 mod filling;
 mod header;
@@ -93,6 +90,7 @@ mod law;
 mod making;
 mod opening;
 mod records;
+mod room;
 
 pub use areas::Areas;
 pub use extents::Extent;

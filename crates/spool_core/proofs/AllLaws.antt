@@ -22,7 +22,8 @@ use Rattle.job_table.specs.Listing.{head_of, job_rows, listing}
 use Rattle.documents.specs.Documents.{joined}
 use Rattle.documents.specs.Placed.{placed_pieces}
 use Rattle.spool_core.specs.Checkpointing.{MayBeListed, blank, blank_rows}
-use Rattle.spool_core.specs.ListingFilling.{Filling, next_place, records_len, rows_of, lying, AreAlike, HasMoveRoom, MayFill, IsFillingOn, AddsRows, TellsBut, IsDue, IsDocumentAdded, IsDocumentNoted, AreJobsAdded, AreJobsNoted, IsListingAdded, AreDocumentsNoted}
+use Rattle.listing_rows.specs.RowFilling.{Filling, next_place, records_len, MayFill, IsFillingOn, AddsRows}
+use Rattle.spool_core.specs.ListingFilling.{rows_of, lying, AreAlike, HasMoveRoom, TellsBut, IsDue, IsDocumentAdded, IsDocumentNoted, AreJobsAdded, AreJobsNoted, IsListingAdded, AreDocumentsNoted}
 use Rattle.spool_core.specs.SpoolFields.{DocumentsLieIn}
 use Rattle.spool_core.specs.OpenSpools.{len_found}
 use Rattle.spool_core.proofs.AddLaws.{records_more, may_more, may_first, may_as, tells_on, then_adds, none_adds}

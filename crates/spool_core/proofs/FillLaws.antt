@@ -1,6 +1,6 @@
 -- Rows in a block, and their length in bytes.
 use Rattle.spool_types.specs.declared.version.Version.TheVariants.{Two}
-use Rattle.std.proofs.Common.{◌≡◌, ℕ, zero, suc, ◌+◌, ◌-◌, ◌*◌, ◌/◌, ◌^◌, ◌<◌, ◌≤◌, List, [], ◌∷◌, ◌++◌, length, take, drop, map, min, replicate, sym, ap, ◌∙◌, arith, append_assoc, length-append, length-drop}
+use Rattle.std.proofs.Common.{◌≡◌, ℕ, zero, suc, ◌+◌, ◌-◌, ◌*◌, ◌/◌, ◌^◌, ◌≤◌, List, [], ◌∷◌, ◌++◌, length, take, drop, map, min, replicate, sym, ap, ◌∙◌, arith, append_assoc, length-append, length-drop}
 use Rattle.std.specs.Prelude.{vec_capacity}
 use Rattle.std.proofs.lemmas.List.{append-nil, drop_all, length-take, length-take-le, length-replicate, take_at}
 use Rattle.std.specs.Int.{w32, to_be_bytes}
@@ -18,19 +18,10 @@ use Rattle.event_codec.specs.RowSpelling.{row_spelling, IsRowSpellable}
 use Rattle.job_table.specs.DocumentLengths.{document_len}
 use Rattle.job_table.specs.Listing.{parts, pieces}
 use Rattle.spool_core.specs.Checkpointing.{blank_rows}
-use Rattle.spool_core.specs.ListingFilling.{free_head, records_len, IsPut}
+use Rattle.listing_rows.specs.RowFilling.{free_head, records_len, IsPut}
 use Rattle.spool_core.specs.Measuring.{IsSumMore}
-use Rattle.spool_core.proofs.AddLaws.{own_len, put_long, records_more}
-
--- A row's encoding after a free head.
-pub is_put : (row : Row) (old mid new : Vec ℕ Global) (start : ℕ) → start ≡ length old.items → mid.items ≡ old.items ++ free_head → new.items ≡ mid.items ++ row_spelling Two row
-    → vec_capacity old ≤ vec_capacity new → length (row_spelling Two row) < 2 ^ 19 → IsPut row old new start
-is_put row old mid new start at head spelled spare short = record {
-  at = at;
-  put = spelled ∙ ap (λ (l : List ℕ). l ++ row_spelling Two row) head ∙ append_assoc old.items free_head (row_spelling Two row);
-  spare = spare;
-  short = short;
-}
+use Rattle.listing_rows.proofs.RowLaws.{own_len, put_long}
+use Rattle.spool_core.proofs.AddLaws.{records_more}
 
 same_front : (job : ℕ) (part bytes : List ℕ) → length part ≡ length bytes → row_spelling Two (Piece job part) ≡ front_of 0x43 job bytes ++ part
 same_front job part bytes same = ap (λ (n : ℕ). 0x43 ∷ (to_be_bytes w32 job ++ to_be_bytes w32 n) ++ part) same

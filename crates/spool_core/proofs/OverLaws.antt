@@ -18,8 +18,10 @@ use Rattle.spool_areas.specs.declared.fault.AreaFault.{AreaFault}
 use Rattle.spool_areas.specs.declared.fault.AreaFault.TheVariants as areas
 use Rattle.event_codec.specs.RowSpelling.{row_spelling}
 use Rattle.job_table.specs.Contents.{Contents}
-use Rattle.spool_core.specs.ListingFilling.{Filling, filling, records_len, IsChangeOf, MayFill, IsFillingOn, IsListing, IsListingAdded, LeavesListing, LeavesOld, IsFilledOver}
-use Rattle.spool_core.proofs.AddLaws.{change_on, fault_disk, lives_on, may_as, may_more, tells_all, tells_by}
+use Rattle.listing_rows.specs.RowFilling.{Filling, filling, records_len, IsChangeOf, MayFill, IsFillingOn}
+use Rattle.spool_core.specs.ListingFilling.{IsListing, IsListingAdded, LeavesListing, LeavesOld, IsFilledOver}
+use Rattle.listing_rows.proofs.RowLaws.{fault_disk, lives_on}
+use Rattle.spool_core.proofs.AddLaws.{change_on, may_as, may_more, tells_all, tells_by}
 use Rattle.spool_core.proofs.ImageLaws.{area_on}
 
 -- Fields of areas that do not change if the areas are not changed over.

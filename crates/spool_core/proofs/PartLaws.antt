@@ -24,7 +24,8 @@ use Rattle.documents.specs.Placed.{placed_pieces}
 use Rattle.documents.proofs.Moved.{spells_pieces}
 use Rattle.documents.proofs.Placed.{one_more}
 use Rattle.spool_core.specs.Checkpointing.{blank_rows}
-use Rattle.spool_core.specs.ListingFilling.{Filling, next_place, records_len, IsAlike, AreAlike, MayFill, IsFillingOn, AddsRows, TellsBut, IsPieceAdded, IsPieceNoted, IsDocumentAdded, IsDocumentNoted, IsDue}
+use Rattle.listing_rows.specs.RowFilling.{Filling, next_place, records_len, MayFill, IsFillingOn, AddsRows}
+use Rattle.spool_core.specs.ListingFilling.{IsAlike, AreAlike, TellsBut, IsPieceAdded, IsPieceNoted, IsDocumentAdded, IsDocumentNoted, IsDue}
 use Rattle.spool_core.proofs.AddLaws.{records_more, may_more, may_first, may_as, tells_on, then_adds}
 use Rattle.spool_core.proofs.FoldLaws.{with_placed_is}
 use Rattle.spool_core.proofs.ListingLaws.{pieces_next}

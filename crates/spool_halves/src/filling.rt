@@ -1,5 +1,5 @@
 //! Writing the rows of a half.
-ghost use Rattle.std.specs.Prelude.{◌≡◌};
+ghost use Rattle.std.specs.Prelude.{◌≡◌, OnOk};
 ghost use Rattle.spool_disk.specs.Disk.{ChangesNothing};
 ghost use Rattle.split_rows.specs.Writing.{MayWrite};
 
@@ -23,13 +23,34 @@ pub(crate) fn write_half<S: Disk, T: Disk + Drop>(
     ensures still { ChangesNothing S.device whole.old.disk whole.new.disk }
 {
     let mut writing = begin(alloc, disk)?;
+    match put_half(alloc, &mut writing, whole, half) {
+        Ok(()) => writing.finish(),
+        Err(fault) => {
+            drop(writing);
+            Err(fault)
+        }
+    }
+}
+
+// Adds the rows of the half, with the documents.
+fn put_half<S: Disk, T: Disk + Drop>(
+    alloc: Global,
+    writing: &mut Writing<T>,
+    whole: &mut Spool<S>,
+    half: Half<'_>,
+) -> Result<(), HalfFault>
+    requires may { MayWrite writing.old.areas writing.old.filler writing.old.end }
+    ensures may { OnOk result (MayWrite writing.new.areas writing.new.filler writing.new.end) }
+    ensures state { whole.new.state ≡ whole.old.state }
+    ensures still { ChangesNothing S.device whole.old.disk whole.new.disk }
+{
     writing.put_row(&Row::Head(whole.table().head()))?;
-    put_queues(&mut writing, half, whole.table().queues())?;
+    put_queues(writing, half, whole.table().queues())?;
     let jobs = jobs_of(alloc, half, whole.table().jobs())?;
     for job in jobs.iter() {
-        put_job(alloc, &mut writing, whole, *job)?;
+        put_job(alloc, writing, whole, *job)?;
     }
-    writing.finish()
+    Ok(())
 }
 
 // Adds the rows of the half's queues.
@@ -38,8 +59,8 @@ fn put_queues<T: Disk + Drop>(
     half: Half<'_>,
     queues: &[QueueRow],
 ) -> Result<(), HalfFault>
-    requires may { MayWrite writing.old.areas writing.old.gate writing.old.end }
-    ensures may { MayWrite writing.new.areas writing.new.gate writing.new.end }
+    requires may { MayWrite writing.old.areas writing.old.filler writing.old.end }
+    ensures may { OnOk result (MayWrite writing.new.areas writing.new.filler writing.new.end) }
 {
     for queue in queues {
         if half.takes(&queue.name) {
@@ -67,8 +88,8 @@ fn put_job<S: Disk, T: Disk + Drop>(
     whole: &mut Spool<S>,
     job: JobId,
 ) -> Result<(), HalfFault>
-    requires may { MayWrite writing.old.areas writing.old.gate writing.old.end }
-    ensures may { MayWrite writing.new.areas writing.new.gate writing.new.end }
+    requires may { MayWrite writing.old.areas writing.old.filler writing.old.end }
+    ensures may { OnOk result (MayWrite writing.new.areas writing.new.filler writing.new.end) }
     ensures state { whole.new.state ≡ whole.old.state }
     ensures still { ChangesNothing S.device whole.old.disk whole.new.disk }
 {
@@ -90,8 +111,8 @@ fn put_piece<T: Disk + Drop>(
     job: JobId,
     piece: &[u8],
 ) -> Result<(), HalfFault>
-    requires may { MayWrite writing.old.areas writing.old.gate writing.old.end }
-    ensures may { MayWrite writing.new.areas writing.new.gate writing.new.end }
+    requires may { MayWrite writing.old.areas writing.old.filler writing.old.end }
+    ensures may { OnOk result (MayWrite writing.new.areas writing.new.filler writing.new.end) }
 {
     match Piece::new(piece.to_vec(alloc)?) {
         Ok(bytes) => writing.put_row(&Row::Piece { job, bytes }),

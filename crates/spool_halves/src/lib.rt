@@ -20,8 +20,8 @@
 //!
 //! # Not proved
 //!
-//! - That `list_half` never returns `Disk` on a sound disk, which means that the rows read back are those written. Of the writer
-//!   it is only proved that it may call the steps of a checkpoint. Tests show the rest.
+//! - That `list_half` never returns `Disk` on a sound disk, which means that the rows read back are those of the half. Of the
+//!   writer it is proved that each row that it is given is added (`Writing::put_queue`, `added`). Tests show the rest.
 //! - That `list_half` succeeds: a body that always returns a fault meets its clauses.
 //!
 //! # How it works

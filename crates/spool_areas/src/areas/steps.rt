@@ -10,10 +10,10 @@ ghost use Rattle.spool_areas.specs.Checkpoint.{last_epoch, plan_of, area_len, ot
 ghost use Rattle.spool_areas.specs.AreaFilling.{Change, Fills, change_at, block_len, sum_of};
 
 use super::Areas;
-use crate::checkpoint::have_room_by_sum;
 use crate::fault::AreaFault;
 use crate::filling::{begin_area, fill_head, open_area, write_block};
 use crate::header::{HEADER_LEN, NEWEST_VERSION};
+use crate::room::have_room_by_sum;
 use gate_journal::Journal;
 use spool_disk::Disk;
 

@@ -7,14 +7,15 @@ ghost use Rattle.job_table.specs.Contents.{AreSized, HasNoMoves, HasOwnPlaces};
 ghost use Rattle.job_table.specs.Legal.{IsLegal};
 ghost use Rattle.spool_core.specs.Image.{HasInEitherVersion, HasTable, HasDocuments};
 ghost use Rattle.spool_core.specs.SpoolFields.{open_spool_at, IsOpenSpoolAt};
-ghost use Rattle.spool_core.specs.ListingFilling.{block_room, HasMoveRoom};
+ghost use Rattle.listing_rows.specs.RowFilling.{block_room};
+ghost use Rattle.spool_core.specs.ListingFilling.{HasMoveRoom};
 ghost use Rattle.spool_core.specs.Checkpointing.{HasEpoch, IsCheckpoint, IsCheckpointed, blank, fault_for, listed_payloads};
 
-use super::block::BLOCK_ROOM;
 use super::filling::fill_other;
 use super::measuring::listing_len;
 use super::{CheckpointFault, Spool};
 use job_table::Table;
+use listing_rows::BLOCK_ROOM;
 use spool_areas::{AreaFault, Areas};
 use spool_disk::Disk;
 use std::alloc::{AllocError, Global};

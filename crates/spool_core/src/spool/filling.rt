@@ -20,21 +20,15 @@ ghost use Rattle.documents.specs.Documents.{joined, LieIn};
 ghost use Rattle.spool_core.specs.Checkpointing.{blank, blank_rows, MayBeListed};
 ghost use Rattle.spool_core.specs.SpoolFields.{DocumentsLieIn, IsOpenSpoolAt};
 ghost use Rattle.spool_core.specs.OpenSpools.{len_at};
-ghost use Rattle.spool_core.specs.ListingFilling.{block_room, filling, filling_at, next_place, IsPut, records_len, HasMoveRoom, MayFill, IsFillingOn, IsReadOn, AddsRows, TellsBut, IsPieceAdded, IsPieceNoted, IsDue, IsDocumentAdded, IsDocumentNoted, AreJobsAdded, AreJobsNoted, IsListingAdded, AreDocumentsNoted, IsFilledOver};
+ghost use Rattle.listing_rows.specs.RowFilling.{block_room, filling, filling_at, next_place, IsPut, records_len, MayFill, IsFillingOn, AddsRows};
+ghost use Rattle.spool_core.specs.ListingFilling.{HasMoveRoom, IsReadOn, TellsBut, IsPieceAdded, IsPieceNoted, IsDue, IsDocumentAdded, IsDocumentNoted, AreJobsAdded, AreJobsNoted, IsListingAdded, AreDocumentsNoted, IsFilledOver};
 
-use super::block::{PIECE_HEAD, put_head, put_job, put_piece, put_queue};
 use documents::read_joined;
 use job_table::{Table, document_len, listings_are_loaded};
+use listing_rows::{Filler, PIECE_HEAD, end_record, put_head, put_job, put_piece, put_queue};
 use spool_areas::{AreaFault, Areas, ReadFault};
 use spool_disk::Disk;
 use spool_types::{JobId, LONGEST_SEND, QueueRow};
-
-// Rows that are not written yet, and the position of their records in the area.
-#[derive(Drop)]
-struct Filler {
-    gate: u64,
-    block: Vec<u8>,
-}
 
 /// Lists a table in the other area, and makes that area the current one. Notes the new places of the documents in the table.
 /// Allocates nothing: the block has room for all bytes that are written at once.
@@ -249,26 +243,4 @@ fn read_piece<D: Disk>(
         Some(row) => read_joined(areas, &row.document, at as u64, into),
         None => unreachable!(),
     }
-}
-
-// Ends the record that begins at this index of the block. If the block is long enough, writes all of it.
-fn end_record<D: Disk>(
-    areas: &mut Areas<D>,
-    filler: &mut Filler,
-    start: usize,
-) -> Result<(), AreaFault>
-    requires alive { areas.old.dead ≡ false }
-    requires whole { start + 5 ≤ length filler.old.block.items }
-    requires short { length filler.old.block.items < 2 ^ 32 }
-    requires spare { vec_len filler.old.block + 1 ≤ vec_capacity filler.old.block }
-    requires behind { other_base areas.old + header_len ≤ filler.old.gate }
-    requires room { filler.old.gate + length filler.old.block.items + 1 ≤ other_base areas.old + area_len areas.old }
-
-    ensures on { IsFillingOn D.device (filling areas.old filler.old.gate (take start filler.old.block.items)) (filling_at areas.new filler.new) result }
-    ensures added { OnOk result ((row : RowOf) → drop (start + 5) filler.old.block.items ≡ row_spelling Two row → IsRowSpellable Two row →
-        AddsRows D.device (row ∷ []) (filling areas.old filler.old.gate (take start filler.old.block.items)) (filling_at areas.new filler.new)) }
-    ensures spare { vec_capacity filler.old.block ≤ vec_capacity filler.new.block }
-{
-    filler.gate = areas.add_row(filler.gate, &mut filler.block, start)?;
-    Ok(())
 }

@@ -11,10 +11,10 @@ ghost use Rattle.event_codec.specs.RowSpelling.{row_spelling};
 ghost use Rattle.spool_core.specs.Checkpointing.{blank, blank_rows, listed_payloads};
 ghost use Rattle.spool_core.specs.Measuring.{IsSumMore};
 
-use super::block::PIECE_HEAD;
 use event_codec::{encode_job_onto, encode_queue_onto};
 use job_rows::Rows;
 use job_table::{Table, document_len};
+use listing_rows::PIECE_HEAD;
 use spool_types::{Job, LONGEST_SEND, QueueRow};
 use std::alloc::AllocError;
 

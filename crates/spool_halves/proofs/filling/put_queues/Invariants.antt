@@ -3,4 +3,4 @@ use Rattle.split_rows.specs.Writing.{MayWrite}
 use Rattle.spool_halves.proofs.filling.put_queues.Given as goal
 
 abbrev pub invariant-loop-queue : goal.invariant-loop-queue
-invariant-loop-queue g l = MayWrite l.writing.areas l.writing.gate l.writing.end
+invariant-loop-queue g l = MayWrite l.writing.areas l.writing.filler l.writing.end

@@ -9,9 +9,11 @@ use Rattle.job_table.specs.DocumentLengths.{document_len}
 use Rattle.job_table.specs.Listing.{pieces}
 use Rattle.job_table.specs.Over.{is_over_by}
 use Rattle.documents.specs.Documents.{LieIn}
-use Rattle.spool_core.specs.ListingFilling.{filling_at, MayFill, TellsBut, IsPieceAdded, IsPieceNoted}
+use Rattle.listing_rows.specs.RowFilling.{filling_at, MayFill}
+use Rattle.spool_core.specs.ListingFilling.{TellsBut, IsPieceAdded, IsPieceNoted}
 use Rattle.spool_core.specs.OpenSpools.{len_found}
-use Rattle.spool_core.proofs.AddLaws.{end_room, end_short, end_spare, end_whole, err_on, may_first, put_adds, put_back, put_on, then_on}
+use Rattle.listing_rows.proofs.RowLaws.{end_room, end_short, end_spare, end_whole, err_on, put_adds, put_back, put_on}
+use Rattle.spool_core.proofs.AddLaws.{may_first, then_on}
 use Rattle.spool_core.proofs.ListedLaws.{lying_long}
 use Rattle.spool_core.proofs.PartLaws.{IsPartAdded, due_row, lives_here, part_begun, part_next, part_noted, part_whole, piece_may, room_there}
 use Rattle.spool_core.proofs.ReadOn.{told_size}

@@ -3,7 +3,7 @@ use Rattle.std.proofs.Common.{◌≡◌, ◌≤◌, ◌-◌, Some, Ok, vec_capac
 use Rattle.spool_types.specs.State.{Job, job_at}
 use Rattle.job_table.specs.Contents.{places_at}
 use Rattle.job_table.specs.DocumentLengths.{document_len}
-use Rattle.spool_core.specs.ListingFilling.{filling_at, IsFillingOn}
+use Rattle.listing_rows.specs.RowFilling.{filling_at, IsFillingOn}
 use Rattle.spool_core.proofs.PartLaws.{IsPartAdded}
 use Rattle.spool_core.proofs.spool.filling.add_job.Given as goal
 

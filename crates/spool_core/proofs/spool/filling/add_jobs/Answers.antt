@@ -8,8 +8,10 @@ use Rattle.spool_types.specs.declared.rows.JobRow.{JobRow}
 use Rattle.job_table.specs.Contents.{places_of}
 use Rattle.spool_core.specs.Checkpointing.{blank_rows}
 use Rattle.std.specs.List.{flat_map}
-use Rattle.spool_core.specs.ListingFilling.{filling_at, IsDue, IsDocumentAdded}
-use Rattle.spool_core.proofs.AddLaws.{err_on, lie_on, none_on, then_on}
+use Rattle.listing_rows.specs.RowFilling.{filling_at}
+use Rattle.spool_core.specs.ListingFilling.{IsDue, IsDocumentAdded}
+use Rattle.listing_rows.proofs.RowLaws.{err_on}
+use Rattle.spool_core.proofs.AddLaws.{lie_on, none_on, then_on}
 use Rattle.spool_core.proofs.AllLaws.{some_begun, next_due, next_there, some_next, all_added, all_noted}
 use Rattle.spool_core.proofs.Numbers.{jobs_found, jobs_apart}
 use Rattle.spool_core.proofs.Walks.{row_at, past_end, not_some, sized_alike}

@@ -2,7 +2,7 @@
 use Rattle.std.proofs.Common.{◌≡◌, ◌≤◌, ℕ, Ok, vec_capacity}
 use Rattle.std.specs.Prelude.{slice_get}
 use Rattle.std.specs.FinMap as finite
-use Rattle.spool_core.specs.ListingFilling.{filling_at, IsFillingOn}
+use Rattle.listing_rows.specs.RowFilling.{filling_at, IsFillingOn}
 use Rattle.spool_core.proofs.AllLaws.{AreSomeAdded}
 use Rattle.spool_core.proofs.Walks.{jobs_left}
 use Rattle.spool_core.proofs.spool.filling.add_jobs.Given as goal

@@ -10,8 +10,9 @@ use Rattle.event_codec.specs.RowSpelling.{IsLegalRow, IsOrderedQueue}
 use Rattle.job_table.specs.Listing.{head_of}
 use Rattle.job_table.specs.Loading.{begin_loading, loaded}
 use Rattle.spool_core.specs.Checkpointing.{blank, blank_rows}
-use Rattle.spool_core.specs.ListingFilling.{filling_at, AddsRows, MayFill, next_place}
-use Rattle.spool_core.proofs.AddLaws.{end_room, end_short, end_spare, end_whole, err_on, lie_on, may_first, may_more, put_adds, put_back, put_on, then_adds, then_on}
+use Rattle.listing_rows.specs.RowFilling.{filling_at, AddsRows, MayFill, next_place}
+use Rattle.listing_rows.proofs.RowLaws.{end_room, end_short, end_spare, end_whole, err_on, put_adds, put_back, put_on}
+use Rattle.spool_core.proofs.AddLaws.{lie_on, may_first, may_more, then_adds, then_on}
 use Rattle.spool_core.proofs.AllLaws.{blank_fits, head_rows, listing_added, listing_may, listing_noted}
 use Rattle.spool_core.proofs.ListingLaws.{on_ok, told}
 use Rattle.spool_core.proofs.Numbers.{jobs_found}

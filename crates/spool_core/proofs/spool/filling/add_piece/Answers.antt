@@ -5,8 +5,9 @@ use Rattle.spool_types.specs.declared.listing.Row.TheVariants.{Piece}
 use Rattle.spool_areas.specs.declared.fault.AreaFault.TheVariants as areas
 use Rattle.documents.specs.Documents.{joined}
 use Rattle.job_table.specs.Contents.{places_at}
-use Rattle.spool_core.specs.ListingFilling.{filling_at}
-use Rattle.spool_core.proofs.AddLaws.{put_adds, put_back, put_on, read_adds, read_failed, read_then}
+use Rattle.listing_rows.specs.RowFilling.{filling_at}
+use Rattle.listing_rows.proofs.RowLaws.{put_adds, put_back, put_on}
+use Rattle.spool_core.proofs.AddLaws.{read_adds, read_failed, read_then}
 use Rattle.spool_core.proofs.FillLaws.{into_long, into_was, piece_put, piece_spellable}
 use Rattle.spool_core.proofs.ListingLaws.{on_ok}
 use Rattle.spool_core.proofs.spool.filling.add_piece.Goals as goal

@@ -4,8 +4,9 @@ use Rattle.spool_types.specs.declared.rows.QueueRow.{QueueRow}
 use Rattle.spool_types.specs.declared.listing.Row.{Row}
 use Rattle.spool_types.specs.declared.listing.Row.TheVariants.{Queue}
 use Rattle.event_codec.specs.RowSpelling.{IsOrderedQueue}
-use Rattle.spool_core.specs.ListingFilling.{block_room, filling_at, AddsRows}
-use Rattle.spool_core.proofs.AddLaws.{end_room, end_short, end_spare, end_whole, err_on, none_adds, none_on, put_adds, put_back, put_on, queue_may, then_adds, then_on}
+use Rattle.listing_rows.specs.RowFilling.{block_room, filling_at, AddsRows}
+use Rattle.listing_rows.proofs.RowLaws.{end_room, end_short, end_spare, end_whole, err_on, put_adds, put_back, put_on}
+use Rattle.spool_core.proofs.AddLaws.{none_adds, none_on, queue_may, then_adds, then_on}
 use Rattle.spool_core.proofs.ListingLaws.{all_at, queues_next}
 use Rattle.spool_core.proofs.spool.filling.add_queues.Goals as goal
 

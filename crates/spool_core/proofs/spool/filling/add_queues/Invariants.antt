@@ -1,7 +1,7 @@
 -- The rows of the first queues are added.
 use Rattle.std.proofs.Common.{◌≤◌, take, map, vec_capacity, Ok}
 use Rattle.spool_types.specs.declared.listing.Row.TheVariants.{Queue}
-use Rattle.spool_core.specs.ListingFilling.{filling_at, IsFillingOn, AddsRows}
+use Rattle.listing_rows.specs.RowFilling.{filling_at, IsFillingOn, AddsRows}
 use Rattle.spool_core.proofs.spool.filling.add_queues.Given as goal
 
 abbrev pub invariant-loop-queue : goal.invariant-loop-queue

@@ -2,8 +2,10 @@ use Rattle.std.proofs.Common.{◌≡◌, ◌+◌, ◌-◌, inr, ℕ, [], ap, len
 use Rattle.job_table.specs.Listing.{listing}
 use Rattle.spool_areas.specs.Checkpoint.{plan_of, area_len, other_base, other_of}
 use Rattle.spool_core.specs.Checkpointing.{blank}
-use Rattle.spool_core.specs.ListingFilling.{filling_at, AreDocumentsNoted}
-use Rattle.spool_core.proofs.AddLaws.{fault_disk, lie_on, lives_on, own_len}
+use Rattle.listing_rows.specs.RowFilling.{filling_at}
+use Rattle.spool_core.specs.ListingFilling.{AreDocumentsNoted}
+use Rattle.listing_rows.proofs.RowLaws.{fault_disk, lives_on, own_len}
+use Rattle.spool_core.proofs.AddLaws.{lie_on}
 use Rattle.spool_core.proofs.ImageLaws.{stands_lie}
 use Rattle.spool_core.proofs.PartLaws.{alike_records}
 use Rattle.spool_core.proofs.ListingLaws.{ok_by}

@@ -5,7 +5,7 @@ use Rattle.spool_types.specs.declared.version.Version.TheVariants.{Two}
 use Rattle.event_codec.specs.RowSpelling.{IsRowSpellable}
 use Rattle.job_table.specs.DocumentLengths.{document_len}
 use Rattle.spool_core.specs.Checkpointing.{MayBeListed}
-use Rattle.spool_core.specs.ListingFilling.{IsPut}
+use Rattle.listing_rows.specs.RowFilling.{IsPut}
 use Rattle.spool_core.proofs.ListingLaws.{legal_job}
 use Rattle.spool_core.proofs.ReadOn.{some_same}
 use Rattle.spool_core.proofs.spool.filling.put_row.Goals as goal

@@ -2,7 +2,7 @@ use Rattle.std.proofs.Common.{◌≡◌, ◌∙◌, ◌*◌, ◌/◌, ◌+◌, �
 use Rattle.spool_types.specs.declared.listing.Row.TheVariants.{Job}
 use Rattle.spool_types.specs.declared.version.Version.TheVariants.{Two}
 use Rattle.event_codec.specs.RowSpelling.{row_spelling}
-use Rattle.spool_core.proofs.AddLaws.{own_len}
+use Rattle.listing_rows.proofs.RowLaws.{own_len}
 use Rattle.spool_core.proofs.FillLaws.{sum_job}
 use Rattle.spool_core.proofs.spool.measuring.job_len.Goals as goal
 

@@ -4,7 +4,7 @@ use Rattle.spool_types.specs.declared.listing.Row.TheVariants.{Queue}
 use Rattle.spool_types.specs.declared.version.Version.TheVariants.{Two}
 use Rattle.event_codec.specs.RowSpelling.{row_spelling}
 use Rattle.spool_core.specs.Measuring.{IsSumMore}
-use Rattle.spool_core.proofs.AddLaws.{own_len}
+use Rattle.listing_rows.proofs.RowLaws.{own_len}
 use Rattle.spool_core.proofs.FillLaws.{sum_row, sum_then}
 use Rattle.spool_core.proofs.ListingLaws.{queues_next}
 use Rattle.spool_core.proofs.spool.measuring.queues_len.Goals as goal

@@ -1,0 +1,12 @@
+-- More rows may be written, and the whole spool is as before.
+use Rattle.std.proofs.Common.{◌≡◌}
+use Rattle.spool_disk.specs.Disk.{ChangesNothing}
+use Rattle.split_rows.specs.Writing.{MayWrite}
+use Rattle.spool_halves.proofs.filling.put_half.Given as goal
+
+abbrev pub invariant-loop-job : goal.invariant-loop-job
+invariant-loop-job g l = record {
+  may : MayWrite l.writing.areas l.writing.filler l.writing.end;
+  state : l.whole.state ≡ l.fn.whole.state;
+  still : ChangesNothing g.S.Disk.device l.fn.whole.disk l.whole.disk;
+}
