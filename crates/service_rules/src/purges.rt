@@ -95,7 +95,7 @@ pub fn swept_to(jobs: &[Candidate], count: usize, cursor: u32) -> u32
 fn is_purgeable(job: &Candidate) -> bool
     ensures { result ≡ is_purgeable job.now }
 {
-    job.ended && !job.runs
+    ended_jobs::is_purgeable(job.ended, job.runs)
 }
 
 /// Jobs that were checked need no further check. So the service remembers the number of the last checked job, and lowers it if a job at or

@@ -1,5 +1,5 @@
 //! A reader of standard error.
-ghost use Rattle.std.specs.Prelude.{◌≡◌, ◌≤◌, ◌-◌, ◌∷◌, ◌++◌, false, [], ℕ, List, length, take, OnOk, OnErr, IfOk, IfErr};
+ghost use Rattle.std.specs.Prelude.{◌≡◌, ◌∷◌, false, [], ℕ, List, OnOk, OnErr, IfOk, IfErr};
 ghost use Rattle.std.specs.List.{list_any};
 ghost use Rattle.stderr_lines.specs.LineEffects.{is_lf, without_cr, kept_line, line_effects};
 ghost use Rattle.stderr_lines.specs.Reports.{told_by, report_of};
@@ -9,11 +9,10 @@ ghost use Rattle.stderr_lines.specs.CurrentLine.{IsHeld};
 
 use crate::line::add_line;
 use crate::tally::Tally;
+use line_pieces::hold_piece;
 use spool_types::Effect;
 use std::alloc::{AllocError, AllocFailed, Global};
 use std::marker::Model;
-
-const LONGEST_LINE: usize = 1_023;
 
 const LINE_FEED: u8 = b'\n';
 
@@ -113,17 +112,6 @@ impl Lines {
         self.line = line;
         Ok(())
     }
-}
-
-// Appends the bytes of a piece, up to the maximum length of a line.
-fn hold_piece(line: &mut Vec<u8>, piece: &[u8]) -> Result<(), AllocError>
-    requires { length line.old.items ≤ 1023 }
-    ensures ok { OnOk result (line.new.items ≡ line.old.items ++ take (1023 - length line.old.items) piece.now) }
-    ensures err { OnErr result (line.new.items ≡ line.old.items) }
-{
-    let room = LONGEST_LINE - line.len();
-    let end = room.min(piece.len());
-    line.extend_from_slice(&piece[..end])
 }
 
 // Takes a piece byte by byte.
