@@ -36,6 +36,16 @@ numbered number slot = record { attempt = slot.attempt; stage = slot.stage; prog
 abbrev pub with_progress : Slot ℕ → Progress ℕ → Slot ℕ
 with_progress slot p = record slot { progress = p }
 
+-- The process group of the running child, if there is one.
+abbrev pub group_of_progress : (ℕ → ℕ) → Progress ℕ → Option ℕ
+group_of_progress groups (Ready input) = None
+group_of_progress groups (Running n) = Some (groups n)
+group_of_progress groups (Ended finish) = None
+
+abbrev pub group_in : (ℕ → ℕ) → Option (Slot ℕ) → Option ℕ
+group_in groups None = None
+group_in groups (Some slot) = group_of_progress groups slot.progress
+
 -- It has no running child.
 abbrev pub IsTicketless : Option (Slot ℕ) → Type 0
 IsTicketless None = Unit {0}

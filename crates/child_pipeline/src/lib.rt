@@ -30,8 +30,8 @@
 //!   memory loses nothing. A child with more than 16,777,216 bytes of output, or whose end is unknown, is Lost; such output is released at
 //!   once, and the standard error stays.
 //! - [`Runner::is_due`], [`Runner::is_reporting`], [`Runner::has_next`] and [`Runner::is_running`] are exact. [`Runner::group_of`] returns
-//!   a group exactly if the job's child runs (`some`, `none`). [`Runner::slot`] and [`Runner::next_job`] iterate over the slots, in
-//!   ascending order of job number.
+//!   the process group of the job's child, if one runs (`some`, `none`, `group`, by [`Children::group`]). [`Runner::slot`] and
+//!   [`Runner::next_job`] iterate over the slots, in ascending order of job number.
 //! - [`Runner::has_ended`] returns the next answer of the checks, does not wait, and leaves the slots unchanged (`slots`, `looks`).
 //!   [`Children::start_room`] changes nothing in the trace, and nothing bounds the starts of children that report (`told`, `always`); other
 //!   children say how many may be started (`rooms`, `answer`).
@@ -67,7 +67,6 @@
 #![tactic(auto)]
 
 mod children;
-mod groups;
 mod laws;
 mod memory;
 mod none;
@@ -78,7 +77,6 @@ mod runner;
 mod texts;
 
 pub use children::Children;
-pub use groups::Grouped;
 pub use laws::{right_input, tickets_stay};
 pub use memory::{MemChildren, MemTicket};
 pub use none::{NoChildren, NoTicket};

@@ -4,7 +4,6 @@ ghost use Rattle.child_pipeline.specs.ChildTraces.{Starts, Looks};
 ghost use Rattle.child_pipeline.specs.declared.none.NoTicket.{NoTicket as NoTicketValue};
 
 use crate::children::Children;
-use crate::groups::Grouped;
 use crate::order::{ChildFault, Finish, Order};
 
 /// Children that never start and report nothing.
@@ -15,18 +14,14 @@ pub struct NoChildren;
 #[derive(Drop)]
 pub struct NoTicket;
 
-impl Grouped for NoTicket {
-    fn group(&self) -> u32 {
-        0
-    }
-}
-
 impl Children for NoChildren {
     type Ticket = NoTicket;
 
     ghost tells = { λ _. None };
 
     ghost number = { λ _. 0 };
+
+    ghost groups = { λ _. 0 };
 
     ghost rooms = { λ _ start_room _. start_room ≡ None };
 
@@ -47,6 +42,10 @@ impl Children for NoChildren {
         ensures ended { result ≡ true }
     {
         true
+    }
+
+    fn group(_ticket: &NoTicket) -> u32 {
+        0
     }
 
     // A start fails without using any resource.

@@ -3,12 +3,11 @@ ghost use Rattle.std.specs.Prelude.{◌≡◌, ◌&&◌, ◌==◌, false, nat_lt
 ghost use Rattle.std.specs.Option.{option_copied, option_map};
 ghost use Rattle.std.specs.FinMap as finite;
 ghost use Rattle.slab.specs.Slab.{Updates};
-ghost use Rattle.child_pipeline.specs.StageSlots.{numbered, begun_in, bound_behind, IsFirstStage, IsNextJob, IsReady, IsDue, IsReporting, IsTicketless, HasNext, StartsStage, FinishesStage, order_in, end_in, advanced_in, slot_in, input_in, put_progress, numbered_progress, is_ready, is_running, is_ended, IsRunning, IsEnded};
+ghost use Rattle.child_pipeline.specs.StageSlots.{numbered, begun_in, bound_behind, IsFirstStage, IsNextJob, IsReady, IsDue, IsReporting, IsTicketless, HasNext, StartsStage, FinishesStage, order_in, end_in, advanced_in, slot_in, input_in, put_progress, numbered_progress, group_in, is_ready, is_running, is_ended, IsRunning, IsEnded};
 ghost use Rattle.child_pipeline.specs.Finishes.{kept};
 ghost use Rattle.child_pipeline.specs.ChildTraces.{finish_in as finish_told, Looks};
 
 use crate::children::Children;
-use crate::groups::Grouped;
 use crate::order::{ChildFault, Finish, Input, Order};
 use crate::orders::{environment, program, words};
 use crate::reports::stage_end;
@@ -76,18 +75,6 @@ pub struct Runner<C: Children> {
     // The key of each job's slot.
     keys: BTreeMap<JobId, usize>,
     slots: Slab<Slot<C::Ticket>>,
-}
-
-impl<T: Grouped> Slot<T> {
-    // The process group of the child, if it is running.
-    fn group(&self) -> Option<u32>
-        ensures { is_some result ≡ is_running self.now.progress }
-    {
-        match &self.progress {
-            Progress::Running(ticket) => Some(ticket.group()),
-            _ => None,
-        }
-    }
 }
 
 impl<C: Children> Model for Runner<C> {
@@ -175,10 +162,11 @@ impl<C: Children> Runner<C> {
     pub fn group_of(&self, job: JobId) -> Option<u32>
         ensures some { IsSome result → IsRunning (finite.get self.now job) }
         ensures none { IsNone result → IsTicketless (finite.get self.now job) }
+        ensures group { result ≡ group_in C.groups (finite.get self.now job) }
     {
-        match self.slot(job) {
-            Some(slot) => slot.group(),
-            None => None,
+        match &self.slot(job)?.progress {
+            Progress::Running(ticket) => Some(C::group(ticket)),
+            _ => None,
         }
     }
 

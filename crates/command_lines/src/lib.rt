@@ -36,9 +36,11 @@
 //! - [`line_by_line`] and [`word_by_word`]: `commands_of` and `words_of` are defined with a bound on lines and words. These laws state them
 //!   without the bound: the first line or word, followed by the rest.
 //! - *ExactReplies*: [`push_answer`] appends the line of an [`Answer`]. [`push_jobs`] appends the lines of jobs, [`push_job`] and
-//!   [`push_queue`] a single line of a listing, and [`push_quoted`] a text in quotes.
+//!   [`push_queue`] a single line of a listing, and [`push_count`] its last line. [`push_job_as`] appends the line of a job with another
+//!   user and another title. [`push_quoted`] appends a text in quotes, and [`push_reasons`] the reasons of a queue.
 //! - [`line_feed_at`] returns the byte offset of the first line feed (`at`, `before`, `there`, `none`).
-//! - [`job_number`] returns the job number that a word states, as every command reads it.
+//! - [`job_number`], [`ranged_number`] and [`number_of`] return the number that a word states, and [`words_of`] the words of a line, as
+//!   every command reads them.
 //!
 //! # Invariants
 //!
@@ -70,5 +72,9 @@ mod words;
 pub use command::{Command, Creation, Rounds};
 pub use commands::{Commands, Wanted, line_feed_at};
 pub use laws::{line_by_line, only_line_events, word_by_word};
-pub use numbers::job_number;
-pub use reply::{Answer, push_answer, push_job, push_jobs, push_queue, push_quoted};
+pub use numbers::{job_number, number_of, ranged_number};
+pub use reply::{
+    Answer, push_answer, push_count, push_job, push_job_as, push_jobs, push_queue, push_quoted,
+    push_reasons,
+};
+pub use words::words_of;

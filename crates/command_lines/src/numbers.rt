@@ -46,8 +46,8 @@ pub fn short_number(word: &[u8]) -> Option<u16>
     u16::try_from(number_of(word)?).ok()
 }
 
-// Returns the number that a word of 1 to 13 digits states.
-fn number_of(word: &[u8]) -> Option<u64>
+/// Returns the number that a word of 1 to 13 digits states.
+pub fn number_of(word: &[u8]) -> Option<u64>
     ensures { result ≡ number_of word.now }
 {
     if word.len() <= MOST_DIGITS {

@@ -134,10 +134,23 @@ pub fn push_jobs(text: &mut Vec<u8>, rows: &Rows, now: Moment) -> Result<(), All
 pub fn push_job(text: &mut Vec<u8>, row: &Job, now: &Moment) -> Result<(), AllocError>
     ensures { OnOk result (text.new.items ≡ text.old.items ++ job_line now.now row.now) }
 {
+    push_job_as(text, row, now, row.user.as_str(), row.title.as_str())
+}
+
+/// Appends the same line with another user and another title.
+pub fn push_job_as(
+    text: &mut Vec<u8>,
+    row: &Job,
+    now: &Moment,
+    user: &str,
+    title: &str,
+) -> Result<(), AllocError>
+    ensures { OnOk result (text.new.items ≡ text.old.items ++ job_line now.now (record row.now { user = user.now; title = title.now })) }
+{
     push_head(text, row, now)?;
-    push_quoted(text, row.user.as_str())?;
+    push_quoted(text, user)?;
     push_sizes(text, row)?;
-    push_quoted(text, row.title.as_str())?;
+    push_quoted(text, title)?;
     text.push(b'\n')?;
     Ok(())
 }
@@ -197,8 +210,8 @@ fn push_rules(text: &mut Vec<u8>, row: &QueueRow) -> Result<(), AllocError>
     write!(text, "{policy} {interval} {limit} ").map_err(|_| AllocError)
 }
 
-// Appends the reasons, joined by commas.
-fn push_reasons(text: &mut Vec<u8>, reasons: &[Reason]) -> Result<(), AllocError>
+/// Appends the reasons, joined by commas, or `none`. If memory runs out, a part of them may have been appended.
+pub fn push_reasons(text: &mut Vec<u8>, reasons: &[Reason]) -> Result<(), AllocError>
     ensures { OnOk result (text.new.items ≡ text.old.items ++ reasons_word reasons.now) }
 {
     let [first, others @ ..] = reasons else {
@@ -212,8 +225,8 @@ fn push_reasons(text: &mut Vec<u8>, reasons: &[Reason]) -> Result<(), AllocError
     Ok(())
 }
 
-// Appends the line that ends a listing.
-fn push_count(text: &mut Vec<u8>, count: usize) -> Result<(), AllocError>
+/// Appends the line that ends a listing of this many rows. If memory runs out, a part of the line may have been appended.
+pub fn push_count(text: &mut Vec<u8>, count: usize) -> Result<(), AllocError>
     ensures { OnOk result (text.new.items ≡ text.old.items ++ counted_line count) }
 {
     write!(text, "ok {count}\n").map_err(|_| AllocError)

@@ -25,6 +25,7 @@ pub mod StageHistoryLaws
 pub mod JoinLaws
 pub mod RoundLaws
 pub mod WaitLaws
+pub mod HappenedLaws
 pub mod PassParts
 pub mod PrepareLaws
 pub mod ReadLaws

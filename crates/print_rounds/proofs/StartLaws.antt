@@ -14,6 +14,8 @@ use Rattle.spool_core.specs.OpenSpools.{OpenSpool}
 use Rattle.print_rounds.specs.Counts.{start_events, starting_events}
 use Rattle.print_rounds.specs.RunStates.{Answer, Starting, IsStarting, IsStartingOf, AreStartings}
 use Rattle.print_rounds.specs.Faultless.{IsBegun, AllBegun}
+use Rattle.print_rounds.specs.Happenings.{HaveHappened, happenings_of}
+use Rattle.print_rounds.specs.declared.happenings.Happening.{Happening}
 use Rattle.print_rounds.specs.RoundScript.{Play, plays, play_start, start_of}
 use Rattle.print_rounds.proofs.ReportLaws.{done_state, fault_state}
 
@@ -67,8 +69,10 @@ pub queue_count : (rows : List QueueRow) (names : List (List ℕ)) → map (λ r
 queue_count rows names are = sym (length-map rows (λ (q : QueueRow). q.name)) ∙ ap length are
 
 module _ {D : Type 0} (device : DiskView D) where
-  -- The start of the queue at a position.
+  -- The start of the queue at a position, and what happened in it.
   pub starting_at : (old : OpenSpool D) (t : State) → t ≡ old.state → (at : ℕ) (name : List ℕ) → name ≡ get_or (finite.keys t.queues) at name → (o : Option ℕ) → o ≡ next_of t name → (answer : Option Answer) (new : OpenSpool D) → IsStartingOf device old o answer new
-      → (n : List ℕ) × (n ≡ get_or (finite.keys old.state.queues) at n) × IsStarting device old (record { queue = n; answer = answer; next = new })
-  starting_at old t same at name there o next answer new start =
-      (name, there ∙ ap (λ (s : State). get_or (finite.keys s.queues) at name) same, subst (λ p. IsStartingOf device old p answer new) (next ∙ ap (λ s. next_of s name) same) start)
+      → (capacity : ℕ) (before after : List Happening) → HaveHappened capacity 1 before after (happenings_of (start_events o answer))
+      → (n : List ℕ) × (n ≡ get_or (finite.keys old.state.queues) at n) × IsStarting device old (record { queue = n; answer = answer; next = new }) × HaveHappened capacity 1 before after (happenings_of (start_events (next_of old.state n) answer))
+  starting_at old t same at name there o next answer new start capacity before after noted =
+      let is = next ∙ ap (λ s. next_of s name) same in
+      (name, there ∙ ap (λ (s : State). get_or (finite.keys s.queues) at name) same, subst (λ p. IsStartingOf device old p answer new) is start, subst (λ p. HaveHappened capacity 1 before after (happenings_of (start_events p answer))) is noted)

@@ -28,6 +28,8 @@ use Rattle.print_rounds.specs.Passes.{PassSteps, IsPass, IsPassBy, jobs_tended, 
 use Rattle.print_rounds.specs.StartLimits.{HasStartRoomFor, IsRoomWithin, left_by, room_within, rotated}
 use Rattle.print_rounds.specs.declared.start_room.TickLimits.{TickLimits}
 use Rattle.print_rounds.specs.Rounds.{HasSomeOf, HasSomeWhole, LeavesDocuments, RoundSteps, events_in, tried_in, fault_in}
+use Rattle.spool_types.specs.declared.event.Event.{Event}
+use Rattle.print_rounds.specs.Happenings.{IsPassThat, IsTickThat}
 use Rattle.print_rounds.specs.RoundTicks.{IsTickOf, IsTickAsked, Finishing, AreFinishings, count_running}
 use Rattle.print_rounds.specs.StageHistory.{keys_in, IsBegunSlot, IsHeld, IsStageCall}
 use Rattle.print_rounds.specs.declared.outcome.Round.{Round}
@@ -252,7 +254,7 @@ module _ {D : Type 0} (device : DiskView D) (laws : Laws) (tickets : TicketLaws)
             let least = min-le_right l.starts (l.most - count_running old.slots) in
             omega (arith, left, fits, before, least, more_run)
 
-    whole_tick : (limits : Option TickLimits) → IsRoomWithin limits (count_running old.slots) start_room → IsKept device old.spool → old.spool.dead ≡ false → (IsSome old.told → (first : ℕ) × (start_room ≡ room_within limits (count_running old.slots) first None)) → (result : Result Round RoundFault) → result ≡ result_of (counts_of parts.launchings parts.endings) (fault_in parts) → (tick : IsTickOf device place limits old new result) × (tick.start_room ≡ start_room)
+    whole_tick : (limits : Option TickLimits) → IsRoomWithin limits (count_running old.slots) start_room → IsKept device old.spool → old.spool.dead ≡ false → (IsSome old.told → (first : ℕ) × (start_room ≡ room_within limits (count_running old.slots) first None)) → (result : Result Round RoundFault) → result ≡ result_of (counts_of parts.launchings parts.endings) (fault_in parts) → (tick : IsTickOf device place limits old new result) × (tick.start_room ≡ start_room) × (tick.steps ≡ steps)
     whole_tick limits within kept alive always result answer = (
       record {
         start_room = start_room;
@@ -282,6 +284,7 @@ module _ {D : Type 0} (device : DiskView D) (laws : Laws) (tickets : TicketLaws)
         exact = λ fits none t documents tells has given. tick_exact device laws tickets place start_room old new steps made legal alive fits none t documents tells has given;
       },
       refl,
+      refl,
     )
 
 -- ## A tick
@@ -310,6 +313,14 @@ module _ {D : Type 0} (device : DiskView D) (lawful : IsLawful device) (laws : L
     passed_most true pass = unmoved_count limits pass.1
     passed_most false (inl unbegun) = unmoved_count limits unbegun.1
     passed_most false (inr passed) = most_run device laws tickets place start_room old new passed.steps passed.made legal lawful limits within
+
+    -- The same with what holds of the accepted events.
+    pub that_tick : (Has Told : List Event → Type 0) → ((es : List Event) → Has es → Told es) → (b : Bool) → old.spool.dead ≡ b → IsPassThat Has device place false start_room old b new result → IsTickThat Told device place limits old b new result
+    that_tick Has Told tells true died (answer, same, has) = (answer, same, tells [] has)
+    that_tick Has Told tells false alive (inl (unbegun, has)) = inl (unbegun, tells [] has)
+    that_tick Has Told tells false alive (inr (passed, has)) =
+        let whole = whole_tick device laws tickets place start_room old new passed.steps passed.made legal lawful limits within kept alive always result passed.answer in
+        inr (whole.0, subst (λ (steps : PassSteps D). Told (events_in old steps.parts)) (sym whole.2) (tells (events_in old passed.steps.parts) has))
 
     pub passed_tick : IsPassBy device place false start_room old old.spool.dead new result → IsTickAsked asked device place limits old old.spool.dead new result
     passed_tick pass = by_pass old.spool.dead refl pass

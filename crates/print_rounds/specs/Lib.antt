@@ -12,5 +12,6 @@ pub mod Rounds
 pub mod StartLimits
 pub mod Passes
 pub mod RoundTicks
+pub mod Happenings
 pub mod TickInputs
 pub mod StageLives

@@ -1,10 +1,13 @@
 //! The third part of a round: it finishes each child and applies the event of its end.
-ghost use Rattle.std.specs.Prelude.{◌≡◌, List, ℕ, map, nat_lt};
+ghost use Rattle.std.specs.Prelude.{◌≡◌, List, ℕ, length, map, nat_lt, vec_capacity};
 ghost use Rattle.std.specs.FinMap as finite;
 ghost use Rattle.child_pipeline.specs.StageSlots.{IsEnded, slot_in};
-ghost use Rattle.print_rounds.specs.Counts.{ending_fault, told_in};
+ghost use Rattle.spool_types.specs.declared.event.StageEnd.{StageEnd as EndOf};
+ghost use Rattle.print_rounds.specs.Counts.{acknowledged_by, ending_events, ending_fault, report_events, told_in};
+ghost use Rattle.print_rounds.specs.Happenings.{HaveHappened, happenings_of};
 ghost use Rattle.print_rounds.specs.RunStates.{RunState, run_state, Ending, IsApplied, IsEnding, AreEndings, is_silent, moved, moved_by};
 
+use crate::happenings::{Happening, note};
 use crate::outcome::{Report, RoundFault};
 use child_pipeline::{Children, Runner};
 use spool_core::{ApplyFault, Spool};
@@ -110,21 +113,46 @@ fn end_stage<D: Disk, C: Children>(
     }
 }
 
-// Finishes the children of these jobs, in order, and applies the events of their ends.
+// Notes the end of a job's stage, if its event was accepted.
+fn note_end(happened: &mut Vec<Happening>, job: JobId, report: &Report)
+    ensures noted { (end : EndOf) → end.job ≡ job → HaveHappened (vec_capacity happened.old) 1 happened.old.items happened.new.items (happenings_of (report_events (Event.Stage end) report.now)) }
+    ensures capacity { vec_capacity happened.new ≡ vec_capacity happened.old }
+{
+    match report {
+        Report::Silent | Report::NoMemory => {}
+        Report::Answered(answer) => note_answer(happened, job, answer),
+    }
+}
+
+fn note_answer(happened: &mut Vec<Happening>, job: JobId, answer: &Result<Reply, ApplyFault>)
+    ensures noted { (end : EndOf) → end.job ≡ job → HaveHappened (vec_capacity happened.old) 1 happened.old.items happened.new.items (happenings_of (acknowledged_by (Event.Stage end) answer.now)) }
+    ensures capacity { vec_capacity happened.new ≡ vec_capacity happened.old }
+{
+    match answer {
+        Ok(_) => note(happened, Happening::Ended(job)),
+        Err(_) => {}
+    }
+}
+
+// Finishes the children of these jobs, in order, and applies the events of their ends. The accepted events are noted.
 pub(crate) fn end_stages<D: Disk, C: Children>(
     spool: &mut Spool<D>,
     runner: &mut Runner<C>,
     children: &mut C,
     jobs: &[JobId],
+    happened: &mut Vec<Happening>,
 ) -> Ends
-    ensures { (es : List (Ending D)) × AreEndings D.device (run_state spool.old runner.old (C.tells children.old)) es
+    ensures ends { (es : List (Ending D)) × AreEndings D.device (run_state spool.old runner.old (C.tells children.old)) es
         (run_state spool.new runner.new (C.tells children.new)) × (map (λ e. e.job) es ≡ jobs.now)
-        × (result.told ≡ told_in es) × (result.fault ≡ ending_fault es) }
+        × (result.told ≡ told_in es) × (result.fault ≡ ending_fault es)
+        × HaveHappened (vec_capacity happened.old) (length jobs.now) happened.old.items happened.new.items (happenings_of (ending_events es)) }
+    ensures capacity { vec_capacity happened.new ≡ vec_capacity happened.old }
 {
     let mut told = 0;
     let mut fault = None;
     for job in jobs {
         let report = end_stage(spool, runner, children, *job);
+        note_end(happened, *job, &report);
         told += report.told();
         fault = fault.or(report.fault());
     }

@@ -29,6 +29,8 @@
 //!   none and requires nothing.
 //! - *Ends in a tick*: a tick calls `finish` for exactly the children that a check found ended. It applies the events of the jobs among
 //!   them that are still in their stages, and of finishes stored before, and no others.
+//! - *Accepted events*: a tick reports its accepted events, by kind and job and in order, and no others (`happened` of [`tick`],
+//!   `happenings_of` of `events_in`). Their memory is reserved before anything is done. A round reports none.
 //! - *Starts in a tick*: if there is room for a child of each queue, the queues that start are exactly those without a running child, and
 //!   the stages those of the processing jobs without one (`AreChosen`: `all`). Otherwise processing jobs come first, then queues with a
 //!   next job, as far as room is left (`few`, `full`). In any case a tick uses the room that its limits and the children leave
@@ -101,6 +103,7 @@
 
 mod busy;
 mod ends;
+mod happenings;
 mod launches;
 mod laws;
 mod looks;
@@ -112,6 +115,7 @@ mod start_room;
 mod starts;
 mod ticks;
 
+pub use happenings::Happening;
 pub use laws::{
     calls_join, calls_make_a_life, finishes_are_a_call, no_stage_comes_twice, rounds_are_ticks,
     rounds_hand_on, ticks_hand_on,

@@ -1,10 +1,12 @@
 //! A pass over the queues, the common part of a round and a tick.
-ghost use Rattle.std.specs.Prelude.{◌≡◌, ◌≤◌, [], vec_capacity, IfOk};
+ghost use Rattle.std.specs.Prelude.{◌≡◌, ◌≤◌, ◌+◌, [], length, vec_capacity, IfOk};
+ghost use Rattle.std.specs.FinMap as finite;
 ghost use Rattle.print_rounds.specs.RunStates.{run_state};
-ghost use Rattle.print_rounds.specs.Passes.{IsPassBy};
+ghost use Rattle.print_rounds.specs.Happenings.{HaveHappened, IsPassThat, happenings_of};
 
 use crate::busy::{list_idle, list_tended, mark_blocked};
 use crate::ends::end_stages;
+use crate::happenings::Happening;
 use crate::launches::launch_all;
 use crate::looks::{drop_strays, list_ripe};
 use crate::outcome::{Round, RoundFault};
@@ -59,7 +61,7 @@ impl Lists {
 // Frees the slots that neither are current nor have a running child. Then it starts the next job of each queue without a running child, and
 // a stage of each processing job without one, as far as there is room for starts. Then it reports the ends: of all children, which it waits
 // for, or of the children that a check found ended. If queues were left out for lack of room, `turn` becomes the position after the last
-// queue that was not.
+// queue that was not. The accepted events are appended to `happened`, if it has room for two for each queue.
 pub(crate) fn pass<D: Disk, C: Children>(
     alloc: Global,
     place: &Place,
@@ -69,8 +71,10 @@ pub(crate) fn pass<D: Disk, C: Children>(
     waits: bool,
     start_room: Option<StartRoom>,
     turn: &mut usize,
+    happened: &mut Vec<Happening>,
 ) -> Result<Round, RoundFault>
-    ensures { IsPassBy D.device place.now waits start_room (run_state spool.old runner.old (C.tells children.old)) spool.old.dead (run_state spool.new runner.new (C.tells children.new)) result }
+    ensures { IsPassThat (λ events. HaveHappened (vec_capacity happened.old) (length (finite.keys spool.old.state.queues) + length (finite.keys spool.old.state.queues)) happened.old.items happened.new.items (happenings_of events))
+        D.device place.now waits start_room (run_state spool.old runner.old (C.tells children.old)) spool.old.dead (run_state spool.new runner.new (C.tells children.new)) result }
 {
     if spool.is_dead() {
         return Err(RoundFault::Dead);
@@ -90,7 +94,7 @@ pub(crate) fn pass<D: Disk, C: Children>(
         &mut lists.blocked,
         &mut lists.spare,
     );
-    let fault = start_free(spool, &lists.blocked);
+    let fault = start_free(spool, &lists.blocked, happened);
     if spool.is_dead() {
         return Round::NONE.unless(fault);
     }
@@ -100,7 +104,7 @@ pub(crate) fn pass<D: Disk, C: Children>(
     let launches = launch_all(alloc, place, spool, runner, children, &lists.chosen);
     lists.chosen.clear();
     list_ripe(waits, runner, children, &lists.tended, &mut lists.chosen);
-    let ends = end_stages(spool, runner, children, &lists.chosen);
+    let ends = end_stages(spool, runner, children, &lists.chosen, happened);
     drop_strays(waits, spool.table(), runner, children);
     let round = Round {
         started: launches.started,

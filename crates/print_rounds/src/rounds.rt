@@ -42,5 +42,17 @@ pub fn round<D: Disk, C: Children>(
     spent_stages_stay_spent();
     versions_rise();
     let mut turn = 0;
-    pass(alloc, place, spool, runner, children, true, None, &mut turn)
+    // A list without room: a round reports no events.
+    let mut happened = Vec::new(alloc);
+    pass(
+        alloc,
+        place,
+        spool,
+        runner,
+        children,
+        true,
+        None,
+        &mut turn,
+        &mut happened,
+    )
 }

@@ -6,7 +6,9 @@ ghost use Rattle.print_rounds.specs.RunStates.{run_state};
 ghost use Rattle.print_rounds.specs.Finished.{HasNoneRunning};
 ghost use Rattle.print_rounds.specs.RoundTicks.{AreFinishings, Finishing, IsFinishedOff, IsTickAsked, count_running, running_jobs};
 ghost use Rattle.print_rounds.specs.StartLimits.{IsRoomBy};
+ghost use Rattle.print_rounds.specs.Happenings.{IsTickThat, happenings_of};
 
+use crate::happenings::Happening;
 use crate::outcome::{Round, RoundFault};
 use crate::passes::pass;
 use crate::start_room::{TickLimits, room_of};
@@ -22,7 +24,7 @@ use std::alloc::Global;
 /// ran keeps its slot, and its queue starts nothing, until that child has ended. It starts no more children than the limits and
 /// [`Children::start_room`] allow. Of the queues that could start a job, those from position `turn` on come first; if others were left out,
 /// `turn` becomes the position after the last one. It returns the number of children that it started and of ends that were acknowledged, or
-/// its first fault.
+/// its first fault. `happened` has its accepted events, in order, and nothing else. Their memory is reserved before anything is done.
 pub fn tick<D: Disk, C: Children>(
     alloc: Global,
     place: &Place,
@@ -31,12 +33,15 @@ pub fn tick<D: Disk, C: Children>(
     children: &mut C,
     limits: Option<TickLimits>,
     turn: &mut usize,
+    happened: &mut Vec<Happening>,
 ) -> Result<Round, RoundFault>
     ensures tick { IsTickAsked (IsRoomBy (λ answer. (then : C) × C.rooms children.old answer then) limits (count_running runner.old) turn.old) D.device place.now limits (run_state spool.old runner.old (C.tells children.old)) spool.old.dead (run_state spool.new runner.new (C.tells children.new)) result }
     ensures later { D.device.failures spool.old.disk ≤ D.device.failures spool.new.disk }
     ensures told { IsSome (D.device.bytes spool.new.disk) ↔ IsSome (D.device.bytes spool.old.disk) }
     // No more children run than may at once.
     ensures most { IfSome limits (λ l. count_running runner.old ≤ l.most → count_running runner.new ≤ l.most) }
+    // The accepted events, by job and kind.
+    ensures happened { IsTickThat (λ events. happened.new.items ≡ happenings_of events) D.device place.now limits (run_state spool.old runner.old (C.tells children.old)) spool.old.dead (run_state spool.new runner.new (C.tells children.new)) result }
 {
     // The table is legal and stays legal. No ticket is lost.
     let _legal = spool.table().jobs();
@@ -44,9 +49,18 @@ pub fn tick<D: Disk, C: Children>(
     spent_stages_stay_spent();
     versions_rise();
     tickets_stay();
+    happened.clear();
+    if spool.is_dead() {
+        return Err(RoundFault::Dead);
+    }
+    let queues = spool.table().queues().len();
+    match happened.reserve(queues + queues) {
+        Ok(()) => {}
+        Err(_) => return Err(RoundFault::Memory),
+    }
     let start_room = room_of(limits, runner, children, *turn);
     pass(
-        alloc, place, spool, runner, children, false, start_room, turn,
+        alloc, place, spool, runner, children, false, start_room, turn, happened,
     )
 }
 

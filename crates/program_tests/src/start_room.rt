@@ -1,6 +1,6 @@
 ghost use Rattle.std.specs.Prelude.{IsSome, None};
 
-use child_pipeline::{ChildFault, Children, Content, Finish, Grouped, Order};
+use child_pipeline::{ChildFault, Children, Content, Finish, Order};
 use mime_costs::Convs;
 use mime_rules::Types;
 use spool_runtime::{memory_device, open_engine, place_in};
@@ -31,18 +31,14 @@ struct OneByOne {
 #[derive(Drop)]
 struct Begun;
 
-impl Grouped for Begun {
-    fn group(&self) -> u32 {
-        0
-    }
-}
-
 impl Children for OneByOne {
     type Ticket = Begun;
 
     ghost tells = { λ _. None };
 
     ghost number = { λ _. 0 };
+
+    ghost groups = { λ _. 0 };
 
     ghost rooms = { λ _ start_room _. IsSome start_room };
 
@@ -65,6 +61,10 @@ impl Children for OneByOne {
 
     fn has_ended(&mut self, _ticket: &mut Begun) -> bool {
         true
+    }
+
+    fn group(_ticket: &Begun) -> u32 {
+        0
     }
 
     fn start_room(&mut self) -> Option<usize> {
@@ -90,8 +90,9 @@ fn started_in(alloc: Global, ticks: usize) -> Result<Vec<u32>, Fail> {
     )?;
     let mut replies = Vec::new(alloc);
     engine.run(&mut SCRIPT.as_bytes(), &mut replies)?;
+    let mut happened = Vec::new(alloc);
     for _ in 0..ticks {
-        match engine.tick(None) {
+        match engine.tick(None, &mut happened) {
             Ok(_) => {}
             Err(_) => return Err(Fail::from("no tick")),
         }

@@ -2,7 +2,7 @@
 ghost use Rattle.std.specs.Prelude.{◌≡◌, ◌≤◌, ℕ, List, Some, None, Result, false, [], IfOk, IsSome};
 ghost use Rattle.std.specs.Option.{option_and_then, option_copied};
 ghost use Rattle.std.specs.FinMap as finite;
-ghost use Rattle.spool_types.specs.State.{job_at};
+ghost use Rattle.spool_types.specs.State.{State, job_at};
 ghost use Rattle.spool_types.specs.declared.event.Closing.{Closing as ClosingOf};
 ghost use Rattle.spool_types.specs.declared.event.Reply.{Reply};
 ghost use Rattle.job_table.specs.Over.{is_over};
@@ -16,13 +16,14 @@ ghost use Rattle.spool_core.specs.OpenSpools.{len_at};
 ghost use Rattle.spool_core.specs.declared.spool.apply_fault.ApplyFault.{ApplyFault};
 ghost use Rattle.spool_core.specs.declared.spool.checkpoint_fault.CheckpointFault.{CheckpointFault};
 ghost use Rattle.spool_engine.specs.Mime.{Mime as MimeDatabase, IsEnough};
-ghost use Rattle.spool_engine.specs.Script.{closing_line, closing_of, filters_to, queue_of_job, reply_line, stages_of};
+ghost use Rattle.spool_engine.specs.Script.{closing_as, closing_line, closing_of, filters_to, queue_of_job, reply_line, stages_of};
 ghost use Rattle.spool_engine.specs.Script.{next_number};
 ghost use Rattle.spool_engine.specs.AnswerTexts.{answer_text};
 ghost use Rattle.spool_engine.specs.EventSteps.{setting, EventStep, IsKept};
 ghost use Rattle.spool_engine.specs.EventAnswers.{IsApplied, IsFrontRead, IsRelisted, Takes, event_line, checkpoint_line};
 ghost use Rattle.spool_engine.specs.EngineRounds.{IsRan};
 ghost use Rattle.spool_engine.specs.EngineTicks.{IsTicked};
+ghost use Rattle.print_rounds.specs.Happenings.{IsTickThat, happenings_of};
 ghost use Rattle.spool_types.specs.declared.event.Event.{Event as EventOf};
 
 use crate::answers::{checkpoint_answer, event_answer, fault_answer};
@@ -33,7 +34,7 @@ use command_lines::{Answer, Creation};
 use device_uri::{DeviceUri, UriFault};
 use filter_args::Place;
 use job_table::{Table, document_len};
-use print_rounds::{Round, RoundFault, TickLimits, finish_children};
+use print_rounds::{Happening, Round, RoundFault, TickLimits, finish_children};
 use spool_core::{ApplyFault, CheckpointFault, Spool, Unread, read_front};
 use spool_disk::Disk;
 use spool_types::{
@@ -207,29 +208,41 @@ impl<D: Disk> Executor<D> {
     {
         // Until the device has failed, a crash leaves the table that is shown.
         let _kept = self.met_fault();
-        let (closing, media) = match self.closing(mime, job, name, document) {
+        let (closing, closed) = match self.closing_of(mime, job, name, document) {
             Ok(both) => both,
             Err(_) => return fault_answer(ApplyFault::Memory),
         };
-        let stages = stages(&closing);
         match self.apply(Event::Close(closing)) {
-            Ok(_) => Answer::Closed { media, stages },
+            Ok(_) => closed,
             Err(fault) => fault_answer(fault),
         }
     }
 
-    // Returns the event that closes the job with this document, and a copy of its media type for the answer.
-    fn closing(
+    // Returns the event that closes the job with this document, and the answer if it is accepted.
+    fn closing_of(
         &self,
         mime: &Mime<'_>,
         job: JobId,
         name: &str,
         document: &[u8],
-    ) -> Result<(Closing, MediaType), AllocError>
+    ) -> Result<(Closing, Answer), AllocError>
         ensures closing { IfOk result (λ both. both.0 ≡ closing_of mime.now self.now.state document.now job name.now) }
-        ensures media { IfOk result (λ both. both.1 ≡ both.0.media) }
+        ensures answer { IfOk result (λ both. (s : State) (reply : Reply) → answer_text s both.1 ≡ closing_line both.0 reply) }
     {
         let media = mime.type_of(self.alloc, name, document)?;
+        self.closing_as(mime, job, media)
+    }
+
+    /// Returns the event that closes the job as a document of this type, and the answer if it is accepted.
+    pub fn closing_as(
+        &self,
+        mime: &Mime<'_>,
+        job: JobId,
+        media: MediaType,
+    ) -> Result<(Closing, Answer), AllocError>
+        ensures closing { IfOk result (λ both. both.0 ≡ closing_as mime.now self.now.state job media) }
+        ensures answer { IfOk result (λ both. (s : State) (reply : Reply) → answer_text s both.1 ≡ closing_line both.0 reply) }
+    {
         let filters = self.filters(mime, job, &media)?;
         let told = media.clone()?;
         let closing = Closing {
@@ -237,7 +250,14 @@ impl<D: Disk> Executor<D> {
             media,
             filters,
         };
-        Ok((closing, told))
+        let stages = stages(&closing);
+        Ok((
+            closing,
+            Answer::Closed {
+                media: told,
+                stages,
+            },
+        ))
     }
 
     // Returns the filters that convert a document of this type into the type that the job's queue takes.
@@ -296,7 +316,7 @@ impl<D: Disk> Executor<D> {
         ran
     }
 
-    /// Runs a tick, which waits for no child, within these limits.
+    /// Runs a tick, which waits for no child, within these limits, and reports its accepted events.
     pub fn tick<C: Children>(
         &mut self,
         place: &Place,
@@ -304,10 +324,13 @@ impl<D: Disk> Executor<D> {
         children: &mut C,
         limits: Option<TickLimits>,
         turn: &mut usize,
+        happened: &mut Vec<Happening>,
     ) -> Result<Round, RoundFault>
-        ensures { (m : MimeDatabase) → (tried : List EventOf) × IsTicked (setting D.device m place.now)
+        ensures tick { (m : MimeDatabase) → (tried : List EventOf) × IsTicked (setting D.device m place.now)
             (run_state self.old runner.old (C.tells children.old))
             (record { limits = limits; next = run_state self.new runner.new (C.tells children.new); result = result; tried = tried }) }
+        ensures happened { IsTickThat (λ events. happened.new.items ≡ happenings_of events) D.device place.now limits
+            (run_state self.old runner.old (C.tells children.old)) self.old.dead (run_state self.new runner.new (C.tells children.new)) result }
     {
         let ran = print_rounds::tick(
             self.alloc,
@@ -317,6 +340,7 @@ impl<D: Disk> Executor<D> {
             children,
             limits,
             turn,
+            happened,
         );
         // `table` states that a crash leaves this table, which is the executor's invariant.
         let _table = self.spool.table();

@@ -20,7 +20,10 @@
 //!   their slots, and the round applies their events. `drain` runs rounds until one starts and finishes nothing, and at most the given
 //!   number. The idle round counts too. A fault ends the drain.
 //! - A tick does the same as a round and waits for no child ([`Engine::tick`]), so children may run between two calls. It may have limits
-//!   of running children and of starts. [`Engine::is_running`], [`Engine::group_of`] and [`Engine::count_free`] tell which children run.
+//!   of running children and of starts. [`Engine::is_running`], [`Engine::group_of`] and [`Engine::count_free`] tell which children run. A tick reports
+//!   its accepted events ([`print_rounds::Happening`]).
+//! - A caller that lets a client name the type of a document gets the event from [`Engine::closing_as`], with the filters of the least chain
+//!   from this type, and executes it as a command of one event.
 //! - A `purge` of a job whose child runs is withheld by the engine, because the table knows no children: the reply is `error 16 NotEnded`,
 //!   and nothing changes.
 //! - `checkpoint` lists the table in the other area of the disk, so that the journal has room again (`Spool::checkpoint`). The table is
@@ -49,6 +52,8 @@
 //!   left. [`Engine::round`] has `IsRan`, [`Engine::tick`] `IsTicked`, and [`Engine::execute`] `TakesStep`: the text of its answer over the
 //!   table that it leaves is the reply of the step (`executed`). [`Engine::new`] sets the rules, the conversions and the `Place`, and no
 //!   call changes them (`mime`, `place`).
+//! - [`Engine::tick`] reports exactly its accepted events, by kind and job (`happened`, `IsTickThat`). [`Engine::closing_as`] returns the event
+//!   that closes a job as a type, and the answer that `close` would have (`closing_as`, `closing_line`).
 //! - *ExactScript* (`exact`): if a run returns Ok and every command was served, the bytes that it wrote are the replies of Script over
 //!   these rules and conversions, and the table is Script's (`table`). If no checkpoint raises the version in between, it is the fold of
 //!   Script's events (`fold`). If the children report, and the slots have the tickets of the running children, the new orders and the slots

@@ -3,16 +3,19 @@ ghost use Rattle.std.specs.Prelude.{◌≡◌, ◌-◌, ℕ, false, List, [], If
 ghost use Rattle.std.specs.FinMap as finite;
 ghost use Rattle.spool_types.specs.declared.event.Event.{Event as EventOf};
 ghost use Rattle.command_lines.specs.declared.command.Command.{Command};
-ghost use Rattle.child_pipeline.specs.StageSlots.{Slots, IsRunning, IsTicketless};
+ghost use Rattle.child_pipeline.specs.StageSlots.{Slots, IsRunning, IsTicketless, group_in};
 ghost use Rattle.print_rounds.specs.RoundTicks.{count_running};
 ghost use Rattle.print_rounds.specs.RunStates.{RunState, run_state};
+ghost use Rattle.print_rounds.specs.Happenings.{IsTickThat, happenings_of};
+ghost use Rattle.spool_types.specs.State.{State};
+ghost use Rattle.spool_types.specs.declared.event.Reply.{Reply};
 ghost use Rattle.spool_engine.specs.AnswerTexts.{answer_text};
 ghost use Rattle.spool_engine.specs.EventSteps.{setting, IsKept};
 ghost use Rattle.spool_engine.specs.Mime.{Mime as MimeDatabase};
 ghost use Rattle.spool_engine.specs.EngineTicks.{IsTicked};
 ghost use Rattle.spool_engine.specs.EngineRounds.{Ran, IsRan, IsSettled, AreRan, AreAll, AreRun, counts_in, results_of, rounds_run};
 ghost use Rattle.filter_args.specs.declared.place.Place.{Place as PlaceOf};
-ghost use Rattle.spool_engine.specs.Script.{is_idle, round_text, drain_text, withholds_event};
+ghost use Rattle.spool_engine.specs.Script.{closing_as, closing_line, is_idle, round_text, drain_text, withholds_event};
 ghost use Rattle.spool_engine.specs.EngineRuns.{CommandStep, TakesStep, Serves, IsRun, Drains, DrainsEnd, DrainsPiece};
 
 use crate::answers::{append_answer, drain_answer, round_answer};
@@ -23,10 +26,10 @@ use child_pipeline::{Children, Runner, tickets_stay};
 use command_lines::{Answer, Command, Commands, Rounds};
 use filter_args::Place;
 use job_table::{Table, versions_rise};
-use print_rounds::{Round, RoundFault, TickLimits, count_free, finish_children};
+use print_rounds::{Happening, Round, RoundFault, TickLimits, count_free, finish_children};
 use spool_core::Spool;
 use spool_disk::Disk;
-use spool_types::{Event, JobId, Refusal};
+use spool_types::{Closing, Event, JobId, MediaType, Refusal};
 use std::alloc::{AllocError, Global};
 use std::io::{ErrorKind, Read, Write};
 use std::marker::Model;
@@ -121,14 +124,39 @@ impl<D: Disk, C: Children> Printer<D, C> {
             .round(place, &mut self.runner, &mut self.children)
     }
 
-    /// Runs a tick, which waits for no child, within these limits.
-    pub fn tick(&mut self, place: &Place, limits: Option<TickLimits>) -> Result<Round, RoundFault>
-        ensures { (m : MimeDatabase) → (tried : List EventOf) × IsTicked (setting D.device m place.now) self.old
+    /// Runs a tick, which waits for no child, within these limits, and reports its accepted events.
+    pub fn tick(
+        &mut self,
+        place: &Place,
+        limits: Option<TickLimits>,
+        happened: &mut Vec<Happening>,
+    ) -> Result<Round, RoundFault>
+        ensures tick { (m : MimeDatabase) → (tried : List EventOf) × IsTicked (setting D.device m place.now) self.old
             (record { limits = limits; next = self.new; result = result; tried = tried }) }
+        ensures happened { IsTickThat (λ events. happened.new.items ≡ happenings_of events) D.device place.now limits self.old self.old.spool.dead self.new result }
     {
         let turn = &mut self.turn;
-        self.executor
-            .tick(place, &mut self.runner, &mut self.children, limits, turn)
+        self.executor.tick(
+            place,
+            &mut self.runner,
+            &mut self.children,
+            limits,
+            turn,
+            happened,
+        )
+    }
+
+    /// Returns the event that closes a job as a document of this type, and the answer if it is accepted.
+    pub fn closing_as(
+        &self,
+        mime: &Mime<'_>,
+        job: JobId,
+        media: MediaType,
+    ) -> Result<(Closing, Answer), AllocError>
+        ensures closing { IfOk result (λ both. both.0 ≡ closing_as mime.now self.now.spool.state job media) }
+        ensures answer { IfOk result (λ both. (s : State) (reply : Reply) → answer_text s both.1 ≡ closing_line both.0 reply) }
+    {
+        self.executor.closing_as(mime, job, media)
     }
 
     /// Returns how many more children may run, if at most `most` may.
@@ -150,6 +178,7 @@ impl<D: Disk, C: Children> Printer<D, C> {
     pub fn group_of(&self, job: JobId) -> Option<u32>
         ensures some { IsSome result → IsRunning (finite.get self.now.slots job) }
         ensures none { IsNone result → IsTicketless (finite.get self.now.slots job) }
+        ensures group { result ≡ group_in C.groups (finite.get self.now.slots job) }
     {
         self.runner.group_of(job)
     }

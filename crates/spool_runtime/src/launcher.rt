@@ -69,7 +69,7 @@ use crate::serving::place_in;
 use crate::sessions::{SideLine, SideLines};
 use crate::shortage::{Descriptors, FolderRoom, MOST_WAITS, Patience, shortage_of};
 use crate::side_device::device_of;
-use child_pipeline::{ChildFault, Children, Content, Finish, Grouped, Input, Order, Program};
+use child_pipeline::{ChildFault, Children, Content, Finish, Input, Order, Program};
 use filter_args::Place;
 use log::Log;
 use program_fitness::obstacle_of;
@@ -130,15 +130,10 @@ pub struct Launcher<'a, L, R> {
 #[derive(Drop)]
 pub struct RunningChild<P: OpenProcess + Drop> {
     run: StageRun,
+    // The number of the child's process, which is that of its process group. The session of the child has that number
+    // or, with a side channel, the number of the process's only child.
+    group: u32,
     begun: BegunChild<P>,
-}
-
-/// The group is the number of the child's process. The session of the child has that number or, with a side channel,
-/// the number of the process's only child.
-impl<P: OpenProcess + Drop> Grouped for RunningChild<P> {
-    fn group(&self) -> u32 {
-        self.begun.child.id()
-    }
 }
 
 // A child that was started, and its files.
@@ -339,7 +334,10 @@ impl<'a, L: Log, R: Files<File = File> + Net + Processes + Clock + AllocGlobal> 
 
     ghost tells = { λ _. None };
 
-    ghost number = { λ _. 0 };
+    // It reports no orders, so a child has the number of its process group.
+    ghost number = { λ t. t.group };
+
+    ghost groups = { λ number. number };
 
     ghost rooms = { λ _ start_room _. IsSomeAnd start_room (λ n. n ≤ 4) };
 
@@ -363,7 +361,10 @@ impl<'a, L: Log, R: Files<File = File> + Net + Processes + Clock + AllocGlobal> 
             program,
         };
         match started {
-            Ok(begun) => Ok(RunningChild { run, begun }),
+            Ok(begun) => {
+                let group = begun.child.id();
+                Ok(RunningChild { run, group, begun })
+            }
             Err(reason) => {
                 if reason.may_pass() {
                     self.patience.fail(self.rt);
@@ -375,7 +376,7 @@ impl<'a, L: Log, R: Files<File = File> + Net + Processes + Clock + AllocGlobal> 
     }
 
     fn finish(&mut self, ticket: RunningChild<R::Started>) -> Result<Finish, ChildFault> {
-        let RunningChild { run, begun } = ticket;
+        let RunningChild { run, begun, .. } = ticket;
         self.patience.renew();
         match self.end(&run, begun) {
             Ok(finish) => {
@@ -394,6 +395,10 @@ impl<'a, L: Log, R: Files<File = File> + Net + Processes + Clock + AllocGlobal> 
     fn has_ended(&mut self, ticket: &mut RunningChild<R::Started>) -> bool {
         self.serve_sides();
         !is_running(&mut ticket.begun.child)
+    }
+
+    fn group(ticket: &RunningChild<R::Started>) -> u32 {
+        ticket.group
     }
 
     fn start_room(&mut self) -> Option<usize> {

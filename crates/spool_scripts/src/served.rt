@@ -189,6 +189,7 @@ fn serve_ticks(
 ) -> Result<(), CaseFault> {
     let mut rest = part.script;
     let mut reader_fails = part.reader_fails;
+    let mut happened = Vec::new(alloc);
     for _ in 0..u64::MAX {
         let (script, after) = next_part(rest, TICK);
         let piece = Part {
@@ -203,7 +204,7 @@ fn serve_ticks(
         }
         writer.lift();
         reader_fails = false;
-        push_tick(account, printer.tick(None))?;
+        push_tick(account, printer.tick(None, &mut happened))?;
     }
     Ok(())
 }

@@ -1,7 +1,7 @@
 //! The wrapper of the children, and of their tickets.
 ghost use Rattle.std.specs.Prelude.{◌≡◌};
 
-use child_pipeline::{ChildFault, Children, Finish, Grouped, Order, Program};
+use child_pipeline::{ChildFault, Children, Finish, Order, Program};
 use log::{Log, debug, error, info};
 use spool_types::Exit;
 use std::alloc::{AllocError, Global};
@@ -76,18 +76,14 @@ fn shown(name: &Option<String>) -> &str {
     }
 }
 
-impl<T: Grouped + Drop> Grouped for WatchedTicket<T> {
-    fn group(&self) -> u32 {
-        self.inner.group()
-    }
-}
-
 impl<'a, L: Log, C: Children> Children for WatchedChildren<'a, L, C> {
     type Ticket = WatchedTicket<C::Ticket>;
 
     ghost tells = { λ c. C.tells c.inner };
 
     ghost number = { λ t. C.number t.inner };
+
+    ghost groups = { C.groups };
 
     ghost rooms = { λ old start_room new. C.rooms old.inner start_room new.inner };
 
@@ -113,6 +109,10 @@ impl<'a, L: Log, C: Children> Children for WatchedChildren<'a, L, C> {
 
     fn has_ended(&mut self, ticket: &mut WatchedTicket<C::Ticket>) -> bool {
         self.inner.has_ended(&mut ticket.inner)
+    }
+
+    fn group(ticket: &WatchedTicket<C::Ticket>) -> u32 {
+        C::group(&ticket.inner)
     }
 
     fn start_room(&mut self) -> Option<usize> {

@@ -1,27 +1,49 @@
 -- All parts joined.
-use Rattle.std.proofs.Common.{length, refl, sym, ap, subst, ◌∙◌, arith}
+use Rattle.std.proofs.Common.{◌≡◌, ◌+◌, ◌≤◌, inl, Bool, Err, List, length, refl, sym, ap, subst, ◌∙◌, arith}
+use Rattle.std.proofs.lemmas.List.{length-map}
+use Rattle.spool_types.specs.declared.event.Event.{Event}
 use Rattle.std.specs.Prelude.{vec_capacity}
 use Rattle.std.specs.Option.{option_or}
 use Rattle.std.specs.FinMap as finite
 use Rattle.spool_types.specs.State.{State}
-use Rattle.print_rounds.specs.Counts.{counts_of, launching_fault, result_of, started_in, starting_fault}
+use Rattle.print_rounds.specs.Counts.{counts_of, ending_events, launching_fault, result_of, started_in, starting_events, starting_fault}
+use Rattle.print_rounds.specs.Happenings.{HaveHappened, IsPassThat, happenings_of}
+use Rattle.print_rounds.specs.declared.outcome.RoundFault.TheVariants as ends
 use Rattle.print_rounds.specs.RunStates.{run_state, AreEndings}
-use Rattle.print_rounds.specs.StageChecks.{idle_among, idle_slots, strays, tended_jobs}
+use Rattle.print_rounds.specs.StageChecks.{Look, idle_among, idle_slots, strays, tended_jobs}
 use Rattle.print_rounds.specs.Finished.{AreDistinct, AllRest}
 use Rattle.print_rounds.specs.StartLimits.{rotated}
+use Rattle.print_rounds.proofs.HappenedLaws.{none_happened, first_happened, parts_happened, ripe_few}
+use Rattle.print_rounds.proofs.StartLaws.{queue_count}
 use Rattle.print_rounds.proofs.PassParts.{failed_pass, queues_chosen, room_left, whole_pass}
 use Rattle.print_rounds.proofs.PlaceLaws.{in_turn_part, part_once, part_rest}
 use Rattle.print_rounds.proofs.passes.pass.Goals as goal
 
+pub returns-then-is_dead : goal.returns-then-is_dead
+returns-then-is_dead g c =
+    let old = run_state c.args.spool.now c.args.runner.now (g.C.Children.tells c.args.children.now) in
+    let q = length (finite.keys c.args.spool.now.state.queues) in
+    subst (λ (b : Bool). IsPassThat (λ (events : List Event). HaveHappened (vec_capacity c.args.happened.now) (q + q) c.args.happened.now.items c.args.happened.now.items (happenings_of events))
+    g.D.Disk.device c.args.place.now c.args.waits c.args.start_room old b old (Err ends.Dead)) (sym c.if-is_dead.true ∙ c.is_dead.ensures)
+    (refl, refl, none_happened (vec_capacity c.args.happened.now) (q + q) c.args.happened.now.items)
+
+pub returns-in-Err : goal.returns-in-Err
+returns-in-Err g c =
+    let old = run_state c.args.spool.now c.args.runner.now (g.C.Children.tells c.args.children.now) in
+    let q = length (finite.keys c.args.spool.now.state.queues) in
+    subst (λ (b : Bool). IsPassThat (λ (events : List Event). HaveHappened (vec_capacity c.args.happened.now) (q + q) c.args.happened.now.items c.args.happened.now.items (happenings_of events))
+    g.D.Disk.device c.args.place.now c.args.waits c.args.start_room old b old (Err ends.Memory)) (sym c.if-is_dead.false ∙ c.is_dead.ensures)
+    (inl ((refl, refl), none_happened (vec_capacity c.args.happened.now) (q + q) c.args.happened.now.items))
+
 pub list_tended-requires-clause-room : goal.list_tended-requires-clause-room
 list_tended-requires-clause-room g c =
-    let (ts, starts, queues, fault) = c.start_free-fault.ensures in
+    let (ts, starts, queues, fault, noted) = c.start_free-fault.ensures.starts in
     room_left g.D.Disk.device c.args.spool.now ts c.start_free-fault.new.spool starts c.table.result.now.state c.table.ensures.table c.queues.result.now c.queues.ensures.names
     (vec_capacity c.in-Ok.lists.tended) c.in-Ok.ensures.tended.1 c.table-2.result.now.state c.table-2.ensures.table
 
 pub list_idle-requires-clause-room : goal.list_idle-requires-clause-room
 list_idle-requires-clause-room g c =
-    let (ts, starts, queues, fault) = c.start_free-fault.ensures in
+    let (ts, starts, queues, fault, noted) = c.start_free-fault.ensures.starts in
     let room =
     room_left g.D.Disk.device c.args.spool.now ts c.start_free-fault.new.spool starts c.table.result.now.state c.table.ensures.table c.queues.result.now c.queues.ensures.names
     (vec_capacity c.in-Ok.lists.idle) c.in-Ok.ensures.idle.1 c.table-2.result.now.state c.table-2.ensures.table in
@@ -31,7 +53,7 @@ list_idle-requires-clause-room g c =
 
 pub choose_jobs-requires-clause-room : goal.choose_jobs-requires-clause-room
 choose_jobs-requires-clause-room g c =
-    let (ts, starts, queues, fault) = c.start_free-fault.ensures in
+    let (ts, starts, queues, fault, noted) = c.start_free-fault.ensures.starts in
     let room =
     room_left g.D.Disk.device c.args.spool.now ts c.start_free-fault.new.spool starts c.table.result.now.state c.table.ensures.table c.queues.result.now c.queues.ensures.names
     (vec_capacity c.in-Ok.lists.chosen) c.in-Ok.ensures.chosen.1 c.table-2.result.now.state c.table-2.ensures.table in
@@ -56,7 +78,7 @@ launch_all-launches-requires-clause-rest g c =
 
 pub list_ripe-requires-clause-room : goal.list_ripe-requires-clause-room
 list_ripe-requires-clause-room g c =
-    let (ts, starts, queues, fault) = c.start_free-fault.ensures in
+    let (ts, starts, queues, fault, noted) = c.start_free-fault.ensures.starts in
     let room =
     room_left g.D.Disk.device c.args.spool.now ts c.start_free-fault.new.spool starts c.table.result.now.state c.table.ensures.table c.queues.result.now c.queues.ensures.names
     (vec_capacity c.in-Ok.lists.chosen) c.in-Ok.ensures.chosen.1 c.table-2.result.now.state c.table-2.ensures.table in
@@ -69,25 +91,40 @@ list_ripe-requires-clause-room g c =
 pub returns-then-is_dead-2 : goal.returns-then-is_dead-2
 returns-then-is_dead-2 g c =
     let old = run_state c.args.spool.now c.args.runner.now (g.C.Children.tells c.args.children.now) in
-    let (ts, starts, queues, fault) = c.start_free-fault.ensures in
-    failed_pass g.D.Disk.device c.args.place.now c.args.waits c.args.start_room old (sym c.is_dead.ensures ∙ c.if-is_dead.false)
+    let (ts, starts, queues, fault, noted) = c.start_free-fault.ensures.starts in
+    let q = length (finite.keys c.args.spool.now.state.queues) in
+    let flags : length c.deref.result.now ≡ q = ap length c.deref.ensures.value ∙ c.hold_back.ensures.count ∙ ap (λ (s : State). length (finite.keys s.queues)) c.table-table.ensures.table in
+    failed_pass (λ (events : List Event). HaveHappened (vec_capacity c.args.happened.now) (q + q) c.args.happened.now.items c.start_free-fault.new.happened.items (happenings_of events))
+    g.D.Disk.device c.args.place.now c.args.waits c.args.start_room old (sym c.is_dead.ensures ∙ c.if-is_dead.false)
     c.free_idle.new.runner (c.free_idle.ensures ∙ ap (λ s. idle_slots s c.args.runner.now) c.table-table.ensures.table)
     c.start_free-fault.new.spool ts starts
     (queues_chosen c.args.start_room _ c.free_idle.new.runner c.table-table.result.now.state c.args.spool.now.state c.table-table.ensures.table c.deref.result.now c.hold_back.new.blocked.items c.deref.ensures.value c.hold_back.ensures.chosen queues)
     (sym c.is_dead-2.ensures ∙ c.if-is_dead-2.true) c.unless.result (c.unless.ensures ∙ ap (result_of (record { started = 0; finished = 0 })) fault)
+    (first_happened (vec_capacity c.args.happened.now) q (length c.deref.result.now) c.args.happened.now.items c.start_free-fault.new.happened.items (starting_events c.args.spool.now ts) (omega (arith, flags)) noted)
 
 pub returns : goal.returns
 returns g c =
     let old = run_state c.args.spool.now c.args.runner.now (g.C.Children.tells c.args.children.now) in
-    let (ts, starts, queues, fault) = c.start_free-fault.ensures in
+    let (ts, starts, queues, fault, noted) = c.start_free-fault.ensures.starts in
     let (ls, launches, reads, launched, started, later) = c.launch_all-launches.ensures in
     let (looks, look, seen, ripe) = c.list_ripe.ensures.looks in
-    let (es, ends, ended, told, last) = c.end_stages-ends.ensures in
+    let (es, ends, ended, told, last, ends_noted) = c.end_stages-ends.ensures.ends in
     let (ds, drops, left) = c.drop_strays.ensures in
     let looked = g.C.Children.tells c.list_ripe.new.children in
     let behind = run_state c.end_stages-ends.new.spool c.end_stages-ends.new.runner (g.C.Children.tells c.end_stages-ends.new.children) in
     let new = run_state c.end_stages-ends.new.spool c.drop_strays.new.runner (g.C.Children.tells c.drop_strays.new.children) in
-    whole_pass g.D.Disk.device c.args.place.now c.args.waits c.args.start_room old (sym c.is_dead.ensures ∙ c.if-is_dead.false)
+    let q = length (finite.keys c.args.spool.now.state.queues) in
+    let flags : length c.deref.result.now ≡ q = ap length c.deref.ensures.value ∙ c.hold_back.ensures.count ∙ ap (λ (s : State). length (finite.keys s.queues)) c.table-table.ensures.table in
+    let rows = queue_count c.queues.result.now (finite.keys c.table.result.now.state.queues) c.queues.ensures.names ∙ ap (λ (s : State). length (finite.keys s.queues)) c.table.ensures.table in
+    let keys : length (finite.keys c.table-2.result.now.state.queues) ≤ q =
+    room_left g.D.Disk.device c.args.spool.now ts c.start_free-fault.new.spool starts c.table.result.now.state c.table.ensures.table c.queues.result.now c.queues.ensures.names
+    q (omega (arith, rows)) c.table-2.result.now.state c.table-2.ensures.table in
+    let few = c.list_tended.ensures.bound in
+    let looked_at = sym (length-map looks (λ (l : Look). l.job)) ∙ ap length (seen ∙ c.deref-5.ensures.value) in
+    let reported = ap length (c.deref-6.ensures.value ∙ ripe) in
+    let ripe_some = ripe_few looks in
+    whole_pass (λ (events : List Event). HaveHappened (vec_capacity c.args.happened.now) (q + q) c.args.happened.now.items c.end_stages-ends.new.happened.items (happenings_of events))
+    g.D.Disk.device c.args.place.now c.args.waits c.args.start_room old (sym c.is_dead.ensures ∙ c.if-is_dead.false)
     c.free_idle.new.runner (c.free_idle.ensures ∙ ap (λ s. idle_slots s c.args.runner.now) c.table-table.ensures.table)
     c.start_free-fault.new.spool ts starts
     (queues_chosen c.args.start_room _ c.free_idle.new.runner c.table-table.result.now.state c.args.spool.now.state c.table-table.ensures.table c.deref.result.now c.hold_back.new.blocked.items c.deref.ensures.value c.hold_back.ensures.chosen queues)
@@ -104,3 +141,6 @@ returns g c =
     ∙ ap (λ n. result_of (record { started = started_in ls; finished = n }) c.or-2.result) told
     ∙ ap (result_of (counts_of ls es)) (c.or-2.ensures ∙ ap (λ f. option_or f c.or.result) fault
     ∙ ap (option_or (starting_fault ts)) (c.or.ensures ∙ ap (λ f. option_or f c.end_stages-ends.result.fault) later ∙ ap (option_or (launching_fault ls)) last)))
+    (parts_happened (vec_capacity c.args.happened.now) (vec_capacity c.start_free-fault.new.happened) q (length c.deref.result.now) (length c.deref-6.result.now)
+    c.args.happened.now.items c.start_free-fault.new.happened.items c.end_stages-ends.new.happened.items (starting_events c.args.spool.now ts) (ending_events es)
+    c.start_free-fault.ensures.capacity (omega (arith, flags)) (omega (arith, keys, few, looked_at, reported, ripe_some)) noted ends_noted)

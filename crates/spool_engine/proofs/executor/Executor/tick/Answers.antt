@@ -1,7 +1,8 @@
--- A tick over the spool, and the images that a crash in it leaves.
-use Rattle.std.proofs.Common.{refl, subst, List}
+-- A tick over the spool, the images that a crash in it leaves, and its accepted events.
+use Rattle.std.proofs.Common.{◌≡◌, refl, subst, List}
 use Rattle.spool_types.specs.declared.event.Event.{Event}
 use Rattle.spool_core.specs.OpenSpools.{OpenSpool}
+use Rattle.print_rounds.specs.Happenings.{IsTickThat, happenings_of}
 use Rattle.print_rounds.specs.RoundTicks.{count_running}
 use Rattle.print_rounds.specs.StartLimits.{IsRoomBy}
 use Rattle.print_rounds.specs.RunStates.{run_state}
@@ -10,8 +11,8 @@ use Rattle.spool_engine.specs.EngineTicks.{IsTicked}
 use Rattle.spool_engine.proofs.RoundLaws.{tick_by, ticked_of}
 use Rattle.spool_engine.proofs.executor.Executor.tick.Goals as goal
 
-pub returns : goal.returns
-returns g c = λ m.
+pub returns-clause-tick : goal.returns-clause-tick
+returns-clause-tick g c = λ m.
     let tells = g.C.Children.tells in
     let v = setting g.D.Disk.device m c.args.place.now in
     let old = run_state c.self.inside.spool c.args.runner.now (tells c.args.children.now) in
@@ -19,3 +20,10 @@ returns g c = λ m.
     subst (λ (s : OpenSpool g.row.D.Denot). (tried : List Event) × IsTicked v (run_state s c.args.runner.now (tells c.args.children.now)) (record { limits = c.args.limits; next = new; result = c.tick-ran.result; tried = tried })) c.self.view_is
     (ticked_of v c.args.limits old new c.tick-ran.result c.self.inside.spool.dead refl g.met.D.Disk.lawful.only_now c.self.invariant c.table-table.ensures.kept
     c.tick-ran.ensures.later c.tick-ran.ensures.told c.tick-ran.ensures.most (tick_by (IsRoomBy (λ answer. (then : g.row.C.Denot) × g.C.Children.rooms c.args.children.now answer then) c.args.limits (count_running c.args.runner.now) c.args.turn.now) g.D.Disk.device c.args.place.now c.args.limits old new c.tick-ran.result c.self.inside.spool.dead c.tick-ran.ensures.tick))
+
+pub returns-clause-happened : goal.returns-clause-happened
+returns-clause-happened g c =
+    let tells = g.C.Children.tells in
+    let new = run_state c.tick-ran.new.spool c.tick-ran.new.runner (tells c.tick-ran.new.children) in
+    subst (λ (s : OpenSpool g.row.D.Denot). IsTickThat (λ (events : List Event). c.tick-ran.new.happened.items ≡ happenings_of events) g.D.Disk.device c.args.place.now c.args.limits
+    (run_state s c.args.runner.now (tells c.args.children.now)) s.dead new c.tick-ran.result) c.self.view_is c.tick-ran.ensures.happened
