@@ -123,7 +123,8 @@ impl Reader {
         ensures further { IfOk result (λ next. ComesFurther (length self.old.text.items) next self.new) }
     {
         line_by_line();
-        match own_of(&self.text[..at]) {
+        let own = own_of(*self.text.allocator(), &self.text[..at])?;
+        match own {
             Some(word) => {
                 self.skip(at + 1);
                 Ok(Next::Asked(Ask::Own(word)))
@@ -221,13 +222,13 @@ impl Reader {
 }
 
 // The request to the service itself on a line.
-fn own_of(line: &[u8]) -> Option<OwnWord>
-    ensures { result ≡ own_of line.now }
+fn own_of(alloc: Global, line: &[u8]) -> Result<Option<OwnWord>, AllocError>
+    ensures { IfOk result (λ word. word ≡ own_of line.now) }
 {
     if line.len() <= LONGEST_LINE {
-        own_word(line)
+        own_word(alloc, line)
     } else {
-        None
+        Ok(None)
     }
 }
 

@@ -24,8 +24,7 @@ use Rattle.job_table.proofs.Choice.{value_there}
 use Rattle.job_table.proofs.Clocked.{none_late}
 use Rattle.slab.proofs.SlabLemmas.{Contains-cons_cases}
 use Rattle.service_rules.specs.declared.purges.Candidate.{Candidate}
-use Rattle.service_texts.specs.Notices.{Noted, with_job}
-use Rattle.service_loop.specs.Due.{with_jobs, AreListed, IsQuietUntil}
+use Rattle.service_loop.specs.Due.{AreListed, IsQuietUntil}
 
 abbrev IsLater : ℕ → Option ℕ → Type 0
 IsLater m due = IfSome due (λ d. m < d)
@@ -226,9 +225,3 @@ all_listed zero m (j ∷ js) cs le none is = absurd (cc)
 all_listed (suc n) zero (j ∷ js) cs le none is = absurd (omega (arith, le))
 all_listed (suc n) (suc m) (j ∷ js) [] le none is = absurd is
 all_listed (suc n) (suc m) (j ∷ js) (x ∷ cs) le none is = (is.0, is.1, all_listed n m js cs (omega (arith, le)) none is.2)
-
--- ## The jobs that a Clock changes
-
-pub with_next : (noted : Noted) (js : List ℕ) (j : ℕ) → with_jobs noted (js ++ j ∷ []) ≡ with_job (with_jobs noted js) j
-with_next noted [] j = refl
-with_next noted (x ∷ js) j = with_next (with_job noted x) js j

@@ -10,10 +10,12 @@ use Rattle.service_rules.specs.Bounds.{most_clients}
 use Rattle.service_rules.specs.ClientAdmission.{IsAdmission}
 use Rattle.service_rules.specs.declared.slots.Admission.{Admission}
 use Rattle.service_rules.specs.declared.slots.Admission.TheVariants.{Free, InsteadOf, Busy}
-use Rattle.service_texts.specs.Notices.{Noted, told}
+use Rattle.service_texts.specs.Notices.{Noted}
+use Rattle.spool_types.specs.State.{State}
+use Rattle.service_loop.specs.Progress.{news_for}
 use Rattle.service_loop.specs.AdmissionViews.{heard_of}
 use Rattle.service_loop.specs.ClientSlots.{HasEntered, HasTurn, HadTurn, HaveTurns, IsEntered, IsLetIn, IsNewcomer, IsSlotNotified, IsSlotSignaled, KeepsOthers, SlotHadTurn, unless_parted}
-use Rattle.service_loop.specs.ClientSteps.{AreClientSteps, ClientStep, HasAll, IsClientStepBy, IsEntry, changes, client_after, is_starved, signs, turns}
+use Rattle.service_loop.specs.ClientSteps.{AreClientSteps, ClientStep, HasAll, IsClientStepBy, IsEntry, actions_of, changes, client_after, is_starved, signs, status_of, turns}
 use Rattle.service_loop.specs.ConnectionViews.{ConnectionView, IsUntouched}
 use Rattle.service_loop.specs.ServiceCalls.{GoesByCalls}
 use Rattle.service_loop.specs.SlotHistories.{AreLoopEvents, AreNotified, AreServedApart, GoesByEvents, HasAdmitted, HasBrought, HasServed, IsLoopEvent, IsServedApart, IsServedRight, LoopEvent, enters, gives_up, notifies, readies, takes_turn, works}
@@ -21,7 +23,10 @@ use Rattle.service_loop.specs.declared.client.Client.{Client}
 use Rattle.service_loop.specs.declared.client.Disconnect.{Disconnect}
 use Rattle.service_loop.specs.declared.client.Turn.{Turn}
 use Rattle.service_loop.proofs.CallLaws.{no_calls}
-use Rattle.service_loop.proofs.ClientStepLaws.{answers_come_in_order, told_once}
+use Rattle.client_standing.specs.ClientStanding.{first_standing}
+use Rattle.client_standing.specs.declared.rules.RoleRules.{RoleRules}
+use Rattle.service_loop.specs.ClientActions.{standing_after_all}
+use Rattle.service_loop.proofs.ClientStepLaws.{answers_come_in_order, proofs_by_steps, standing_by_steps, told_once}
 
 -- ## Histories
 
@@ -47,6 +52,12 @@ module _ {D L : Type 0} (device : DiskView D) (view : ConnectionView L) where
       GoesByEvents device view e s e1 s1 → e2 ≡ e1 → s2 ≡ s1 → GoesByEvents device view e s e2 s2
   history_kept e s e1 s1 e2 s2 goes same kept =
       subst (λ (x : Engine D). GoesByEvents device view e s x s2) (sym same) (subst (λ (t : Slab (Client L)). GoesByEvents device view e s e1 t) (sym kept) goes)
+
+  -- An engine and slots that are the earlier ones.
+  pub history_since : (e : Engine D) (s : Slab (Client L)) (e0 : Engine D) (s0 : Slab (Client L)) (e1 : Engine D) (s1 : Slab (Client L)) → e0 ≡ e → s0 ≡ s →
+      GoesByEvents device view e0 s0 e1 s1 → GoesByEvents device view e s e1 s1
+  history_since e s e0 s0 e1 s1 same kept goes =
+      subst (λ (x : Engine D). GoesByEvents device view x s e1 s1) same (subst (λ (t : Slab (Client L)). GoesByEvents device view e0 t e1 s1) kept goes)
 
   -- Calls of the service itself.
   pub history_works : (e : Engine D) (s : Slab (Client L)) (e1 : Engine D) (s1 : Slab (Client L)) → GoesByCalls device e e1 → s1 ≡ s → GoesByEvents device view e s e1 s1
@@ -76,12 +87,11 @@ module _ {D L : Type 0} (device : DiskView D) (view : ConnectionView L) where
   history_turns e s (suc n) e1 s1 (between, mid, turn, so_far, next) =
       history_then e s between mid e1 s1 (history_turns e s n between mid so_far) (history_one between mid (takes_turn n turn) e1 s1 next)
 
-  -- A notice: the text was empty, and the changes were appended to it.
-  pub history_notifies : (e : Engine D) (s : Slab (Client L)) (noted : Noted) (text was now : List ℕ) (e1 : Engine D) (s1 : Slab (Client L)) → e1 ≡ e → text ≡ now → was ≡ [] →
-      now ≡ was ++ told e.run_state.spool.state noted → AreNotified text s s1 → GoesByEvents device view e s e1 s1
-  history_notifies e s noted text was now e1 s1 same is none appended notified =
-      history_one e s (notifies noted) e1 s1
-      (same, subst (λ (t : List ℕ). AreNotified t s s1) (is ∙ appended ∙ ap (λ (t : List ℕ). t ++ told e.run_state.spool.state noted) none) notified)
+  -- A notice over an equal table.
+  pub history_notifies : (e : Engine D) (s : Slab (Client L)) (t : State) (noted : Noted) (last : ℕ) (e1 : Engine D) (s1 : Slab (Client L)) → e1 ≡ e → t ≡ e.run_state.spool.state →
+      AreNotified (news_for t noted last) s s1 → GoesByEvents device view e s e1 s1
+  history_notifies e s t noted last e1 s1 same table notified =
+      history_one e s (notifies noted last) e1 s1 (same, subst (λ (x : State). AreNotified (news_for x noted last) s s1) table notified)
 
   -- An admission.
   entered : (e : Engine D) (s : Slab (Client L)) (connection : L) (s1 : Slab (Client L)) → IsEntered view connection s s1 → GoesByEvents device view e s e s1
@@ -128,12 +138,12 @@ module _ {D L : Type 0} (device : DiskView D) (view : ConnectionView L) where
     readied : (writable gone : Bool) (was is : Option (Client L)) → IsSlotSignaled view writable gone was is → Apart was → Apart is
     readied writable gone None is none apart = subst Apart (sym none) tt
     readied writable gone (Some c) None signaled apart = absurd signaled
-    readied writable gone (Some c) (Some c1) (goes, signed) apart = further c (signs c1) apart (goes, ap (λ (x : Client L). x.waits) signed)
+    readied writable gone (Some c) (Some c1) (goes, signed) apart = further c (signs c1) apart (goes, ap (λ (x : Client L). status_of x) signed)
 
-    notified : (text : List ℕ) (was is : Option (Client L)) → IsSlotNotified text was is → Apart was → Apart is
-    notified text None is none apart = subst Apart (sym none) tt
-    notified text (Some c) None told apart = tt
-    notified text (Some c) (Some c1) (of, added, missed, waits) apart = further c (changes text _ c1) apart (of, added, waits)
+    notified : (news : Client L → List ℕ) (was is : Option (Client L)) → IsSlotNotified news was is → Apart was → Apart is
+    notified news None is none apart = subst Apart (sym none) tt
+    notified news (Some c) None told apart = tt
+    notified news (Some c) (Some c1) (of, added, missed, kept) apart = further c (changes (news c) _ c1) apart (of, added, kept)
 
     newcomer : (connection : L) (is : Option (Client L)) → came connection → IsNewcomer view connection is → Apart is
     newcomer connection None brought new = absurd new
@@ -169,14 +179,14 @@ module _ {D L : Type 0} (device : DiskView D) (view : ConnectionView L) where
           | inr differs ↦ subst Apart (sym (others k differs)) (all k)
         ]
 
-    each_of : (text : List ℕ) (s s1 : Slab (Client L)) → AreNotified text s s1 → AreServedApart device view came s → AreServedApart device view came s1
-    each_of text s s1 notes all k = by_place (place k)
+    each_of : (news : Client L → List ℕ) (s s1 : Slab (Client L)) → AreNotified news s s1 → AreServedApart device view came s → AreServedApart device view came s1
+    each_of news s s1 notes all k = by_place (place k)
       where
         place : (k : ℕ) → (k < most_clients) ⊎ (most_clients ≤ k)
         place k = grind arith
 
         by_place : (k < most_clients) ⊎ (most_clients ≤ k) → Apart (get s1 k)
-        by_place (inl lt) = notified text (get s k) (get s1 k) (notes.each k lt) (all k)
+        by_place (inl lt) = notified news (get s k) (get s1 k) (notes.each k lt) (all k)
         by_place (inr le) = subst Apart (sym (notes.others k le)) (all k)
 
     apart_event : (e : Engine D) (s : Slab (Client L)) (x : LoopEvent L) (e1 : Engine D) (s1 : Slab (Client L)) → IsLoopEvent device view e s x e1 s1 →
@@ -188,7 +198,7 @@ module _ {D L : Type 0} (device : DiskView D) (view : ConnectionView L) where
     apart_event e s (enters connection) e1 s1 (same, has) brings all =
         one_of has.key s s1 has.others (λ was. newcomer connection (get s1 has.key) (brings connection refl) has.own) all
     apart_event e s (takes_turn key turn) e1 s1 had brings all = one_of key s s1 had.others (turned e (get s key) turn e1 (get s1 key) had.own) all
-    apart_event e s (notifies noted) e1 s1 (same, notes) brings all = each_of (told e.run_state.spool.state noted) s s1 notes all
+    apart_event e s (notifies noted last) e1 s1 (same, notes) brings all = each_of (news_for e.run_state.spool.state noted last) s s1 notes all
 
     apart_events : (e : Engine D) (s : Slab (Client L)) (xs : List (LoopEvent L)) (e1 : Engine D) (s1 : Slab (Client L)) → AreLoopEvents device view e s xs e1 s1 →
         ((connection : L) → HasBrought xs connection → came connection) → AreServedApart device view came s → AreServedApart device view came s1
@@ -217,4 +227,9 @@ module _ {D L : Type 0} (device : DiskView D) (view : ConnectionView L) where
             (known view.remaining served.connection served.own text served.untouched.remaining brings);
         texts = λ said holds. told_once device view served.own served.first served.client_steps c served.entry served.are said
             (known view.contents served.connection served.own said served.untouched.contents holds);
+        standing =
+            standing_by_steps device view served.own served.first served.client_steps c served.entry served.are
+            ∙ ap (λ (rules : RoleRules). standing_after_all (first_standing rules (view.is_operators served.own)) (actions_of served.client_steps)) served.untouched.rules
+            ∙ ap (λ (is : Bool). standing_after_all (first_standing (view.rules served.connection) is) (actions_of served.client_steps)) served.untouched.is_operators;
+        proofs = λ steps reports. proofs_by_steps device view served.own served.first served.client_steps c served.entry served.are steps (served.untouched.proofs ∙ reports);
       }

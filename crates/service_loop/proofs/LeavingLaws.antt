@@ -5,11 +5,11 @@ use Rattle.slab.specs.Slab.{Slab, get}
 use Rattle.spool_disk.specs.Disk.{DiskView}
 use Rattle.spool_engine.specs.EngineRuns.{Engine}
 use Rattle.service_rules.specs.Bounds.{most_clients}
-use Rattle.service_texts.specs.Notices.{told}
 use Rattle.service_loop.specs.AdmissionViews.{watches}
 use Rattle.service_loop.specs.ClientSlots.{HadTurn, IsSlotNotified, IsSlotSignaled, KeepsOthers, SlotHadTurn, unless_parted}
 use Rattle.service_loop.specs.ClientSteps.{is_starved}
 use Rattle.service_loop.specs.ConnectionViews.{ConnectionView}
+use Rattle.service_loop.specs.Progress.{news_for}
 use Rattle.service_loop.specs.SlotHistories.{HasParted, IsCause, IsLoopEvent, LoopEvent, enters, gives_up, notifies, readies, takes_turn, works}
 use Rattle.service_loop.specs.declared.client.Client.{Client}
 use Rattle.service_loop.specs.declared.client.Disconnect.{Disconnect}
@@ -34,10 +34,10 @@ module _ {D L : Type 0} (device : DiskView D) (view : ConnectionView L) where
   signaled writable gone c (Some d) None same there none = same
   signaled writable gone c (Some d) (Some d1) same there none = cc
 
-  notified : (text : List ℕ) (c : Client L) (was is : Option (Client L)) → IsSlotNotified text was is → was ≡ Some c → is ≡ None → watches c ≡ true
-  notified text c None is told there none = absurd (cc)
-  notified text c (Some d) None told there none = subst (λ (x : Client L). watches x ≡ true) (let same : d ≡ c = cc in same) told
-  notified text c (Some d) (Some d1) told there none = absurd (cc)
+  notified : (news : Client L → List ℕ) (c : Client L) (was is : Option (Client L)) → IsSlotNotified news was is → was ≡ Some c → is ≡ None → watches c ≡ true
+  notified news c None is told there none = absurd (cc)
+  notified news c (Some d) None told there none = subst (λ (x : Client L). watches x ≡ true) (let same : d ≡ c = cc in same) told
+  notified news c (Some d) (Some d1) told there none = absurd (cc)
 
   -- Its own turn.
   parted : (e : Engine D) (c : Client L) (turn : Turn) (new : Engine D) (slot : Option (Client L)) (had : HadTurn device view e c turn new slot) → slot ≡ None → (disconnect : Option Disconnect) →
@@ -67,11 +67,11 @@ module _ {D L : Type 0} (device : DiskView D) (view : ConnectionView L) where
   left_for e s (takes_turn changed turn) new s1 had key c was none =
       own_slot (IsCause device view e s (takes_turn changed turn) new key c) changed key s s1 c had.others was none
       (λ e1. in_turn s e changed key (get s changed) turn new (get s1 changed) c had.own (ap (λ (k : ℕ). get s k) e1 ∙ was) (ap (λ (k : ℕ). get s1 k) e1 ∙ none) e1)
-  left_for e s (notifies noted) new s1 (same, notes) key c was none = by_place (place key)
+  left_for e s (notifies noted last) new s1 (same, notes) key c was none = by_place (place key)
     where
       place : (k : ℕ) → (k < most_clients) ⊎ (most_clients ≤ k)
       place k = grind arith
 
       by_place : (key < most_clients) ⊎ (most_clients ≤ key) → watches c ≡ true
-      by_place (inl lt) = notified (told e.run_state.spool.state noted) c (get s key) (get s1 key) (notes.each key lt) was none
+      by_place (inl lt) = notified (news_for e.run_state.spool.state noted last) c (get s key) (get s1 key) (notes.each key lt) was none
       by_place (inr le) = no_client (watches c ≡ true) c (get s1 key) (notes.others key le ∙ was) none

@@ -7,3 +7,5 @@ pub mod PlaceLaws
 pub mod ProgressLaws
 pub mod TurnLaws
 pub mod ClientStepLaws
+pub mod RecordLaws
+pub mod WaitLaws

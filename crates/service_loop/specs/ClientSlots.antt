@@ -10,7 +10,7 @@ use Rattle.service_loop.specs.AdmissionViews.{watches}
 use Rattle.service_loop.specs.ClientActions.{Action}
 use Rattle.service_loop.specs.ConnectionViews.{ConnectionView, IsUntouched}
 use Rattle.service_loop.specs.Progress.{EndsTurn, IsBacklogged, misses, signed, text_for}
-use Rattle.service_loop.specs.ClientSteps.{Goes, IsAdded, IsEntry, IsNotified, IsClientStep, is_starved}
+use Rattle.service_loop.specs.ClientSteps.{Goes, IsAdded, IsEntry, IsNotified, IsClientStep, is_starved, status_of}
 use Rattle.service_loop.specs.declared.client.Client.{Client}
 use Rattle.service_loop.specs.declared.client.Disconnect.{Disconnect}
 use Rattle.service_loop.specs.declared.client.Turn.{Turn}
@@ -65,10 +65,10 @@ leaves_more None = false
 leaves_more (Some turn) = turn.more
 
 -- The effect of a notice on a slot: its client was sent its part of it, or it watches and was disconnected because memory ran out.
-abbrev pub IsSlotNotified : {L : Type 0} → List ℕ → Option (Client L) → Option (Client L) → Type 0
-IsSlotNotified text None left = left ≡ None
-IsSlotNotified text (Some c) None = watches c ≡ true
-IsSlotNotified text (Some c) (Some left) = IsNotified text (text_for c text) × IsAdded c (text_for c text) left × (left.missed ≡ misses c) × (left.waits ≡ c.waits)
+abbrev pub IsSlotNotified : {L : Type 0} → (Client L → List ℕ) → Option (Client L) → Option (Client L) → Type 0
+IsSlotNotified news None left = left ≡ None
+IsSlotNotified news (Some c) None = watches c ≡ true
+IsSlotNotified news (Some c) (Some left) = IsNotified (news c) (text_for c (news c)) × IsAdded c (text_for c (news c)) left × (left.missed ≡ misses c) × (status_of left ≡ status_of c)
 
 -- The effect of readiness on a slot.
 abbrev pub IsSlotSignaled : {L : Type 0} → ConnectionView L → Bool → Bool → Option (Client L) → Option (Client L) → Type 0
@@ -79,7 +79,7 @@ IsSlotSignaled view writable gone (Some c) (Some left) = Goes view c [] [] left 
 -- A new client with this connection is in the slot, and nothing was read from its connection or written to it.
 abbrev pub IsNewcomer : {L : Type 0} → ConnectionView L → L → Option (Client L) → Type 0
 IsNewcomer view connection None = ⊥
-IsNewcomer {L} view connection (Some c) = (own : L) × IsUntouched view connection own × IsEntry own c
+IsNewcomer {L} view connection (Some c) = (own : L) × IsUntouched view connection own × IsEntry view own c
 
 -- The client that is replaced has left, and no other.
 abbrev pub HasGone : {L : Type 0} → Admission → Slab (Client L) → Slab (Client L) → Type 0

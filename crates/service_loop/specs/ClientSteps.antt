@@ -9,8 +9,9 @@ use Rattle.client_reader.specs.declared.ask.Next.{Next}
 use Rattle.client_reader.specs.declared.ask.Next.TheVariants as nexts
 use Rattle.spool_engine.specs.EventSteps.{setting}
 use Rattle.spool_engine.specs.EngineRuns.{Engine}
-use Rattle.service_loop.specs.ClientActions.{Action, tells, IsAction, IsTimely, AreActions, after_action, wait_after, asks_by, asks_in, text_by, texts_in}
-use Rattle.service_loop.specs.ConnectionViews.{ConnectionView}
+use Rattle.client_standing.specs.ClientStanding.{first_standing}
+use Rattle.service_loop.specs.ClientActions.{Action, tells, ClientStatus, IsDone, AreActions, after_action, status_after, asks_by, asks_in, text_by, texts_in, proofs_by, proofs_in}
+use Rattle.service_loop.specs.ConnectionViews.{ConnectionView, ProofStep, AddsProofs}
 use Rattle.service_loop.specs.declared.client.Client.{Client}
 use Rattle.service_loop.specs.declared.client.Disconnect.{Disconnect}
 use Rattle.service_loop.specs.declared.client.Disconnect.TheVariants.{Memory}
@@ -40,10 +41,19 @@ pub record IsSent {L : Type 0} (view : ConnectionView L) (old : Client L) (text 
   pub within : IsWithin new
   pub told : Appends (told_to view old) (told_to view new) text
 
--- A client made these requests, and was sent this text.
-pub record Goes {L : Type 0} (view : ConnectionView L) (old : Client L) (asks : List Ask) (text : List ℕ) (new : Client L) : Type 0 where
+-- A client made these requests, was sent this text, and made these steps of proofs.
+pub record GoesProving {L : Type 0} (view : ConnectionView L) (old : Client L) (asks : List Ask) (text : List ℕ) (steps : List ProofStep) (new : Client L) : Type 0 where
   pub asked : Asks view old asks new
   pub told : IsWithin old → IsSent view old text new
+  pub proved : AddsProofs (view.proofs old.connection) (view.proofs new.connection) steps
+
+-- A client made these requests, and was sent this text.
+abbrev pub Goes : {L : Type 0} → ConnectionView L → Client L → List Ask → List ℕ → Client L → Type 0
+Goes view old asks text new = GoesProving view old asks text [] new
+
+-- The part of a client on which its actions depend.
+abbrev pub status_of : {L : Type 0} → Client L → ClientStatus
+status_of c = record { standing = c.standing; waits = c.waits }
 
 -- A text was appended to its replies; nothing was read or taken.
 pub record IsAdded {L : Type 0} (old : Client L) (text : List ℕ) (new : Client L) : Type 0 where
@@ -52,31 +62,31 @@ pub record IsAdded {L : Type 0} (old : Client L) (text : List ℕ) (new : Client
   pub taken : new.taken ≡ old.taken
   pub replies : new.replies.items ≡ old.replies.items ++ text
 
--- A client with this connection. Nothing was read from it and nothing sent to it.
-pub record IsEntry {L : Type 0} (given : L) (c : Client L) : Type 0 where
+-- A client with this connection. Nothing was read from it, nothing sent to it and nothing proved by it.
+pub record IsEntry {L : Type 0} (view : ConnectionView L) (given : L) (c : Client L) : Type 0 where
   pub connection : c.connection ≡ given
+  pub standing : c.standing ≡ first_standing (view.rules given) (view.is_operators given)
   pub reader : Awaits c.reader asks_of
   pub taken : c.taken ≡ 0
   pub replies : c.replies.items ≡ []
 
 -- Its request was answered by an action, whose text was appended.
-pub record IsAnswered {D L : Type 0} (device : DiskView D) (old : Engine D) (c : Client L) (ask : Ask) (new : Engine D) (c' : Client L) : Type 0 where
+pub record IsAnswered {D L : Type 0} (device : DiskView D) (view : ConnectionView L) (old : Engine D) (c : Client L) (ask : Ask) (new : Engine D) (c' : Client L) : Type 0 where
   pub mime : new.mime ≡ old.mime
   pub place : new.place ≡ old.place
   pub action : Action D
   pub asked : asks_by action ≡ ask ∷ []
-  pub is : IsAction (setting device old.mime old.place) old.run_state action
+  pub is : IsDone (setting device old.mime old.place) old.run_state (status_of c) action
   pub next : after_action old.run_state action ≡ new.run_state
-  pub timely : IsTimely c.waits action
-  pub waits : wait_after c.waits action ≡ c'.waits
-  pub added : IsAdded c (text_by action) c'
+  pub status : status_after (status_of c) action ≡ status_of c'
+  pub told : GoesProving view c [] (text_by action) (proofs_by action) c'
 
 -- These actions, and no others, were done for a client: they answer its requests, one for one, and it was sent their texts, in order.
 pub record IsClientStep {D L : Type 0} (device : DiskView D) (view : ConnectionView L) (old : Engine D) (c : Client L) (done : List (Action D)) (new : Engine D) (c' : Client L) : Type 0 where
   pub mime : new.mime ≡ old.mime
   pub place : new.place ≡ old.place
-  pub actions : AreActions (setting device old.mime old.place) old.run_state c.waits done new.run_state c'.waits
-  pub client : Goes view c (asks_in done) (texts_in done) c'
+  pub actions : AreActions (setting device old.mime old.place) old.run_state (status_of c) done new.run_state (status_of c')
+  pub client : GoesProving view c (asks_in done) (texts_in done) (proofs_in done) c'
 
 -- The result of its reader: a request, or none yet.
 abbrev pub GivesNext : {L : Type 0} → ConnectionView L → Client L → Next → Client L → Type 0
@@ -116,8 +126,8 @@ actions_by (signs c) = []
 -- The contracts of the loop state this of each event.
 abbrev pub IsClientStepBy : {D L : Type 0} → DiskView D → ConnectionView L → Client L → ClientStep D L → Type 0
 IsClientStepBy device view c (turns old done new c') = IsClientStep device view old c done new c'
-IsClientStepBy device view c (changes text told c') = IsNotified text told × IsAdded c told c' × (c'.waits ≡ c.waits)
-IsClientStepBy device view c (signs c') = Goes view c [] [] c' × (c'.waits ≡ c.waits)
+IsClientStepBy device view c (changes text told c') = IsNotified text told × IsAdded c told c' × (status_of c' ≡ status_of c)
+IsClientStepBy device view c (signs c') = Goes view c [] [] c' × (status_of c' ≡ status_of c)
 
 -- Each is a step of the client that the previous one left; in between the engine serves others.
 abbrev pub AreClientSteps : {D L : Type 0} → DiskView D → ConnectionView L → Client L → List (ClientStep D L) → Client L → Type 0

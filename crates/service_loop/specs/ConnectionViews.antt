@@ -1,10 +1,17 @@
 -- The reports of a client's connection.
-use Rattle.std.specs.Prelude.{◌≡◌, ℕ, ◌==◌, Bool, true, false, not, List, Option, None, Result, Ok, Err, IfSome}
+use Rattle.std.specs.Prelude.{◌≡◌, ℕ, ◌==◌, Bool, true, false, not, List, [], ◌∷◌, ◌++◌, ⊤, Option, None, Some, Result, Ok, Err, IfSome}
 use Rattle.std.specs.Io.KnownBytes.{Keeps}
 use Rattle.std.specs.IoError.{error_kind}
 use Rattle.std.specs.declared.io.Error.{Error}
 use Rattle.std.specs.declared.io.ErrorKind.{ErrorKind}
 use Rattle.std.specs.declared.io.ErrorKind.TheVariants.{WouldBlock}
+use Rattle.client_standing.specs.declared.caller.Proved.{Proved}
+use Rattle.client_standing.specs.declared.rules.RoleRules.{RoleRules}
+
+-- A step of a proof of who the client is: a folder was named, or none is offered; or it was examined.
+pub data ProofStep : Type 0 where
+  named : Option (List ℕ) → ProofStep
+  examined : Option Proved → ProofStep
 
 -- The reports that statements about connections use.
 pub record ConnectionView (L : Type 0) : Type 0 where
@@ -15,15 +22,46 @@ pub record ConnectionView (L : Type 0) : Type 0 where
   -- The results of its last read and its last write, or none if it does not report them.
   pub gave : L → Option (Result ℕ Error)
   pub took : L → Option (Result ℕ Error)
+  -- The rules for its client, and whether it came by the operators' socket.
+  pub rules : L → RoleRules
+  pub is_operators : L → Bool
+  -- The steps of its client's proofs so far, or none if it does not report them.
+  pub proofs : L → Option (List ProofStep)
 
--- A connection that reports nothing.
-abbrev pub silent : {L : Type 0} → ConnectionView L
-silent = record { remaining = λ connection. None; contents = λ connection. None; gave = λ connection. None; took = λ connection. None }
+-- A connection that reports only its rules and its socket.
+abbrev pub silent : {L : Type 0} → (L → RoleRules) → (L → Bool) → ConnectionView L
+silent rules is_operators = record {
+  remaining = λ connection. None;
+  contents = λ connection. None;
+  gave = λ connection. None;
+  took = λ connection. None;
+  rules = rules;
+  is_operators = is_operators;
+  proofs = λ connection. None;
+}
 
--- Nothing was read from it and nothing written to it.
+-- Nothing was read from it, nothing written to it and nothing proved by it. Its rules and its socket are the same.
 pub record IsUntouched {L : Type 0} (view : ConnectionView L) (old new : L) : Type 0 where
   pub remaining : Keeps (view.remaining old) (view.remaining new)
   pub contents : Keeps (view.contents old) (view.contents new)
+  pub rules : view.rules new ≡ view.rules old
+  pub is_operators : view.is_operators new ≡ view.is_operators old
+  pub proofs : view.proofs new ≡ view.proofs old
+
+-- These steps of proofs follow those that it reported before.
+abbrev pub AddsProofs : Option (List ProofStep) → Option (List ProofStep) → List ProofStep → Type 0
+AddsProofs None new steps = ⊤
+AddsProofs (Some before) new steps = new ≡ Some (before ++ steps)
+
+-- A step of a proof was made. Nothing was read from it and nothing written to it.
+pub record IsProofStep {L : Type 0} (view : ConnectionView L) (old : L) (step : ProofStep) (new : L) : Type 0 where
+  pub remaining : Keeps (view.remaining old) (view.remaining new)
+  pub contents : Keeps (view.contents old) (view.contents new)
+  pub proofs : AddsProofs (view.proofs old) (view.proofs new) (step ∷ [])
+
+-- A client that came by the operators' socket proves to be an operator.
+abbrev pub IsOperatorIf : Bool → Option Proved → Type 0
+IsOperatorIf is_operators proved = is_operators ≡ true → IfSome proved (λ who. who.is_operator ≡ true)
 
 -- The last call had this result, if the connection reports it.
 abbrev pub CameTo : Option (Result ℕ Error) → Result ℕ Error → Type 0

@@ -1,12 +1,11 @@
 -- The time as the service knows it, and the jobs that it takes from the table. Moments are in seconds.
-use Rattle.std.specs.Prelude.{◌≡◌, ◌↔◌, ℕ, suc, zero, ◌<◌, ◌≤◌, true, List, [], ◌∷◌, Option, Some, IfSome}
+use Rattle.std.specs.Prelude.{◌≡◌, ◌↔◌, ℕ, suc, zero, ◌<◌, ◌≤◌, true, List, [], ◌∷◌, Some, IfSome}
 use Rattle.std.specs.List.{Contains}
 use Rattle.spool_types.specs.Limits.{greatest_moment}
 use Rattle.spool_types.specs.State.{State, Job, job_at}
 use Rattle.job_table.specs.DueTimes.{due_of, next_due, IsChangedJob}
 use Rattle.service_rules.specs.declared.clocks.Clocks.{Clocks}
 use Rattle.service_rules.specs.declared.purges.Candidate.{Candidate}
-use Rattle.service_texts.specs.Notices.{Noted, Watched, with_job}
 use Rattle.service_loop.specs.declared.maintenance.Maintenance.{Maintenance}
 
 -- The first n of these jobs, all of which have ended, are listed in order, whether a child of them runs or not.
@@ -16,17 +15,9 @@ AreListed zero (j ∷ js) listed = listed ≡ []
 AreListed (suc n) (j ∷ js) [] = ⊥
 AreListed (suc n) (j ∷ js) (c ∷ cs) = (c.id ≡ j) × (c.ended ≡ true) × AreListed n js cs
 
-abbrev pub with_jobs : Noted → List ℕ → Noted
-with_jobs noted [] = noted
-with_jobs noted (j ∷ js) = with_jobs (with_job noted j) js
-
 -- These are the jobs that a Clock of a moment cancels or whose hold it ends. A job may be listed twice.
 abbrev pub AreChangedJobs : State → ℕ → List ℕ → Type 0
 AreChangedJobs s m jobs = (j : ℕ) → Contains jobs j ↔ IsChangedJob s m j
-
--- The jobs that the Clock changes are noted, each once, in any order.
-abbrev pub HasNotedDue : State → ℕ → Watched → Watched → Type 0
-HasNotedDue s m old new = (jobs : List ℕ) × AreChangedJobs s m jobs × (new ≡ record old { noted = with_jobs old.noted jobs })
 
 -- A later moment, before the due moment of each job.
 pub record IsQuietUntil (s : State) (m : ℕ) : Type 0 where

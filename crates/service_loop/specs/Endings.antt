@@ -1,7 +1,9 @@
 -- The children that must end, and when each is sent which signal. Moments are in milliseconds.
-use Rattle.std.specs.Prelude.{◌≡◌, ℕ, ◌-◌, ◌==◌, Bool, cond, filter_map, is_some, nat_le, List, [], ◌∷◌, ◌++◌, length, Option, None, Some}
+use Rattle.std.specs.Prelude.{◌≡◌, ℕ, ◌-◌, ◌==◌, Bool, cond, filter_map, is_some, nat_le, false, List, [], ◌∷◌, ◌++◌, length, Option, None, Some}
 use Rattle.std.specs.List.{items_where_true, list_any}
 use Rattle.std.specs.Option.{option_map}
+use Rattle.std.specs.FinMap as finite
+use Rattle.child_pipeline.specs.StageSlots.{Slots, group_in}
 use Rattle.service_loop.specs.declared.endings.Ending.{Ending}
 use Rattle.service_loop.specs.declared.signals.Signal.{Signal}
 use Rattle.service_loop.specs.declared.signals.Signal.TheVariants.{Terminate, Kill}
@@ -23,6 +25,14 @@ is_listed group endings = list_any (λ ending. ending.group == group) endings
 abbrev pub with_ending : ℕ → ℕ → List Ending → List Ending
 with_ending job group endings =
     cond (is_listed group endings) endings (endings ++ record { job = job; group = group; sent = None } ∷ [])
+
+abbrev pub is_group : ℕ → Option ℕ → Bool
+is_group group None = false
+is_group group (Some running) = running == group
+
+-- The job's child runs in the group that was noted.
+abbrev pub is_current : (ℕ → ℕ) → Slots → Ending → Bool
+is_current groups slots ending = is_group ending.group (group_in groups (finite.get slots ending.job))
 
 -- Some of these children, unchanged and in their order: for each of them one choice whether it remains.
 pub record AreAmong (all kept : List Ending) : Type 0 where

@@ -1,7 +1,10 @@
 pub mod ServiceCalls
 pub mod AdmissionViews
+pub mod ProofTexts
+pub mod ShownAnswers
 pub mod ClientActions
 pub mod Due
+pub mod RecordedEvents
 pub mod Endings
 pub mod ConnectionViews
 pub mod ClientSlots
@@ -9,3 +12,5 @@ pub mod Progress
 pub mod ServiceTurns
 pub mod SlotHistories
 pub mod ClientSteps
+pub mod KnownJobs
+pub mod LoopWaits

@@ -3,9 +3,10 @@ use Rattle.std.specs.Prelude.{◌≡◌, ◌⊎◌, ℕ, ◌<◌, ◌≤◌, Boo
 use Rattle.std.specs.Io.KnownBytes.{Consumes, Keeps}
 use Rattle.spool_types.specs.State.{State}
 use Rattle.service_rules.specs.Bounds.{most_unread}
+use Rattle.service_texts.specs.Notices.{Noted, change_text, told}
 use Rattle.service_texts.specs.Shown.{has_settled}
 use Rattle.service_texts.specs.declared.own_words.OwnWord.{OwnWord}
-use Rattle.service_texts.specs.declared.own_words.OwnWord.TheVariants.{Shutdown, Watch}
+use Rattle.service_texts.specs.declared.own_words.OwnWord.TheVariants.{Shutdown, Watch, WatchFrom}
 use Rattle.client_reader.specs.AwaitedRequests.{Awaits}
 use Rattle.client_reader.specs.declared.ask.Ask.{Ask}
 use Rattle.service_loop.specs.AdmissionViews.{unread, watches}
@@ -25,6 +26,10 @@ as_given old new = record old { connection = new.connection; replies = new.repli
 -- A client, with the fields that reading its connection may change taken from another.
 abbrev pub as_read : {L : Type 0} → Client L → Client L → Client L
 as_read old new = record old { connection = new.connection; reader = new.reader; readable = new.readable; over = new.over; last_active = new.last_active }
+
+-- A client, with the fields that an answer may change taken from another.
+abbrev pub as_answered : {L : Type 0} → Client L → Client L → Client L
+as_answered old new = record old { connection = new.connection; replies = new.replies; waits = new.waits; watches = new.watches; counts = new.counts; standing = new.standing }
 
 -- A client, with the fields that a notice may change taken from another.
 abbrev pub as_told : {L : Type 0} → Client L → Client L → Client L
@@ -97,6 +102,10 @@ IsReadAs view old now Lost new = IsCut view new
 
 -- ## Notices
 
+-- What a client is sent of some changes: their lines, as far as it may see them, and the number of the last change, if it counts them.
+abbrev pub news_for : {L : Type 0} → State → Noted → ℕ → Client L → List ℕ
+news_for s noted last c = told c.standing s noted ++ cond c.counts (change_text last) []
+
 -- The part of a notice that it is sent: nothing if it does not watch or left too much unread.
 abbrev pub text_for : {L : Type 0} → Client L → List ℕ → List ℕ
 text_for c text = cond (watches c && nat_lt (unread c) most_unread) (cond c.missed (codes "missed\n" ++ text) text) []
@@ -110,6 +119,7 @@ misses c = cond (watches c) (nat_le most_unread (unread c)) c.missed
 -- The word that requests notices, and the word that ends the service.
 abbrev pub is_watch : OwnWord → Bool
 is_watch Watch = true
+is_watch (WatchFrom number) = true
 is_watch word = false
 
 abbrev pub is_shutdown : OwnWord → Bool

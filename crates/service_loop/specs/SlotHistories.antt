@@ -8,15 +8,16 @@ use Rattle.service_rules.specs.Bounds.{most_clients}
 use Rattle.service_rules.specs.ClientAdmission.{IsAdmission}
 use Rattle.service_rules.specs.declared.slots.Admission.{Admission}
 use Rattle.service_rules.specs.declared.slots.Admission.TheVariants.{InsteadOf}
-use Rattle.service_texts.specs.Notices.{Noted, told}
+use Rattle.service_texts.specs.Notices.{Noted}
 use Rattle.client_reader.specs.Asks.{asks_of}
 use Rattle.client_reader.specs.ReaderCalls.{AreFirstOf}
 use Rattle.service_loop.specs.AdmissionViews.{heard_of, watches}
-use Rattle.service_loop.specs.ClientActions.{Action, asks_in, texts_in}
+use Rattle.client_standing.specs.ClientStanding.{first_standing}
+use Rattle.service_loop.specs.ClientActions.{Action, asks_in, texts_in, proofs_in, standing_after_all}
 use Rattle.service_loop.specs.ClientSlots.{HasEntered, HasTurn, IsLetIn, IsSlotNotified, IsSlotSignaled, KeepsOthers}
 use Rattle.service_loop.specs.ClientSteps.{AreClientSteps, ClientStep, HasAll, IsClientStep, IsEntry, actions_of}
-use Rattle.service_loop.specs.ConnectionViews.{ConnectionView, IsUntouched}
-use Rattle.service_loop.specs.Progress.{HasLeft}
+use Rattle.service_loop.specs.ConnectionViews.{ConnectionView, IsUntouched, ProofStep}
+use Rattle.service_loop.specs.Progress.{HasLeft, news_for}
 use Rattle.service_loop.specs.ServiceCalls.{GoesByCalls}
 use Rattle.service_loop.specs.declared.client.Client.{Client}
 use Rattle.service_loop.specs.declared.client.Disconnect.TheVariants.{Memory}
@@ -35,17 +36,17 @@ pub data LoopEvent (L : Type 0) : Type 0 where
   enters : L → LoopEvent L
   -- The slot had its turn.
   takes_turn : ℕ → Option Turn → LoopEvent L
-  -- The watching clients were sent these changes.
-  notifies : Noted → LoopEvent L
+  -- The watching clients were sent these changes. The last one has this number.
+  notifies : Noted → ℕ → LoopEvent L
 
--- No free slot was left, and of the idle clients it was the one that was heard least recently.
+-- No free slot was left, and it was the idle client that was heard least recently.
 pub record HasGivenUp {L : Type 0} (old : Slab (Client L)) (key now : ℕ) (new : Slab (Client L)) : Type 0 where
   pub idle : IsAdmission (heard_of old) now (InsteadOf key)
   pub gone : Updates old new key None
 
 -- Each client was sent its part of a text, or it watches and was disconnected because memory ran out.
-pub record AreNotified {L : Type 0} (text : List ℕ) (old new : Slab (Client L)) : Type 0 where
-  pub each : (key : ℕ) → key < most_clients → IsSlotNotified text (get old key) (get new key)
+pub record AreNotified {L : Type 0} (news : Client L → List ℕ) (old new : Slab (Client L)) : Type 0 where
+  pub each : (key : ℕ) → key < most_clients → IsSlotNotified news (get old key) (get new key)
   pub others : (key : ℕ) → most_clients ≤ key → get new key ≡ get old key
 
 -- An event, from an engine and its slots to those that it leaves.
@@ -56,7 +57,7 @@ IsLoopEvent device view e slots (readies key writable gone) new left =
 IsLoopEvent device view e slots (gives_up key now) new left = (new ≡ e) × HasGivenUp slots key now left
 IsLoopEvent device view e slots (enters connection) new left = (new ≡ e) × HasEntered view connection slots left
 IsLoopEvent device view e slots (takes_turn key turn) new left = HasTurn device view e slots key turn new left
-IsLoopEvent device view e slots (notifies noted) new left = (new ≡ e) × AreNotified (told e.run_state.spool.state noted) slots left
+IsLoopEvent device view e slots (notifies noted last) new left = (new ≡ e) × AreNotified (news_for e.run_state.spool.state noted last) slots left
 
 -- These events happened in order, each on the engine and the slots that the previous one left.
 abbrev pub AreLoopEvents : {D L : Type 0} → DiskView D → ConnectionView L → Engine D → Slab (Client L) → List (LoopEvent L) → Engine D → Slab (Client L) → Type 0
@@ -100,7 +101,7 @@ IsCause device view e slots (gives_up other now) new key c = (other ≡ key) × 
 IsCause device view e slots (enters connection) new key c = ⊥
 IsCause device view e slots (takes_turn other None) new key c = ⊥
 IsCause device view e slots (takes_turn other (Some turn)) new key c = (other ≡ key) × ((turn.disconnect ≡ Some Memory) ⊎ HasParted device view e c new)
-IsCause device view e slots (notifies noted) new key c = watches c ≡ true
+IsCause device view e slots (notifies noted last) new key c = watches c ≡ true
 
 -- ## Each client
 
@@ -112,7 +113,7 @@ pub record IsServedApart {D L : Type 0} (device : DiskView D) (view : Connection
   pub own : L
   pub untouched : IsUntouched view connection own
   pub first : Client L
-  pub entry : IsEntry own first
+  pub entry : IsEntry view own first
   pub client_steps : List (ClientStep D L)
   pub are : AreClientSteps device view first client_steps c
 
@@ -120,11 +121,15 @@ abbrev pub AreServedApart : {D L : Type 0} → DiskView D → ConnectionView L �
 AreServedApart device view came slots = (key : ℕ) → IfSome (get slots key) (IsServedApart device view came)
 
 -- It was admitted in one of these events. If its connection reports the bytes that it brings, its actions answer the first of the requests
--- in them, whatever may follow. If it reports the bytes written to it, these and the replies not taken are the texts of its actions.
+-- in them, whatever may follow. If it reports the bytes written to it, these and the replies not taken are the texts of its actions. Its
+-- rights are those of the socket that it came by, changed by its actions alone. If its connection reports the steps of proofs, they are
+-- those of its actions.
 pub record IsServedRight {D L : Type 0} (device : DiskView D) (view : ConnectionView L) (events : List (LoopEvent L)) (c : Client L) : Type 0 where
   pub served : IsServedApart device view (HasBrought events) c
   pub asks : (text : List ℕ) → view.remaining served.connection ≡ Some text → (more : List ℕ) → AreFirstOf (asks_in (actions_of served.client_steps)) (asks_of (text ++ more))
   pub texts : (said : List ℕ) → view.contents served.connection ≡ Some said → HasAll view said (texts_in (actions_of served.client_steps)) c
+  pub standing : c.standing ≡ standing_after_all (first_standing (view.rules served.connection) (view.is_operators served.connection)) (actions_of served.client_steps)
+  pub proofs : (steps : List ProofStep) → view.proofs served.connection ≡ Some steps → view.proofs c.connection ≡ Some (steps ++ proofs_in (actions_of served.client_steps))
 
 -- A service without clients went by these events.
 pub record HasServed {D L : Type 0} (device : DiskView D) (view : ConnectionView L) (e : Engine D) (slots : Slab (Client L)) (events : List (LoopEvent L)) (new : Engine D) (left : Slab (Client L)) : Type 0 where

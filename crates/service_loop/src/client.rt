@@ -4,32 +4,29 @@
 ghost use Rattle.std.specs.Prelude.{◌≡◌, ◌⊎◌, ◌<◌, ◌&&◌, ◌||◌, ℕ, nat_lt, vec_len, is_some, true, false, List, [], None, Some, IfOk, OnOk};
 ghost use Rattle.service_rules.specs.Bounds.{most_unread};
 ghost use Rattle.service_loop.specs.ServiceCalls.{GoesByCalls};
-ghost use Rattle.spool_engine.specs.AnswerTexts.{answer_text};
 ghost use Rattle.service_loop.specs.AdmissionViews.{listens, unread, watches};
 ghost use Rattle.service_loop.specs.ClientActions.{Action};
-ghost use Rattle.service_loop.specs.Progress.{EndsTurn, HasLeft, HasRead, IsAtRest, IsBacklogged, IsCut, IsGiven, IsMarked, IsReadAs, IsUnheard, as_given, as_read, as_served, as_told, heard_after, is_shutdown, is_watch, misses, signed, text_for};
-ghost use Rattle.service_loop.specs.ClientSteps.{Goes, GivesNext, IsAdded, IsAnswered, IsEntry, IsNotified, IsClientStep, is_starved};
+ghost use Rattle.service_loop.specs.Progress.{EndsTurn, HasLeft, HasRead, IsAtRest, IsBacklogged, IsCut, IsGiven, IsMarked, IsReadAs, IsUnheard, as_given, as_read, as_served, as_told, heard_after, misses, news_for, signed, text_for};
+ghost use Rattle.service_loop.specs.ClientSteps.{Goes, GivesNext, IsAdded, IsEntry, IsNotified, IsClientStep, is_starved, status_of};
+
+mod answers;
+mod applied;
+mod looks;
 
 use crate::bounds::{MOST_STEPS, PIECE};
 use crate::connection::{Connection, read_of, write_to};
 use crate::shared::Shared;
 use child_pipeline::Children;
-use client_reader::{Ask, Next, Reader};
-use command_lines::{Answer, Command};
+use client_reader::{Next, Reader};
+use client_standing::Standing;
 use job_table::Table;
 use service_rules::bounds::MOST_UNREAD;
 use service_rules::is_served_on;
-use service_texts::{OwnWord, has_settled, job_told, shown_job};
+use service_texts::{Notes, has_settled, job_told, push_change};
 use spool_disk::Disk;
-use spool_engine::{append_answer, round_answer};
 use spool_types::JobId;
 use std::alloc::{AllocError, Global};
 use std::io::ErrorKind;
-
-// The reply to `end` if no child of the job runs.
-const NO_JOB: &[u8] = b"error job\n";
-
-const DONE: &[u8] = b"ok\n";
 
 // Sent to a watching client that left too much unread.
 const MISSED: &[u8] = b"missed\n";
@@ -119,18 +116,23 @@ pub struct Client<L: Connection> {
     // Whether it is sent what changes, and whether it missed some of that.
     watches: bool,
     missed: bool,
+    // Whether it is sent the number of the last change too.
+    counts: bool,
     // When bytes were last read from it or written to it, in milliseconds.
     last_active: u64,
+    // Who it is, and which jobs are its own.
+    standing: Standing,
 }
 
 impl<L: Connection> Client<L> {
     /// A client with this connection.
     pub fn new(alloc: Global, connection: L, now: u64) -> Client<L>
-        ensures entry { IsEntry connection result }
+        ensures entry { IsEntry L.view connection result }
         ensures connection { (result.readable ≡ true) × (result.writable ≡ true) × (result.over ≡ false) × (result.gone ≡ false) }
         ensures told { (result.waits ≡ None) × (result.watches ≡ false) × (result.missed ≡ false) }
         ensures heard { result.last_active ≡ now }
     {
+        let standing = Standing::new(alloc, connection.rules(), connection.is_operators());
         Client {
             connection,
             reader: Reader::new(alloc),
@@ -143,7 +145,9 @@ impl<L: Connection> Client<L> {
             waits: None,
             watches: false,
             missed: false,
+            counts: false,
             last_active: now,
+            standing,
         }
     }
 
@@ -152,6 +156,13 @@ impl<L: Connection> Client<L> {
         ensures { result ≡ self.now.last_active }
     {
         self.last_active
+    }
+
+    /// The newest jobs that it created.
+    pub fn made_jobs(&self) -> &[JobId]
+        ensures { result.now ≡ self.now.standing.made }
+    {
+        self.standing.made().as_slice()
     }
 
     /// Whether it waits for a job's end or watches, and has taken all that it was sent.
@@ -164,7 +175,7 @@ impl<L: Connection> Client<L> {
     /// Notes that the connection may be readable, and whether it may take more (`writable`) or has hung up (`gone`).
     pub fn signal(&mut self, writable: bool, gone: bool)
         ensures goes { Goes L.view self.old [] [] self.new }
-        ensures waits { self.new.waits ≡ self.old.waits }
+        ensures status { status_of self.new ≡ status_of self.old }
         ensures signed { self.new ≡ signed self.old writable gone }
     {
         self.readable = true;
@@ -236,7 +247,7 @@ impl<L: Connection> Client<L> {
     // Writes the replies that its connection takes, after its requests were served. Returns whether the client stays.
     fn end_turn(&mut self, now: u64, turn: &mut Turn) -> bool
         ensures goes { Goes L.view self.old [] [] self.new }
-        ensures waits { self.new.waits ≡ self.old.waits }
+        ensures status { status_of self.new ≡ status_of self.old }
         ensures given { result ≡ true → IsGiven self.new }
         ensures leaves { result ≡ false → IsUnheard L.view self.new ⊎ ((self.new.over ≡ true) × (unread self.new ≡ 0)) }
         ensures more { turn.new ≡ record turn.old { more = turn.old.more || (turn.old.is_backlogged && nat_lt (unread self.new) most_unread) } }
@@ -319,7 +330,7 @@ impl<L: Connection> Client<L> {
     // The next request of its reader.
     fn next_asked(&mut self) -> Result<Next, AllocError>
         ensures next { IfOk result (λ next. GivesNext L.view self.old next self.new) }
-        ensures waits { self.new.waits ≡ self.old.waits }
+        ensures status { status_of self.new ≡ status_of self.old }
         ensures marked { IsMarked L.view self.old → IsMarked L.view self.new }
         ensures kept { self.new ≡ record self.old { reader = self.new.reader } }
     {
@@ -346,94 +357,10 @@ impl<L: Connection> Client<L> {
         if !has_settled(table, job) {
             return Ok(false);
         }
-        let text = job_told(*self.replies.allocator(), table, job)?;
+        let text = job_told(*self.replies.allocator(), table, &self.standing, job)?;
         self.add(&text)?;
         self.waits = None;
         Ok(true)
-    }
-
-    // Serves a request.
-    fn answer<D: Disk, C: Children>(
-        &mut self,
-        shared: &mut Shared<D, C>,
-        ask: Ask,
-        turn: &mut Turn,
-    ) -> Result<(), ClientFault>
-        requires { self.old.waits ≡ None }
-        ensures done { OnOk result (IsAnswered D.device shared.old.engine self.old ask shared.new.engine self.new) }
-        ensures marked { IsMarked L.view self.old → IsMarked L.view self.new }
-        ensures kept { self.new ≡ record self.old { replies = self.new.replies; waits = self.new.waits; watches = self.new.watches } }
-        ensures turn { turn.new ≡ record turn.old { served = true; shutdown = turn.new.shutdown } }
-        ensures calls { GoesByCalls D.device shared.old.engine shared.new.engine }
-    {
-        turn.served = true;
-        match ask {
-            Ask::Command(command) => self.answer_command(shared, command),
-            Ask::Own(word) => self.answer_own(shared, word, turn),
-        }
-    }
-
-    // Serves a command of the engine. A `round` or `drain` is one tick: a round would wait for the children, and block all other clients.
-    fn answer_command<D: Disk, C: Children>(
-        &mut self,
-        shared: &mut Shared<D, C>,
-        command: Command,
-    ) -> Result<(), ClientFault>
-        requires { self.old.waits ≡ None }
-        ensures done { OnOk result (IsAnswered D.device shared.old.engine self.old (Ask.Command command) shared.new.engine self.new) }
-        ensures marked { IsMarked L.view self.old → IsMarked L.view self.new }
-        ensures kept { self.new ≡ record self.old { replies = self.new.replies } }
-        ensures calls { GoesByCalls D.device shared.old.engine shared.new.engine }
-    {
-        match command {
-            Command::Round | Command::Drain(_) => {
-                let counts = shared.tick();
-                self.add_answer(shared.engine.table(), &round_answer(counts))?;
-                Ok(())
-            }
-            command => {
-                let answer = shared.execute(command)?;
-                self.add_answer(shared.engine.table(), &answer)?;
-                Ok(())
-            }
-        }
-    }
-
-    // Answers a word of the service.
-    fn answer_own<D: Disk, C: Children>(
-        &mut self,
-        shared: &mut Shared<D, C>,
-        word: OwnWord,
-        turn: &mut Turn,
-    ) -> Result<(), ClientFault>
-        requires { self.old.waits ≡ None }
-        ensures done { OnOk result (IsAnswered D.device shared.old.engine self.old (Ask.Own word) shared.new.engine self.new) }
-        ensures marked { IsMarked L.view self.old → IsMarked L.view self.new }
-        ensures kept { self.new ≡ record self.old { replies = self.new.replies; waits = self.new.waits; watches = self.new.watches } }
-        ensures watches { OnOk result (self.new.watches ≡ (self.old.watches || is_watch word)) }
-        ensures turn { turn.new ≡ record turn.old { shutdown = turn.old.shutdown || is_shutdown word } }
-        ensures calls { GoesByCalls D.device shared.old.engine shared.new.engine }
-    {
-        match word {
-            OwnWord::Job(job) => {
-                let text = shown_job(*self.replies.allocator(), shared.engine.table(), job)?;
-                self.add(&text)?;
-            }
-            OwnWord::Wait(job) => self.waits = Some(job),
-            OwnWord::Watch => {
-                self.watches = true;
-                self.add(DONE)?;
-            }
-            OwnWord::End(job) => {
-                let ends = shared.endings.ask(&shared.engine, job)?;
-                self.add(if ends { DONE } else { NO_JOB })?;
-            }
-            OwnWord::Shutdown => {
-                turn.shutdown = true;
-                self.add(DONE)?;
-            }
-        }
-        Ok(())
     }
 
     /// Whether it is sent what changes.
@@ -444,12 +371,12 @@ impl<L: Connection> Client<L> {
     }
 
     /// Sends it what changed, if it watches. If it left too much unread, it gets `missed` later. Returns false if memory ran out.
-    pub fn notify(&mut self, text: &[u8]) -> bool
-        ensures told { result ≡ true → IsAdded self.old (text_for self.old text.now) self.new }
-        ensures of { IsNotified text.now (text_for self.old text.now) }
+    pub fn notify(&mut self, notes: &Notes, table: &Table, last: u64) -> bool
+        ensures told { result ≡ true → IsAdded self.old (text_for self.old (news_for table.now.state notes.now last self.old)) self.new }
+        ensures of { IsNotified (news_for table.now.state notes.now last self.old) (text_for self.old (news_for table.now.state notes.now last self.old)) }
         ensures missed { result ≡ true → self.new.missed ≡ misses self.old }
         ensures starved { result ≡ false → watches self.old ≡ true }
-        ensures waits { self.new.waits ≡ self.old.waits }
+        ensures status { status_of self.new ≡ status_of self.old }
         ensures kept { self.new ≡ as_told self.old self.new }
     {
         if !self.watches() {
@@ -459,28 +386,33 @@ impl<L: Connection> Client<L> {
             self.missed = true;
             return true;
         }
+        let Ok(news) = self.news(notes, table, last) else {
+            return false;
+        };
         if self.missed {
             self.missed = false;
             if self.add(MISSED).is_err() {
                 return false;
             }
         }
-        self.add(text).is_ok()
+        self.add(&news).is_ok()
     }
 
-    // Appends the text of an answer over this table to its replies.
-    fn add_answer(&mut self, table: &Table, answer: &Answer) -> Result<(), AllocError>
-        ensures added { OnOk result (IsAdded self.old (answer_text table.now.state answer.now) self.new) }
-        ensures waits { self.new.waits ≡ self.old.waits }
-        ensures kept { self.new ≡ record self.old { replies = self.new.replies } }
+    // Returns what it is sent of these changes.
+    fn news(&self, notes: &Notes, table: &Table, last: u64) -> Result<Vec<u8>, AllocError>
+        ensures { IfOk result (λ news. news.items ≡ news_for table.now.state notes.now last self.now) }
     {
-        append_answer(&mut self.replies, table, answer)
+        let mut news = notes.lines(*self.replies.allocator(), table, &self.standing)?;
+        if self.counts {
+            push_change(&mut news, last)?;
+        }
+        Ok(news)
     }
 
     // Appends a text to its replies.
     fn add(&mut self, text: &[u8]) -> Result<(), AllocError>
         ensures added { OnOk result (IsAdded self.old text.now self.new) }
-        ensures waits { self.new.waits ≡ self.old.waits }
+        ensures status { status_of self.new ≡ status_of self.old }
         ensures kept { self.new ≡ record self.old { replies = self.new.replies } }
     {
         self.replies.extend_from_slice(text)?;
@@ -490,7 +422,7 @@ impl<L: Connection> Client<L> {
     // Writes the replies that its connection takes. Returns whether the connection still takes replies.
     fn give(&mut self, now: u64) -> bool
         ensures goes { Goes L.view self.old [] [] self.new }
-        ensures waits { self.new.waits ≡ self.old.waits }
+        ensures status { status_of self.new ≡ status_of self.old }
         ensures given { result ≡ true → IsGiven self.new }
         ensures lost { result ≡ false → IsUnheard L.view self.new }
         ensures heard { self.new.last_active ≡ heard_after self.old now self.new }
@@ -553,7 +485,7 @@ impl<L: Connection> Client<L> {
     // Reads a piece of its text, if the connection may have one.
     fn read_more(&mut self, now: u64) -> Result<Step, ClientFault>
         ensures goes { OnOk result (Goes L.view self.old [] [] self.new) }
-        ensures waits { self.new.waits ≡ self.old.waits }
+        ensures status { status_of self.new ≡ status_of self.old }
         ensures read { IfOk result (λ step. IsReadAs L.view self.old now step self.new) }
         ensures marked { IsMarked L.view self.old → IsMarked L.view self.new }
         ensures kept { self.new ≡ as_read self.old self.new }

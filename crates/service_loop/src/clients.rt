@@ -5,7 +5,7 @@ ghost use Rattle.slab.specs.Slab.{get, slab_len};
 ghost use Rattle.service_loop.specs.ServiceCalls.{GoesByCalls};
 ghost use Rattle.service_loop.specs.AdmissionViews.{heard_of, is_watched};
 ghost use Rattle.service_loop.specs.ClientSlots.{HadOwnTurn, HasNoneNow, HasTurn, HaveTurns, IsEntered, IsLetIn, IsSlotSignaled, IsSlotNotified, KeepsOthers};
-ghost use Rattle.service_loop.specs.Progress.{IsGiven};
+ghost use Rattle.service_loop.specs.Progress.{IsGiven, news_for};
 ghost use Rattle.service_loop.specs.ClientSteps.{is_starved};
 ghost use Rattle.service_loop.specs.SlotHistories.{HasAdmitted};
 
@@ -14,8 +14,10 @@ use crate::connection::Connection;
 use crate::listener::Listener;
 use crate::shared::Shared;
 use child_pipeline::Children;
+use job_table::Table;
 use service_rules::bounds::MOST_CLIENTS;
 use service_rules::{Admission, Client as Heard, admit};
+use service_texts::Notes;
 use slab::Slab;
 use spool_disk::Disk;
 use std::alloc::{AllocError, Global};
@@ -159,29 +161,29 @@ impl<L: Connection> Clients<L> {
         }
     }
 
-    /// Sends the watching clients what changed. Returns how many were disconnected because memory ran out.
-    pub fn notify(&mut self, text: &[u8]) -> usize
-        ensures told { (key : ℕ) → key < MOST_CLIENTS → IsSlotNotified text.now (get self.old.slots key) (get self.new.slots key) }
+    /// Sends the watching clients what changed. The last change has the number `last`. Returns how many were disconnected because memory ran out.
+    pub fn notify(&mut self, notes: &Notes, table: &Table, last: u64) -> usize
+        ensures told { (key : ℕ) → key < MOST_CLIENTS → IsSlotNotified (news_for table.now.state notes.now last) (get self.old.slots key) (get self.new.slots key) }
         ensures others { (key : ℕ) → MOST_CLIENTS ≤ key → get self.new.slots key ≡ get self.old.slots key }
     {
         let mut starved = 0;
         for key in 0..MOST_CLIENTS {
-            if !self.notify_at(key, text) {
+            if !self.notify_at(key, notes, table, last) {
                 starved += 1;
             }
         }
         starved
     }
 
-    // Sends a text to the client in this slot, and disconnects it if memory runs out. Returns whether memory sufficed.
-    fn notify_at(&mut self, key: usize, text: &[u8]) -> bool
-        ensures own { IsSlotNotified text.now (get self.old.slots key) (get self.new.slots key) }
+    // Sends changes to the client in this slot, and disconnects it if memory runs out. Returns whether memory sufficed.
+    fn notify_at(&mut self, key: usize, notes: &Notes, table: &Table, last: u64) -> bool
+        ensures own { IsSlotNotified (news_for table.now.state notes.now last) (get self.old.slots key) (get self.new.slots key) }
         ensures others { KeepsOthers key self.old.slots self.new.slots }
     {
         let Some(client) = self.slots.get_mut(key) else {
             return true;
         };
-        if client.notify(text) {
+        if client.notify(notes, table, last) {
             return true;
         }
         self.slots.try_remove(key);
@@ -225,8 +227,12 @@ impl<L: Connection> Clients<L> {
         ensures { HasTurn D.device L.view shared.old.engine self.old.slots key result shared.new.engine self.new.slots }
     {
         let client = self.slots.get_mut(key)?;
+        shared.known.now = now;
         let turn = client.serve(shared, now);
         if turn.disconnect.is_some() {
+            shared
+                .known
+                .leave(shared.engine.table(), client.made_jobs());
             self.slots.try_remove(key);
         }
         Some(turn)

@@ -1,8 +1,9 @@
 //! The children that clients want ended: each is sent SIGTERM, and SIGKILL 10 s later.
-ghost use Rattle.std.specs.Prelude.{◌≡◌, ◌↔◌, ℕ, ◌+◌, ◌≤◌, true, false, List, [], ◌∷◌, Some, IsNone, IfOk, IsTrue, OnOk, OnErr, map, vec_len};
+ghost use Rattle.std.specs.Prelude.{◌≡◌, ◌↔◌, ℕ, ◌+◌, ◌≤◌, true, false, List, [], ◌∷◌, Some, IsNone, IfOk, IfSome, IsTrue, OnOk, OnErr, map, vec_len};
 ghost use Rattle.std.specs.FinMap as finite;
-ghost use Rattle.child_pipeline.specs.StageSlots.{IsRunning, IsTicketless};
-ghost use Rattle.service_loop.specs.Endings.{AreAmong, Sends, grace, is_listed, signal_of, signalled, signals_due, with_ending};
+ghost use Rattle.std.specs.List.{filter};
+ghost use Rattle.child_pipeline.specs.StageSlots.{IsRunning, IsTicketless, group_in};
+ghost use Rattle.service_loop.specs.Endings.{AreAmong, Sends, grace, is_current, is_listed, signal_of, signalled, signals_due, with_ending};
 ghost use Rattle.service_loop.specs.declared.endings.Ending.{Ending as AnyEnding};
 
 use crate::signals::{Signal, Signals};
@@ -47,6 +48,8 @@ impl Endings {
     ) -> Result<bool, AllocError>
         ensures runs { IfOk result (λ runs. runs ≡ true → (group : ℕ) × (self.new.list.items ≡ with_ending job group self.old.list.items)) }
         ensures none { IfOk result (λ runs. runs ≡ false → self.new.list.items ≡ self.old.list.items) }
+        // The group noted is that of the job's child.
+        ensures group { IfOk result (λ runs. runs ≡ true → IfSome (group_in C.groups (finite.get engine.now.run_state.slots job)) (λ group. self.new.list.items ≡ with_ending job group self.old.list.items)) }
         // A child of the job runs exactly if the answer says so.
         ensures found { IfOk result (λ runs. runs ≡ true → IsRunning (finite.get engine.now.run_state.slots job)) }
         ensures missed { IfOk result (λ runs. runs ≡ false → IsTicketless (finite.get engine.now.run_state.slots job)) }
@@ -94,9 +97,11 @@ impl Endings {
         ensures few { vec_len self.new.list ≤ vec_len self.old.list }
         // The children still noted are among those noted before. They were sent their due signals, and nothing else was sent.
         ensures sent { (kept : List AnyEnding) × AreAmong self.old.list.items kept × (self.new.list.items ≡ map (signalled now) kept) × Sends (S.sent signals.old) (S.sent signals.new) (signals_due now kept) }
+        // They are those whose group is that of a child that the job runs now.
+        ensures kept { self.new.list.items ≡ map (signalled now) (filter (is_current C.groups engine.now.run_state.slots) self.old.list.items) }
+        ensures due { Sends (S.sent signals.old) (S.sent signals.new) (signals_due now (filter (is_current C.groups engine.now.run_state.slots) self.old.list.items)) }
     {
-        self.list
-            .retain(|ending| engine.group_of(ending.job) == Some(ending.group));
+        self.list.retain(|ending| is_current(engine, ending));
         self.send_due(signals, now);
     }
 
@@ -108,6 +113,16 @@ impl Endings {
         for ending in self.list.iter_mut() {
             send_one(ending, signals, now);
         }
+    }
+}
+
+// Whether the job's child runs in the group that was noted.
+fn is_current<D: Disk, C: Children>(engine: &Engine<D, C>, ending: &Ending) -> bool
+    ensures { result ≡ is_current C.groups engine.now.run_state.slots ending.now }
+{
+    match engine.group_of(ending.job) {
+        Some(group) => group == ending.group,
+        None => false,
     }
 }
 

@@ -18,7 +18,9 @@ ghost use Rattle.spool_engine.specs.EngineRuns.{Engine};
 ghost use Rattle.client_reader.specs.Asks.{asks_of};
 ghost use Rattle.client_reader.specs.ReaderCalls.{AreFirstOf};
 ghost use Rattle.service_loop.specs.ServiceCalls.{GoesByCalls, ServiceLife, IsServiceHistory, keys_ordered};
-ghost use Rattle.service_loop.specs.ClientActions.{asks_in, texts_in};
+ghost use Rattle.client_standing.specs.ClientStanding.{first_standing};
+ghost use Rattle.service_loop.specs.ConnectionViews.{ProofStep};
+ghost use Rattle.service_loop.specs.ClientActions.{asks_in, proofs_in, standing_after_all, texts_in};
 ghost use Rattle.job_table.specs.DueTimes.{next_due};
 ghost use Rattle.service_loop.specs.Due.{IsQuietUntil};
 ghost use Rattle.service_loop.specs.ClientSteps.{AreClientSteps, HasAll, IsEntry, ClientStep, actions_of};
@@ -54,12 +56,20 @@ pub fn clients_of_the_loop_stay_apart<L: Connection, D: Disk>()
     // Its actions answer, one for one and in order, the first of the requests in the text of its connection, whatever may follow this text. So
     // a last line without its line feed is never served: `cancel 1` may have been cut from `cancel 12`.
     ensures asks { (own : L) (c : Client L) (client_steps : List (ClientStep D L)) (last : Client L) →
-        IsEntry own c → AreClientSteps D.device L.view c client_steps last →
+        IsEntry L.view own c → AreClientSteps D.device L.view c client_steps last →
         (text : List ℕ) → L.view.remaining own ≡ Some text → (more : List ℕ) → AreFirstOf (asks_in (actions_of client_steps)) (asks_of (text ++ more)) }
     // The bytes written to its connection, followed by the replies not taken, are the texts of these actions, in order and each byte once.
     ensures texts { (own : L) (c : Client L) (client_steps : List (ClientStep D L)) (last : Client L) →
-        IsEntry own c → AreClientSteps D.device L.view c client_steps last →
+        IsEntry L.view own c → AreClientSteps D.device L.view c client_steps last →
         (said : List ℕ) → L.view.contents own ≡ Some said → HasAll L.view said (texts_in (actions_of client_steps)) last }
+    // Its rights are those of the socket that it came by, changed by these actions alone.
+    ensures standing { (own : L) (c : Client L) (client_steps : List (ClientStep D L)) (last : Client L) →
+        IsEntry L.view own c → AreClientSteps D.device L.view c client_steps last →
+        last.standing ≡ standing_after_all (first_standing (L.view.rules own) (L.view.is_operators own)) (actions_of client_steps) }
+    // What it has proved by these actions is what its connection reports.
+    ensures proofs { (own : L) (c : Client L) (client_steps : List (ClientStep D L)) (last : Client L) →
+        IsEntry L.view own c → AreClientSteps D.device L.view c client_steps last →
+        (steps : List ProofStep) → L.view.proofs own ≡ Some steps → L.view.proofs last.connection ≡ Some (steps ++ proofs_in (actions_of client_steps)) }
 {}
 
 /// *ClientsApart*, through `serve`: each client that has a slot after the events of a service that began without clients was admitted in one of

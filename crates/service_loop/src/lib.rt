@@ -17,7 +17,8 @@
 //! 4. `Service::tick` makes one tick of the engine (`Shared::tick`, `shared.rt`).
 //! 5. `Service::maintain` sends the engine commands: the time, purges of ended jobs, and a checkpoint (`maintenance.rt`), each only if it
 //!    is due.
-//! 6. `Service::notify_changes` sends the watching clients what changed.
+//! 6. `Service::log_events` writes a line to the log for each event that matters, and `Service::notify_changes` sends the watching clients
+//!    what changed.
 //!
 //! After a `shutdown` no client is accepted and no job is started. The loop ends when no job is processing and no child runs, or 60 s after
 //! the request.
@@ -30,9 +31,11 @@
 //!
 //! | Reply to | Made by |
 //! |---|---|
-//! | a command | `Client::answer_command`: the engine's answer (`Shared::execute`), as text (`spool_engine::append_answer`) |
+//! | a request that the roles do not allow | `Client::answer`: `error denied`, and nothing is done |
+//! | a command | `Client::answer_command`: the engine's answer (`Shared::execute`), as text (`append_shown_answer`) |
 //! | `round`, `drain` | `Client::answer_command`: one tick, and its counts at once; no client waits for the children |
 //! | `job`, `watch`, `end`, `shutdown` | `Client::answer_own`; texts of `service_texts` |
+//! | `i-am`, `made` | `Client::offer_proof`, `Client::examine_proof`: the connection names the folder and examines it |
 //! | `wait` | `Client::has_reported_end`, in the first step after the job's end |
 //! | nothing: a notice to a watching client | `Client::notify` |
 //! | a connection without a slot | `send_busy` (`clients.rt`), written at once |
@@ -47,7 +50,7 @@
 //! | floods | is served 32 commands, then the other clients have their turn | 32 commands a turn |
 //! | is the 65th | replaces the client that has been idle longest, if that is at least 10 s; otherwise it gets `error busy` | 64 clients |
 //! | waits for a job | is not read until the job ends, and no other client waits; if it hangs up, its slot is freed | |
-//! | watches and does not read | gets `missed` later | 65,536 bytes and the lines of a turn |
+//! | watches and does not read | is sent `missed` later | 65,536 bytes and the lines of a turn |
 //! | leaves | its complete requests are served, a last line without line feed is not; its incoming jobs remain | |
 //!
 //! If all 64 clients listen, the 65th gets `error busy`: it knows and may try again, but a client that was dropped would have lost its
@@ -68,11 +71,17 @@
 //!   after a prefix of the events since then.
 //! - **Commands and ticks.** `Shared::execute` executes a command as the engine does (`executed`, `TakesStep`). `Shared::tick` is one tick
 //!   of the engine (`tick`, `IsTicked`). A `round` or a `drain` is answered with one tick.
+//! - **Tokens.** `Shared::execute` notes a created job for the token of its options and forgets a purged job that is gone; each other entry
+//!   stays as it was (`known` of `Shared::execute`, `entry_after`).
 //! - **Isolation.** A client's turn is a client step (`client_step` of `Client::serve`, `IsClientStep`): actions that answer, one for one
 //!   and in order, the first requests of its own connection. Their texts, each byte once, follow the texts sent before (`Goes`). An action
 //!   is a command served by the engine, one tick for a `round` or a `drain`, a word of the service answered from the current table, or the
 //!   end of the job that the client waits for (`IsAction`). While a client waits for a job's end nothing else is done for it. Each action
 //!   continues from the run state that the previous one left (`AreActions`).
+//! - **Roles.** Each action is done by the roles for the client at that moment (`IsByRole`, `client_roles`): a request is denied exactly if
+//!   they do not allow it (`denies`), and then nothing is done, so a command that is not allowed has no turn of the engine. A listing
+//!   shows title and user of a job only if the client may see them (`shown_answer`). So `history` of [`Service::serve`] carries the table
+//!   of roles.
 //! - **All clients.** Each slot has its turn, on the engine that the previous slot left (`turns` of `Clients::serve`, `HaveTurns`), and
 //!   only its own turn changes a client (`own`, `others`, `HadOwnTurn`). No other client changes when a watching client is sent what
 //!   changed (`told` of `Clients::notify`: that text, with or without `missed` before it, or none of it), when a connection is ready
@@ -86,13 +95,19 @@
 //!   from its connection, and made client steps since. Each moment of a service is the end of a list of its events.
 //! - [`clients_of_the_loop_stay_apart`]: over any list of a client's steps since its admission, its actions answer the first of the
 //!   requests in its connection's bytes, whatever may follow them (`asks`). So a last line without its line feed is never served. The bytes
-//!   written to its connection, followed by the replies not taken, are the texts of those actions (`texts`).
+//!   written to its connection, followed by the replies not taken, are the texts of those actions (`texts`). Its rights are those of the
+//!   socket that it came by, changed by its actions alone (`standing`): by a job that it created, and by what its connection proved
+//!   (`proofs`). So no word of a client says who it is.
 //! - **A turn** (`turned` of `Service::turn`, `HasTurned`) is the clients' commands, one tick, and the commands of maintenance. **Nothing
 //!   is left undone** unless the turn reports that there is more to do at once: each client was sent all that its connection takes and
 //!   cannot be served further (`clients`, `AreAtRest`); the tick started and ended nothing, and maintenance sent no command or tried a
 //!   checkpoint in vain (`still`); no listed job remains to be purged (`maintenance`, `HasNoneToPurge`); and no client waits to be admitted
 //!   (`listener`). So no wait begins while one of these is left. A tick that ran out of memory or of room is repeated after the wait. If
 //!   the clock reports its last result, no due time is left unsent (`KeepsTime`, `IsTimely`).
+//! - **Waits.** The wait of a turn is at most the time until the next check of the children, by how long the last child ran, and until
+//!   maintenance has something to do; and at most a second while the journal is full, an end was requested, or a client could not be accepted
+//!   (`wait` of `Service::pause`, `loop_wait`; `lasted` of `Service::note_times`). A minute after it was requested, an end is reached
+//!   (`IsEndedBy`). A fault of the device ends the service in the turn that met it (`alive` of `Service::turn`).
 //! - **Progress.** After the turns each remaining client was sent all that its connection takes: nothing is unread, or its connection is
 //!   marked as taking nothing now (`given` of `Clients::serve`, `IsGiven`). Unless the turn reports that there is more to do at once,
 //!   nothing can be done for the client now: it waits for a job's end, its connection is marked as having nothing to read now, or it left
@@ -101,15 +116,22 @@
 //!   reported last that nothing comes or that it takes nothing now (`IsMarked`). A client is disconnected in its turn only if its
 //!   connection is lost, it hung up while it waited, its text has ended and it has taken all replies, or memory ran out (`leaves`). A read
 //!   takes a piece, finds none now, or finds the end (`HasRead`). Readiness sets the marks of the connection (`signed`).
-//! - **Watching clients.** Each text is sent to each watching client, or nothing if too much is unread, and then `missed` before the next
-//!   text (`told` of `Clients::notify`, `text_for`, `misses`).
+//! - **Records** (`events.rt`). Exactly the events that the engine accepted are recorded: those of a command by its answer (`recorded` of
+//!   `Shared::execute`, `HasRecordedCommand`), also the jobs that a Clock changes, from any sender, and those of a tick by the engine's report
+//!   (`recorded` of `Shared::tick`). An event changes its job or its queue, and the queue of its job if it starts or ends an attempt
+//!   (`subjects_of`), and no other. If memory runs out for a queue's name, all changes so far are forgotten, and each client that asks for
+//!   them is sent `missed`. The times of jobs and queues are recorded with the moment of the turn (`HasSeenDeed`).
+//! - **Watching clients.** At the end of a turn each watching client is sent a line for each job and each queue that changed since the last
+//!   notice, each once, as far as it may see them (`news_for`, `noted_since`), or nothing if too much is unread, and then `missed` before the
+//!   next notice (`told` of `Clients::notify`, `text_for`, `misses`). A client that said `watch N` is first sent what changed after change N
+//!   (`Shared::push_changes_since`, `watch_text`), and each notice with the number of the last change. A change of the turn of its request may
+//!   be sent in both.
 //! - **Running children.** The service asks its engine which children run, and in which process group. Each tick has the limit of running
 //!   children that [`Service::new`] was given (`tick` and `most` of `Shared::tick`), so no more run after it (`most` of `IsTicked`).
 //! - **Due times.** `Maintenance::look` takes the earliest moment that changes something about a job from the table (`due`, `next_due` of
 //!   `job_table`). [`nothing_is_due_before`]: before it the clock changes no row, starts no job and changes no shown state, so an idle
 //!   service sends no clock. A due time is sent to the engine as a Clock command, and the engine answers it (`said` and `found` of
-//!   `Maintenance::announce_time`, `HasAnswered`). If a client watches, the jobs that this clock cancels or whose hold it ends are noted
-//!   first, and no others (`watched` of `Shared::note_due`, `HasNotedDue`).
+//!   `Maintenance::announce_time`, `HasAnswered`).
 //! - **Purges.** `Maintenance::look` takes the first 1,024 ended jobs and their number from the table (`listed`, `AreListed`, `ended`). A
 //!   purged job is removed from the list and no longer counted (`crossed`, `counted` of `Maintenance::purge`). Each purge is a command that
 //!   the engine answers (`purged`).
@@ -117,9 +139,10 @@
 //!   first one by half of the disk (`keeping_of` of `spool_service`). It is a command that the engine answers (`answered`).
 //! - **Admission.** A new client is admitted according to when each client was heard last and which clients listen (`admission` of
 //!   `Clients::admit`, `IsAdmission`, `heard_of`, `listens`).
-//! - **Children to end.** A child that must end is noted by its process group, once (`with_ending`). It is sent SIGTERM, and SIGKILL no
-//!   sooner than 10 s later (`signal_of`). The children still noted are among those noted before. If [`Signals`] reports the signals that
-//!   it sends, they were sent their due signals, and nothing else was sent (`sent` of `Endings::act`).
+//! - **Children to end.** A child that must end is noted by its process group, once (`group` of `Endings::ask`, `with_ending`). It is sent
+//!   SIGTERM, and SIGKILL no sooner than 10 s later (`signal_of`). The children still noted are those noted before whose job still runs a
+//!   child in that group (`kept` of `Endings::act`, `is_current`). If [`Signals`] reports the signals that it sends, they were sent their
+//!   due signals, and nothing else was sent (`sent`, `due`).
 //!
 //! # Not proved
 //!
@@ -127,18 +150,18 @@
 //!   returns, makes a checkpoint when one is wanted, ends children, and sends watching clients what changed. That is read in the code.
 //!   `tests/service.py` shows it for the program: clients that stall, flood, never read, or are too many; slow children and children that
 //!   must end; kills; a requested end.
-//! - The sockets of the program report nothing (`SocketConnection` of `spool_service`), so the clauses on connections say nothing of their
-//!   bytes. The code is the same.
+//! - The sockets of the program report their rules and nothing else (`SocketConnection` of `spool_service`), so the clauses on connections
+//!   say nothing of their bytes and proofs. The code is the same.
 //! - If a client is disconnected because memory ran out, no clause states its replies or its calls in that turn, only that no other client
 //!   is changed.
 //! - No clause states that a turn that leaves more to do has done something, or that a new client gets a slot. So these bodies meet their
 //!   clauses: a `serve_clients` that serves no client and reports that there is more; a `wait` that fails at once; a `note_readiness`,
-//!   `let_in`, `handle_turns`, `make_checkpoint`, `note_stages` or `notify_changes` that does nothing; an `end_children` of `Shared` that
+//!   `let_in`, `handle_turns`, `make_checkpoint`, `note_moment`, `log_events` or `notify_changes` that does nothing; an `end_children` of `Shared` that
 //!   does nothing.
 //! - No clause states which marks a command or a tick leaves (`full`, `active`, `watched` of `Shared`), how many starts a tick is given
-//!   (`starts`), or which children stay noted: an `act` that forgets all meets its clauses.
-//! - No clause states what sockets, clocks and signals do, or which number the process group of a child has: a `group_of` of the engine that
-//!   returns 1 for each running child meets its clauses. `one_of_several_children_is_ended` of `tests/service.py` refuses it.
+//!   (`starts`).
+//! - No clause states what sockets, clocks and signals do, or which process group the system gives a child. From its start on the number of
+//!   the group is exact (`Children::group`, `group` of `Engine::group_of`).
 //! - The launcher of the program reports no orders, so the clauses on children say nothing of it. `watched_children_tests` has the laws for
 //!   an engine over children in memory.
 //!
@@ -160,12 +183,16 @@ mod client;
 mod clients;
 mod connection;
 mod endings;
+mod events;
 mod fault;
+mod known_jobs;
 mod laws;
 mod listener;
 mod maintenance;
+mod proof_texts;
 mod service;
 mod shared;
+mod shown_answers;
 mod signals;
 mod times;
 

@@ -31,7 +31,6 @@ const SECOND: u64 = 1_000;
 
 #[derive(Drop)]
 pub(crate) struct Maintenance {
-    alloc: Global,
     // How many ended jobs are retained.
     keep: usize,
     // How many jobs had ended at the last check, less those purged since, and the oldest of them.
@@ -66,7 +65,6 @@ impl Maintenance {
         ensures jobs { IfOk result (λ maintenance. (maintenance.ended ≡ 0) × (maintenance.listed.items ≡ [])) }
     {
         Ok(Maintenance {
-            alloc,
             keep,
             ended: 0,
             listed: Vec::with_capacity(alloc, MOST_LISTED)?,
@@ -112,7 +110,6 @@ impl Maintenance {
             return Ok(false);
         };
         self.told = Some(moment);
-        shared.note_due(self.alloc, moment)?;
         say(shared, Command::Apply(Event::Clock(moment)))?;
         Ok(true)
     }

@@ -1,15 +1,20 @@
 //! The loop: serves clients while children run.
-ghost use Rattle.std.specs.Prelude.{◌≡◌, ◌*◌, ◌-◌, ◌^◌, ◌||◌, ℕ, min, true, false, None, IfOk, IfSome, OnErr, OnOk, Ok, Err};
+ghost use Rattle.std.specs.Prelude.{◌≡◌, ◌*◌, ◌-◌, ◌^◌, ◌||◌, ◌≤◌, ℕ, Option, is_some, min, true, false, None, IfOk, IfSome, OnErr, OnOk, Ok, Err};
 ghost use Rattle.slab.specs.Slab.{get};
 ghost use Rattle.std.specs.Option.{option_map};
 ghost use Rattle.service_rules.specs.Bounds.{millisecond};
+ghost use Rattle.print_rounds.specs.RoundTicks.{count_running};
+ghost use Rattle.service_rules.specs.ChildPolling.{next_look};
+ghost use Rattle.service_loop.specs.LoopWaits.{IsEndedBy, clock_bound, lasted_after, loop_wait};
 ghost use Rattle.service_loop.specs.ServiceCalls.{GoesByCalls};
 ghost use Rattle.service_loop.specs.SlotHistories.{GoesByEvents};
 ghost use Rattle.service_loop.specs.ServiceTurns.{AreAtRest, HasNoneToPurge, HasTicked, HasTriedAtMost, HasTurned, IsTimely, KeepsTime, has_moved, has_new_client_waiting};
 
 use crate::bounds::{LONGEST_END, LONGEST_IDLE, MOST_ACCEPTED};
 use crate::clients::{Clients, Turns};
+use crate::events::{EventLine, Records};
 use crate::fault::ServiceFault;
+use crate::known_jobs::KnownJobs;
 use crate::listener::{AcceptOutcome, Listener, Readiness};
 use crate::maintenance::Maintenance;
 use crate::shared::Shared;
@@ -22,6 +27,7 @@ use service_rules::bounds::MILLISECOND;
 use service_rules::{Admission, next_look, pause_for, poll_wait};
 use spool_disk::Disk;
 use spool_engine::Engine;
+use spool_types::Moment;
 use std::alloc::{AllocError, Global};
 use std::io;
 
@@ -58,13 +64,15 @@ pub struct Service<'a, L, D: Disk, C: Children, R: Listener> {
 }
 
 impl<'a, L: Log, D: Disk + Drop, C: Children + Drop, R: Listener> Service<'a, L, D, C, R> {
-    /// A service of an engine. At most `most` children run at once.
+    /// A service of an engine. At most `most` children run at once. The first change has the number after `last_change`. If this is greater
+    /// than each number that an earlier service gave, none of those is known.
     pub fn new(
         log: &'a L,
         alloc: Global,
         most: usize,
         engine: Engine<D, C>,
         keeping: Keeping,
+        last_change: u64,
     ) -> Result<Service<'a, L, D, C, R>, AllocError>
         ensures engine { IfOk result (λ service. service.shared.engine ≡ engine) }
         ensures most { IfOk result (λ service. service.shared.most ≡ most) }
@@ -73,10 +81,12 @@ impl<'a, L: Log, D: Disk + Drop, C: Children + Drop, R: Listener> Service<'a, L,
         ensures starts { IfOk result (λ service. (service.more ≡ true) × (service.has_new_client ≡ true) × (service.barred ≡ false) × (service.ends ≡ None) × (service.begun ≡ 0) × (service.lasted ≡ 0)) }
     {
         let maintenance = Maintenance::new(alloc, keeping.jobs, keeping.room, keeping.area)?;
+        let records = Records::new(alloc, last_change)?;
+        let known = KnownJobs::of_table(alloc, engine.table(), 0)?;
         Ok(Service {
             log,
             alloc,
-            shared: Shared::new(alloc, most, engine),
+            shared: Shared::new(alloc, most, engine, records, known),
             clients: Clients::new(alloc)?,
             maintenance,
             begun: 0,
@@ -97,7 +107,8 @@ impl<'a, L: Log, D: Disk + Drop, C: Children + Drop, R: Listener> Service<'a, L,
     ) -> Result<(), ServiceFault>
         // However it ends, its engine changed by calls alone.
         ensures calls { GoesByCalls D.device self.old.shared.engine self.new.shared.engine }
-        // A client was sent the texts of its own turns and changes alone, and left its slot for one of the listed causes alone.
+        // A client was sent the texts of its own turns and changes alone, and left its slot for one of the listed causes alone. No request
+        // was served that the roles do not allow to its client.
         ensures history { GoesByEvents D.device R.Stream.view self.old.shared.engine self.old.clients.slots self.new.shared.engine self.new.clients.slots }
         ensures disk { result ≡ Err ServiceFault.Disk → self.new.shared.engine.run_state.spool.dead ≡ true }
     {
@@ -125,6 +136,8 @@ impl<'a, L: Log, D: Disk + Drop, C: Children + Drop, R: Listener> Service<'a, L,
         ensures maintenance { OnOk result (self.new.more ≡ false → HasNoneToPurge self.new.maintenance) }
         ensures listener { OnOk result (self.new.more ≡ false → has_new_client_waiting self.new.has_new_client self.new.barred self.new.ends ≡ false) }
         ensures disk { result ≡ Err ServiceFault.Disk → self.new.shared.engine.run_state.spool.dead ≡ true }
+        // A fault of the device ends the service, also if no client met it.
+        ensures alive { OnOk result (self.new.shared.engine.run_state.spool.dead ≡ false) }
     {
         self.wait(listener, times)?;
         let now = times.millis();
@@ -135,7 +148,7 @@ impl<'a, L: Log, D: Disk + Drop, C: Children + Drop, R: Listener> Service<'a, L,
         let ticked = self.tick(times);
         let kept = self.maintain(times)?;
         self.note_more(turns, ticked, kept);
-        self.note_stages(turns.served || ticked)?;
+        self.log_events();
         self.notify_changes()?;
         if self.shared.engine.met_fault() {
             return Err(ServiceFault::Disk);
@@ -186,6 +199,7 @@ impl<'a, L: Log, D: Disk + Drop, C: Children + Drop, R: Listener> Service<'a, L,
             Err(error) if error.kind() == io::ErrorKind::Interrupted => {}
             Err(_) => return Err(ServiceFault::Socket),
         }
+        self.note_moment(times);
         self.note_readiness(listener);
         Ok(())
     }
@@ -219,18 +233,34 @@ impl<'a, L: Log, D: Disk + Drop, C: Children + Drop, R: Listener> Service<'a, L,
     }
 
     // How long the next wait is at most, in microseconds: until the next check of the children, or until maintenance has something to do.
-    fn pause<T: Times>(&self, times: &mut T) -> Option<u64> {
+    fn pause<T: Times>(&self, times: &mut T) -> Option<u64>
+        ensures wait { (ran running : ℕ) × (clock : Option ℕ) ×
+            (count_running self.now.shared.engine.run_state.slots ≤ self.now.shared.most → running ≡ count_running self.now.shared.engine.run_state.slots) ×
+            IfSome (T.told times.new) (λ last. clock ≡ clock_bound self.now.maintenance self.now.shared.active self.now.shared.engine.run_state.spool.state last) ×
+            (result ≡ loop_wait self.now.more (is_some self.now.ends || (self.now.shared.full || self.now.barred)) (next_look self.now.lasted ran running) clock) }
+    {
         let ran = times.micros().saturating_sub(self.begun);
-        let look = next_look(self.lasted, ran, self.shared.running());
-        let maintenance = match times.system() {
+        let running = self.shared.running();
+        let look = next_look(self.lasted, ran, running);
+        let clock = self.clock_bound(times);
+        loop_wait(self.more, self.wakes(), look, clock)
+    }
+
+    // Whether the next wait is at most a second.
+    fn wakes(&self) -> bool
+        ensures { result ≡ (is_some self.now.ends || (self.now.shared.full || self.now.barred)) }
+    {
+        self.ends.is_some() || self.shared.full || self.barred
+    }
+
+    // How long it is until maintenance has something to do, in microseconds.
+    fn clock_bound<T: Times>(&self, times: &mut T) -> Option<u64>
+        ensures { IfSome (T.told times.new) (λ last. result ≡ clock_bound self.now.maintenance self.now.shared.active self.now.shared.engine.run_state.spool.state last) }
+    {
+        match times.system() {
             Some(millis) => micros_of(self.maintenance.wait(&self.shared, millis)),
             None => Some(LONGEST_IDLE),
-        };
-        let wait = poll_wait(self.more, look, maintenance);
-        if self.ends.is_some() || self.shared.full || self.barred {
-            return poll_wait(false, wait, Some(LONGEST_IDLE));
         }
-        wait
     }
 
     // Accepts new clients.
@@ -337,12 +367,11 @@ impl<'a, L: Log, D: Disk + Drop, C: Children + Drop, R: Listener> Service<'a, L,
     )
         ensures kept { self.new ≡ record self.old { shared = self.new.shared; begun = self.new.begun; lasted = self.new.lasted } }
         ensures shared { self.new.shared ≡ record self.old.shared { started = self.new.shared.started } }
+        ensures lasted { self.new.lasted ≡ lasted_after counts.now (looked - self.old.begun) self.old.lasted }
+        ensures begun { self.old.shared.started ≡ false → self.new.begun ≡ self.old.begun }
+        ensures noted { self.new.shared.started ≡ false }
     {
-        if let Ok(round) = counts {
-            if 0 < round.finished {
-                self.lasted = looked.saturating_sub(self.begun);
-            }
-        }
+        self.lasted = lasted_after(counts, looked.saturating_sub(self.begun), self.lasted);
         if self.shared.started {
             self.shared.started = false;
             self.begun = times.micros();
@@ -410,15 +439,31 @@ impl<'a, L: Log, D: Disk + Drop, C: Children + Drop, R: Listener> Service<'a, L,
         Ok(made)
     }
 
-    // Notes the stages that changed, if any may have.
-    fn note_stages(&mut self, moved: bool) -> Result<(), AllocError>
+    // Writes the lines about the events of the turn to the log.
+    fn log_events(&mut self)
         ensures engine { self.new.shared.engine ≡ self.old.shared.engine }
         ensures kept { self.new ≡ record self.old { shared = self.new.shared } }
     {
-        if moved {
-            self.shared.note_stages()?;
+        let left_out = self.shared.records.left_out;
+        if 0 < left_out {
+            error!(self.log; "out of memory: {left_out} events are not logged");
+            self.shared.records.left_out = 0;
         }
-        Ok(())
+        for line in &self.shared.records.lines {
+            log_line(self.log, line);
+        }
+        self.shared.records.lines.clear();
+    }
+
+    // Notes the moment of the turn, for the times of the jobs and queues that change in it.
+    fn note_moment<T: Times>(&mut self, times: &mut T)
+        ensures engine { self.new.shared.engine ≡ self.old.shared.engine }
+        ensures kept { self.new ≡ record self.old { shared = self.new.shared } }
+    {
+        self.shared.records.now = match times.system() {
+            Some(millis) => Moment::new(millis / 1_000),
+            None => None,
+        };
     }
 
     // Sends the watching clients what changed.
@@ -429,25 +474,42 @@ impl<'a, L: Log, D: Disk + Drop, C: Children + Drop, R: Listener> Service<'a, L,
         ensures kept { self.new ≡ record self.old { shared = self.new.shared; clients = self.new.clients; more = self.new.more } }
     {
         if !self.shared.watched {
+            self.shared.skip_changes();
             return Ok(());
         }
-        let mut text = Vec::new(self.alloc);
-        self.shared.notify_changes(&mut text)?;
-        if text.is_empty() {
+        let notes = self.shared.take_changes()?;
+        if notes.is_nothing() {
             return Ok(());
         }
-        let starved = self.clients.notify(&text);
+        let last = self.shared.records.changes.last();
+        let starved = self
+            .clients
+            .notify(&notes, self.shared.engine.table(), last);
         self.log_starved(starved);
         self.more = true;
         Ok(())
     }
 
     // Whether the requested end is reached.
-    fn is_over(&self, now: u64) -> bool {
+    fn is_over(&self, now: u64) -> bool
+        ensures { IsEndedBy self.now.ends now result }
+    {
         match self.ends {
             Some(asked) => LONGEST_END <= now.saturating_sub(asked) || self.shared.is_quiet(),
             None => false,
         }
+    }
+}
+
+// Writes a line to the log.
+fn log_line<L: Log>(log: &L, line: &EventLine) {
+    let Ok(text) = str::from_utf8(&line.text) else {
+        return;
+    };
+    if line.is_detail {
+        debug!(log; "{text}");
+    } else {
+        info!(log; "{text}");
     }
 }
 
@@ -458,6 +520,29 @@ fn has_moved(counts: &Result<Round, RoundFault>) -> bool
     match counts {
         Ok(round) => 0 < round.started || 0 < round.finished,
         Err(_) => false,
+    }
+}
+
+// Returns how long the youngest child had run at the last check that saw a child's end. It had run for `ran` at the check of this tick.
+fn lasted_after(counts: &Result<Round, RoundFault>, ran: u64, before: u64) -> u64
+    ensures { result ≡ lasted_after counts.now ran before }
+{
+    match counts {
+        Ok(round) => { if 0 < round.finished { ran } else { before } }
+        Err(_) => before,
+    }
+}
+
+// Returns how long the next wait is at most: until the next check of the children, or until maintenance has something to do. `wakes`: at most
+// a second.
+fn loop_wait(more: bool, wakes: bool, look: Option<u64>, clock: Option<u64>) -> Option<u64>
+    ensures { result ≡ loop_wait more wakes look clock }
+{
+    let wait = poll_wait(more, look, clock);
+    if wakes {
+        poll_wait(false, wait, Some(LONGEST_IDLE))
+    } else {
+        wait
     }
 }
 

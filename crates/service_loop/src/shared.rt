@@ -1,10 +1,21 @@
 //! State that clients and maintenance share: the engine, and the record of its changes.
-ghost use Rattle.std.specs.Prelude.{◌≡◌, ◌≤◌, ◌++◌, ℕ, true, false, length, List, [], IfOk, OnOk, Some};
+ghost use Rattle.std.specs.Prelude.{◌≡◌, ◌≤◌, ◌++◌, ℕ, true, false, codes, length, List, Option, [], IfOk, IfSome, OnErr, OnOk, Some, map};
 ghost use Rattle.std.specs.FinMap as finite;
-ghost use Rattle.service_texts.specs.Notices.{nothing_noted, told, with_stages};
+ghost use Rattle.std.specs.Option.{option_map};
+ghost use Rattle.service_texts.specs.SubmissionTokens.{entry_for};
+ghost use Rattle.service_loop.specs.KnownJobs.{HasRoom, entry_after, expected_token};
+ghost use Rattle.service_texts.specs.Notices.{change_text, noted_since, watch_text};
+ghost use Rattle.spool_engine.specs.Script.{closing_as, closing_line};
+ghost use Rattle.service_loop.specs.ClientActions.{closed_answer};
+ghost use Rattle.command_lines.specs.declared.reply.Answer.{Answer as AnswerOf};
 ghost use Rattle.print_rounds.specs.RoundTicks.{count_running};
+ghost use Rattle.print_rounds.specs.Happenings.{IsTickThat, happenings_of};
+ghost use Rattle.print_rounds.specs.declared.start_room.TickLimits.{TickLimits as LimitsOf};
+ghost use Rattle.spool_types.specs.State.{State};
+ghost use Rattle.spool_types.specs.declared.event.Closing.{Closing};
 ghost use Rattle.spool_types.specs.declared.event.Event.{Event};
-ghost use Rattle.service_loop.specs.Due.{HasNotedDue};
+ghost use Rattle.spool_types.specs.declared.event.Reply.TheVariants.{Done};
+ghost use Rattle.service_loop.specs.RecordedEvents.{HasRecordedAll, HasRecordedCommand, happened_deed};
 ghost use Rattle.service_loop.specs.ServiceCalls.{GoesByCalls};
 ghost use Rattle.spool_engine.specs.EventSteps.{setting};
 ghost use Rattle.spool_engine.specs.AnswerTexts.{answer_text};
@@ -12,27 +23,34 @@ ghost use Rattle.spool_engine.specs.EngineRuns.{CommandStep, TakesStep};
 ghost use Rattle.spool_engine.specs.EngineTicks.{IsTicked};
 
 use crate::endings::Endings;
+use crate::events::{Records, expect};
+use crate::known_jobs::{ExpectedToken, KnownJobs, job_sent_to};
 use crate::signals::Signals;
 use child_pipeline::Children;
+use client_standing::Standing;
 use command_lines::{Answer, Command};
-use print_rounds::{Round, RoundFault, TickLimits};
-use service_texts::Changes;
+use job_table::Table;
+use print_rounds::{Happening, Round, RoundFault, TickLimits};
+use service_texts::{Notes, push_change};
 use spool_disk::Disk;
 use spool_engine::Engine;
-use spool_types::{JobId, Moment};
+use spool_types::{Event, JobId, MediaType};
 use std::alloc::{AllocError, Global};
 
-/// An engine, the number of children that may run at once, those that must end, and the changes since the watching clients were last sent
-/// some.
+/// An engine, the number of children that may run at once, those that must end, and the records of the events that the engine accepted.
 #[derive(Drop)]
 pub(crate) struct Shared<D: Disk, C: Children> {
+    alloc: Global,
     pub engine: Engine<D, C>,
     /// How many children may run at once.
     pub most: usize,
     /// Whether a child was started since the service last noted when one was.
     pub started: bool,
     pub endings: Endings,
-    pub changes: Changes,
+    pub records: Records,
+    pub known: KnownJobs,
+    // The accepted events of the last tick.
+    happened: Vec<Happening>,
     /// Whether a client watches.
     pub watched: bool,
     /// Whether an event was refused as Full since the last checkpoint.
@@ -44,18 +62,27 @@ pub(crate) struct Shared<D: Disk, C: Children> {
 }
 
 impl<D: Disk, C: Children> Shared<D, C> {
-    pub fn new(alloc: Global, most: usize, engine: Engine<D, C>) -> Shared<D, C>
+    pub fn new(
+        alloc: Global,
+        most: usize,
+        engine: Engine<D, C>,
+        records: Records,
+        known: KnownJobs,
+    ) -> Shared<D, C>
         ensures engine { result.engine ≡ engine }
         ensures most { result.most ≡ most }
         ensures marks { (result.started ≡ false) × (result.watched ≡ false) × (result.full ≡ false) × (result.active ≡ true) × (result.ends ≡ false) }
-        ensures none { (result.endings.list.items ≡ []) × (result.changes.noted ≡ nothing_noted) × (result.changes.stages ≡ []) }
+        ensures none { (result.endings.list.items ≡ []) × (result.records ≡ records) × (result.known ≡ known) }
     {
         Shared {
+            alloc,
             engine,
             most,
             started: false,
             endings: Endings::new(alloc),
-            changes: Changes::new(alloc),
+            records,
+            known,
+            happened: Vec::new(alloc),
             watched: false,
             full: false,
             active: true,
@@ -63,25 +90,62 @@ impl<D: Disk, C: Children> Shared<D, C> {
         }
     }
 
-    /// Executes a command, and returns the answer.
+    /// Executes a command, and returns the answer. Its events are recorded if they were accepted.
     pub fn execute(&mut self, command: Command) -> Result<Answer, AllocError>
         ensures executed { IfOk result (λ answer. (t : CommandStep D) × TakesStep (setting D.device self.old.engine.mime self.old.engine.place)
             self.old.engine.run_state command t self.new.engine.run_state × (answer_text self.new.engine.run_state.spool.state answer ≡ t.text)) }
+        // Exactly the accepted events are recorded. If memory runs out, nothing was done.
+        ensures recorded { IfOk result (λ answer. HasRecordedCommand self.old.engine.run_state.spool.state self.new.engine.run_state.spool.state command answer self.old.records self.new.records) }
+        ensures known { IfOk result (λ answer. (token : List ℕ) → entry_for self.new.known.tokens token
+            ≡ entry_after self.new.engine.run_state.spool.state (expected_token self.old.engine.run_state.spool.state command) answer token (entry_for self.old.known.tokens token)) }
+        ensures err { OnErr result ((self.new.engine ≡ self.old.engine) × (self.new.records ≡ self.old.records)) }
         ensures calls { GoesByCalls D.device self.old.engine self.new.engine }
     {
         self.active = true;
-        let watched = self.watched;
-        note(&mut self.changes, watched, &command)?;
+        let expected = expect(self.alloc, self.engine.table(), &command)?;
+        let token = self.known.expect(self.engine.table(), &command)?;
+        let sent_to = job_sent_to(&command);
         let answer = execute(&mut self.engine, command);
         self.full = self.full | is_full(&answer);
-        note_created(&mut self.changes, watched, &answer)?;
+        self.records
+            .record_command(&expected, &answer, self.engine.table());
+        settle_token(&mut self.known, &token, &answer, self.engine.table());
+        self.known.note_sent(sent_to, &answer);
         Ok(answer)
+    }
+
+    /// Cancels a job, and notes in the same step that its running child must end. Returns the answer to the cancel. If memory runs out for
+    /// the note, nothing was done.
+    pub fn stop(&mut self, job: JobId) -> Result<Answer, AllocError>
+        ensures executed { IfOk result (λ answer. (t : CommandStep D) × TakesStep (setting D.device self.old.engine.mime self.old.engine.place)
+            self.old.engine.run_state (Command.Apply (Event.Cancel job)) t self.new.engine.run_state × (answer_text self.new.engine.run_state.spool.state answer ≡ t.text)) }
+        ensures calls { GoesByCalls D.device self.old.engine self.new.engine }
+    {
+        // A child that runs for a job that cannot be canceled, because it was canceled before, must end too.
+        self.endings.ask(&self.engine, job)?;
+        self.execute(Command::Apply(Event::Cancel(job)))
+    }
+
+    /// Closes a job as a document of this type, and returns the answer.
+    pub fn close_as(&mut self, job: JobId, media: MediaType) -> Result<Answer, AllocError>
+        ensures executed { IfOk result (λ given. (t : CommandStep D) × TakesStep (setting D.device self.old.engine.mime self.old.engine.place)
+            self.old.engine.run_state (Command.Apply (Event.Close (closing_as self.old.engine.mime self.old.engine.run_state.spool.state job media))) t self.new.engine.run_state
+            × (answer : AnswerOf) × (answer_text self.new.engine.run_state.spool.state answer ≡ t.text)
+            × (answer_text self.new.engine.run_state.spool.state given ≡ closed_answer (closing_as self.old.engine.mime self.old.engine.run_state.spool.state job media) self.new.engine.run_state.spool.state answer)) }
+        ensures calls { GoesByCalls D.device self.old.engine self.new.engine }
+    {
+        let (closing, closed) = self.engine.closing_as(job, media)?;
+        let answer = self.execute(Command::Apply(Event::Close(closing)))?;
+        Ok(closing_answer(answer, closed))
     }
 
     /// One tick. No more children run after it than may at once.
     pub fn tick(&mut self) -> Result<Round, RoundFault>
         ensures tick { (tried : List Event) × (starts : ℕ) × IsTicked (setting D.device self.old.engine.mime self.old.engine.place) self.old.engine.run_state
             (record { limits = Some (record { most = self.old.most; starts = starts }); next = self.new.engine.run_state; result = result; tried = tried }) }
+        // Exactly the accepted events are recorded.
+        ensures recorded { (events : List Event) × (limits : Option LimitsOf) × IsTickThat (λ es. es ≡ events) D.device self.old.engine.place limits self.old.engine.run_state self.old.engine.run_state.spool.dead self.new.engine.run_state result
+            × HasRecordedAll self.new.engine.run_state.spool.state self.old.records (map happened_deed (happenings_of events)) self.new.records }
         ensures most { self.new.most ≡ self.old.most }
         ensures calls { GoesByCalls D.device self.old.engine self.new.engine }
     {
@@ -90,7 +154,9 @@ impl<D: Disk, C: Children> Shared<D, C> {
             starts: self.starts(),
         };
         let before = self.running();
-        let counts = self.engine.tick(Some(limits));
+        let counts = self.engine.tick(Some(limits), &mut self.happened);
+        self.records
+            .record_tick(&self.happened, self.engine.table());
         self.started = self.started | has_started(&counts, before < self.running());
         match counts {
             Ok(
@@ -105,41 +171,38 @@ impl<D: Disk, C: Children> Shared<D, C> {
         counts
     }
 
-    /// Notes the changes of the last ticks, if a client watches.
-    pub fn note_stages(&mut self) -> Result<(), AllocError>
-        ensures watched { self.old.watched ≡ true → OnOk result (self.new.changes ≡ with_stages self.old.engine.run_state.spool.state self.old.changes) }
-        ensures unwatched { self.old.watched ≡ false → self.new ≡ self.old }
-        ensures kept { self.new ≡ record self.old { changes = self.new.changes } }
+    /// Returns what changed since the last call. The next call begins there.
+    pub fn take_changes(&mut self) -> Result<Notes, AllocError>
+        ensures notes { IfOk result (λ notes. notes ≡ noted_since self.old.records.changes self.old.records.told) }
+        ensures next { OnOk result (self.new.records.told ≡ self.old.records.changes.last) }
+        ensures kept { self.new ≡ record self.old { records = record self.old.records { told = self.new.records.told } } }
     {
-        if self.watched {
-            self.changes.note_stages(self.engine.table())
-        } else {
-            Ok(())
-        }
+        let notes = Notes::since(self.alloc, &self.records.changes, self.records.told)?;
+        self.skip_changes();
+        Ok(notes)
     }
 
-    /// Notes the jobs that a Clock of this moment cancels or whose hold it ends, if a client watches.
-    pub fn note_due(&mut self, alloc: Global, moment: Moment) -> Result<(), AllocError>
-        ensures watched { self.old.watched ≡ true → OnOk result (HasNotedDue self.old.engine.run_state.spool.state moment self.old.changes self.new.changes) }
-        ensures unwatched { self.old.watched ≡ false → self.new ≡ self.old }
-        ensures kept { self.new ≡ record self.old { changes = self.new.changes } }
+    /// Appends `ok`, a line for each job and each queue that changed after the change of this number, as far as the client may see them, or
+    /// `missed` if the number is not known, and the number of the last change.
+    pub fn push_changes_since(
+        &self,
+        text: &mut Vec<u8>,
+        number: u64,
+        client: &Standing,
+    ) -> Result<(), AllocError>
+        ensures { OnOk result (text.new.items ≡ text.old.items ++ watch_text client.now self.now.engine.run_state.spool.state self.now.records.changes number) }
     {
-        if !self.watched {
-            return Ok(());
-        }
-        for job in self.engine.table().changed_by(alloc, moment)? {
-            self.changes.note_job(job)?;
-        }
-        Ok(())
+        let notes = Notes::since(self.alloc, &self.records.changes, number)?;
+        let lines = notes.lines(self.alloc, self.engine.table(), client);
+        drop(notes);
+        push_watch(text, &lines?, self.records.changes.last())
     }
 
-    /// Appends a line for each change since the last call.
-    pub fn notify_changes(&mut self, text: &mut Vec<u8>) -> Result<(), AllocError>
-        ensures told { OnOk result (text.new.items ≡ text.old.items ++ told self.old.engine.run_state.spool.state self.old.changes.noted) }
-        ensures none { OnOk result (self.new.changes.noted ≡ nothing_noted) }
-        ensures kept { self.new ≡ record self.old { changes = self.new.changes } }
+    /// The changes so far are not sent.
+    pub fn skip_changes(&mut self)
+        ensures { self.new ≡ record self.old { records = record self.old.records { told = self.old.records.changes.last } } }
     {
-        self.changes.append_notices(self.engine.table(), text)
+        self.records.told = self.records.changes.last();
     }
 
     /// Sends the signals that are due now to the children that must end.
@@ -204,31 +267,43 @@ impl<D: Disk, C: Children> Shared<D, C> {
     }
 }
 
-// Notes the job or the queue that a command names, if a client watches. A refused command changed nothing; the notice then shows the
-// unchanged state.
-fn note(changes: &mut Changes, watched: bool, command: &Command) -> Result<(), AllocError> {
-    if !watched {
-        return Ok(());
-    }
-    match command {
-        Command::Apply(event) => changes.note_event(event),
-        Command::Queue(queue) => changes.note_queue(&queue.name),
-        Command::Close { job, .. } => changes.note_job(*job),
-        _ => Ok(()),
-    }
-}
-
-// Notes the job that a command created, if a client watches.
-fn note_created(changes: &mut Changes, watched: bool, answer: &Answer) -> Result<(), AllocError> {
-    match answer {
-        Answer::Created(job) if watched => changes.note_job(*job),
-        _ => Ok(()),
-    }
+// Appends the reply to `watch N`, with these lines and the number of the last change.
+fn push_watch(text: &mut Vec<u8>, lines: &[u8], last: u64) -> Result<(), AllocError>
+    ensures { OnOk result (text.new.items ≡ text.old.items ++ (codes "ok\n" ++ lines.now ++ change_text last)) }
+{
+    text.extend_from_slice(b"ok\n")?;
+    text.extend_from_slice(lines)?;
+    push_change(text, last)
 }
 
 // Whether the event of a command did not fit into the journal.
 fn is_full(answer: &Answer) -> bool {
     matches!(answer, Answer::Full)
+}
+
+// The answer to a close with the type that the client gave: that of a close, if the event was accepted.
+fn closing_answer(answer: Answer, closed: Answer) -> Answer
+    ensures { (closing : Closing) (s : State) → answer_text s closed ≡ closing_line closing Done → answer_text s result ≡ closed_answer closing s answer }
+{
+    match answer {
+        Answer::Done => closed,
+        answer => answer,
+    }
+}
+
+// Notes or forgets the job of a token, by the answer to the command that it was expected of.
+fn settle_token(
+    known: &mut KnownJobs,
+    token: &Option<ExpectedToken>,
+    answer: &Answer,
+    table: &Table,
+)
+    ensures known { IfSome token.now (λ e. HasRoom known.old.tokens e.token e.purged) → (other : List ℕ) → entry_for known.new.tokens other
+        ≡ entry_after table.now.state (option_map (λ e. (e.token, e.purged)) token.now) answer.now other (entry_for known.old.tokens other) }
+{
+    if let Some(token) = token {
+        known.settle(token, answer, table);
+    }
 }
 
 // Executes a command of an engine.

@@ -1,2 +1,11 @@
 mod NoCommands
+mod LeftLaws
+mod NoteLaws
 mod Pieces
+mod Parts
+mod RowsFrom
+mod PieceSteps
+mod TokenLaws
+mod WholeListing
+mod ReadBack
+mod QueueAnswers

@@ -1,3 +1,9 @@
+pub mod SubmissionTokens
+pub mod Selections
 pub mod ServiceWords
 pub mod Shown
+pub mod QueueShown
+pub mod Listings
+pub mod LeftJobs
+pub mod FoundTexts
 pub mod Notices

@@ -1,11 +1,14 @@
 //! Noted jobs and queues.
-ghost use Rattle.std.specs.Prelude.{◌≡◌, ◌++◌, IfOk, OnOk, OnErr};
+ghost use Rattle.std.specs.Prelude.{◌≡◌, ◌↔◌, ◌++◌, IfOk, IsTrue, OnOk, OnErr};
 ghost use Rattle.std.specs.List.{flat_map};
-ghost use Rattle.service_texts.specs.Notices.{nothing_noted, is_full, has_job, has_queue, with_job, with_queue, with_event, with_both, job_told, queue_told, missed_text, told};
+ghost use Rattle.service_texts.specs.Notices.{nothing_noted, is_full, has_job, has_queue, with_job, with_queue, with_subject, noted_since, change_text, job_told, queue_told, missed_text, told};
 
-use command_lines::{push_job, push_queue};
+use crate::job_texts::push_shown_line;
+use client_standing::Standing;
+use command_lines::push_queue;
+use event_records::{Changes, Subject};
 use job_table::Table;
-use spool_types::{Event, JobId, QueueName};
+use spool_types::{JobId, QueueName};
 use std::alloc::{AllocError, Global};
 use std::io::Write;
 use std::marker::Model;
@@ -13,9 +16,10 @@ use std::marker::Model;
 // The most jobs and queues noted.
 const MOST_NOTES: usize = 256;
 
-/// Jobs and queues, each once, in the order of their first notes.
+/// The jobs and queues that have changed since some moment: at most 256, each once, in the order of their first changes. Of further ones it
+/// only records that some were missed.
 #[derive(Drop)]
-pub(crate) struct Notes {
+pub struct Notes {
     jobs: Vec<JobId>,
     queues: Vec<QueueName>,
     // Whether more were missed.
@@ -31,7 +35,7 @@ impl Model for Notes {
 }
 
 impl Notes {
-    pub fn new(alloc: Global) -> Notes
+    fn new(alloc: Global) -> Notes
         ensures { result ≡ nothing_noted }
     {
         Notes {
@@ -41,15 +45,31 @@ impl Notes {
         }
     }
 
-    pub fn clear(&mut self)
-        ensures { self.new ≡ nothing_noted }
+    /// Notes what changed after the change of this number, or that some were missed if the number is not known.
+    pub fn since(alloc: Global, changes: &Changes, number: u64) -> Result<Notes, AllocError>
+        ensures { IfOk result (λ notes. notes ≡ noted_since changes.now number) }
     {
-        self.jobs.clear();
-        self.queues.clear();
-        self.missed = false;
+        let mut notes = Notes::new(alloc);
+        if !changes.is_known(number) {
+            notes.missed = true;
+            return Ok(notes);
+        }
+        for at in changes.position_after(number)..changes.len() {
+            if let Some(subject) = changes.subject(at) {
+                notes.note(subject)?;
+            }
+        }
+        Ok(notes)
     }
 
-    pub fn note_job(&mut self, job: JobId) -> Result<(), AllocError>
+    /// Returns whether nothing has changed.
+    pub fn is_nothing(&self) -> bool
+        ensures { IsTrue result ↔ (self.now ≡ nothing_noted) }
+    {
+        self.jobs.is_empty() && self.queues.is_empty() && !self.missed
+    }
+
+    fn note_job(&mut self, job: JobId) -> Result<(), AllocError>
         ensures ok { OnOk result (self.new ≡ with_job self.old job) }
         ensures err { OnErr result (self.new ≡ self.old) }
     {
@@ -64,7 +84,7 @@ impl Notes {
         Ok(())
     }
 
-    pub fn note_queue(&mut self, name: &QueueName) -> Result<(), AllocError>
+    fn note_queue(&mut self, name: &QueueName) -> Result<(), AllocError>
         ensures ok { OnOk result (self.new ≡ with_queue self.old name.now) }
         ensures err { OnErr result (self.new ≡ self.old) }
     {
@@ -80,37 +100,13 @@ impl Notes {
         Ok(())
     }
 
-    /// Notes the job or the queue that an event names. Clock and Reopen name none.
-    pub fn note_event(&mut self, event: &Event) -> Result<(), AllocError>
-        ensures ok { OnOk result (self.new ≡ with_event self.old event.now) }
-        ensures err { OnErr result (self.new ≡ self.old) }
+    // Notes what a change changed.
+    fn note(&mut self, subject: &Subject) -> Result<(), AllocError>
+        ensures { OnOk result (self.new ≡ with_subject self.old subject.now) }
     {
-        match event {
-            Event::AddQueue(queue) => self.note_queue(&queue.name),
-            Event::Info(notes) => self.note_queue(&notes.queue),
-            Event::SetAccept { queue, .. } | Event::SetStop { queue, .. } => self.note_queue(queue),
-            Event::Create(job) | Event::CreateBy { job, .. } => self.note_job(job.job),
-            Event::Close(closing) => self.note_job(closing.job),
-            Event::Stage(end) => self.note_job(end.job),
-            Event::Send { job, .. }
-            | Event::Hold { job, .. }
-            | Event::Release(job)
-            | Event::Cancel(job)
-            | Event::Start(job)
-            | Event::Abandon(job)
-            | Event::Purge(job) => self.note_job(*job),
-            Event::Clock(_) | Event::Reopen => Ok(()),
-        }
-    }
-
-    /// Notes a job, and its queue if the job still exists.
-    pub fn note_both(&mut self, table: &Table, job: JobId) -> Result<(), AllocError>
-        ensures { OnOk result (self.new ≡ with_both table.now.state self.old job) }
-    {
-        self.note_job(job)?;
-        match table.job(job) {
-            Some(row) => self.note_queue(&row.job.queue),
-            None => Ok(()),
+        match subject {
+            Subject::Job(job) => self.note_job(*job),
+            Subject::Queue(name) => self.note_queue(name),
         }
     }
 
@@ -132,12 +128,18 @@ impl Notes {
         MOST_NOTES <= self.jobs.len() + self.queues.len()
     }
 
-    /// A line for each job, and then for each queue, as the table has them.
-    pub fn lines(&self, alloc: Global, table: &Table) -> Result<Vec<u8>, AllocError>
-        ensures { IfOk result (λ lines. lines.items ≡ told table.now.state self.now) }
+    /// Returns a line for each job, and then for each queue, as the table has them and as far as the client may see them: its line of the
+    /// listing, or `gone job N` or `gone queue NAME`. Then comes `missed`, if some were missed.
+    pub fn lines(
+        &self,
+        alloc: Global,
+        table: &Table,
+        client: &Standing,
+    ) -> Result<Vec<u8>, AllocError>
+        ensures { IfOk result (λ lines. lines.items ≡ told client.now table.now.state self.now) }
     {
         let mut lines = Vec::new(alloc);
-        push_jobs(&mut lines, table, &self.jobs)?;
+        push_jobs(&mut lines, table, &self.jobs, client)?;
         push_queues(&mut lines, table, &self.queues)?;
         if self.missed {
             lines.extend_from_slice(b"missed\n")?;
@@ -146,23 +148,40 @@ impl Notes {
     }
 }
 
-fn push_jobs(text: &mut Vec<u8>, table: &Table, jobs: &[JobId]) -> Result<(), AllocError>
-    ensures { OnOk result (text.new.items ≡ text.old.items ++ flat_map (job_told table.now.state) jobs.now) }
+/// Appends the line that ends what a client that counts the changes is sent: the number of the last change.
+pub fn push_change(text: &mut Vec<u8>, number: u64) -> Result<(), AllocError>
+    ensures { OnOk result (text.new.items ≡ text.old.items ++ change_text number) }
+{
+    write!(text, "change {number}\n").map_err(|_| AllocError)
+}
+
+fn push_jobs(
+    text: &mut Vec<u8>,
+    table: &Table,
+    jobs: &[JobId],
+    client: &Standing,
+) -> Result<(), AllocError>
+    ensures { OnOk result (text.new.items ≡ text.old.items ++ flat_map (job_told client.now table.now.state) jobs.now) }
 {
     for job in jobs {
-        push_job_news(text, table, *job)?;
+        push_job_news(text, table, *job, client)?;
     }
     Ok(())
 }
 
-fn push_job_news(text: &mut Vec<u8>, table: &Table, job: JobId) -> Result<(), AllocError>
-    ensures { OnOk result (text.new.items ≡ text.old.items ++ job_told table.now.state job) }
+fn push_job_news(
+    text: &mut Vec<u8>,
+    table: &Table,
+    job: JobId,
+    client: &Standing,
+) -> Result<(), AllocError>
+    ensures { OnOk result (text.new.items ≡ text.old.items ++ job_told client.now table.now.state job) }
 {
     let Some(row) = table.job(job) else {
         let number = job.get();
         return write!(text, "gone job {number}\n").map_err(|_| AllocError);
     };
-    push_job(text, &row.job, &table.now())
+    push_shown_line(text, &row.job, client, &table.now())
 }
 
 fn push_queues(text: &mut Vec<u8>, table: &Table, names: &[QueueName]) -> Result<(), AllocError>

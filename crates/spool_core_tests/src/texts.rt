@@ -2,8 +2,10 @@
 
 use crate::indexes::apply;
 use crate::spelled::event;
+use client_standing::{RoleRules, Standing, Trust};
+use event_records::{Changes, Seen, Subject};
 use job_table::Table;
-use service_texts::{Changes, has_settled, job_told, shown_job};
+use service_texts::{Notes, has_settled, job_told, shown_job};
 use spool_types::{JobId, QueueName};
 use std::alloc::Global;
 use std::process::Abort;
@@ -21,22 +23,25 @@ const EVENTS: &str = "\
 0a 00000003\n\
 0c 00000001";
 
-// The end of the attempt at job 1, and its start once more.
-const RETRY: [&str; 2] = ["0d 00000001 00000001 01 0001 00000000 0000", "0c 00000001"];
+// A client that sees everything.
+const RULES: RoleRules = RoleRules {
+    trust: Trust::All,
+    show_all: true,
+};
 
 const SHOWN: &[u8] =
-    b"job 1\nqueue q\nuser \"u\"\ntitle \"\"\noptions \"\"\ncopies 1\npriority 50\nsize 0\npages 0\nattempts 1\ntype a/b\nstate 5\nreason job-printing\nstage 1 of 1 attempt 1\nok 1\n";
+    b"job 1\nqueue q\nuser \"u\"\ntitle \"\"\noptions \"\"\ncopies 1\npriority 50\nsize 0\npages 0\nattempts 1\ntype a/b\nstate 5\nreason job-printing\nstage 1 of 1 attempt 1\ncreated unknown\nclosed unknown\nstarted unknown\nok 1\n";
 
 const HELD: &[u8] =
-    b"job 2\nqueue q\nuser \"u\"\ntitle \"\"\noptions \"\"\ncopies 1\npriority 50\nsize 0\npages 0\nattempts 0\ntype a/b\nstate 4\nreason job-hold-until-specified\nhold-until 100\nnot-before 0\nok 1\n";
+    b"job 2\nqueue q\nuser \"u\"\ntitle \"\"\noptions \"\"\ncopies 1\npriority 50\nsize 0\npages 0\nattempts 0\ntype a/b\nstate 4\nreason job-hold-until-specified\nhold-until 100\nnot-before 0\ncreated unknown\nclosed unknown\nok 1\n";
 
 const ENDED: &[u8] = b"job 3 q 7 canceled \"u\" 0 0 \"\"\nok 1\n";
 
 const NEWS: &[u8] =
     b"job 1 q 5 job-printing \"u\" 0 0 \"\"\ngone job 9\nqueue q 4 accepting a/b retry-current-job 30 5 none \"\"\ngone queue r\n";
 
-const AGAIN: &[u8] =
-    b"job 1 q 5 job-printing \"u\" 0 0 \"\"\nqueue q 4 accepting a/b retry-current-job 30 5 none \"\"\n";
+// What changed last.
+const LAST: &[u8] = b"job 1 q 5 job-printing \"u\" 0 0 \"\"\n";
 
 fn fill(alloc: Global, table: &mut Table) -> Result<(), Fail> {
     for line in EVENTS.lines() {
@@ -49,14 +54,23 @@ fn number(number: u32) -> Result<JobId, Fail> {
     Ok(JobId::new(number).ok_or("no number")?)
 }
 
+// Whether the text of a job, whose times were not seen, is this.
 fn shows(alloc: Global, table: &Table, job: u32, wanted: &[u8]) -> Result<bool, Fail> {
-    let text = shown_job(alloc, table, number(job)?)?;
-    Ok(text.as_slice() == wanted)
+    let job = number(job)?;
+    let seen = Seen::new(alloc);
+    let client = Standing::new(alloc, RULES, false);
+    let text = shown_job(alloc, table, &seen, &client, job);
+    drop(client);
+    drop(seen);
+    Ok(text?.as_slice() == wanted)
 }
 
 fn tells(alloc: Global, table: &Table, job: u32, wanted: &[u8]) -> Result<bool, Fail> {
-    let text = job_told(alloc, table, number(job)?)?;
-    Ok(text.as_slice() == wanted)
+    let job = number(job)?;
+    let client = Standing::new(alloc, RULES, false);
+    let text = job_told(alloc, table, &client, job);
+    drop(client);
+    Ok(text?.as_slice() == wanted)
 }
 
 fn tells_jobs<R: Abort>(rt: &R, alloc: Global, table: &mut Table) -> Result<(), Fail> {
@@ -80,24 +94,35 @@ fn a_job_is_told(rt: HostRuntime) -> Result<(), Fail> {
     outcome
 }
 
-// Notes what has changed, and returns whether the notices are these.
-fn news(alloc: Global, changes: &mut Changes, table: &Table, wanted: &[u8]) -> Result<bool, Fail> {
-    changes.note_stages(table)?;
-    let mut text = Vec::new(alloc);
-    changes.append_notices(table, &mut text)?;
-    Ok(text.as_slice() == wanted)
+// Whether a client that knows the changes up to this number is sent these lines.
+fn news(
+    alloc: Global,
+    changes: &Changes,
+    number: u64,
+    table: &Table,
+    wanted: &[u8],
+) -> Result<bool, Fail> {
+    let notes = Notes::since(alloc, changes, number)?;
+    let client = Standing::new(alloc, RULES, false);
+    let lines = notes.lines(alloc, table, &client);
+    drop(client);
+    drop(notes);
+    Ok(lines?.as_slice() == wanted)
 }
 
+fn note_queue(alloc: Global, changes: &mut Changes, name: &str) -> Result<(), Fail> {
+    let name = QueueName::read(alloc, name)?;
+    changes.note_queue(&name);
+    Ok(())
+}
+
+// Job 1, the queue q, job 9, the queue r and again job 1 changed.
 fn note(alloc: Global, changes: &mut Changes) -> Result<(), Fail> {
-    let start = event(alloc, RETRY[1])?;
-    let noted = changes.note_event(&start);
-    drop(start);
-    noted?;
-    changes.note_job(number(9)?)?;
-    let name = QueueName::read(alloc, "q")?;
-    changes.note_queue(&name)?;
-    let name = QueueName::read(alloc, "r")?;
-    changes.note_queue(&name)?;
+    changes.note(Subject::Job(number(1)?));
+    note_queue(alloc, changes, "q")?;
+    changes.note(Subject::Job(number(9)?));
+    note_queue(alloc, changes, "r")?;
+    changes.note(Subject::Job(number(1)?));
     Ok(())
 }
 
@@ -109,20 +134,19 @@ fn tells_changes<R: Abort>(
 ) -> Result<(), Fail> {
     fill(alloc, table)?;
     note(alloc, changes)?;
-    assert!(rt; news(alloc, changes, table, NEWS)?);
-    assert!(rt; news(alloc, changes, table, b"")?);
-    for line in RETRY {
-        apply(table, event(alloc, line)?)?;
-    }
-    assert!(rt; news(alloc, changes, table, AGAIN)?);
-    assert!(rt; news(alloc, changes, table, b"")?);
+    assert!(rt; changes.last() == 12);
+    assert!(rt; news(alloc, changes, 7, table, NEWS)?);
+    assert!(rt; news(alloc, changes, 11, table, LAST)?);
+    assert!(rt; news(alloc, changes, 12, table, b"")?);
+    assert!(rt; news(alloc, changes, 13, table, b"missed\n")?);
+    assert!(rt; news(alloc, changes, 6, table, b"missed\n")?);
     Ok(())
 }
 
 #[test]
 fn changes_are_told(rt: HostRuntime) -> Result<(), Fail> {
     let mut table = Table::new(rt.alloc());
-    let mut changes = Changes::new(rt.alloc());
+    let mut changes = Changes::new(rt.alloc(), 7)?;
     let outcome = tells_changes(&rt, rt.alloc(), &mut changes, &mut table);
     drop(changes);
     drop(table);

@@ -1,9 +1,12 @@
 -- The meaning of the arguments, as clap reads them.
-use Rattle.std.specs.Prelude.{◌≡◌, ◌≤◌, ℕ, List, Option, None, Some, IfSome, IsSomeAnd, codes, if◌then◌else◌, length}
+use Rattle.std.specs.Prelude.{◌≡◌, ◌≤◌, ◌==◌, ◌||◌, ℕ, nat_eq, List, Option, None, Some, IfSome, IsSome, IsSomeAnd, codes, cond, if◌then◌else◌, length}
+use Rattle.std.specs.Cmp.Lexicographic.{pointwise}
 use Rattle.std.specs.Option.{SomeIff, option_map}
 use Rattle.std.specs.Str.Parse.{IsNumeral, digits_value, without_leading_plus}
 use Rattle.log.specs.declared.level.Level.{Level}
 use Rattle.log.specs.declared.level.Level.TheVariants.{Debug, Error, Info}
+use Rattle.client_standing.specs.declared.rules.Trust.{Trust}
+use Rattle.client_standing.specs.declared.rules.Trust.TheVariants as trusted
 use Rattle.clap.specs.Words.{App, Row, Text, first_of, matches_of, one_of, with_rule}
 use Rattle.clap.specs.declared.parser.matches.ArgMatches.{ArgMatches}
 use Rattle.spool_runtime.specs.ProgramArguments.{AreFaultlessFor, HasFlag, HasNumberIn, flag_of, is_told, number_or, option_in, size_of, spool_app, text_option}
@@ -15,6 +18,12 @@ use Rattle.spool_service.specs.declared.words.ServiceWords.{ServiceWords}
 abbrev pub with_socket : App → App
 with_socket app = with_rule (with_rule app (text_option (codes "listen"))) (text_option (codes "mode"))
 
+-- `[--trust TRUST] [--show-all] [--operators GROUP] [--operators-socket SOCKET] [--proofs FOLDER]`
+abbrev pub with_roles : App → App
+with_roles app =
+    with_rule (with_rule (with_rule (with_rule (with_rule app (text_option (codes "trust"))) (flag_of (codes "show-all"))) (text_option (codes "operators")))
+    (text_option (codes "operators-socket"))) (text_option (codes "proofs"))
+
 -- `[--keep N] [--room PERCENT] [--children N]`
 abbrev pub with_bounds : App → App
 with_bounds app =
@@ -22,7 +31,8 @@ with_bounds app =
 
 -- The options of a spool, these, and `[--quiet] [--verbose]`.
 abbrev pub service_app : App
-service_app = with_rule (with_rule (with_bounds (with_socket (spool_app (codes "spool_service")))) (flag_of (codes "quiet"))) (flag_of (codes "verbose"))
+service_app =
+    with_rule (with_rule (with_bounds (with_roles (with_socket (spool_app (codes "spool_service"))))) (flag_of (codes "quiet"))) (flag_of (codes "verbose"))
 
 -- ---- the meaning of the values
 
@@ -39,6 +49,19 @@ abbrev pub SaysMode : Option Text → Option ℕ → Type 0
 SaysMode None mode = mode ≡ Some 432
 SaysMode (Some text) mode = SomeIff mode (IsMode text) (octal_of text)
 
+-- `all` or `none`.
+abbrev pub trust_in : Text → Option Trust
+trust_in text = cond (pointwise nat_eq text (codes "all")) (Some trusted.All) (cond (pointwise nat_eq text (codes "none")) (Some trusted.None) None)
+
+-- All for a socket of its owner alone, or of its owner and its group: 0600 and 0660.
+abbrev pub usual_trust : ℕ → Trust
+usual_trust mode = cond (mode == 384 || mode == 432) trusted.All trusted.None
+
+-- The trust that TRUST names, if it is valid, or the default for the mode without TRUST.
+abbrev pub SaysTrust : Option Text → ℕ → Option Trust → Type 0
+SaysTrust None mode said = said ≡ Some (usual_trust mode)
+SaysTrust (Some text) mode said = said ≡ trust_in text
+
 -- All lines with `--verbose`, only errors with `--quiet`, and otherwise all but debug lines.
 abbrev pub level_of : List Row → Level
 level_of found = if is_told (one_of (codes "verbose") found) then Debug else (if is_told (one_of (codes "quiet") found) then Error else Info)
@@ -48,6 +71,11 @@ pub record IsAsked (found : List Row) (words : ServiceWords) : Type 0 where
   pub root : first_of (codes "root") found ≡ Some words.root.now
   pub listen : option_map (λ socket. socket.now) words.listen ≡ first_of (codes "listen") found
   pub mode : SaysMode (first_of (codes "mode") found) (Some words.mode)
+  pub trust : SaysTrust (first_of (codes "trust") found) words.mode (Some words.trust)
+  pub show_all : words.show_all ≡ is_told (one_of (codes "show-all") found)
+  pub operators : option_map (λ group. group.now) words.operators ≡ first_of (codes "operators") found
+  pub operators_socket : option_map (λ socket. socket.now) words.operators_socket ≡ first_of (codes "operators-socket") found
+  pub proofs : option_map (λ folder. folder.now) words.proofs ≡ first_of (codes "proofs") found
   pub types : option_map (λ file. file.now) words.types ≡ first_of (codes "types") found
   pub convs : option_map (λ file. file.now) words.convs ≡ first_of (codes "convs") found
   pub programs : option_map (λ file. file.now) words.programs ≡ first_of (codes "programs") found
@@ -66,9 +94,15 @@ pub record AreInRange (words : ServiceWords) : Type 0 where
   pub room : (1 ≤ words.room) × (words.room ≤ 90)
   pub children : (1 ≤ words.children) × (words.children ≤ 1000)
 
--- DIR is given and has at most 64 bytes, and MODE is valid, if it is given.
+-- `all` or `none`.
+abbrev pub IsTrust : Text → Type 0
+IsTrust text = IsSome (trust_in text)
+
+-- DIR is given and has at most 64 bytes, and MODE and TRUST are valid, if they are given.
 abbrev pub Fit : List Row → Type 0
-Fit found = IsSomeAnd (first_of (codes "root") found) (λ dir. length dir ≤ 64) × IfSome (first_of (codes "mode") found) IsMode
+Fit found =
+    IsSomeAnd (first_of (codes "root") found) (λ dir. length dir ≤ 64) × IfSome (first_of (codes "mode") found) IsMode
+    × IfSome (first_of (codes "trust") found) IsTrust
 
 -- Clap finds no error in the arguments.
 abbrev pub AreFaultless : List Text → Type 0
@@ -89,5 +123,6 @@ pub record HasNumbers (m : ArgMatches) : Type 0 where
 
 -- The flags found are flags.
 pub record HasFlags (m : ArgMatches) : Type 0 where
+  pub show_all : HasFlag (codes "show-all") m
   pub quiet : HasFlag (codes "quiet") m
   pub verbose : HasFlag (codes "verbose") m

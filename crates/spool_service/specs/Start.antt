@@ -35,3 +35,13 @@ told_of (Err service.Socket) = Err Socket
 abbrev pub at_socket : ErrorKind → ShellFault
 at_socket OutOfMemory = Memory
 at_socket _ = Socket
+
+-- FOLDER, or the folder of proofs in DIR.
+abbrev pub proofs_of : List ℕ → Option (Bor (List ℕ)) → List ℕ
+proofs_of root None = root ++ codes "/proof"
+proofs_of root (Some folder) = folder.now
+
+-- The permissions of the operators' socket: 0660 with the group of the arguments, and 0600 without one.
+abbrev pub operators_mode : Option ℕ → ℕ
+operators_mode None = 384
+operators_mode (Some group) = 432

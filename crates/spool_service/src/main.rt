@@ -1,7 +1,8 @@
 //! The service: serves a print spool to the clients of a Unix socket while children run.
 //!
-//! Arguments: `--root DIR [--listen SOCKET] [--mode MODE] [--types FILE] [--convs FILE] [--programs FILE] [--size BYTES]
-//! [--keep N] [--room PERCENT] [--children N] [--quiet] [--verbose]`, or `--help` or `--version` ([`words`]).
+//! Arguments: `--root DIR [--listen SOCKET] [--mode MODE] [--trust TRUST] [--show-all] [--operators GROUP] [--operators-socket SOCKET]
+//! [--proofs FOLDER] [--types FILE] [--convs FILE] [--programs FILE] [--size BYTES] [--keep N] [--room PERCENT] [--children N] [--quiet]
+//! [--verbose]`, or `--help` or `--version` ([`words`]).
 //!
 //! # Parts
 //!
@@ -9,11 +10,15 @@
 //!
 //! - [`words`]: the arguments. The program requires `--root`, not clap, because `spool_shell` shares the option. MODE is read as Rust reads
 //!   octal digits, so it may begin with a plus sign.
-//! - [`start`]: opens the empty device in place of missing standard streams, takes the folder's locks, then opens the spool, and creates the
-//!   socket last. So a `spool.sock` that exists then was left by a killed service. A file of the socket's name is removed.
-//! - [`socket`]: the listening socket and the clients' connections. Anyone who can open the socket can print, and USER is what the client
-//!   sends. A token is the key of a client plus one, because the listener has token 0. The readiness of a wait is taken in reverse order;
-//!   no order is promised.
+//! - [`start`]: opens the empty device in place of missing standard streams, takes the folder's locks, then opens the spool, and creates
+//!   the sockets last. So a `spool.sock` that exists then was left by a killed service.
+//! - [`names`]: removes a socket that no program serves, so that its name is free. Any other holder of the name is an error.
+//! - [`listening`]: creates the sockets and the folder of proofs, and finds the group of operators.
+//! - [`socket`]: the listening sockets and the clients' connections. A token is the key of a client plus two, because the listening sockets
+//!   have the tokens 0 and 1. The readiness of a wait is taken in reverse order; no order is promised. Clients of the operators' socket are
+//!   accepted first.
+//! - [`proving`]: the folder in which clients prove who they are. `user_proofs` decides by what the system reports.
+//! - [`lookups`]: names and groups of users, by getent(1) and id(1). The loop waits for them, two seconds each at most.
 //! - [`clocks`]: the system's clocks.
 //! - [`kills`]: signals to children that must end. `/bin/sh` sends them. It has no variables, and `cat` is named by its path, so the result
 //!   does not depend on who started the service.
@@ -21,10 +26,16 @@
 //! # Promises
 //!
 //! - `read_words` returns what clap finds in the arguments, and the default of each missing option (`asked`, `IsMode`), within their limits
-//!   (`in_range`). It refuses the arguments exactly if clap finds an error, DIR is missing or too long, or MODE is not an octal number up
-//!   to 777 (`taken`); the last three end with status 2 (`mistake`).
-//! - The socket is SOCKET, or `spool.sock` in DIR (`socket_name`), and the disk is `spool.disk` in DIR (`disk_name`). Before the first
-//!   checkpoint PERCENT refers to half of the disk (`keeping_of`).
+//!   (`in_range`). It refuses the arguments exactly if clap finds an error, DIR is missing or too long, MODE is not an octal number up to
+//!   777, or TRUST is neither `all` nor `none` (`taken`); the last four end with status 2 (`mistake`).
+//! - Without TRUST, each client is trusted exactly if the mode is 0600 or 0660 (`SaysTrust`).
+//! - The socket is SOCKET, or `spool.sock` in DIR (`socket_name`), the folder of proofs is FOLDER, or `proof` in DIR (`proofs_name`), and
+//!   the disk is `spool.disk` in DIR (`disk_name`). The operators' socket has the permissions 0660 if it has the group of the arguments,
+//!   and otherwise 0600 (`operators_mode`). Before the first checkpoint PERCENT refers to half of the disk (`keeping_of`).
+//! - A connection has the rules of its listener, and whether it came by the operators' socket (`has_socket`, for each accept). A proof
+//!   makes an operator of a client of that socket, or of an operator (`proved_by`).
+//! - The programs that look up users are run by timeout(1), without variables, with exactly the arguments of `user_words`, `groups_words`
+//!   and `group_words`. So no name is an option or part of a script.
 //! - `SocketListener::wait` reports the readiness of each event that the system found (`push_readiness`, `readiness_of`). An accept reports
 //!   a client, none, or a failure (`accept_outcome_of`).
 //! - The clock of the loop never goes back (`never_back` of `SystemTimes::micros`).
@@ -34,8 +45,10 @@
 //!
 //! # Not proved
 //!
-//! - What sockets, clocks and signals do. `SocketConnection` reports nothing, so the clauses of `service_loop` say nothing of its bytes.
-//!   The code is the same as for connections that report. `tests/service.py` shows the program.
+//! - What sockets, clocks and signals do. `SocketConnection` reports nothing of its bytes and proofs, so the clauses of `service_loop` say
+//!   nothing of them. The code is the same as for connections that report. `tests/service.py` shows the program.
+//! - That a connection came by the socket that it is counted to, that the folder of a challenge is removed before its owner is believed,
+//!   and that a challenge is random: `tests/service_proof.py` shows this.
 //! - That the folder is locked before the spool is opened, and that the socket is created after both: this is read in the code of `run`.
 //!   `tests/service.py` runs two services on one folder.
 //! - That `main` calls its helpers in their order.
@@ -49,6 +62,10 @@
 
 mod clocks;
 mod kills;
+mod listening;
+mod lookups;
+mod names;
+mod proving;
 mod socket;
 mod start;
 mod words;

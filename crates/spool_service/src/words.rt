@@ -3,10 +3,11 @@ ghost use Rattle.std.specs.Prelude.{◌≡◌, IfErr, IfOk, MatchResult, map};
 ghost use Rattle.std.specs.Option.{SomeIff, option_map};
 ghost use Rattle.clap.specs.Words.{app_of, found_of, matches_of, rows_of};
 ghost use Rattle.spool_runtime.specs.ProgramArguments.{IsMistake, RefusesOnly};
-ghost use Rattle.spool_service.specs.ServiceArguments.{AreFaultless, AreInRange, AreTaken, Fit, HasFlags, HasNumbers, IsAsked, IsMode, SaysMode, level_of, octal_of};
-ghost use Rattle.spool_service.specs.ServiceArguments.{service_app, with_bounds, with_socket};
+ghost use Rattle.spool_service.specs.ServiceArguments.{AreFaultless, AreInRange, AreTaken, Fit, HasFlags, HasNumbers, IsAsked, IsMode, SaysMode, SaysTrust, level_of, octal_of, trust_in, usual_trust};
+ghost use Rattle.spool_service.specs.ServiceArguments.{service_app, with_bounds, with_roles, with_socket};
 
 use clap::{ArgMatches, Command};
+use client_standing::Trust;
 use log::Level;
 use service_rules::bounds::{KEPT_JOBS, LEAST_ROOM, MOST_CHILDREN};
 use spool_runtime::{
@@ -30,6 +31,16 @@ pub struct ServiceWords<'a> {
     pub listen: Option<&'a str>,
     /// The permissions of the socket.
     pub mode: u32,
+    /// What a client that has proved nothing may do.
+    pub trust: Trust,
+    /// Whether each client sees the titles, users and options of all jobs.
+    pub show_all: bool,
+    /// The name or the number of the group of operators.
+    pub operators: Option<&'a str>,
+    /// The socket whose clients are operators.
+    pub operators_socket: Option<&'a str>,
+    /// The folder of proofs, by default that in DIR.
+    pub proofs: Option<&'a str>,
     /// The file in the format of mime.types(5). None counts as empty.
     pub types: Option<&'a str>,
     /// The file in the format of mime.convs(5). None counts as empty.
@@ -90,10 +101,18 @@ fn words_in<'a>(
     let Some(mode) = mode_of(matches.get_str("mode")) else {
         return Err(mistake(command, "MODE is not an octal number up to 777"));
     };
+    let Some(trust) = trust_of(matches.get_str("trust"), mode) else {
+        return Err(mistake(command, "TRUST is neither all nor none"));
+    };
     Ok(ServiceWords {
         root,
         listen: matches.get_str("listen"),
         mode,
+        trust,
+        show_all: flag_given(matches, "show-all"),
+        operators: matches.get_str("operators"),
+        operators_socket: matches.get_str("operators-socket"),
+        proofs: matches.get_str("proofs"),
         types: matches.get_str("types"),
         convs: matches.get_str("convs"),
         programs: matches.get_str("programs"),
@@ -125,6 +144,40 @@ fn octal_mode(text: &str) -> Option<u32>
     }
 }
 
+// Returns the given trust, or the default for a socket with this mode.
+fn trust_of(given: Option<&str>, mode: u32) -> Option<Trust>
+    ensures { SaysTrust (option_map (λ text. text.now) given.entry) mode result }
+{
+    match given {
+        Some(text) => trust_in(text),
+        None => Some(usual_trust(mode)),
+    }
+}
+
+// Reads a trust.
+fn trust_in(text: &str) -> Option<Trust>
+    ensures { result ≡ trust_in text.now }
+{
+    if text == "all" {
+        Some(Trust::All)
+    } else if text == "none" {
+        Some(Trust::None)
+    } else {
+        None
+    }
+}
+
+// Returns the default trust. Only the owner and the group of a socket can open it with these modes.
+fn usual_trust(mode: u32) -> Trust
+    ensures { result ≡ usual_trust mode }
+{
+    if mode == 0o600 || mode == 0o660 {
+        Trust::All
+    } else {
+        Trust::None
+    }
+}
+
 // Returns the highest level of the lines to log.
 fn level_given(matches: &ArgMatches<'_>) -> Level
     requires { HasFlags matches.now }
@@ -150,6 +203,7 @@ fn service_command<'a>(alloc: Global) -> Result<Command<'a>, AllocError>
         "Keep the spool in the file DIR/spool.disk",
     )?;
     let command = socket_options(alloc, command)?;
+    let command = role_options(alloc, command)?;
     let command = bound_options(alloc, command)?;
     command
         .arg(flag_option(alloc, "quiet", "Log errors only"))?
@@ -176,6 +230,42 @@ fn socket_options<'a>(alloc: Global, command: Command<'a>) -> Result<Command<'a>
             "mode",
             "MODE",
             "Permissions of the socket, in octal [default: 0660]",
+        ))
+}
+
+// Adds the options that say who may do what.
+fn role_options<'a>(alloc: Global, command: Command<'a>) -> Result<Command<'a>, AllocError>
+    ensures { IfOk result (λ more. app_of more ≡ with_roles (app_of command.entry)) }
+{
+    command
+        .arg(text_option(
+            alloc,
+            "trust",
+            "TRUST",
+            "Let clients that prove nothing do everything (all), or submit and look only (none) [default: by MODE]",
+        ))?
+        .arg(flag_option(
+            alloc,
+            "show-all",
+            "Show titles, users and options of all jobs to each client",
+        ))?
+        .arg(text_option(
+            alloc,
+            "operators",
+            "GROUP",
+            "Let the members of GROUP do everything [default: the group of the socket]",
+        ))?
+        .arg(text_option(
+            alloc,
+            "operators-socket",
+            "SOCKET",
+            "Also listen on this Unix socket, whose clients may do everything [default: none]",
+        ))?
+        .arg(text_option(
+            alloc,
+            "proofs",
+            "FOLDER",
+            "Let clients prove who they are in FOLDER [default: DIR/proof]",
         ))
 }
 

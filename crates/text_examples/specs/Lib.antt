@@ -8,3 +8,4 @@ pub mod CommandExamples
 pub mod ReplyExamples
 pub mod ReportExamples
 pub mod SessionExamples
+pub mod ServiceExamples

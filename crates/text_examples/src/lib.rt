@@ -1,5 +1,5 @@
 //! Examples of the crates that read texts, stated as facts: words, files of rules, of conversions and of programs, commands, standard
-//! error, the side channel.
+//! error, the side channel, the words of the service and its replies.
 //!
 //! Each function does nothing. Each of its clauses is a table of examples in `specs/`, and the check computes the definitions on each row.
 //! It refuses a false one by the name of its clause. The texts are written with substitutes for a line feed, a tab and a carriage return
@@ -26,6 +26,7 @@ ghost use Rattle.text_examples.specs.CommandExamples as commands;
 ghost use Rattle.text_examples.specs.ReplyExamples as replies;
 ghost use Rattle.text_examples.specs.ReportExamples as reports;
 ghost use Rattle.text_examples.specs.SessionExamples as sessions;
+ghost use Rattle.text_examples.specs.ServiceExamples as service;
 
 /// Words of a line, blanks and quotes.
 pub fn word_examples()
@@ -176,4 +177,26 @@ pub fn session_examples()
     ensures command_number { sessions.CommandNumberRows }
     ensures no_command { sessions.NoCommandRows }
     ensures status { sessions.StatusRows }
+{}
+
+/// Words of the service.
+pub fn service_word_examples()
+    ensures lone { service.LoneRows }
+    ensures number { service.NumberRows }
+    ensures name { service.NameRows }
+    ensures list { service.ListRows }
+    ensures find { service.FindRows }
+    ensures token { service.TokenRows }
+{}
+
+/// Replies of the service.
+pub fn service_reply_examples()
+    ensures job { service.JobRows }
+    ensures hidden { service.HiddenRows }
+    ensures line { service.LineRows }
+    ensures queue { service.QueueRows }
+    ensures others_queue { service.OthersQueueRows }
+    ensures piece { service.PieceRows }
+    ensures piece_line { service.PieceLineRows }
+    ensures left { service.LeftRows }
 {}

@@ -5,4 +5,4 @@ use Rattle.service_texts.specs.Notices.{job_told}
 use Rattle.service_texts.proofs.notes.push_jobs.Given as goal
 
 abbrev pub invariant-loop-job : goal.invariant-loop-job
-invariant-loop-job l = l.text.items ≡ l.initial.text.items ++ flat_map (job_told l.table.state) (take l.job-index l.jobs)
+invariant-loop-job l = l.text.items ≡ l.initial.text.items ++ flat_map (job_told l.client l.table.state) (take l.job-index l.jobs)

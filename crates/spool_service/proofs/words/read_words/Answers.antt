@@ -20,6 +20,7 @@ has_numbers m pass = record {
 
 has_flags : (m : ArgMatches) → PassParsers service_app m → HasFlags m
 has_flags m pass = record {
+  show_all = has_flag service_app m (codes "show-all") pass (λ none. cc) (refl, refl);
   quiet = has_flag service_app m (codes "quiet") pass (λ none. cc) (refl, refl);
   verbose = has_flag service_app m (codes "verbose") pass (λ none. cc) (refl, refl);
 }

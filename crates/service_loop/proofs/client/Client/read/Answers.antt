@@ -11,4 +11,4 @@ returns-in_ok-take-in-Ok-clause-goes g c =
       took = c.in_ok-take-in-Ok.ensures;
       taken = refl;
       replies = refl;
-    })
+    }) c.in-Ok.ensures.proofs

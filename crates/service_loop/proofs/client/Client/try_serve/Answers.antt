@@ -6,12 +6,12 @@ use Rattle.service_loop.proofs.ClientStepLaws.{step_none, stepped_then}
 use Rattle.service_loop.proofs.client.Client.try_serve.Goals as goal
 
 pub returns-then-not-branch-clause-client_step : goal.returns-then-not-branch-clause-client_step
-returns-then-not-branch-clause-client_step g c = stepped_then _ _ _ _ _ _ _ _ (step_none _ _ _ _ _ c.give.ensures.goes c.give.ensures.waits) c.in_ok-serve_some.ensures.client_step
+returns-then-not-branch-clause-client_step g c = stepped_then _ _ _ _ _ _ _ _ (step_none _ _ _ _ _ c.give.ensures.goes c.give.ensures.status) c.in_ok-serve_some.ensures.client_step
 
 pub returns-clause-client_step : goal.returns-clause-client_step
 returns-clause-client_step g c =
-    stepped_then _ _ _ _ _ _ _ _ (step_none _ _ _ _ _ c.give.ensures.goes c.give.ensures.waits)
-    (stepped_then _ _ _ _ _ _ _ _ c.in_ok-serve_some.ensures.client_step (step_none _ _ _ _ _ c.end_turn.ensures.goes c.end_turn.ensures.waits))
+    stepped_then _ _ _ _ _ _ _ _ (step_none _ _ _ _ _ c.give.ensures.goes c.give.ensures.status)
+    (stepped_then _ _ _ _ _ _ _ _ c.in_ok-serve_some.ensures.client_step (step_none _ _ _ _ _ c.end_turn.ensures.goes c.end_turn.ensures.status))
 
 pub returns-clause-rests : goal.returns-clause-rests
 returns-clause-rests g c = λ there none.

@@ -18,4 +18,5 @@ returns-in-Ok-clause-goes g c =
       taken = refl;
       replies = refl;
       within = omega (arith, count_fits, length-drop client.taken client.replies.items);
+      proofs = wrote.proofs;
     })) c.forget_taken.ensures.goes

@@ -11,34 +11,28 @@ pub returns-in_err-kept-clause-calls : goal.returns-in_err-kept-clause-calls
 returns-in_err-kept-clause-calls g c =
     turn_calls g.D.Disk.device _ _ _ _ _ _ c.wait.ensures.engine c.let_in.ensures.engine c.serve_clients-turns.ensures.calls c.tick-ticked.ensures.calls c.maintain.ensures.calls
 
-pub returns-in_err-note_stages-clause-calls : goal.returns-in_err-note_stages-clause-calls
-returns-in_err-note_stages-clause-calls g c =
-    calls_kept g.D.Disk.device _ _ _
-    (turn_calls g.D.Disk.device _ _ _ _ _ _ c.wait.ensures.engine c.let_in.ensures.engine c.serve_clients-turns.ensures.calls c.tick-ticked.ensures.calls c.maintain.ensures.calls)
-    (c.note_stages.ensures.engine ∙ ap (λ s. s.shared.engine) c.note_more.ensures.kept)
-
 pub returns-in_err-notify_changes-clause-calls : goal.returns-in_err-notify_changes-clause-calls
 returns-in_err-notify_changes-clause-calls g c =
     calls_kept g.D.Disk.device _ _ _
     (turn_calls g.D.Disk.device _ _ _ _ _ _ c.wait.ensures.engine c.let_in.ensures.engine c.serve_clients-turns.ensures.calls c.tick-ticked.ensures.calls c.maintain.ensures.calls)
-    (c.notify_changes.ensures.engine ∙ c.note_stages.ensures.engine ∙ ap (λ s. s.shared.engine) c.note_more.ensures.kept)
+    (c.notify_changes.ensures.engine ∙ c.log_events.ensures.engine ∙ ap (λ s. s.shared.engine) c.note_more.ensures.kept)
 
 pub returns-then-met_fault-clause-calls : goal.returns-then-met_fault-clause-calls
 returns-then-met_fault-clause-calls g c =
     calls_kept g.D.Disk.device _ _ _
     (turn_calls g.D.Disk.device _ _ _ _ _ _ c.wait.ensures.engine c.let_in.ensures.engine c.serve_clients-turns.ensures.calls c.tick-ticked.ensures.calls c.maintain.ensures.calls)
-    (c.notify_changes.ensures.engine ∙ c.note_stages.ensures.engine ∙ ap (λ s. s.shared.engine) c.note_more.ensures.kept)
+    (c.notify_changes.ensures.engine ∙ c.log_events.ensures.engine ∙ ap (λ s. s.shared.engine) c.note_more.ensures.kept)
 
 pub returns-clause-calls : goal.returns-clause-calls
 returns-clause-calls g c =
     calls_kept g.D.Disk.device _ _ _
     (turn_calls g.D.Disk.device _ _ _ _ _ _ c.wait.ensures.engine c.let_in.ensures.engine c.serve_clients-turns.ensures.calls c.tick-ticked.ensures.calls c.maintain.ensures.calls)
-    (c.notify_changes.ensures.engine ∙ c.note_stages.ensures.engine ∙ ap (λ s. s.shared.engine) c.note_more.ensures.kept)
+    (c.notify_changes.ensures.engine ∙ c.log_events.ensures.engine ∙ ap (λ s. s.shared.engine) c.note_more.ensures.kept)
 
 pub returns-clause-turned : goal.returns-clause-turned
 returns-clause-turned g c =
-    let same_engine = c.notify_changes.ensures.engine ∙ c.note_stages.ensures.engine ∙ ap (λ s. s.shared.engine) c.note_more.ensures.kept in
-    let same_maintenance = ap (λ s. s.maintenance) c.notify_changes.ensures.kept ∙ ap (λ s. s.maintenance) c.note_stages.ensures.kept ∙ ap (λ s. s.maintenance) c.note_more.ensures.kept in
+    let same_engine = c.notify_changes.ensures.engine ∙ c.log_events.ensures.engine ∙ ap (λ s. s.shared.engine) c.note_more.ensures.kept in
+    let same_maintenance = ap (λ s. s.maintenance) c.notify_changes.ensures.kept ∙ ap (λ s. s.maintenance) c.log_events.ensures.kept ∙ ap (λ s. s.maintenance) c.note_more.ensures.kept in
     record {
       before = c.serve_clients-turns.new.self.shared.engine;
       behind = c.tick-ticked.new.self.shared.engine;
@@ -49,7 +43,7 @@ returns-clause-turned g c =
           subst (λ e. KeepsTime g.D.Disk.device c.tick-ticked.new.self.shared.engine c.notify_changes.new.self.maintenance (g.T.Times.told c.maintain.new.times) e) (sym same_engine)
           (subst (λ h. KeepsTime g.D.Disk.device c.tick-ticked.new.self.shared.engine h (g.T.Times.told c.maintain.new.times) c.maintain.new.self.shared.engine) (sym same_maintenance) c.in_ok-kept.ensures.time);
       still = λ rests.
-          let more = ap (λ s. s.more) c.note_stages.ensures.kept in
+          let more = ap (λ s. s.more) c.log_events.ensures.kept in
           let reasons = no_reason c.serve_clients-turns.result.more c.serve_clients-turns.result.served c.tick-ticked.result c.in_ok-kept.kept
           (has_new_client_waiting c.maintain.new.self.has_new_client c.maintain.new.self.barred c.maintain.new.self.ends) (sym c.note_more.ensures.more ∙ sym more ∙ (c.in_ok-notify_changes.ensures.still rests).0) in
           (reasons.0, subst (λ e. HasTriedAtMost g.D.Disk.device c.tick-ticked.new.self.shared.engine e) (sym same_engine) (c.maintain.ensures.idle (c.in_ok-kept.was ∙ ap Ok reasons.1)).1);
@@ -63,18 +57,12 @@ pub returns-in_err-kept-clause-history : goal.returns-in_err-kept-clause-history
 returns-in_err-kept-clause-history g c =
     turn_history _ _ _ _ _ _ _ _ _ _ _ _ _ _ c.wait.ensures.history c.let_in.ensures.history c.serve_clients-turns.ensures.history c.tick-ticked.ensures.calls (ap (λ s. s.clients.slots) c.tick-ticked.ensures.kept) c.maintain.ensures.calls (ap (λ s. s.clients.slots) c.maintain.ensures.kept)
 
-pub returns-in_err-note_stages-clause-history : goal.returns-in_err-note_stages-clause-history
-returns-in_err-note_stages-clause-history g c =
-    history_kept _ _ _ _ _ _ _ _
-    (turn_history _ _ _ _ _ _ _ _ _ _ _ _ _ _ c.wait.ensures.history c.let_in.ensures.history c.serve_clients-turns.ensures.history c.tick-ticked.ensures.calls (ap (λ s. s.clients.slots) c.tick-ticked.ensures.kept) c.maintain.ensures.calls (ap (λ s. s.clients.slots) c.maintain.ensures.kept))
-    (c.note_stages.ensures.engine ∙ ap (λ s. s.shared.engine) c.note_more.ensures.kept) (ap (λ s. s.clients.slots) c.note_stages.ensures.kept ∙ ap (λ s. s.clients.slots) c.note_more.ensures.kept)
-
 pub returns-in_err-notify_changes-clause-history : goal.returns-in_err-notify_changes-clause-history
 returns-in_err-notify_changes-clause-history g c =
     history_then _ _ _ _ _ _ _ _
     (history_kept _ _ _ _ _ _ _ _
     (turn_history _ _ _ _ _ _ _ _ _ _ _ _ _ _ c.wait.ensures.history c.let_in.ensures.history c.serve_clients-turns.ensures.history c.tick-ticked.ensures.calls (ap (λ s. s.clients.slots) c.tick-ticked.ensures.kept) c.maintain.ensures.calls (ap (λ s. s.clients.slots) c.maintain.ensures.kept))
-    (c.note_stages.ensures.engine ∙ ap (λ s. s.shared.engine) c.note_more.ensures.kept) (ap (λ s. s.clients.slots) c.note_stages.ensures.kept ∙ ap (λ s. s.clients.slots) c.note_more.ensures.kept))
+    (c.log_events.ensures.engine ∙ ap (λ s. s.shared.engine) c.note_more.ensures.kept) (ap (λ s. s.clients.slots) c.log_events.ensures.kept ∙ ap (λ s. s.clients.slots) c.note_more.ensures.kept))
     c.notify_changes.ensures.history
 
 pub returns-then-met_fault-clause-history : goal.returns-then-met_fault-clause-history
@@ -82,7 +70,7 @@ returns-then-met_fault-clause-history g c =
     history_then _ _ _ _ _ _ _ _
     (history_kept _ _ _ _ _ _ _ _
     (turn_history _ _ _ _ _ _ _ _ _ _ _ _ _ _ c.wait.ensures.history c.let_in.ensures.history c.serve_clients-turns.ensures.history c.tick-ticked.ensures.calls (ap (λ s. s.clients.slots) c.tick-ticked.ensures.kept) c.maintain.ensures.calls (ap (λ s. s.clients.slots) c.maintain.ensures.kept))
-    (c.note_stages.ensures.engine ∙ ap (λ s. s.shared.engine) c.note_more.ensures.kept) (ap (λ s. s.clients.slots) c.note_stages.ensures.kept ∙ ap (λ s. s.clients.slots) c.note_more.ensures.kept))
+    (c.log_events.ensures.engine ∙ ap (λ s. s.shared.engine) c.note_more.ensures.kept) (ap (λ s. s.clients.slots) c.log_events.ensures.kept ∙ ap (λ s. s.clients.slots) c.note_more.ensures.kept))
     c.notify_changes.ensures.history
 
 pub returns-clause-history : goal.returns-clause-history
@@ -90,5 +78,5 @@ returns-clause-history g c =
     history_then _ _ _ _ _ _ _ _
     (history_kept _ _ _ _ _ _ _ _
     (turn_history _ _ _ _ _ _ _ _ _ _ _ _ _ _ c.wait.ensures.history c.let_in.ensures.history c.serve_clients-turns.ensures.history c.tick-ticked.ensures.calls (ap (λ s. s.clients.slots) c.tick-ticked.ensures.kept) c.maintain.ensures.calls (ap (λ s. s.clients.slots) c.maintain.ensures.kept))
-    (c.note_stages.ensures.engine ∙ ap (λ s. s.shared.engine) c.note_more.ensures.kept) (ap (λ s. s.clients.slots) c.note_stages.ensures.kept ∙ ap (λ s. s.clients.slots) c.note_more.ensures.kept))
+    (c.log_events.ensures.engine ∙ ap (λ s. s.shared.engine) c.note_more.ensures.kept) (ap (λ s. s.clients.slots) c.log_events.ensures.kept ∙ ap (λ s. s.clients.slots) c.note_more.ensures.kept))
     c.notify_changes.ensures.history

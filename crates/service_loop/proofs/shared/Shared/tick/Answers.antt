@@ -1,5 +1,10 @@
 -- One tick is one call.
-use Rattle.std.proofs.Common.{refl}
+use Rattle.std.proofs.Common.{List, map, refl, subst, ◌∙◌}
+use Rattle.spool_types.specs.State.{State}
+use Rattle.print_rounds.specs.Happenings.{happenings_of}
+use Rattle.print_rounds.specs.declared.happenings.Happening.{Happening}
+use Rattle.service_loop.specs.RecordedEvents.{HasRecordedAll, happened_deed}
+use Rattle.service_loop.proofs.RecordLaws.{tick_events}
 use Rattle.service_loop.proofs.CallLaws.{by_tick}
 use Rattle.service_loop.proofs.shared.Shared.tick.Goals as goal
 
@@ -26,3 +31,36 @@ returns-in-Err-Full-clause-tick g c = let ticked = c.tick-counts.ensures.tick in
 
 pub returns-in_default-clause-tick : goal.returns-in_default-clause-tick
 returns-in_default-clause-tick g c = let ticked = c.tick-counts.ensures.tick in (ticked.0, _, ticked.1)
+
+pub returns-in-Ok-eq0-clause-recorded : goal.returns-in-Ok-eq0-clause-recorded
+returns-in-Ok-eq0-clause-recorded g c =
+    let e = c.args.self.now.engine in
+    let (events, that, is) = tick_events g.D.Disk.device e _ e.run_state.spool.dead c.tick-counts.new.self.run_state c.tick-counts.result c.tick-counts.new.happened.items c.tick-counts.ensures.happened in (
+      events,
+      _,
+      that,
+      subst (λ (t : State). HasRecordedAll t c.args.self.now.records (map happened_deed (happenings_of events)) c.record_tick.new.self) c.table.ensures
+          (subst (λ (xs : List Happening). HasRecordedAll c.table.result.now.state c.args.self.now.records (map happened_deed xs) c.record_tick.new.self) (c.deref.ensures.value ∙ is) c.record_tick.ensures),
+    )
+
+pub returns-in-Err-Full-clause-recorded : goal.returns-in-Err-Full-clause-recorded
+returns-in-Err-Full-clause-recorded g c =
+    let e = c.args.self.now.engine in
+    let (events, that, is) = tick_events g.D.Disk.device e _ e.run_state.spool.dead c.tick-counts.new.self.run_state c.tick-counts.result c.tick-counts.new.happened.items c.tick-counts.ensures.happened in (
+      events,
+      _,
+      that,
+      subst (λ (t : State). HasRecordedAll t c.args.self.now.records (map happened_deed (happenings_of events)) c.record_tick.new.self) c.table.ensures
+          (subst (λ (xs : List Happening). HasRecordedAll c.table.result.now.state c.args.self.now.records (map happened_deed xs) c.record_tick.new.self) (c.deref.ensures.value ∙ is) c.record_tick.ensures),
+    )
+
+pub returns-in_default-clause-recorded : goal.returns-in_default-clause-recorded
+returns-in_default-clause-recorded g c =
+    let e = c.args.self.now.engine in
+    let (events, that, is) = tick_events g.D.Disk.device e _ e.run_state.spool.dead c.tick-counts.new.self.run_state c.tick-counts.result c.tick-counts.new.happened.items c.tick-counts.ensures.happened in (
+      events,
+      _,
+      that,
+      subst (λ (t : State). HasRecordedAll t c.args.self.now.records (map happened_deed (happenings_of events)) c.record_tick.new.self) c.table.ensures
+          (subst (λ (xs : List Happening). HasRecordedAll c.table.result.now.state c.args.self.now.records (map happened_deed xs) c.record_tick.new.self) (c.deref.ensures.value ∙ is) c.record_tick.ensures),
+    )

@@ -1,0 +1,4 @@
+pub mod Deeds
+pub mod NumberedChanges
+pub mod SeenTimes
+pub mod EventLines

@@ -1,0 +1,14 @@
+-- One action: the close that the word means.
+use Rattle.std.proofs.Common.{ap, refl, ◌∙◌}
+use Rattle.service_texts.specs.declared.own_words.OwnWord.TheVariants as words
+use Rattle.spool_engine.specs.AnswerTexts.{answer_text}
+use Rattle.service_loop.proofs.ClientStepLaws.{answered_by_applied}
+use Rattle.service_loop.proofs.client.Client.close_as.Goals as goal
+
+pub returns-clause-done : goal.returns-clause-done
+returns-clause-done g c =
+    let (t, takes, answer, same, told) = c.in_ok-answer.ensures.executed in
+    let kept = c.close_as.ensures.calls in
+    let added = c.in_ok-add_answer.ensures in
+    answered_by_applied _ _ _ _ _ _ (words.CloseAs c.args.job c.args.name c.args.media) _ t answer _ kept.mime kept.place c.requires.role refl takes same
+    (ap (λ s. answer_text s c.in_ok-answer.answer) c.table.ensures ∙ told) added.added added.status c.requires.waits

@@ -1,0 +1,75 @@
+//! The answers to the words that a service serves by its engine or by its records.
+ghost use Rattle.std.specs.Prelude.{◌≡◌, ℕ, List, true, None, OnOk};
+ghost use Rattle.client_reader.specs.declared.ask.Ask.{Ask};
+ghost use Rattle.client_roles.specs.RoleTable.{is_allowed};
+ghost use Rattle.event_records.specs.NumberedChanges.{NumberedChanges};
+ghost use Rattle.service_texts.specs.Notices.{watch_text};
+ghost use Rattle.service_texts.specs.declared.own_words.OwnWord.{OwnWord};
+ghost use Rattle.service_loop.specs.ServiceCalls.{GoesByCalls};
+ghost use Rattle.service_loop.specs.Progress.{IsMarked};
+ghost use Rattle.service_loop.specs.ClientSteps.{IsAdded, IsAnswered, status_of};
+
+use super::{Client, ClientFault};
+use crate::connection::Connection;
+use crate::shared::Shared;
+use child_pipeline::Children;
+use spool_disk::Disk;
+use spool_types::{FileName, JobId, MediaType};
+use std::alloc::AllocError;
+
+impl<L: Connection> Client<L> {
+    // Cancels a job, and has its running child end.
+    pub(super) fn stop_job<D: Disk, C: Children>(
+        &mut self,
+        shared: &mut Shared<D, C>,
+        job: JobId,
+    ) -> Result<(), ClientFault>
+        requires waits { self.old.waits ≡ None }
+        requires role { is_allowed self.old.standing shared.old.engine.run_state.spool.state (Ask.Own (OwnWord.Stop job)) ≡ true }
+        ensures done { OnOk result (IsAnswered D.device L.view shared.old.engine self.old (Ask.Own (OwnWord.Stop job)) shared.new.engine self.new) }
+        ensures marked { IsMarked L.view self.old → IsMarked L.view self.new }
+        ensures kept { self.new ≡ record self.old { replies = self.new.replies } }
+        ensures calls { GoesByCalls D.device shared.old.engine shared.new.engine }
+    {
+        let answer = shared.stop(job)?;
+        self.add_answer(shared.engine.table(), &answer)?;
+        Ok(())
+    }
+
+    // Closes a job as a document of this type.
+    pub(super) fn close_as<D: Disk, C: Children>(
+        &mut self,
+        shared: &mut Shared<D, C>,
+        job: JobId,
+        name: FileName,
+        media: MediaType,
+    ) -> Result<(), ClientFault>
+        requires waits { self.old.waits ≡ None }
+        requires role { is_allowed self.old.standing shared.old.engine.run_state.spool.state (Ask.Own (OwnWord.CloseAs job name media)) ≡ true }
+        ensures done { OnOk result (IsAnswered D.device L.view shared.old.engine self.old (Ask.Own (OwnWord.CloseAs job name media)) shared.new.engine self.new) }
+        ensures marked { IsMarked L.view self.old → IsMarked L.view self.new }
+        ensures kept { self.new ≡ record self.old { replies = self.new.replies } }
+        ensures calls { GoesByCalls D.device shared.old.engine shared.new.engine }
+    {
+        drop(name);
+        let answer = shared.close_as(job, media)?;
+        self.add_answer(shared.engine.table(), &answer)?;
+        Ok(())
+    }
+
+    // Sends what changed after a change, and all changes from now on, each group with the number of the last one.
+    pub(super) fn watch_from<D: Disk, C: Children>(
+        &mut self,
+        shared: &Shared<D, C>,
+        number: u64,
+    ) -> Result<(), AllocError>
+        ensures added { OnOk result ((changes : NumberedChanges) × IsAdded self.old (watch_text self.old.standing shared.now.engine.run_state.spool.state changes number) self.new) }
+        ensures watches { self.new.watches ≡ true }
+        ensures status { status_of self.new ≡ status_of self.old }
+        ensures kept { self.new ≡ record self.old { replies = self.new.replies; watches = self.new.watches; counts = self.new.counts } }
+    {
+        self.watches = true;
+        self.counts = true;
+        shared.push_changes_since(&mut self.replies, number, &self.standing)
+    }
+}

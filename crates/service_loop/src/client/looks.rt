@@ -1,0 +1,109 @@
+//! The answers to words that look at jobs and queues.
+ghost use Rattle.std.specs.Prelude.{◌≡◌, ℕ, List, OnOk};
+ghost use Rattle.event_records.specs.SeenTimes.{job_times, queue_time};
+ghost use Rattle.service_texts.specs.FoundTexts.{found_text};
+ghost use Rattle.service_texts.specs.LeftJobs.{incoming_text};
+ghost use Rattle.service_texts.specs.Listings.{listed_text};
+ghost use Rattle.service_texts.specs.QueueShown.{IsShownQueue};
+ghost use Rattle.service_texts.specs.Shown.{shown_job};
+ghost use Rattle.service_loop.specs.ClientSteps.{IsAdded, status_of};
+
+use super::Client;
+use crate::connection::Connection;
+use crate::shared::Shared;
+use child_pipeline::Children;
+use service_texts::{Selection, TokenText, listed_text, shown_job, shown_queue};
+use spool_disk::Disk;
+use spool_types::{JobId, QueueName};
+use std::alloc::AllocError;
+
+impl<L: Connection> Client<L> {
+    // Shows a job with all its fields and times, as it may see them.
+    pub(super) fn show_job<D: Disk, C: Children>(
+        &mut self,
+        shared: &Shared<D, C>,
+        job: JobId,
+    ) -> Result<(), AllocError>
+        ensures shown { OnOk result (IsAdded self.old (shown_job self.old.standing (job_times shared.now.records.seen) shared.now.engine.run_state.spool.state job) self.new) }
+        ensures status { status_of self.new ≡ status_of self.old }
+        ensures kept { self.new ≡ record self.old { replies = self.new.replies } }
+    {
+        let alloc = *self.replies.allocator();
+        let table = shared.engine.table();
+        let text = shown_job(alloc, table, &shared.records.seen, &self.standing, job)?;
+        self.add(&text)
+    }
+
+    // Shows a queue with all its fields, as it may see them.
+    pub(super) fn show_queue<D: Disk, C: Children>(
+        &mut self,
+        shared: &Shared<D, C>,
+        name: &QueueName,
+    ) -> Result<(), AllocError>
+        ensures shown { OnOk result ((text : List ℕ) × IsShownQueue self.old.standing (queue_time shared.now.records.seen name.now) shared.now.engine.run_state.spool.state name.now text × IsAdded self.old text self.new) }
+        ensures status { status_of self.new ≡ status_of self.old }
+        ensures kept { self.new ≡ record self.old { replies = self.new.replies } }
+    {
+        let alloc = *self.replies.allocator();
+        let table = shared.engine.table();
+        let text = shown_queue(alloc, table, &shared.records.seen, &self.standing, name)?;
+        self.add(&text)
+    }
+
+    // Lists a piece of the jobs, as it may see them.
+    pub(super) fn list<D: Disk, C: Children>(
+        &mut self,
+        shared: &Shared<D, C>,
+        selection: &Selection,
+    ) -> Result<(), AllocError>
+        ensures shown { OnOk result (IsAdded self.old (listed_text self.old.standing (job_times shared.now.records.seen) selection.now shared.now.engine.run_state.spool.state) self.new) }
+        ensures status { status_of self.new ≡ status_of self.old }
+        ensures kept { self.new ≡ record self.old { replies = self.new.replies } }
+    {
+        let alloc = *self.replies.allocator();
+        let table = shared.engine.table();
+        let text = listed_text(
+            alloc,
+            table,
+            &shared.records.seen,
+            &self.standing,
+            selection,
+        )?;
+        self.add(&text)
+    }
+
+    // Finds the job of a token.
+    pub(super) fn find<D: Disk, C: Children>(
+        &mut self,
+        shared: &Shared<D, C>,
+        token: &TokenText,
+    ) -> Result<(), AllocError>
+        ensures found { OnOk result (IsAdded self.old (found_text shared.now.known.tokens shared.now.engine.run_state.spool.state token.now) self.new) }
+        ensures status { status_of self.new ≡ status_of self.old }
+        ensures kept { self.new ≡ record self.old { replies = self.new.replies } }
+    {
+        let alloc = *self.replies.allocator();
+        let text = shared
+            .known
+            .tokens
+            .found_text(alloc, shared.engine.table(), token)?;
+        self.add(&text)
+    }
+
+    // Lists the incoming jobs whose clients have disconnected, with their age.
+    pub(super) fn list_left<D: Disk, C: Children>(
+        &mut self,
+        shared: &Shared<D, C>,
+    ) -> Result<(), AllocError>
+        ensures shown { OnOk result (IsAdded self.old (incoming_text shared.now.known.now shared.now.engine.run_state.spool.state shared.now.known.left) self.new) }
+        ensures status { status_of self.new ≡ status_of self.old }
+        ensures kept { self.new ≡ record self.old { replies = self.new.replies } }
+    {
+        let alloc = *self.replies.allocator();
+        let text = shared
+            .known
+            .left
+            .text(alloc, shared.engine.table(), shared.known.now)?;
+        self.add(&text)
+    }
+}
