@@ -67,12 +67,12 @@ def moment(seconds):
     return b"\0" if seconds is None else b"\1" + struct.pack(">Q", seconds)
 
 
-def rows(count, by=lambda number: None):
+def rows(count, by=lambda number: None, options=lambda number: b""):
     """The listing of a table: a head, a queue, and waiting jobs without documents."""
     yield b"\x40" + struct.pack(">IQ", count, 0)
     yield b"\x41" + QUEUE[1:] + bytes(4) + b"\x01" + bytes(5)
     for number in range(1, count - 1):
-        job = struct.pack(">I", number) + text(b"lab") + text(b"ann") + text(b"A title") + struct.pack(">HB", 1, 50) + text(b"")
+        job = struct.pack(">I", number) + text(b"lab") + text(b"ann") + text(b"A title") + struct.pack(">HB", 1, 50) + text(options(number))
         yield b"\x42" + job + b"\x01" + text(b"a/b") + bytes(13) + b"\x01" + bytes(10) + moment(by(number))
 
 

@@ -83,7 +83,6 @@ PASSED_ON = {
     ("spool_engine", "serve_end"): 1,
     ("spool_engine", "serve_whole"): 1,
     ("spool_engine", "take_piece"): 1,
-    ("spool_admin", "no_task"): 1,
     ("spool_admin", "read_words"): 2,
     # The text is written into memory, so no other error is possible; and an error of the system whose kind says so.
     ("spool_front", "close_line"): 1,
@@ -102,6 +101,31 @@ PASSED_ON = {
     ("spool_runtime", "read_words"): 1,
     ("spool_runtime", "words_fault"): 1,
     ("spool_service", "read_words"): 1,
+    ("event_records", "push_aborted"): 1,
+    ("event_records", "push_again"): 1,
+    ("event_records", "push_closed"): 1,
+    ("event_records", "push_held"): 2,
+    ("event_records", "push_purge_event"): 1,
+    ("event_records", "push_queue_event"): 1,
+    ("event_records", "push_started"): 1,
+    ("event_records", "push_subject"): 1,
+    ("print_rounds", "tick"): 1,
+    ("service_texts", "found_text"): 1,
+    ("service_texts", "note_row"): 1,
+    ("service_texts", "prepare"): 1,
+    ("service_texts", "push_answer_line"): 2,
+    ("service_texts", "push_attribute"): 1,
+    ("service_texts", "push_change"): 1,
+    ("service_texts", "push_device"): 2,
+    ("service_texts", "push_piece_line"): 2,
+    ("service_texts", "push_policy"): 1,
+    ("service_texts", "push_printing"): 1,
+    ("service_texts", "push_queue_counts"): 1,
+    ("service_texts", "push_queue_state"): 1,
+    ("service_texts", "push_searched"): 1,
+    ("service_texts", "push_still"): 1,
+    ("service_texts", "push_time_word"): 1,
+    ("service_texts", "push_uri"): 1,
 }
 
 # The capacities and counts with a number, a constant or a sum in them, of each function. Each requests a few items, or at most the number
@@ -121,8 +145,8 @@ CAPACITIES = {
     ("filter_args", "words"): ["6"],
     # 64 KiB, while a spool is opened.
     ("gate_journal", "new"): ["BLOCK_LEN"],
-    ("split_rows", "end_row"): ["1"],
-    ("split_rows", "finish"): ["1"],
+    ("listing_rows", "put_zeros"): ["block.len() + count"],
+    ("split_rows", "begin"): ["BLOCK_ROOM"],
     ("job_rows", "reserve"): ["1"],
     ("job_table", "reserve_extent"): ["1"],
     ("job_table", "reserve_queue"): ["1", "1"],
@@ -135,10 +159,13 @@ CAPACITIES = {
     # 576 KiB, during a checkpoint.
     ("spool_core", "prepare"): ["BLOCK_ROOM"],
     # In reserved room.
-    ("spool_core", "put_zeros"): ["block.len() + count"],
     # 64 KiB, while a document is sent.
     ("spool_front", "new"): ["PIECE"],
     ("spool_runtime", "reserve"): ["1"],
+    ("client_standing", "note"): ["1"],
+    ("event_records", "new"): ["MOST_CHANGES"],
+    ("print_rounds", "tick"): ["queues + queues"],
+    ("user_proofs", "note"): ["1"],
 }
 
 # The large numbers in bodies: bounds of loops, of counts and of fields. None is a capacity.
@@ -178,6 +205,8 @@ NUMBERS = {
     ("builtin_stages", "write_result"): ["u64::MAX"],
     ("stderr_lines", "number_of"): ["u32::MAX"],
     ("whole_writes", "write_whole"): ["u64::MAX"],
+    ("spool_service", "open_operators_socket"): ["u32::MAX"],
+    ("user_proofs", "id_in"): ["4_294_967_295"],
 }
 
 # The large constants: limits on input, the numbers of fields, and how far a step advances.
@@ -186,12 +215,11 @@ CONSTANTS = {
     ("command_lines", "GREATEST"): 1,
     ("front_words", "GREATEST_JOB"): 1,
     ("front_words", "GREATEST_MOMENT"): 1,
-    ("split_rows", "LONGEST_BLOCK"): 1,
     ("mime_lines", "TOO_GREAT"): 1,
     ("mime_rules", "GREATEST"): 1,
     ("side_channel", "SESSION_READS"): 1,
     ("spool_areas", "LAST_EPOCH"): 1,
-    ("spool_core", "BLOCK_ROOM"): 1,
+    ("listing_rows", "BLOCK_ROOM"): 1,
     ("spool_front", "GREATEST_SIZE"): 1,
     ("spool_front", "MOST_PATIENCE"): 1,
     ("spool_runtime", "DEFAULT_SIZE"): 1,
@@ -203,6 +231,9 @@ CONSTANTS = {
     ("spool_service", "MOST"): 1,
     ("spool_types", "GREATEST"): 2,
     ("spool_types", "LONGEST_DOCUMENT"): 1,
+    ("event_records", "GREATEST_CHANGE"): 1,
+    ("spool_service", "MOST_MILLIS"): 1,
+    ("user_proofs", "LIFETIME"): 1,
 }
 
 # Expressions that evaluate to out of memory.

@@ -64,8 +64,10 @@ EVENT = Listing(
         "event_codec/specs/EventReading.antt": {"fields_at": "Use `numbered_at`."},
         "event_codec/specs/Spelling.antt": {"spelling": "The first byte is the next free one."},
         "event_codec/src/reading.rt": {"event_of_kind": "Use `only_job`."},
-        "service_texts/specs/Notices.antt": {"with_event": "The job or queue that clients which watch are notified of."},
-        "service_texts/src/notes.rt": {"note_event": "The job or queue that clients which watch are notified of."},
+        "event_records/specs/Deeds.antt": {"deed_of": "What it does to a job or a queue, for the log, the times and clients that watch."},
+        "event_records/src/deeds.rt": {"deed_of": "The same."},
+        "client_roles/specs/RoleTable.antt": {"event_request": "Who may request it."},
+        "client_roles/src/table.rt": {"allows_event": "Who may request it."},
     },
     """
 1. If it needs room: `HasRoom` (`job_table/specs/Contents.antt`) and `reserve` of `Table` or `Store` (`job_table/src/table/prepare.rt`,
@@ -156,10 +158,10 @@ NEWEST = Listing(
         "job_table/src/store.rt": {"raise": "What a checkpoint turns a table into."},
         "event_codec/src/row_writing.rt": {"put_by": "Rows are written only in the newest version."},
         "spool_areas/specs/Checkpoint.antt": {"HasOldOrNew": "The header of the new area."},
+        "listing_rows/specs/RowFilling.antt": {"IsPut": "The rows of a listing."},
+        "listing_rows/src/block.rt": {"put_head": "The rows of a listing."},
         "spool_core/specs/Checkpointing.antt": {"listed_payloads": "The rows of a checkpoint."},
-        "spool_core/specs/ListingFilling.antt": {"IsPut": "The rows of a checkpoint."},
         "spool_core/specs/Measuring.antt": {"IsSumMore": "The rows of a checkpoint."},
-        "spool_core/src/spool/block.rt": {"put_head": "The rows of a checkpoint."},
         "spool_core/src/spool/filling.rt": {"put_row": "The rows of a checkpoint."},
         "spool_core/src/replaying.rt": {"replay": "It begins with the table of a new area."},
         "spool_halves/specs/Halves.antt": {"IsHalf": "The halves of a split are of the newest version."},
@@ -175,7 +177,7 @@ In these places a further version replaces `Two`, unless they distinguish the tw
 LISTS = {"event": EVENT, "field": FIELD, "version": VERSION, "newest": NEWEST}
 
 # Crates that are left out: crates of tests, of examples and of the front, and crates that use `One` or `Two` for something else.
-ASIDE = re.compile(r".*_(tests|examples|scripts|rows)|front_.*|spool_front")
+ASIDE = re.compile(r".*_(tests|examples|scripts)|front_.*|spool_front")
 OTHERS = {"One": ("side_channel", "spool_runtime"), "Two": ("side_channel",)}
 
 IMPORT = {

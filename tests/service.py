@@ -8,9 +8,15 @@ one, or of one of these files; without one all are run. --list prints their name
 | File | Tests |
 |---|---|
 | service_words.py | the commands that only the service has (`job`, `wait`, `watch`, `shutdown`), its socket, and its end |
+| service_looks.py | its commands that look at queues and jobs (`queue`, `list`, `find`, `incoming`) |
+| service_watches.py | what watching clients are sent, numbered changes, `stop`, `close` with a type, and lines of the log |
 | service_clients.py | clients that stall, flood, never read, are too many, and are cut off at each byte |
 | service_children.py | children that are slow, hang and are ended, how many run at once, and a full folder |
 | service_printing.py | whole documents, the same results of children as in the shell, and the children that are ended |
+| service_roles.py | each row of the table of roles, by users of the system |
+| service_users.py | clients of several users: the requests that each is denied, and the fields that are hidden from it |
+| service_facts.py | the times, queues, pieces, tokens and changes that the service tells |
+| service_proof.py | clients that prove who they are, attempts to prove to be somebody else, and operators |
 | service_faults.py | a disk that fails, a spool without its name, refused memory, and SIGCHLD ignored |
 | service_crashes.py | a service that is killed, also at random, and the files that a power cut leaves |
 | service_times.py | a hold that ends, processor time, and the time until an end is seen |
@@ -19,7 +25,7 @@ one, or of one of these files; without one all are run. --list prints their name
 
 The backends are small programs of sh in a fresh folder for each test. Some tests take long, and are shorter unless --long is given, or
 SERVICE_LONG is set: with it the service is killed 1,000 times, prints 10,000 jobs, and has 2,000 files of power cuts. That takes an hour or
-more, and otherwise about six to nine minutes. Tests that need root, strace, gcc or the built spool_shell are skipped if that is missing,
+more, and otherwise about twelve minutes. Tests that need root, strace, gcc or the built spool_shell are skipped if that is missing,
 and reported as `left out`. Times are printed, and only service_times.py checks some, as ratios to those of a C program.
 
 The last line is `N of N`, with the number left out, and status 0; or the number that failed, with status 1. The folder of a test that
@@ -31,15 +37,37 @@ import sys
 import service_children
 import service_clients
 import service_crashes
+import service_facts
 import service_faults
 import service_limits
+import service_looks
 import service_office
 import service_printing
+import service_proof
+import service_roles
 import service_times
+import service_users
+import service_watches
 import service_words
 from service_parts import Folder, run_test
 
-FILES = [service_words, service_clients, service_children, service_printing, service_faults, service_crashes, service_times, service_limits, service_office]
+FILES = [
+    service_words,
+    service_looks,
+    service_watches,
+    service_clients,
+    service_children,
+    service_printing,
+    service_proof,
+    service_roles,
+    service_users,
+    service_facts,
+    service_faults,
+    service_crashes,
+    service_times,
+    service_limits,
+    service_office,
+]
 
 
 def wanted_tests(names):

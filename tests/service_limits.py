@@ -137,7 +137,7 @@ def polls_of_a_child(folder):
     holds("it waits with the first poll", napped[count // 2] <= MOST_NAPS)
 
 
-# ---- turns of queues
+# ---- the turns of queues
 
 def queues_have_turns(folder):
     """If fewer children may run than queues have jobs, the queues have turns: none is passed over, whatever the name of the queue."""

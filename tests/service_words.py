@@ -265,7 +265,7 @@ def log_of_long_errors(folder):
     text = "".join(f"ERROR: line {number}\n" for number in range(100, 200))
     lines = [line.removeprefix(prefix) for line in folder.log().splitlines() if line.startswith(prefix)]
     same("the first job", lines, ["ended with status 1", *text[-400:].splitlines()])
-    same("the other one", [line for line in folder.log().splitlines() if "job 2" in line], ["spool: job 2 attempt 1 stage 1 complains: ended"])
+    same("the other one", [line for line in folder.log().splitlines() if "job 2 attempt" in line], ["spool: job 2 attempt 1 stage 1 complains: ended"])
 
 
 # ---- its end
@@ -361,7 +361,10 @@ def shutdown_with_an_end(folder):
     same("status", folder.running.wait(LONGEST), 0)
     same("its child", [word for word in folder.read("pids").split() if os.path.exists(f"/proc/{word}")], [])
     child = f"spool: job {job} attempt 1 stage 1 stuck: killed by a signal"
-    same("the log", folder.log().splitlines()[1:], ["spool: shutting down: 1 children running", f"{child}, no error message", child, "spool: stopped"])
+    events = [" on q by u: ", "queue q: "]
+    lines = [line for line in folder.log().splitlines()[1:] if not any(part in line for part in events)]
+    same("the log", lines, ["spool: shutting down: 1 children running", f"{child}, no error message", child, "spool: stopped"])
+    holds("its end is logged", "spool: job 1 on q by u: aborted (backend-failed)\n" in folder.log())
     folder.start()
     same("its state", Client(folder).state(job), "8 backend-failed")
 
@@ -370,16 +373,38 @@ def shutdown_with_an_end(folder):
 
 
 def sockets_that_cannot_be_made(folder):
-    """The service ends with `spool: socket`, and has changed nothing. A file that has the socket's name is removed."""
-    for socket_path in (folder.at("absent", "it.sock"), folder.at("spool"), folder.at("x" * 120)):
+    """The service ends with `spool: socket`, and has changed nothing."""
+    for socket_path in (folder.at("absent", "it.sock"), folder.at("x" * 120)):
         folder.launch("--listen", socket_path)
         same("its end", (folder.running.wait(LONGEST), folder.log()), (1, "spool: socket\n"))
         os.remove(folder.at("log"))
-    folder.socket = folder.at("file")
-    folder.write("file", "text")
-    folder.start("--listen", folder.socket)
-    same("in place of a file", Client(folder).ask("queues\n"), "ok 0")
 
+
+def names_that_belong_to_others(folder):
+    """The service takes no name of a file, a folder or a link, and no socket that another program serves. It says so, and changes nothing."""
+    folder.write("file", "text")
+    os.mkdir(folder.at("room"))
+    os.symlink(folder.at("file"), folder.at("link"))
+    for options in (["--listen"], ["--operators-socket"]):
+        for name in ("file", "room", "link"):
+            folder.launch(*options, folder.at(name))
+            text = f"cannot listen on {folder.at(name)}: it exists and is no socket\nspool: socket\n"
+            same(f"the end at a {name}", (folder.running.wait(LONGEST), folder.log()), (1, text))
+            os.remove(folder.at("log"))
+    with open(folder.at("file"), encoding="ascii") as file:
+        same("the file", file.read(), "text")
+    same("the link", os.readlink(folder.at("link")), folder.at("file"))
+    same("no socket is left", os.path.lexists(folder.at("spool", "spool.sock")), False)
+    with socket.socket(socket.AF_UNIX) as other:
+        other.bind(folder.at("other.sock"))
+        other.listen(1)
+        folder.launch("--listen", folder.at("other.sock"))
+        text = f"cannot listen on {folder.at('other.sock')}: another program serves this socket\nspool: socket\n"
+        same("the end at a socket that is served", (folder.running.wait(LONGEST), folder.log()), (1, text))
+        same("it is still there", stat.S_ISSOCK(os.stat(folder.at("other.sock")).st_mode), True)
+    folder.socket = folder.at("other.sock")
+    folder.start("--listen", folder.socket)
+    same("in place of a socket that is left", Client(folder).ask("queues\n"), "ok 0")
 
 
 WIPES = """#!/bin/sh
@@ -491,6 +516,7 @@ TESTS = [
     shutdown_waits_a_minute,
     shutdown_with_an_end,
     sockets_that_cannot_be_made,
+    names_that_belong_to_others,
     a_child_that_removes_everything,
     the_mode_of_the_socket,
     refused_to_another_user,
