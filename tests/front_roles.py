@@ -58,7 +58,8 @@ class Service:
         self.listener.bind(folder.socket)
         os.chmod(folder.socket, 0o666)
         self.listener.listen(16)
-        threading.Thread(target=self.accept, daemon=True).start()
+        self.accepting = threading.Thread(target=self.accept, daemon=True)
+        self.accepting.start()
 
     def accept(self):
         while True:
@@ -142,6 +143,9 @@ class Service:
         return os.listdir(self.parent)
 
     def end(self):
+        # A thread that still waits would accept the clients of the next service, whose descriptor may be the same.
+        self.listener.shutdown(socket.SHUT_RDWR)
+        self.accepting.join(LONGEST)
         self.listener.close()
         same("faults of the service", self.faults, [])
         same("folders that are left", self.left(), [])
