@@ -31,7 +31,7 @@ CRATES = HERE / "crates"
 
 # Pages of other packages that the pages may refer to.
 OTHERS = {"filter(7)", "backend(7)", "mime.types(5)", "mime.convs(5)", "lp(1)", "lpr(1)", "lpstat(1)", "cancel(1)", "lpq(1)", "lprm(1)"}
-OTHERS |= {"systemctl(1)", "journalctl(1)", "date(1)", "cups(1)", "signal(7)", "unix(7)"}
+OTHERS |= {"systemctl(1)", "journalctl(1)", "date(1)", "cups(1)", "signal(7)", "unix(7)", "getent(1)", "id(1)", "timeout(1)"}
 
 # The programs of a spool: for each its page and the sources with its options.
 SPOOLERS = {
