@@ -1,8 +1,10 @@
 //! Admission of a new client to the clients of a service.
-use service_rules::bounds::MOST_CLIENTS;
 use service_rules::{Admission, Client, admit, first_to_go};
 use std::alloc::Global;
 use std::test::Fail;
+
+// The number of places.
+const PLACES: usize = 64;
 
 // This number of clients, each heard at the moment 50,000, except these.
 fn clients(alloc: Global, count: usize, others: &[Client]) -> Result<Vec<Client>, Fail> {
@@ -49,17 +51,17 @@ const OTHERS: [Client; 4] = [
 
 #[test]
 fn the_longest_idle_client_goes_for_a_newcomer(rt: HostRuntime) -> Result<(), Fail> {
-    let full = clients(rt.alloc(), MOST_CLIENTS, &OTHERS)?;
-    assert!(rt; matches!(admit(&full, 49_999), Admission::Busy));
-    assert!(rt; matches!(admit(&full, 50_000), Admission::InsteadOf(7)));
-    assert!(rt; matches!(admit(&full, 60_000), Admission::InsteadOf(7)));
+    let full = clients(rt.alloc(), PLACES, &OTHERS)?;
+    assert!(rt; matches!(admit(&full, PLACES, 49_999), Admission::Busy));
+    assert!(rt; matches!(admit(&full, PLACES, 50_000), Admission::InsteadOf(7)));
+    assert!(rt; matches!(admit(&full, PLACES, 60_000), Admission::InsteadOf(7)));
     Ok(())
 }
 
 #[test]
 fn a_newcomer_has_a_free_place(rt: HostRuntime) -> Result<(), Fail> {
-    let some = clients(rt.alloc(), MOST_CLIENTS - 1, &OTHERS)?;
-    assert!(rt; matches!(admit(&some, 60_000), Admission::Free));
+    let some = clients(rt.alloc(), PLACES - 1, &OTHERS)?;
+    assert!(rt; matches!(admit(&some, PLACES, 60_000), Admission::Free));
     assert!(rt; matches!(first_to_go(&some, 60_000), Some(Client { key: 7, .. })));
     assert!(rt; first_to_go(&some, 49_999).is_none());
     Ok(())

@@ -1,9 +1,9 @@
 -- The limits of the service. Moments and waits are in milliseconds unless stated otherwise.
 use Rattle.std.specs.Prelude.{ℕ}
 
--- The most clients connected at once.
+-- The most clients connected at once, whatever the command line gives.
 abbrev pub most_clients : ℕ
-most_clients = 64
+most_clients = 1000
 
 -- How long a client has been silent that a new client may replace.
 abbrev pub least_idle : ℕ
@@ -45,6 +45,22 @@ clock_interval = 1
 abbrev pub longest_wait : ℕ
 longest_wait = 60000
 
+-- How far the system's clock may be ahead of the service's time to be followed at once: a day.
+abbrev pub longest_step : ℕ
+longest_step = 86400000
+
+-- How long a system's clock that is further ahead is not followed: ten minutes.
+abbrev pub longest_doubt : ℕ
+longest_doubt = 600000
+
+-- How far the system's clock must be behind the service's time to be logged.
+abbrev pub least_parting : ℕ
+least_parting = 2000
+
+-- The least time between two lines of the log about the system's clock.
+abbrev pub news_interval : ℕ
+news_interval = 60000
+
 -- A checkpoint takes at most the time that follows it, divided by this number.
 abbrev pub checkpoint_parts : ℕ
 checkpoint_parts = 10
@@ -52,3 +68,7 @@ checkpoint_parts = 10
 -- The most jobs purged in a turn.
 abbrev pub most_purges : ℕ
 most_purges = 8
+
+-- The least time between two checks for abandoned jobs.
+abbrev pub check_interval : ℕ
+check_interval = 1000

@@ -4,7 +4,7 @@ use Rattle.std.specs.List.{Contains}
 use Rattle.service_rules.specs.declared.slots.Client.{Client}
 use Rattle.service_rules.specs.declared.slots.Admission.{Admission}
 use Rattle.service_rules.specs.declared.slots.Admission.TheVariants.{Free, InsteadOf, Busy}
-use Rattle.service_rules.specs.Bounds.{most_clients, least_idle}
+use Rattle.service_rules.specs.Bounds.{least_idle}
 
 -- A client that has been silent long enough to be replaced, and does not listen.
 abbrev pub is_idle : ℕ → Client → Bool
@@ -24,8 +24,8 @@ pub record IsFirstToGo (clients : List Client) (now : ℕ) (c : Client) : Type 0
 abbrev pub HasNoneIdle : List Client → ℕ → Type 0
 HasNoneIdle clients now = (d : Client) → Contains clients d → is_idle now d ≡ false
 
--- The decision on a new client, given the connected clients.
-abbrev pub IsAdmission : List Client → ℕ → Admission → Type 0
-IsAdmission clients now Free = length clients < most_clients
-IsAdmission clients now (InsteadOf key) = (most_clients ≤ length clients) × ((c : Client) × (c.key ≡ key) × IsFirstToGo clients now c)
-IsAdmission clients now Busy = (most_clients ≤ length clients) × HasNoneIdle clients now
+-- The decision on a new client, given the number of places and the connected clients.
+abbrev pub IsAdmission : ℕ → List Client → ℕ → Admission → Type 0
+IsAdmission places clients now Free = length clients < places
+IsAdmission places clients now (InsteadOf key) = (places ≤ length clients) × ((c : Client) × (c.key ≡ key) × IsFirstToGo clients now c)
+IsAdmission places clients now Busy = (places ≤ length clients) × HasNoneIdle clients now

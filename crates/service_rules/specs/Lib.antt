@@ -1,7 +1,13 @@
 pub mod Bounds
 pub mod ClientAdmission
+pub mod Listeners
 pub mod ClientBounds
 pub mod ChildPolling
 pub mod Clocks
+pub mod ServiceTime
+pub mod ClockNews
 pub mod Checkpoints
 pub mod Purges
+pub mod Reserve
+pub mod Removals
+pub mod Incoming

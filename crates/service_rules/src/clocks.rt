@@ -1,7 +1,7 @@
 //! When the service sends its engine the time.
-ghost use Rattle.std.specs.Prelude.{◌≡◌, ◌<◌, ◌≤◌, ◌+◌, ◌↔◌, IsSome, IfSome, None, Some};
+ghost use Rattle.std.specs.Prelude.{◌≡◌, ◌<◌, ◌≤◌, ◌+◌, ◌↔◌, true, false, IsSome, IfSome, None, Some};
 ghost use Rattle.spool_types.specs.Limits.{greatest_moment};
-ghost use Rattle.service_rules.specs.Clocks.{clock_to_announce, clock_wait, has_come, is_rested, second_behind, wait_for};
+ghost use Rattle.service_rules.specs.Clocks.{clock_for_retry, clock_to_announce, clock_wait, has_come, is_rested, second_behind, wait_for};
 
 use crate::bounds::{CLOCK_INTERVAL, LONGEST_WAIT};
 use spool_types::Moment;
@@ -9,7 +9,7 @@ use spool_types::Moment;
 /// The moments that the decision depends on.
 #[derive(Clone, Copy)]
 pub struct Clocks {
-    /// The system's second.
+    /// The second of the service's time.
     pub system: Moment,
     /// The table's moment, the greatest of all clocks so far.
     pub table: Moment,
@@ -20,8 +20,8 @@ pub struct Clocks {
     pub due: Option<Moment>,
 }
 
-/// The moment that the service sends its engine before a tick, if any. If nothing is due, or the system's clock was set back, it sends
-/// none, so that an idle service writes nothing.
+/// The moment that the service sends its engine before a tick, if any. If nothing is due, or the table's moment is not before the
+/// service's time, it sends none, so that an idle service writes nothing.
 pub fn clock_to_announce(clocks: &Clocks) -> Option<Moment>
     ensures value { result ≡ clock_to_announce clocks.now }
     ensures forward { IfSome result (λ moment. clocks.now.table < moment) }
@@ -37,6 +37,26 @@ pub fn clock_to_announce(clocks: &Clocks) -> Option<Moment>
     } else {
         None
     }
+}
+
+/// The moment that the service sends its engine before a tick, if a stage runs whose end may lead to a retry (`retries`). So the interval of
+/// the retry counts from this second, however long the service was idle before.
+pub fn clock_for_retry(clocks: &Clocks, retries: bool) -> Option<Moment>
+    ensures value { result ≡ clock_for_retry clocks.now retries }
+    // Unless the last clock was sent in this second, the table's moment is no older than the system's second.
+    ensures fresh { retries ≡ true → is_rested clocks.now.told clocks.now.system ≡ true → result ≡ None → clocks.now.system ≤ clocks.now.table }
+    ensures forward { IfSome result (λ moment. clocks.now.table < moment) }
+    ensures later { IfSome result (λ moment. IfSome clocks.now.told (λ told. told < moment)) }
+    // If no such stage runs, nothing is written.
+    ensures idle { retries ≡ false → result ≡ None }
+{
+    if !retries {
+        return None;
+    }
+    clock_to_announce(&Clocks {
+        due: Some(clocks.system),
+        ..*clocks
+    })
 }
 
 /// The milliseconds until the clock must be sent, if something will be due. `millis` milliseconds of the system's second have passed. A due

@@ -1,10 +1,12 @@
 //! Admission: whether a new client is connected, and which client it replaces.
-ghost use Rattle.std.specs.Prelude.{◌≡◌, ◌↔◌, true, MatchOption, IfSome};
+ghost use Rattle.std.specs.Prelude.{◌≡◌, ◌≢◌, ◌↔◌, ℕ, List, true, false, MatchOption, IfSome};
+ghost use Rattle.std.specs.List.{Contains};
 ghost use Rattle.std.specs.Option.{IsNone};
 ghost use Rattle.service_rules.specs.ClientAdmission.{is_idle, goes_before, HasNoneIdle, IsAdmission, IsFirstToGo};
 ghost use Rattle.service_rules.specs.declared.slots.Client.{Client as AnyClient};
+ghost use Rattle.service_rules.specs.declared.slots.Admission.{Admission as AnyAdmission};
 
-use crate::bounds::{LEAST_IDLE, MOST_CLIENTS};
+use crate::bounds::LEAST_IDLE;
 
 /// A connected client: its key, and the moment when it was last heard, in milliseconds.
 #[derive(Clone, Copy)]
@@ -18,19 +20,19 @@ pub struct Client {
 /// The decision on a new client.
 #[derive(Clone, Copy)]
 pub enum Admission {
-    /// A slot is free.
+    /// A place is free.
     Free,
     /// It replaces the client with this key, which is disconnected.
     InsteadOf(usize),
-    /// No slot is available: it is sent `error busy` and disconnected.
+    /// No place is available: it is sent `error busy` and disconnected.
     Busy,
 }
 
-/// Decides on a new client at the moment `now`, in milliseconds.
-pub fn admit(clients: &[Client], now: u64) -> Admission
-    ensures { IsAdmission clients.now now result }
+/// Decides on a new client of a service with this number of places, at the moment `now`, in milliseconds.
+pub fn admit(clients: &[Client], places: usize, now: u64) -> Admission
+    ensures { IsAdmission places clients.now now result }
 {
-    if clients.len() < MOST_CLIENTS {
+    if clients.len() < places {
         return Admission::Free;
     }
     match first_to_go(clients, now) {
@@ -53,6 +55,12 @@ pub fn first_to_go(clients: &[Client], now: u64) -> Option<Client>
     }
     first
 }
+
+/// A client that is not idle keeps its place.
+pub fn clients_that_are_not_idle_stay()
+    ensures { (places : ℕ) (clients : List AnyClient) (now : ℕ) (decision : AnyAdmission) → IsAdmission places clients now decision →
+        (c : AnyClient) → is_idle now c ≡ false → ((d : AnyClient) → Contains clients d → d.key ≡ c.key → d ≡ c) → decision ≢ AnyAdmission.InsteadOf c.key }
+{}
 
 fn is_idle(client: &Client, now: u64) -> bool
     ensures { result ≡ is_idle now client.now }
