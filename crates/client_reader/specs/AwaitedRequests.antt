@@ -5,6 +5,7 @@ use Rattle.command_lines.specs.PendingCommands.{Pending, IsPartial, to_come}
 use Rattle.command_lines.specs.Text.{commands_of, after_bytes, is_lf_at, sent}
 use Rattle.command_lines.specs.Waits.{wanted_of}
 use Rattle.command_lines.specs.declared.command.Command.{Command}
+use Rattle.command_lines.specs.declared.commands.Wanted.{Wanted}
 use Rattle.command_lines.specs.declared.commands.Wanted.TheVariants as wants
 use Rattle.client_reader.specs.Asks.{asks_of, after_send}
 use Rattle.client_reader.specs.declared.ask.Ask.{Ask}
@@ -53,6 +54,15 @@ pub record Awaits (r : Reader) (asks : List ℕ → List Ask) : Type 0 where
   pub position : Where
   pub at : IsAt r.commands r.within given position
   pub asked : (more : List ℕ) → asks more ≡ map asking.Command given ++ asked_from position (r.text.items ++ more)
+
+-- The bytes of a send are missing.
+abbrev pub wants_bytes : Wanted → Bool
+wants_bytes (wants.Bytes count) = true
+wants_bytes wanted = false
+
+-- It waits for the bytes of a send.
+abbrev pub is_in_send : Reader → Bool
+is_in_send r = wants_bytes (wanted_of r.commands)
 
 -- The result of a step, and the requests that remain.
 abbrev pub Gives : (List ℕ → List Ask) → Next → Reader → Type 0

@@ -11,6 +11,7 @@
 //!   in the position of a malformed command. So no word of the service is found inside a document.
 //! - `AwaitedRequests` defines the requests that a reader awaits (`Awaits`): the remaining ones, as a function of the text that follows. A
 //!   new [`Reader`] awaits exactly the requests of the text (`asks_of`). [`Reader::take`] moves a piece from the text that follows.
+//!   [`Reader::is_in_send`]: whether it waits for the bytes of a send.
 //!   [`Reader::next`] returns the first awaited request, or none yet (`Gives`); if memory runs out it loses nothing.
 //! - [`Reader::next`] makes progress: less of the text is left than before, or only part of a line or nothing is left (`further`).
 //! - [`asks_come_in_order`]: over any list of calls, whatever the pieces, the returned requests are the first of the requests in the text

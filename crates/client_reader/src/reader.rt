@@ -4,7 +4,7 @@ ghost use Rattle.command_lines.specs.TextLines.{has_lf};
 ghost use Rattle.command_lines.specs.PendingCommands.{IsPartial};
 ghost use Rattle.command_lines.specs.Waits.{wanted_of};
 ghost use Rattle.client_reader.specs.Asks.{asks_of, own_of};
-ghost use Rattle.client_reader.specs.AwaitedRequests.{Awaits, ComesFurther, Gives, ends_within};
+ghost use Rattle.client_reader.specs.AwaitedRequests.{Awaits, ComesFurther, Gives, ends_within, is_in_send};
 ghost use Rattle.client_reader.specs.declared.ask.Ask.{Ask as AskOf};
 
 use crate::ask::{Ask, Next};
@@ -41,10 +41,18 @@ impl Reader {
 
     /// Takes the next piece of the text.
     pub fn take(&mut self, piece: &[u8]) -> Result<(), AllocError>
-        ensures { (asks : List ℕ → List AskOf) → Awaits self.old asks → OnOk result (Awaits self.new (λ more. asks (piece.now ++ more))) }
+        ensures awaits { (asks : List ℕ → List AskOf) → Awaits self.old asks → OnOk result (Awaits self.new (λ more. asks (piece.now ++ more))) }
+        ensures send { is_in_send self.new ≡ is_in_send self.old }
     {
         self.text.extend_from_slice(piece)?;
         Ok(())
+    }
+
+    /// Whether it waits for the bytes of a send, after [`Reader::next`] has returned [`Next::Text`].
+    pub fn is_in_send(&self) -> bool
+        ensures { result ≡ is_in_send self.now }
+    {
+        matches!(self.commands.wanted(), Wanted::Bytes(_))
     }
 
     /// The next request. An error has lost nothing, and the call may be repeated. Calls without a request make progress: at most as often

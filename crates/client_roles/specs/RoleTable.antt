@@ -95,6 +95,8 @@ word_request (words.Queue name) = looks
 word_request (words.List selection) = looks
 word_request (words.Find token) = looks
 word_request words.Incoming = looks
+word_request words.Room = looks
+word_request words.Now = looks
 word_request (words.CloseAs job name media) = concerns job
 
 abbrev pub request_of : Ask → Request

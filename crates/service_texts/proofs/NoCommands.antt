@@ -125,6 +125,16 @@ incoming_none [] = refl
 incoming_none (w ∷ []) = refl
 incoming_none (w ∷ v ∷ ws) = refl
 
+room_none : IsNoName (codes "room")
+room_none [] = refl
+room_none (w ∷ []) = refl
+room_none (w ∷ v ∷ ws) = refl
+
+now_none : IsNoName (codes "now")
+now_none [] = refl
+now_none (w ∷ []) = refl
+now_none (w ∷ v ∷ ws) = refl
+
 find_none : IsNoName (codes "find")
 find_none [] = refl
 find_none (w ∷ []) = refl
@@ -173,7 +183,13 @@ module _ (by_word : (line : List ℕ) → words_of line ≡ after_front words_of
             | inl p ↦ no_name _ _ p.0 refl refl list_none
             | inr e6 ↦ elim (tested (first_word line) (codes "incoming") _ _ w e6) [
               | inl p ↦ no_name _ _ p.0 refl refl incoming_none
-              | inr e7 ↦ absurd (cc)
+              | inr e7 ↦ elim (tested (first_word line) (codes "room") _ _ w e7) [
+                | inl p ↦ no_name _ _ p.0 refl refl room_none
+                | inr e8 ↦ elim (tested (first_word line) (codes "now") _ _ w e8) [
+                  | inl p ↦ no_name _ _ p.0 refl refl now_none
+                  | inr e9 ↦ absurd (cc)
+                ]
+              ]
             ]
           ]
         ]

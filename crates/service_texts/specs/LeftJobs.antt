@@ -1,5 +1,5 @@
 -- The incoming jobs whose clients have disconnected.
-use Rattle.std.specs.Prelude.{ℕ, ◌-◌, ◌/◌, ◌==◌, Bool, false, ◌&&◌, not, cond, List, [], ◌∷◌, ◌++◌, codes, filter, map, Option, None, Some}
+use Rattle.std.specs.Prelude.{ℕ, ◌-◌, ◌/◌, ◌==◌, Bool, false, ◌&&◌, not, cond, min, nat_le, List, [], ◌∷◌, ◌++◌, codes, filter, map, Option, None, Some}
 use Rattle.std.specs.Fmt.{decimal}
 use Rattle.std.specs.List.{count_by, flat_map, list_any}
 use Rattle.command_lines.specs.Replies.{counted_line}
@@ -40,6 +40,25 @@ left_at since r = record { job = r.id; since = since }
 -- All incoming jobs, as left at this moment.
 abbrev pub all_left : ℕ → List Job → List LeftJob
 all_left since jobs = map (left_at since) (filter (λ (r : Job). is_incoming r.phase) jobs)
+
+-- ## The job that waits longest
+
+-- The first job to which nothing was sent after this moment.
+abbrev pub left_until : ℕ → List LeftJob → Option ℕ
+left_until until [] = None
+left_until until (l ∷ ls) = cond (nat_le l.since until) (Some l.job) (left_until until ls)
+
+abbrev pub earlier_of : Option ℕ → ℕ → ℕ
+earlier_of None since = since
+earlier_of (Some oldest) since = min oldest since
+
+abbrev pub oldest_from : Option ℕ → List LeftJob → Option ℕ
+oldest_from oldest [] = oldest
+oldest_from oldest (l ∷ ls) = oldest_from (Some (earlier_of oldest l.since)) ls
+
+-- The moment of the last send to the job that waits longest.
+abbrev pub oldest_of : List LeftJob → Option ℕ
+oldest_of left = oldest_from None left
 
 -- ## The reply
 

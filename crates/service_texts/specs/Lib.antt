@@ -7,3 +7,4 @@ pub mod Listings
 pub mod LeftJobs
 pub mod FoundTexts
 pub mod Notices
+pub mod MeasuredTexts

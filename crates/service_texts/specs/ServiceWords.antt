@@ -9,7 +9,7 @@ use Rattle.command_lines.specs.CommandGrammar.{is_word, job_in, queue_in}
 use Rattle.service_texts.specs.Selections.{all_jobs, selection_in}
 use Rattle.service_texts.specs.SubmissionTokens.{is_token}
 use Rattle.service_texts.specs.declared.own_words.OwnWord.{OwnWord}
-use Rattle.service_texts.specs.declared.own_words.OwnWord.TheVariants.{Job, Wait, End, Stop, Watch, WatchFrom, Shutdown, Challenge, Prove, Queue, List as Listing, Find, Incoming, CloseAs}
+use Rattle.service_texts.specs.declared.own_words.OwnWord.TheVariants.{Job, Wait, End, Stop, Watch, WatchFrom, Shutdown, Challenge, Prove, Queue, List as Listing, Find, Incoming, Room, Now, CloseAs}
 
 abbrev pub is_no_word : List ℕ → Bool
 is_no_word [] = true
@@ -29,7 +29,9 @@ alone name =
     (cond (is_word name (codes "made")) (Some Prove)
     (cond (is_word name (codes "list")) (Some (Listing all_jobs))
     (cond (is_word name (codes "incoming")) (Some Incoming)
-    None)))))
+    (cond (is_word name (codes "room")) (Some Room)
+    (cond (is_word name (codes "now")) (Some Now)
+    None)))))))
 
 -- ## A word that one number follows
 

@@ -1,8 +1,8 @@
 //! The incoming jobs whose clients have disconnected.
-ghost use Rattle.std.specs.Prelude.{◌≡◌, ◌++◌, IfOk, OnErr, OnOk};
+ghost use Rattle.std.specs.Prelude.{◌≡◌, ◌++◌, nat_eq, length, IfOk, OnErr, OnOk};
 ghost use Rattle.std.specs.FinMap as finite;
 ghost use Rattle.spool_types.specs.State.{State};
-ghost use Rattle.service_texts.specs.LeftJobs.{all_left, has_left, incoming_text, is_incoming_at, still_incoming, still_line, touched, touched_one, with_left};
+ghost use Rattle.service_texts.specs.LeftJobs.{all_left, earlier_of, has_left, incoming_text, is_incoming_at, left_until, oldest_of, still_incoming, still_line, touched, touched_one, with_left};
 
 use command_lines::push_count;
 use job_table::Table;
@@ -74,10 +74,41 @@ impl LeftJobs {
         }
     }
 
-    fn keep_incoming(&mut self, table: &Table)
+    /// Removes the jobs that are not incoming any more.
+    pub fn keep_incoming(&mut self, table: &Table)
         ensures { self.new ≡ still_incoming table.now.state self.old }
     {
         self.jobs.retain(|left| is_incoming_at(table, left.job));
+    }
+
+    /// Returns whether no job was left.
+    pub fn is_empty(&self) -> bool
+        ensures { result ≡ nat_eq (length self.now) 0 }
+    {
+        self.jobs.is_empty()
+    }
+
+    /// Returns the first job that is still incoming and to which nothing was sent after a moment in milliseconds.
+    pub fn left_until(&self, table: &Table, until: u64) -> Option<JobId>
+        ensures { result ≡ left_until until (still_incoming table.now.state self.now) }
+    {
+        for left in &self.jobs {
+            if is_incoming_at(table, left.job) && left.since <= until {
+                return Some(left.job);
+            }
+        }
+        None
+    }
+
+    /// Returns when the job that waits longest was left or sent to, in milliseconds.
+    pub fn oldest(&self) -> Option<u64>
+        ensures { result ≡ oldest_of self.now }
+    {
+        let mut oldest = None;
+        for left in &self.jobs {
+            oldest = Some(earlier_of(oldest, left.since));
+        }
+        oldest
     }
 
     fn has(&self, job: JobId) -> bool
@@ -108,6 +139,16 @@ impl LeftJobs {
         }
         push_count(&mut text, count)?;
         Ok(text)
+    }
+}
+
+// The earlier of two moments, if there is a first one.
+fn earlier_of(oldest: Option<u64>, since: u64) -> u64
+    ensures { result ≡ earlier_of oldest since }
+{
+    match oldest {
+        Some(oldest) => oldest.min(since),
+        None => since,
     }
 }
 

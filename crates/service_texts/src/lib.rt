@@ -10,6 +10,8 @@
 //! | `list [queue Q] [state S] [user U] [from N] [most M]` | the next selected jobs, each as in `job N`, then `ok K` or `ok K more N` |
 //! | `find TOKEN` | `ok job N`, or `error job` |
 //! | `incoming` | a line `incoming N AGE` for each incoming job whose client has disconnected, then `ok K` |
+//! | `room` | `ok room BYTES`: the length of the greatest document that is accepted now, 0 if none is |
+//! | `now` | `ok now SECONDS`: the moment of the service |
 //! | `close N NAME TYPE` | the reply to `close N NAME`; the job has this media type |
 //! | `watch` | from then on a line for each job and each queue that changes |
 //! | `watch N` | what changed after the change of this number, and from then on as `watch` |
@@ -39,6 +41,7 @@
 //!   `submission=TOKEN` ([`token_of`]).
 //! - [`LeftJobs`] has the jobs whose clients have disconnected. Its text has exactly those that are still incoming (`LeftJobs`,
 //!   `incoming_text`).
+//! - [`push_room`], [`push_now`]: the replies to `room` and `now` (`MeasuredTexts`).
 //! - [`Notes`] are the jobs and queues that changed after a change, each once, in order, up to 256, and then that some were missed
 //!   (`noted_since`, `Notices`). [`Notes::lines`] returns their lines as the table has them then (`told`).
 //! - `job_number` reads a job's number as every command does.
@@ -65,6 +68,7 @@ mod job_texts;
 mod laws;
 mod left_jobs;
 mod listing;
+mod measured;
 mod notes;
 mod own_words;
 mod queue_texts;
@@ -76,6 +80,7 @@ pub use job_texts::{has_settled, job_told, push_shown_jobs, push_shown_line, sho
 pub use laws::{own_words_are_no_commands, pieces_make_the_listing, shown_texts_are_read_back};
 pub use left_jobs::{LeftJob, LeftJobs};
 pub use listing::listed_text;
+pub use measured::{push_now, push_room};
 pub use notes::{Notes, push_change};
 pub use own_words::{OwnWord, own_word};
 pub use queue_texts::{QueueCounts, shown_queue};

@@ -40,6 +40,10 @@ pub enum OwnWord {
     Find(TokenText),
     /// Show the incoming jobs whose clients have disconnected.
     Incoming,
+    /// Show how large a document may be that is accepted now.
+    Room,
+    /// Show the moment of the service.
+    Now,
     /// Close this job, whose document has this name and this media type.
     CloseAs {
         job: JobId,
@@ -81,6 +85,12 @@ fn alone(name: &[u8]) -> Option<OwnWord>
     }
     if name == b"incoming".as_slice() {
         return Some(OwnWord::Incoming);
+    }
+    if name == b"room".as_slice() {
+        return Some(OwnWord::Room);
+    }
+    if name == b"now".as_slice() {
+        return Some(OwnWord::Now);
     }
     None
 }

@@ -10,6 +10,7 @@ use Rattle.spool_types.specs.declared.phase.Hold.TheVariants.{Free}
 use Rattle.spool_types.specs.declared.phase.Phase.TheVariants.{Incoming, Canceled}
 use Rattle.service_texts.specs.LeftJobs.{incoming_text}
 use Rattle.service_texts.specs.Listings.{piece_line, piece_of}
+use Rattle.service_texts.specs.MeasuredTexts.{now_text, room_text}
 use Rattle.service_texts.specs.QueueShown.{queue_fields}
 use Rattle.service_texts.specs.Selections.{all_jobs}
 use Rattle.service_texts.specs.ServiceWords.{own_word}
@@ -22,8 +23,8 @@ use Rattle.text_examples.specs.Written.{text}
 -- ## Words
 
 abbrev pub LoneRows : Type 0
-LoneRows = map own_word (text "watch" ∷ text " shutdown " ∷ text "i-am" ∷ text "made" ∷ text "incoming" ∷ text "list" ∷ text "made 1" ∷ text "jobs" ∷ text "find" ∷ [])
-    ≡ Some words.Watch ∷ Some words.Shutdown ∷ Some words.Challenge ∷ Some words.Prove ∷ Some words.Incoming ∷ Some (words.List all_jobs) ∷ None ∷ None ∷ None ∷ []
+LoneRows = map own_word (text "watch" ∷ text " shutdown " ∷ text "i-am" ∷ text "made" ∷ text "incoming" ∷ text "room" ∷ text "now" ∷ text "list" ∷ text "room 1" ∷ text "made 1" ∷ text "jobs" ∷ text "find" ∷ [])
+    ≡ Some words.Watch ∷ Some words.Shutdown ∷ Some words.Challenge ∷ Some words.Prove ∷ Some words.Incoming ∷ Some words.Room ∷ Some words.Now ∷ Some (words.List all_jobs) ∷ None ∷ None ∷ None ∷ None ∷ []
 
 abbrev pub NumberRows : Type 0
 NumberRows = map own_word (text "job 7" ∷ text "wait 7" ∷ text "end 7" ∷ text "stop 7" ∷ text "stop 7 8" ∷ text "watch 17" ∷ text "watch 9999999999999" ∷ text "watch 10000000000000" ∷ [])
@@ -107,3 +108,8 @@ arriving = record nothing { jobs = finite.insert finite.empty 7 (record busy { m
 
 abbrev pub LeftRows : Type 0
 LeftRows = incoming_text 61999 arriving (record { job = 5; since = 0 } ∷ record { job = 7; since = 1000 } ∷ []) ≡ text "incoming 7 60|ok 1|"
+
+-- ## What is measured
+
+abbrev pub MeasuredRows : Type 0
+MeasuredRows = (room_text 0 ≡ text "ok room 0\n") × (room_text 16777216 ≡ text "ok room 16777216\n") × (now_text 1795000000 ≡ text "ok now 1795000000\n")

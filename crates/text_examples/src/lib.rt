@@ -199,4 +199,5 @@ pub fn service_reply_examples()
     ensures piece { service.PieceRows }
     ensures piece_line { service.PieceLineRows }
     ensures left { service.LeftRows }
+    ensures measured { service.MeasuredRows }
 {}

@@ -50,3 +50,7 @@ returns-clause-piece_line c = refl
 pub returns-clause-left : goal.returns-clause-left
 unfolding digits
 returns-clause-left c = rw (five_is, seven_is) refl
+
+pub returns-clause-measured : goal.returns-clause-measured
+unfolding digits
+returns-clause-measured c = (refl, refl, refl)
