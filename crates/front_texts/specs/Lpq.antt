@@ -4,7 +4,7 @@ use Rattle.std.specs.Cmp.Lexicographic.{pointwise}
 use Rattle.std.specs.Fmt.{decimal}
 use Rattle.std.specs.List.{list_any}
 use Rattle.front_texts.specs.ShownUsers.{owner_word}
-use Rattle.front_texts.specs.Cells.{safe_text}
+use Rattle.clean_texts.specs.CleanTexts.{clean_text}
 use Rattle.front_texts.specs.Lpstat.{padded, is_processing}
 use Rattle.front_texts.specs.StateWords.{is_ended}
 use Rattle.front_texts.specs.declared.job_line.JobLine.{JobLine}
@@ -42,13 +42,13 @@ abbrev pub rank_cell : ℕ → JobLine → List ℕ
 rank_cell rank j = padded 7 (rank_word rank j)
 
 abbrev pub owner_cell : JobLine → List ℕ
-owner_cell j = padded 7 (safe_text (owner_word j.user))
+owner_cell j = padded 7 (clean_text (owner_word j.user))
 
 abbrev pub number_cell : JobLine → List ℕ
 number_cell j = padded 7 (decimal j.number)
 
 abbrev pub title_cell : JobLine → List ℕ
-title_cell j = padded 31 (safe_text j.title)
+title_cell j = padded 31 (clean_text j.title)
 
 abbrev pub bytes_part : JobLine → List ℕ
 bytes_part j = decimal j.size ++ codes " bytes\n"

@@ -5,7 +5,7 @@ use Rattle.std.specs.Fmt.{decimal}
 use Rattle.std.specs.List.{flat_map}
 use Rattle.unicode_width.specs.Width.{str_width}
 use Rattle.front_texts.specs.ShownUsers.{owner_word}
-use Rattle.front_texts.specs.Cells.{safe_text}
+use Rattle.clean_texts.specs.CleanTexts.{clean_text}
 use Rattle.front_texts.specs.StateWords.{is_ended}
 use Rattle.front_texts.specs.declared.job_line.JobLine.{JobLine}
 use Rattle.front_texts.specs.declared.queue_line.QueueLine.{QueueLine}
@@ -78,7 +78,7 @@ abbrev pub request_cell : JobLine → List ℕ
 request_cell j = padded 23 (job_name j.queue j.number)
 
 abbrev pub owner_cell : JobLine → List ℕ
-owner_cell j = padded 13 (safe_text (owner_word j.user))
+owner_cell j = padded 13 (clean_text (owner_word j.user))
 
 abbrev pub bytes_cell : JobLine → List ℕ
 bytes_cell j = replicate (8 - length (decimal j.size)) 32 ++ decimal j.size ++ codes " -\n"

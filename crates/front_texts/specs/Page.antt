@@ -1,15 +1,20 @@
--- The page of queues and jobs: each text other than the page's own is `escaped`.
+-- The page of queues and jobs: each text other than the page's own is `escaped`, and one that a user or a printer chose is clean.
 use Rattle.std.specs.Prelude.{ℕ, Bool, cond, List, [], ◌++◌, codes, Option, None, Some}
 use Rattle.std.specs.Fmt.{decimal}
 use Rattle.std.specs.List.{flat_map}
+use Rattle.clean_texts.specs.CleanTexts.{clean_text}
 use Rattle.front_texts.specs.Escape.{escaped}
 use Rattle.front_texts.specs.StateWords.{printer_state_word, shown_word, yes_or_no}
 use Rattle.front_texts.specs.declared.job_line.JobLine.{JobLine}
 use Rattle.front_texts.specs.declared.queue_line.QueueLine.{QueueLine}
 use Rattle.front_texts.specs.declared.web_page.TheConstants.{OPENING, REFRESH, STYLE, QUEUES, JOBS, CLOSING}
 
+-- A text that a user or a printer chose. The element `bdi` isolates it: its direction has no effect on the texts around it.
+abbrev pub text_html : List ℕ → List ℕ
+text_html text = codes "<bdi>" ++ escaped (clean_text text) ++ codes "</bdi>"
+
 abbrev pub cell : List ℕ → List ℕ
-cell text = codes "<td>" ++ escaped text ++ codes "</td>"
+cell text = codes "<td>" ++ text_html text ++ codes "</td>"
 
 abbrev pub number_cell : ℕ → List ℕ
 number_cell number = codes "<td class=\"n\">" ++ decimal number ++ codes "</td>"
@@ -30,7 +35,7 @@ abbrev pub reason_part : List ℕ → List ℕ
 reason_part reason = codes "<span class=\"faint\">" ++ escaped reason ++ codes "</span> "
 
 abbrev pub queue_notes : QueueLine → List ℕ
-queue_notes q = codes "<td>" ++ flat_map reason_part q.reasons ++ escaped q.message ++ codes "</td>"
+queue_notes q = codes "<td>" ++ flat_map reason_part q.reasons ++ text_html q.message ++ codes "</td>"
 
 abbrev pub queue_html : QueueLine → List ℕ
 queue_html q = queue_front q ++ cell q.target ++ queue_notes q ++ codes "</tr>\n"
@@ -52,7 +57,7 @@ word_part None = []
 word_part (Some reason) = codes " <span class=\"faint\">" ++ escaped reason ++ codes "</span>"
 
 abbrev pub job_notes : JobLine → List ℕ
-job_notes j = codes "<td>" ++ escaped j.title ++ word_part j.reason ++ codes "</td>"
+job_notes j = codes "<td>" ++ text_html j.title ++ word_part j.reason ++ codes "</td>"
 
 abbrev pub job_html : JobLine → List ℕ
 job_html j = job_front j ++ job_middle j ++ job_notes j ++ codes "</tr>\n"

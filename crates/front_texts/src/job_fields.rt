@@ -1,8 +1,8 @@
 //! One job with all its fields, for a terminal.
 ghost use Rattle.std.specs.Prelude.{◌≤◌, IfOk, OnOk};
-ghost use Rattle.front_texts.specs.Cells.{AllFit};
+ghost use Rattle.front_texts.specs.Cells.{AreLines};
 
-use crate::cells::{fitted, push_cell, safe_text};
+use crate::cells::{clean_line, push_cell};
 use crate::job_shown::{JobAsked, JobShown, JobStatus, StageShown};
 use crate::job_times::{JobTimes, TimeShown};
 use crate::sizes::{moment_text, size_text};
@@ -15,7 +15,7 @@ const NAME_COLUMNS: usize = 10;
 /// Returns the job as lines of a name and a value, of at most `width` columns. A field without a value has no line.
 pub fn job_page(alloc: Global, job: &JobShown, width: usize) -> Result<Vec<String>, AllocError>
     requires { 1 ≤ width }
-    ensures fits { IfOk result (λ lines. AllFit width lines.items) }
+    ensures fits { IfOk result (λ lines. AreLines width lines.items) }
 {
     let mut lines = Vec::new(alloc);
     push_asked(alloc, &mut lines, &job.asked, width)?;
@@ -25,7 +25,7 @@ pub fn job_page(alloc: Global, job: &JobShown, width: usize) -> Result<Vec<Strin
     Ok(lines)
 }
 
-/// Appends a line of a name and a value.
+/// Appends a line of a name and a value, which is cleaned.
 pub(crate) fn push_line(
     alloc: Global,
     lines: &mut Vec<String>,
@@ -34,14 +34,13 @@ pub(crate) fn push_line(
     width: usize,
 ) -> Result<(), AllocError>
     requires there { 1 ≤ width }
-    requires fit { AllFit width lines.old.items }
-    ensures { OnOk result (AllFit width lines.new.items) }
+    requires fit { AreLines width lines.old.items }
+    ensures { OnOk result (AreLines width lines.new.items) }
 {
     let mut line = String::new(alloc);
     push_cell(alloc, &mut line, name, NAME_COLUMNS)?;
     line.push_str(value)?;
-    let safe = safe_text(alloc, line.as_str().trim_end())?;
-    lines.push(fitted(alloc, safe.as_str(), width)?)?;
+    lines.push(clean_line(alloc, line.as_str(), width)?)?;
     Ok(())
 }
 
@@ -53,8 +52,8 @@ fn push_number(
     width: usize,
 ) -> Result<(), AllocError>
     requires there { 1 ≤ width }
-    requires fit { AllFit width lines.old.items }
-    ensures { OnOk result (AllFit width lines.new.items) }
+    requires fit { AreLines width lines.old.items }
+    ensures { OnOk result (AreLines width lines.new.items) }
 {
     let value = format!(in alloc; "{value}")?;
     push_line(alloc, lines, name, value.as_str(), width)
@@ -67,8 +66,8 @@ fn push_asked(
     width: usize,
 ) -> Result<(), AllocError>
     requires there { 1 ≤ width }
-    requires fit { AllFit width lines.old.items }
-    ensures { OnOk result (AllFit width lines.new.items) }
+    requires fit { AreLines width lines.old.items }
+    ensures { OnOk result (AreLines width lines.new.items) }
 {
     push_number(alloc, lines, "job", asked.number.get(), width)?;
     push_line(alloc, lines, "queue", asked.queue.as_str(), width)?;
@@ -86,8 +85,8 @@ fn push_job_status(
     width: usize,
 ) -> Result<(), AllocError>
     requires there { 1 ≤ width }
-    requires fit { AllFit width lines.old.items }
-    ensures { OnOk result (AllFit width lines.new.items) }
+    requires fit { AreLines width lines.old.items }
+    ensures { OnOk result (AreLines width lines.new.items) }
 {
     let size = size_text(alloc, job_status.size)?;
     push_line(alloc, lines, "size", size.as_str(), width)?;
@@ -110,8 +109,8 @@ fn push_moments(
     width: usize,
 ) -> Result<(), AllocError>
     requires there { 1 ≤ width }
-    requires fit { AllFit width lines.old.items }
-    ensures { OnOk result (AllFit width lines.new.items) }
+    requires fit { AreLines width lines.old.items }
+    ensures { OnOk result (AreLines width lines.new.items) }
 {
     push_moment(alloc, lines, "start by", job_status.by, width)?;
     push_moment(alloc, lines, "held until", job_status.hold_until, width)?;
@@ -141,8 +140,8 @@ fn push_moment(
     width: usize,
 ) -> Result<(), AllocError>
     requires there { 1 ≤ width }
-    requires fit { AllFit width lines.old.items }
-    ensures { OnOk result (AllFit width lines.new.items) }
+    requires fit { AreLines width lines.old.items }
+    ensures { OnOk result (AreLines width lines.new.items) }
 {
     let Some(moment) = moment else {
         return Ok(());
@@ -158,8 +157,8 @@ fn push_times(
     width: usize,
 ) -> Result<(), AllocError>
     requires there { 1 ≤ width }
-    requires fit { AllFit width lines.old.items }
-    ensures { OnOk result (AllFit width lines.new.items) }
+    requires fit { AreLines width lines.old.items }
+    ensures { OnOk result (AreLines width lines.new.items) }
 {
     push_time(alloc, lines, "created", times.created, width)?;
     push_time(alloc, lines, "closed", times.closed, width)?;
@@ -175,8 +174,8 @@ fn push_time(
     width: usize,
 ) -> Result<(), AllocError>
     requires there { 1 ≤ width }
-    requires fit { AllFit width lines.old.items }
-    ensures { OnOk result (AllFit width lines.new.items) }
+    requires fit { AreLines width lines.old.items }
+    ensures { OnOk result (AreLines width lines.new.items) }
 {
     match time {
         Some(time) => push_shown_time(alloc, lines, name, time, width),
@@ -192,8 +191,8 @@ fn push_shown_time(
     width: usize,
 ) -> Result<(), AllocError>
     requires there { 1 ≤ width }
-    requires fit { AllFit width lines.old.items }
-    ensures { OnOk result (AllFit width lines.new.items) }
+    requires fit { AreLines width lines.old.items }
+    ensures { OnOk result (AreLines width lines.new.items) }
 {
     match time {
         TimeShown::At(moment) => push_moment(alloc, lines, name, Some(moment), width),
@@ -208,8 +207,8 @@ fn push_stage(
     width: usize,
 ) -> Result<(), AllocError>
     requires there { 1 ≤ width }
-    requires fit { AllFit width lines.old.items }
-    ensures { OnOk result (AllFit width lines.new.items) }
+    requires fit { AreLines width lines.old.items }
+    ensures { OnOk result (AreLines width lines.new.items) }
 {
     let Some(
         StageShown {

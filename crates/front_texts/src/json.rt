@@ -1,18 +1,31 @@
 //! Jobs and queues as JSON.
-ghost use Rattle.std.specs.Prelude.{◌≡◌, IfOk, OnOk, option_copied};
+ghost use Rattle.std.specs.Prelude.{◌≡◌, IfOk, OnOk, false, option_copied, string_bytes};
 ghost use Rattle.serde_json.specs.View.{view, members_view};
+ghost use Rattle.clean_texts.specs.CleanTexts.{is_steered};
+ghost use Rattle.clean_texts.specs.JsonEscapes.{clean_json};
+ghost use Rattle.serde_json.specs.Written.{has_float, compact_text};
 ghost use Rattle.front_texts.specs.Json.{text_data, text_item, texts_data, job_data, jobs_data, queue_data, queues_data, with_queue_state, with_queue_rules, with_queue_notes, with_counts, with_state_and_reason, with_waits, asked_data, job_status_data, shown_data, moment_data, moments_data, shown_time_data, stage_data, time_data, times_data};
 
 use crate::job_line::JobLine;
 use crate::job_shown::{JobAsked, JobShown, JobStatus, StageShown};
 use crate::job_times::{JobTimes, TimeShown};
 use crate::queue_line::QueueLine;
+use clean_texts::clean_json;
 use serde_json::{Map, Value, json, put};
 use spool_types::{MediaType, Moment, Reason};
 use std::alloc::{AllocError, Global};
 
 // The members of an object.
 type JsonMembers = Map<String, Value>;
+
+/// Returns the text of a value, with an escape for each character that steers a terminal.
+pub fn json_text(alloc: Global, value: &Value) -> Result<String, AllocError>
+    ensures value { IfOk result (λ text. has_float (view value.now) ≡ false → string_bytes text ≡ clean_json (compact_text (view value.now))) }
+    ensures clean { IfOk result (λ text. is_steered (string_bytes text) ≡ false) }
+{
+    let json = value.to_string(alloc)?;
+    clean_json(alloc, json.as_str())
+}
 
 /// Returns a job as an object.
 pub fn job_json(alloc: Global, job: &JobLine) -> Result<Value, AllocError>

@@ -11,12 +11,13 @@
 //!   `JobRows`, `QueueRows`, `ReplyLines`). [`read_job_shown`]: returns exactly the value of the lines `NAME VALUE` of a job (`value`,
 //!   `JobPage`). Lines that a job need not have are optional.
 //! - [`job_rows_read_back`]: each row that the spooler prints for a job reads as that job at that moment (`ReadBack`).
-//! - [`jobs_table`], [`queues_table`], [`job_page`], [`queue_page`]: no line takes more columns than allowed, as Unicode counts them (`fits`), and a table
-//!   has a line of column names and one for each row (`count`).
-//! - [`fitted`]: cuts a text between characters and appends `…`, and leaves a text that fits as it is (`fits`, `whole`). [`safe_text`]:
-//!   replaces each character that controls a terminal with U+FFFD (`value`).
+//! - [`jobs_table`], [`queues_table`], [`job_page`], [`queue_page`]: no line takes more columns than allowed, as Unicode counts them, and
+//!   no character of it steers a terminal (`fits`, `clean_texts`). A table has a line of column names and one for each row (`count`).
+//! - [`fitted`]: cuts a text between characters and appends `…`, and leaves a text that fits as it is (`fits`, `whole`, `clean`).
 //! - [`job_json`], [`jobs_json`], [`queue_json`], [`queues_json`], [`job_shown_json`]: return exactly their values (`value`, `Json`).
-//! - [`page`]: returns exactly its bytes (`value`, `Page`): the page's own texts, and every other text appended by [`push_escaped`].
+//!   [`json_text`] returns the text of such a value, in which a character that steers is an escape (`value`, `clean`).
+//! - [`page`]: returns exactly its bytes (`value`, `Page`): the page's own texts, and every other text appended by [`push_escaped`]. A text
+//!   that a user or a printer chose is cleaned before, and isolated by the element `bdi`.
 //!   [`escaped_texts_have_no_markup`]: an escaped text contains no `<`, `>`, `"` or `'`, so it cannot open or close anything. [`escape`]
 //!   returns an escaped text.
 //! - [`lpstat_printers`], [`lpstat_accepting`], [`lpstat_jobs`], [`lpq`]: return exactly their bytes (`value`; `Lpstat`, `Lpq`).
@@ -59,13 +60,13 @@ mod states;
 mod tables;
 mod web_page;
 
-pub use cells::{fitted, safe_text};
+pub use cells::fitted;
 pub use escaping::{escape, push_escaped};
 pub use job_fields::job_page;
 pub use job_line::{JobLine, read_job_line};
 pub use job_shown::{JobAsked, JobShown, JobStatus, StageShown, read_job_shown};
 pub use job_times::{JobTimes, TimeShown};
-pub use json::{job_json, job_shown_json, jobs_json, queue_json, queues_json};
+pub use json::{job_json, job_shown_json, jobs_json, json_text, queue_json, queues_json};
 pub use laws::{escaped_texts_have_no_markup, job_rows_read_back};
 pub use lpq_form::lpq;
 pub use lpstat::{lpstat_accepting, lpstat_jobs, lpstat_printers};

@@ -2,12 +2,12 @@
 ghost use Rattle.std.specs.Prelude.{◌≡◌, ◌++◌, ◌+◌, ◌<◌, ◌≤◌, OnOk, IfOk};
 ghost use Rattle.front_texts.specs.Lpq.{is_entry, has_entry, ready_line, rank_ending, rank_cell, owner_cell, number_cell, title_cell, bytes_part, entry_line, entry_part, next_rank, rank_after, entries, entries_text, queue_text};
 
-use crate::cells::safe_text;
 use crate::job_line::JobLine;
 use crate::lpstat::push_padded;
 use crate::queue_line::QueueLine;
 use crate::shown_user::owner_word;
 use crate::states::{JobState, PrinterState};
+use clean_texts::clean_text;
 use spool_types::QueueName;
 use std::alloc::{AllocError, Global};
 use std::io::Write;
@@ -162,7 +162,7 @@ fn rank_ending(rank: usize) -> &'static str
 fn push_owner(alloc: Global, text: &mut Vec<u8>, job: &JobLine) -> Result<(), AllocError>
     ensures { OnOk result (text.new.items ≡ text.old.items ++ owner_cell job.now) }
 {
-    let user = safe_text(alloc, owner_word(job.user.as_str()))?;
+    let user = clean_text(alloc, owner_word(job.user.as_str()))?;
     push_padded(text, user.as_str(), 7)
 }
 
@@ -177,7 +177,7 @@ fn push_number(alloc: Global, text: &mut Vec<u8>, job: &JobLine) -> Result<(), A
 fn push_title(alloc: Global, text: &mut Vec<u8>, job: &JobLine) -> Result<(), AllocError>
     ensures { OnOk result (text.new.items ≡ text.old.items ++ title_cell job.now) }
 {
-    let title = safe_text(alloc, job.title.as_str())?;
+    let title = clean_text(alloc, job.title.as_str())?;
     push_padded(text, title.as_str(), 31)
 }
 

@@ -3,11 +3,11 @@ ghost use Rattle.std.specs.Prelude.{◌≡◌, ◌++◌, OnOk, IfOk, replicate};
 ghost use Rattle.std.specs.List.{flat_map};
 ghost use Rattle.front_texts.specs.Lpstat.{padded, is_printing, printing_job, message_of, job_name, printing_line, stopped_line, printer_line, printers_text, accepting_line, pending_part, request_cell, owner_cell, bytes_cell};
 
-use crate::cells::safe_text;
 use crate::job_line::JobLine;
 use crate::queue_line::QueueLine;
 use crate::shown_user::owner_word;
 use crate::states::{JobState, PrinterState};
+use clean_texts::clean_text;
 use spool_types::{JobId, QueueName};
 use std::alloc::{AllocError, Global};
 use std::io::Write;
@@ -156,7 +156,7 @@ fn push_request(alloc: Global, text: &mut Vec<u8>, job: &JobLine) -> Result<(), 
 fn push_owner(alloc: Global, text: &mut Vec<u8>, job: &JobLine) -> Result<(), AllocError>
     ensures { OnOk result (text.new.items ≡ text.old.items ++ owner_cell job.now) }
 {
-    let user = safe_text(alloc, owner_word(job.user.as_str()))?;
+    let user = clean_text(alloc, owner_word(job.user.as_str()))?;
     push_padded(text, user.as_str(), 13)
 }
 

@@ -1,6 +1,6 @@
 //! One queue with all its fields, for a terminal.
 ghost use Rattle.std.specs.Prelude.{◌≤◌, IfOk, OnOk};
-ghost use Rattle.front_texts.specs.Cells.{AllFit};
+ghost use Rattle.front_texts.specs.Cells.{AreLines};
 
 use crate::fields::{is_end, is_word, moment, quoted_text};
 use crate::job_fields::push_line;
@@ -12,7 +12,7 @@ use std::alloc::{AllocError, Global};
 /// out.
 pub fn queue_page(alloc: Global, rows: &[Vec<u8>], width: usize) -> Result<Vec<String>, AllocError>
     requires { 1 ≤ width }
-    ensures fits { IfOk result (λ lines. AllFit width lines.items) }
+    ensures fits { IfOk result (λ lines. AreLines width lines.items) }
 {
     let mut lines = Vec::new(alloc);
     for row in rows {
@@ -28,8 +28,8 @@ fn push_row(
     width: usize,
 ) -> Result<(), AllocError>
     requires there { 1 ≤ width }
-    requires fit { AllFit width lines.old.items }
-    ensures { OnOk result (AllFit width lines.new.items) }
+    requires fit { AreLines width lines.old.items }
+    ensures { OnOk result (AreLines width lines.new.items) }
 {
     let (name, rest) = first_word(row);
     let value = value_text(alloc, name, after_blanks(rest))?;

@@ -1,11 +1,12 @@
 //! Tables for a terminal.
 ghost use Rattle.std.specs.Prelude.{◌≡◌, ◌+◌, ◌≤◌, IfOk, length, vec_len, string_bytes};
-ghost use Rattle.front_texts.specs.Cells.{Fits, AllFit};
+ghost use Rattle.front_texts.specs.Cells.{AreLines, IsLine};
 
-use crate::cells::{fitted, push_cell, push_right, safe_text};
+use crate::cells::{clean_line, push_cell, push_clean_cell, push_right};
 use crate::job_line::JobLine;
 use crate::queue_line::QueueLine;
 use crate::sizes::size_text;
+use clean_texts::clean_text;
 use std::alloc::{AllocError, Global};
 use unicode_width::UnicodeWidthStr;
 
@@ -39,10 +40,10 @@ struct TableColumns {
 /// Returns the jobs as a table: a line of column names, and a line for each job. A narrow terminal gets fewer columns.
 pub fn jobs_table(alloc: Global, jobs: &[JobLine], width: usize) -> Result<Vec<String>, AllocError>
     requires { 1 ≤ width }
-    ensures fits { IfOk result (λ lines. AllFit width lines.items) }
+    ensures fits { IfOk result (λ lines. AreLines width lines.items) }
     ensures count { IfOk result (λ lines. vec_len lines ≡ 1 + length jobs.now) }
 {
-    let columns = job_columns(jobs, width);
+    let columns = job_columns(alloc, jobs, width)?;
     let mut lines = Vec::new(alloc);
     lines.push(job_names(alloc, columns)?)?;
     for job in jobs {
@@ -52,17 +53,18 @@ pub fn jobs_table(alloc: Global, jobs: &[JobLine], width: usize) -> Result<Vec<S
 }
 
 // Returns the column widths. Those for queues and users fit the widest name, up to a share of the terminal's width.
-fn job_columns(jobs: &[JobLine], width: usize) -> TableColumns
+fn job_columns(alloc: Global, jobs: &[JobLine], width: usize) -> Result<TableColumns, AllocError>
     requires { 1 ≤ width }
-    ensures { result.whole ≡ width }
+    ensures { IfOk result (λ columns. columns.whole ≡ width) }
 {
     let mut queue: usize = 5;
     let mut user: usize = 4;
     for job in jobs {
+        let shown = clean_text(alloc, job.user.as_str())?;
         queue = queue.max(job.queue.as_str().width());
-        user = user.max(job.user.as_str().width());
+        user = user.max(shown.as_str().width());
     }
-    columns(width, queue, user)
+    Ok(columns(width, queue, user))
 }
 
 fn columns(width: usize, queue: usize, user: usize) -> TableColumns
@@ -78,7 +80,7 @@ fn columns(width: usize, queue: usize, user: usize) -> TableColumns
 }
 
 fn job_names(alloc: Global, columns: TableColumns) -> Result<String, AllocError>
-    ensures { IfOk result (λ line. Fits columns.whole (string_bytes line)) }
+    ensures { IfOk result (λ line. IsLine columns.whole (string_bytes line)) }
 {
     let mut line = String::new(alloc);
     push_right(&mut line, "JOB", NUMBER_COLUMNS)?;
@@ -92,11 +94,11 @@ fn job_names(alloc: Global, columns: TableColumns) -> Result<String, AllocError>
         push_right(&mut line, "PAGES", PAGES_COLUMNS)?;
     }
     line.push_str("TITLE")?;
-    ended(alloc, line.as_str(), columns.whole)
+    clean_line(alloc, line.as_str(), columns.whole)
 }
 
 fn job_row(alloc: Global, job: &JobLine, columns: TableColumns) -> Result<String, AllocError>
-    ensures { IfOk result (λ line. Fits columns.whole (string_bytes line)) }
+    ensures { IfOk result (λ line. IsLine columns.whole (string_bytes line)) }
 {
     let number = job.number.get();
     let mut line = String::new(alloc);
@@ -108,7 +110,7 @@ fn job_row(alloc: Global, job: &JobLine, columns: TableColumns) -> Result<String
     push_cell(alloc, &mut line, job.queue.as_str(), columns.queue)?;
     push_cell(alloc, &mut line, job.state_word(), STATE_COLUMNS)?;
     if WITH_USER <= columns.whole {
-        push_cell(alloc, &mut line, job.user.as_str(), columns.user)?;
+        push_clean_cell(alloc, &mut line, job.user.as_str(), columns.user)?;
     }
     if WITH_SIZES <= columns.whole {
         let pages = job.pages;
@@ -124,16 +126,7 @@ fn job_row(alloc: Global, job: &JobLine, columns: TableColumns) -> Result<String
         )?;
     }
     line.push_str(job.title.as_str())?;
-    ended(alloc, line.as_str(), columns.whole)
-}
-
-// Returns a line as it is printed: without blanks at its end, and at most as wide as the terminal.
-fn ended(alloc: Global, line: &str, width: usize) -> Result<String, AllocError>
-    requires { 1 ≤ width }
-    ensures { IfOk result (λ line. Fits width (string_bytes line)) }
-{
-    let safe = safe_text(alloc, line.trim_end())?;
-    fitted(alloc, safe.as_str(), width)
+    clean_line(alloc, line.as_str(), columns.whole)
 }
 
 /// Returns the queues as a table: a line of column names, and a line for each queue. Each line ends with the reasons and the message of the
@@ -144,7 +137,7 @@ pub fn queues_table(
     width: usize,
 ) -> Result<Vec<String>, AllocError>
     requires { 1 ≤ width }
-    ensures fits { IfOk result (λ lines. AllFit width lines.items) }
+    ensures fits { IfOk result (λ lines. AreLines width lines.items) }
     ensures count { IfOk result (λ lines. vec_len lines ≡ 1 + length queues.now) }
 {
     let columns = queue_columns(queues, width);
@@ -168,25 +161,25 @@ fn queue_columns(queues: &[QueueLine], width: usize) -> TableColumns
 }
 
 fn queue_names(alloc: Global, columns: TableColumns) -> Result<String, AllocError>
-    ensures { IfOk result (λ line. Fits columns.whole (string_bytes line)) }
+    ensures { IfOk result (λ line. IsLine columns.whole (string_bytes line)) }
 {
     let mut line = String::new(alloc);
     push_cell(alloc, &mut line, "QUEUE", columns.queue)?;
     push_cell(alloc, &mut line, "STATE", STATE_COLUMNS)?;
     push_cell(alloc, &mut line, "ACCEPTS", ACCEPTS_COLUMNS)?;
     line.push_str("NOTES")?;
-    ended(alloc, line.as_str(), columns.whole)
+    clean_line(alloc, line.as_str(), columns.whole)
 }
 
 fn queue_row(alloc: Global, queue: &QueueLine, columns: TableColumns) -> Result<String, AllocError>
-    ensures { IfOk result (λ line. Fits columns.whole (string_bytes line)) }
+    ensures { IfOk result (λ line. IsLine columns.whole (string_bytes line)) }
 {
     let mut line = String::new(alloc);
     push_cell(alloc, &mut line, queue.name.as_str(), columns.queue)?;
     push_cell(alloc, &mut line, queue.state.word(), STATE_COLUMNS)?;
     push_cell(alloc, &mut line, queue.accepting_word(), ACCEPTS_COLUMNS)?;
     push_notes(&mut line, queue)?;
-    ended(alloc, line.as_str(), columns.whole)
+    clean_line(alloc, line.as_str(), columns.whole)
 }
 
 // Appends the reasons and the message of a queue, or its media type if there are none.

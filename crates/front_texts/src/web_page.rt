@@ -1,11 +1,12 @@
 //! The page of queues and jobs.
 ghost use Rattle.std.specs.Prelude.{◌≡◌, ◌++◌, OnOk, IfOk, option_copied};
 ghost use Rattle.std.specs.List.{flat_map};
-ghost use Rattle.front_texts.specs.Page.{cell, number_cell, state_class, state_cell, reason_part, word_part, queue_front, queue_notes, queue_html, job_front, job_middle, job_numbers, job_notes, job_html, refresh, stamp_html, head_html, queues_html, jobs_html, page_html};
+ghost use Rattle.front_texts.specs.Page.{cell, text_html, number_cell, state_class, state_cell, reason_part, word_part, queue_front, queue_notes, queue_html, job_front, job_middle, job_numbers, job_notes, job_html, refresh, stamp_html, head_html, queues_html, jobs_html, page_html};
 
 use crate::escaping::push_escaped;
 use crate::job_line::JobLine;
 use crate::queue_line::QueueLine;
+use clean_texts::clean_text;
 use program_version::with_version;
 use spool_types::Reason;
 use std::alloc::{AllocError, Global};
@@ -124,8 +125,18 @@ fn push_cell(page: &mut Vec<u8>, text: &str) -> Result<(), AllocError>
     ensures { OnOk result (page.new.items ≡ page.old.items ++ cell text.now) }
 {
     page.extend_from_slice(b"<td>")?;
-    push_escaped(page, text)?;
+    push_isolated(page, text)?;
     page.extend_from_slice(b"</td>")
+}
+
+// Appends a text that a user or a printer chose.
+fn push_isolated(page: &mut Vec<u8>, text: &str) -> Result<(), AllocError>
+    ensures { OnOk result (page.new.items ≡ page.old.items ++ text_html text.now) }
+{
+    let cleaned = clean_text(*page.allocator(), text)?;
+    page.extend_from_slice(b"<bdi>")?;
+    push_escaped(page, cleaned.as_str())?;
+    page.extend_from_slice(b"</bdi>")
 }
 
 // Appends a cell with the name of a state, whose color depends on the state.
@@ -170,7 +181,7 @@ fn push_queue_notes(page: &mut Vec<u8>, queue: &QueueLine) -> Result<(), AllocEr
 {
     page.extend_from_slice(b"<td>")?;
     push_reasons(page, queue.reasons.as_slice())?;
-    push_escaped(page, queue.message.as_str())?;
+    push_isolated(page, queue.message.as_str())?;
     page.extend_from_slice(b"</td>")
 }
 
@@ -235,7 +246,7 @@ fn push_job_notes(page: &mut Vec<u8>, job: &JobLine) -> Result<(), AllocError>
     ensures { OnOk result (page.new.items ≡ page.old.items ++ job_notes job.now) }
 {
     page.extend_from_slice(b"<td>")?;
-    push_escaped(page, job.title.as_str())?;
+    push_isolated(page, job.title.as_str())?;
     push_word(page, job.reason.as_ref())?;
     page.extend_from_slice(b"</td>")
 }

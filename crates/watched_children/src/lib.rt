@@ -1,7 +1,7 @@
 //! Children whose starts and ends are logged.
 //!
 //! [`WatchedChildren`] wraps other children. It logs a line for each start and each end, and after an end with another status than 0 the
-//! last lines of the child's standard error. Everything else it passes on.
+//! last lines of the child's standard error, which are cleaned (`clean_texts`). Everything else it passes on.
 //!
 //! # Promises
 //!
@@ -13,7 +13,8 @@
 //!
 //! # Not proved
 //!
-//! - What is logged. If memory for the name of a child runs out, its lines say `a child`.
+//! - What is logged. If memory for the name of a child runs out, its lines say `a child`. If memory for a line of standard error runs out,
+//!   the line is left out. `tests/clean_output.py` shows what the log has of a hostile child.
 //! - That a ticket has the group of the inner ticket: a group has no contract. `one_of_several_children_is_ended` of `tests/service.py`
 //!   shows it.
 #![tactic(auto)]

@@ -2,6 +2,7 @@
 ghost use Rattle.std.specs.Prelude.{◌≡◌};
 
 use child_pipeline::{ChildFault, Children, Finish, Order, Program};
+use clean_texts::clean_bytes;
 use log::{Log, debug, error, info};
 use spool_types::Exit;
 use std::alloc::{AllocError, Global};
@@ -40,19 +41,20 @@ impl<'a, L: Log, C: Children> WatchedChildren<'a, L, C> {
             Exit::NoStart | Exit::Lost => {}
         }
         if finish.exit != Exit::Code(0) {
-            log_last_lines(self.log, name, finish.errors.as_slice());
+            log_last_lines(self.log, self.alloc, name, finish.errors.as_slice());
         }
     }
 }
 
-// Logs the last lines of a child's standard error.
-fn log_last_lines<L: Log>(log: &L, name: &str, errors: &[u8]) {
+// Logs the last lines of a child's standard error, clean. A line for which memory runs out is left out.
+fn log_last_lines<L: Log>(log: &L, alloc: Global, name: &str, errors: &[u8]) {
     let from = errors.len().saturating_sub(LAST_BYTES);
     for line in errors[from..].split(|b| *b == b'\n') {
-        if let Ok(line) = str::from_utf8(line) {
-            if !line.is_empty() {
-                error!(log; "{name}: {line}");
-            }
+        if line.is_empty() {
+            continue;
+        }
+        if let Ok(shown) = clean_bytes(alloc, line) {
+            error!(log; "{name}: {shown}");
         }
     }
 }

@@ -1,0 +1,2 @@
+pub mod CleanLemmas
+pub mod JsonLemmas

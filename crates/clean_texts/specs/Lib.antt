@@ -1,0 +1,3 @@
+pub mod SteeringCharacters
+pub mod CleanTexts
+pub mod JsonEscapes
