@@ -2,8 +2,9 @@
 ghost use Rattle.std.specs.Prelude.{◌≡◌, None};
 
 use service_loop::Times;
+use spool_types::Moment;
 
-/// Clocks that a read moves on: the first by a millisecond, the system's clock by a second.
+/// Clocks that a read moves on: the first by a millisecond, the service's time by a second.
 #[derive(Drop)]
 pub struct MemTimes {
     micros: u64,
@@ -12,7 +13,7 @@ pub struct MemTimes {
 }
 
 impl MemTimes {
-    /// The system's clock begins at this number of milliseconds since 1970.
+    /// The service's time begins at this number of milliseconds since 1970.
     pub fn new(millis: u64) -> MemTimes
         ensures { result.told ≡ None }
     {
@@ -32,8 +33,8 @@ impl Times for MemTimes {
         self.micros
     }
 
-    fn system(&mut self) -> Option<u64> {
-        self.millis = self.millis.saturating_add(1_000);
+    fn system(&mut self, table: Moment) -> Option<u64> {
+        self.millis = self.millis.saturating_add(1_000).max(table.get() * 1_000);
         let millis = Some(self.millis);
         self.told = Some(millis);
         millis

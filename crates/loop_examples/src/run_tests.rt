@@ -9,7 +9,7 @@ use filter_args::Place;
 use log::sink::Discard;
 use mime_costs::Convs;
 use mime_rules::Types;
-use service_loop::{Keeping, Service};
+use service_loop::{Keeping, Limits, Service};
 use spool_core::{Spool, make};
 use spool_disk::MemDisk;
 use spool_engine::Engine;
@@ -21,8 +21,11 @@ use std::test::Fail;
 // The length of the disk.
 const LEN: usize = 65_536;
 
-// How many children may run at once.
-const MOST: usize = 4;
+// How many children and clients there may be at once.
+const LIMITS: Limits = Limits {
+    children: 4,
+    clients: 16,
+};
 
 // The first moment of the system's clock, in milliseconds.
 const FIRST_MOMENT: u64 = 1_000_000;
@@ -112,6 +115,7 @@ const KEEPING: Keeping = Keeping {
     jobs: 100,
     room: 10,
     area: 32_768,
+    incoming: 900_000,
 };
 
 fn new_disk(alloc: Global) -> Result<MemDisk, Fail> {
@@ -195,7 +199,7 @@ fn serve(
     signals: &mut MemSignals,
 ) -> Result<(), Fail> {
     let mut times = MemTimes::new(FIRST_MOMENT);
-    let mut service = Service::new(&Discard, alloc, MOST, engine, KEEPING, 0)?;
+    let mut service = Service::new(&Discard, alloc, LIMITS, engine, KEEPING, 0)?;
     service.serve(listener, &mut times, signals)?;
     Ok(())
 }

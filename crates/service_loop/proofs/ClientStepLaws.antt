@@ -25,10 +25,13 @@ use Rattle.command_lines.specs.declared.reply.Answer.{Answer}
 use Rattle.client_standing.specs.ClientStanding.{ClientStanding, first_standing, with_proof}
 use Rattle.client_standing.specs.declared.caller.Proved.{Proved}
 use Rattle.client_roles.specs.RoleTable.{is_allowed}
+use Rattle.service_rules.specs.Listeners.{may_listen}
+use Rattle.service_rules.specs.declared.listening.Listening.{Listening}
 use Rattle.spool_engine.specs.AnswerTexts.{answer_text}
-use Rattle.service_loop.specs.ClientActions.{Action, answers, ticks, applies, says, offers, proves, denies, ends, ClientStatus, IsMeant, IsSaid, IsEndReported, IsDone, AreActions, after_action, standing_after, standing_after_all, status_after, with_answer, asks_by, asks_in, text_by, texts_in, proofs_by, proofs_in, applied_text}
+use Rattle.service_loop.specs.TakenRoom.{full_text, is_reserved}
+use Rattle.service_loop.specs.ClientActions.{Action, answers, ticks, applies, says, offers, proves, denies, reserves, turns_away, ends, ClientStatus, IsMeant, IsSaid, IsEndReported, IsDone, AreActions, after_action, standing_after, standing_after_all, status_after, with_answer, begins_to_listen, asks_by, asks_in, text_by, texts_in, proofs_by, proofs_in, applied_text}
 use Rattle.service_loop.specs.ConnectionViews.{ConnectionView, IsProofStep, ProofStep, AddsProofs, named, examined}
-use Rattle.service_loop.specs.ProofTexts.{denied_text, offer_text, proof_text}
+use Rattle.service_loop.specs.ProofTexts.{busy_text, denied_text, offer_text, proof_text}
 use Rattle.service_loop.specs.ShownAnswers.{shown_answer}
 use Rattle.service_loop.specs.Progress.{IsRead}
 use Rattle.service_loop.specs.ClientSteps.{AreClientSteps, Asks, AsksFirst, GivesNext, Goes, GoesProving, HasAll, IsAdded, IsAnswered, IsEntry, IsClientStep, IsClientStepBy, ClientStep, turns, changes, signs, client_after, actions_by, actions_of, status_of, told_to}
@@ -398,6 +401,34 @@ module _ {D L : Type 0} (device : DiskView D) (view : ConnectionView L) where
     next = refl;
     status = sym kept;
     told = goes_added view c denied_text c1 added;
+  }
+
+  -- A request was refused for the reserve.
+  pub answered_by_reserve : (e : Engine D) (c c1 : Client L) (ask : Ask) (area : ℕ) → is_allowed c.standing e.run_state.spool.state ask ≡ true → is_reserved area e.run_state ask ≡ true →
+      IsAdded c full_text c1 → c.waits ≡ None → status_of c1 ≡ status_of c → IsAnswered device view e c ask e c1
+  answered_by_reserve e c c1 ask area role reserved added none kept = record {
+    mime = refl;
+    place = refl;
+    action = reserves ask;
+    asked = refl;
+    is = record { is = (area, reserved); role = role; timely = none };
+    next = refl;
+    status = sym kept;
+    told = goes_added view c full_text c1 added;
+  }
+
+  -- No more clients may listen.
+  pub answered_by_busy : (e : Engine D) (c c1 : Client L) (word : OwnWord) (l : Listening) → is_allowed c.standing e.run_state.spool.state (asking.Own word) ≡ true →
+      begins_to_listen word ≡ true → may_listen l ≡ false → IsAdded c busy_text c1 → c.waits ≡ None → status_of c1 ≡ status_of c → IsAnswered device view e c (asking.Own word) e c1
+  answered_by_busy e c c1 word l role begins busy added none kept = record {
+    mime = refl;
+    place = refl;
+    action = turns_away l word;
+    asked = refl;
+    is = record { is = (begins, busy); role = role; timely = none };
+    next = refl;
+    status = sym kept;
+    told = goes_added view c busy_text c1 added;
   }
 
 -- ## Client steps

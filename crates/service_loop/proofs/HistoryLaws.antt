@@ -1,9 +1,9 @@
 -- The history of the loop, and what it is for each client.
-use Rattle.std.proofs.Common.{◌≡◌, ◌≢◌, ◌⊎◌, inl, inr, ℕ, zero, suc, ◌<◌, ◌≤◌, Bool, true, false, List, [], ◌∷◌, ◌++◌, Option, None, Some, refl, ap, sym, ◌∙◌, subst, arith}
+use Rattle.std.proofs.Common.{◌≡◌, ◌⊎◌, inl, inr, ℕ, zero, suc, ◌<◌, ◌≤◌, Bool, List, [], ◌∷◌, ◌++◌, Option, None, Some, refl, ap, sym, ◌∙◌, subst, arith}
 use Rattle.std.specs.Prelude.{IfSome}
 use Rattle.std.specs.Io.KnownBytes.{Keeps}
 use Rattle.std.proofs.lemmas.Bool.{cases_eq}
-use Rattle.slab.specs.Slab.{Slab, SameValues, Updates, get}
+use Rattle.slab.specs.Slab.{Slab, SameValues, get}
 use Rattle.spool_disk.specs.Disk.{DiskView}
 use Rattle.spool_engine.specs.EngineRuns.{Engine}
 use Rattle.service_rules.specs.Bounds.{most_clients}
@@ -14,9 +14,9 @@ use Rattle.service_texts.specs.Notices.{Noted}
 use Rattle.spool_types.specs.State.{State}
 use Rattle.service_loop.specs.Progress.{news_for}
 use Rattle.service_loop.specs.AdmissionViews.{heard_of}
-use Rattle.service_loop.specs.ClientSlots.{HasEntered, HasTurn, HadTurn, HaveTurns, IsEntered, IsLetIn, IsNewcomer, IsSlotNotified, IsSlotSignaled, KeepsOthers, SlotHadTurn, unless_parted}
-use Rattle.service_loop.specs.ClientSteps.{AreClientSteps, ClientStep, HasAll, IsClientStepBy, IsEntry, actions_of, changes, client_after, is_starved, signs, status_of, turns}
-use Rattle.service_loop.specs.ConnectionViews.{ConnectionView, IsUntouched}
+use Rattle.service_loop.specs.ClientSlots.{HadTurn, HaveTurns, IsEntered, IsLetIn, IsNewcomer, IsSlotNotified, IsSlotSignaled, KeepsOthers, SlotHadTurn, unless_parted}
+use Rattle.service_loop.specs.ClientSteps.{AreClientSteps, ClientStep, IsClientStepBy, actions_of, changes, client_after, is_starved, signs, status_of, turns}
+use Rattle.service_loop.specs.ConnectionViews.{ConnectionView}
 use Rattle.service_loop.specs.ServiceCalls.{GoesByCalls}
 use Rattle.service_loop.specs.SlotHistories.{AreLoopEvents, AreNotified, AreServedApart, GoesByEvents, HasAdmitted, HasBrought, HasServed, IsLoopEvent, IsServedApart, IsServedRight, LoopEvent, enters, gives_up, notifies, readies, takes_turn, works}
 use Rattle.service_loop.specs.declared.client.Client.{Client}
@@ -98,17 +98,17 @@ module _ {D L : Type 0} (device : DiskView D) (view : ConnectionView L) where
   entered e s connection s1 (inl same) = same_values e s s1 same
   entered e s connection s1 (inr has) = history_one e s (enters connection) e s1 (refl, has)
 
-  let_in : (e : Engine D) (s : Slab (Client L)) (connection : L) (now : ℕ) (admission : Admission) (s1 : Slab (Client L)) → IsAdmission (heard_of s) now admission →
+  let_in : (e : Engine D) (s : Slab (Client L)) (places : ℕ) (connection : L) (now : ℕ) (admission : Admission) (s1 : Slab (Client L)) → IsAdmission places (heard_of s) now admission →
       IsLetIn view connection admission s s1 → GoesByEvents device view e s e s1
-  let_in e s connection now Free s1 is way = history_then e s e way.left e s1 (same_values e s way.left way.gone) (entered e way.left connection s1 way.entered)
-  let_in e s connection now (InsteadOf key) s1 is way =
-      history_then e s e way.left e s1 (history_one e s (gives_up key now) e way.left (refl, record { idle = is; gone = way.gone })) (entered e way.left connection s1 way.entered)
-  let_in e s connection now Busy s1 is way = history_then e s e way.left e s1 (same_values e s way.left way.gone) (entered e way.left connection s1 way.entered)
+  let_in e s places connection now Free s1 is way = history_then e s e way.left e s1 (same_values e s way.left way.gone) (entered e way.left connection s1 way.entered)
+  let_in e s places connection now (InsteadOf key) s1 is way =
+      history_then e s e way.left e s1 (history_one e s (gives_up key now places) e way.left (refl, record { idle = is; gone = way.gone })) (entered e way.left connection s1 way.entered)
+  let_in e s places connection now Busy s1 is way = history_then e s e way.left e s1 (same_values e s way.left way.gone) (entered e way.left connection s1 way.entered)
 
-  pub history_admits : (e : Engine D) (s : Slab (Client L)) (connection : L) (now : ℕ) (e1 : Engine D) (s1 : Slab (Client L)) → e1 ≡ e → HasAdmitted view connection now s s1 →
+  pub history_admits : (e : Engine D) (s : Slab (Client L)) (places : ℕ) (connection : L) (now : ℕ) (e1 : Engine D) (s1 : Slab (Client L)) → e1 ≡ e → HasAdmitted view places connection now s s1 →
       GoesByEvents device view e s e1 s1
-  history_admits e s connection now e1 s1 same (inl none) = history_kept e s e s1 e1 s1 (same_values e s s1 none) same refl
-  history_admits e s connection now e1 s1 same (inr (admission, is, way)) = history_kept e s e s1 e1 s1 (let_in e s connection now admission s1 is way) same refl
+  history_admits e s places connection now e1 s1 same (inl none) = history_kept e s e s1 e1 s1 (same_values e s s1 none) same refl
+  history_admits e s places connection now e1 s1 same (inr (admission, is, way)) = history_kept e s e s1 e1 s1 (let_in e s places connection now admission s1 is way) same refl
 
 -- ## Each client
 
@@ -193,7 +193,7 @@ module _ {D L : Type 0} (device : DiskView D) (view : ConnectionView L) where
         ((connection : L) → x ≡ enters connection → came connection) → AreServedApart device view came s → AreServedApart device view came s1
     apart_event e s works e1 s1 (calls, same) brings all = λ k. subst Apart (sym (same k)) (all k)
     apart_event e s (readies key writable gone) e1 s1 (same, own, others) brings all = one_of key s s1 others (readied writable gone (get s key) (get s1 key) own) all
-    apart_event e s (gives_up key now) e1 s1 (same, left) brings all =
+    apart_event e s (gives_up key now places) e1 s1 (same, left) brings all =
         one_of key s s1 left.gone.others (λ was. subst Apart (sym left.gone.changed) tt) all
     apart_event e s (enters connection) e1 s1 (same, has) brings all =
         one_of has.key s s1 has.others (λ was. newcomer connection (get s1 has.key) (brings connection refl) has.own) all

@@ -61,7 +61,7 @@ module _ {D L : Type 0} (device : DiskView D) (view : ConnectionView L) where
   left_for e s (readies changed writable gone) new s1 (same, own, others) key c was none =
       own_slot ⊥ changed key s s1 c others was none
       (λ e1. signaled writable gone c (get s changed) (get s1 changed) own (ap (λ (k : ℕ). get s k) e1 ∙ was) (ap (λ (k : ℕ). get s1 k) e1 ∙ none))
-  left_for e s (gives_up changed now) new s1 (same, left) key c was none = own_slot _ changed key s s1 c left.gone.others was none (λ e1. (e1, left.idle))
+  left_for e s (gives_up changed now places) new s1 (same, left) key c was none = own_slot _ changed key s s1 c left.gone.others was none (λ e1. (e1, left.idle))
   left_for e s (enters connection) new s1 (same, has) key c was none =
       own_slot ⊥ has.key key s s1 c has.others was none (λ e1. no_client ⊥ c (get s has.key) (ap (λ (k : ℕ). get s k) e1 ∙ was) has.none)
   left_for e s (takes_turn changed turn) new s1 had key c was none =

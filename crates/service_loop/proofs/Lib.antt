@@ -1,3 +1,4 @@
+pub mod ListenerCounts
 pub mod CallLaws
 pub mod DueLaws
 pub mod EndingLaws

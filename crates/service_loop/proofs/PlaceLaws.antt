@@ -135,3 +135,34 @@ each_of {L} P slots left key others below here k (inr same) = subst (λ (j : ℕ
 pub each_more : {L : Type 0} (P : Client L → Type 0) (slots left : Slab (Client L)) (key : ℕ) → KeepsOthers key slots left →
     ((k : ℕ) → k < key → IfSome (get slots k) P) → IfSome (get left key) P → (k : ℕ) → k < key + 1 → IfSome (get left k) P
 each_more {L} P slots left key others below here k lt = each_of P slots left key others below here k (either k key lt)
+
+-- ## Empty slots
+
+module _ {D L : Type 0} (device : DiskView D) (view : ConnectionView L) where
+  -- They have turns in which nothing is done.
+  pub rest_turns : (e : Engine D) (slots : Slab (Client L)) (end : ℕ) (new : Engine D) (left : Slab (Client L)) (n : ℕ) → end ≤ n → ((key : ℕ) → end ≤ key → key < n → get left key ≡ None) →
+      HaveTurns device view e slots end new left → HaveTurns device view e slots n new left
+  unfolding HaveTurns
+  rest_turns e slots end new left zero le none so_far =
+      subst (λ (k : ℕ). HaveTurns device view e slots k new left) (let same : end ≡ 0 = omega arith in same) so_far
+  rest_turns e slots end new left (suc n) le none so_far =
+      by_place (λ below. rest_turns e slots end new left n below (λ key from to. none key from (omega arith)) so_far) (place end n le)
+    where
+      place : (a b : ℕ) → a ≤ suc b → (a ≤ b) ⊎ (a ≡ suc b)
+      place a b le = grind arith
+
+      by_place : (end ≤ n → HaveTurns device view e slots n new left) → (end ≤ n) ⊎ (end ≡ suc n) → HaveTurns device view e slots (suc n) new left
+      by_place earlier (inl below) = (new, left, None, earlier below, had_none device view new left n (none n below (omega arith)))
+      by_place earlier (inr same) = subst (λ (k : ℕ). HaveTurns device view e slots k new left) same so_far
+
+-- A property that each empty slot has, and each slot below the end.
+pub each_of_all : {L : Type 0} (P : Client L → Type 0) (slots : Slab (Client L)) (end n : ℕ) → ((key : ℕ) → end ≤ key → key < n → get slots key ≡ None) →
+    ((key : ℕ) → key < end → IfSome (get slots key) P) → (key : ℕ) → key < n → IfSome (get slots key) P
+each_of_all {L} P slots end n none below key lt = by_place (place key end)
+  where
+    place : (a b : ℕ) → (a < b) ⊎ (b ≤ a)
+    place a b = grind arith
+
+    by_place : (key < end) ⊎ (end ≤ key) → IfSome (get slots key) P
+    by_place (inl inside) = below key inside
+    by_place (inr past) = subst (λ (c : Option (Client L)). IfSome c P) (sym (none key past lt)) tt

@@ -20,11 +20,11 @@ neither true b is = (is, ap (λ x. cond x b false) is)
 neither false b is = (refl, is)
 
 -- If there is no reason for more, neither the tick nor maintenance is one.
-pub no_reason : (more served ticked kept has_new_client : Bool) → (more || (served || (ticked || (kept || has_new_client)))) ≡ false → (ticked ≡ false) × (kept ≡ false)
-no_reason more served ticked kept has_new_client is =
-    let others = (neither more (served || (ticked || (kept || has_new_client))) is).1 in
-    let both = neither ticked (kept || has_new_client) (neither served (ticked || (kept || has_new_client)) others).1 in
-    (both.0, (neither kept has_new_client both.1).0)
+pub no_reason : (more served ticked kept fresh has_new_client : Bool) → (more || (served || (ticked || (kept || (fresh || has_new_client))))) ≡ false → (ticked ≡ false) × (kept ≡ false)
+no_reason more served ticked kept fresh has_new_client is =
+    let others = (neither more (served || (ticked || (kept || (fresh || has_new_client)))) is).1 in
+    let both = neither ticked (kept || (fresh || has_new_client)) (neither served (ticked || (kept || (fresh || has_new_client))) others).1 in
+    (both.0, (neither kept (fresh || has_new_client) both.1).0)
 
 -- `IsTimely` depends only on what maintenance knows of the time.
 timely_as : (h h1 : Maintenance) (s : State) (last : Option ℕ) → h1.told ≡ h.told → h1.due ≡ h.due → IsTimely h s last → IsTimely h1 s last

@@ -17,9 +17,13 @@ abbrev pub is_watched : {L : Type 0} → Option (Client L) → Bool
 is_watched None = false
 is_watched (Some c) = watches c
 
--- It waits for a job's end or watches, and has taken all that it was sent. So it is not idle.
+-- It waits for a job's end or watches.
+abbrev pub is_listener : {L : Type 0} → Client L → Bool
+is_listener c = is_some c.waits || watches c
+
+-- It does so and has taken all that it was sent. So it is not idle.
 abbrev pub listens : {L : Type 0} → Client L → Bool
-listens c = (is_some c.waits || watches c) && (unread c == 0)
+listens c = is_listener c && (unread c == 0)
 
 -- A client, with its key.
 abbrev pub heard_at : {L : Type 0} → ℕ × Client L → Heard

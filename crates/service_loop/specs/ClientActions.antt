@@ -1,5 +1,5 @@
 -- The actions that the service did for a client, in order, and the text of each.
-use Rattle.std.specs.Prelude.{◌≡◌, ◌⊎◌, ℕ, true, false, List, [], ◌∷◌, ◌++◌, Option, None, Some, codes}
+use Rattle.std.specs.Prelude.{◌≡◌, ◌⊎◌, ℕ, Bool, true, false, List, [], ◌∷◌, ◌++◌, Option, None, Some, codes}
 use Rattle.spool_types.specs.State.{State}
 use Rattle.spool_types.specs.declared.event.Closing.{Closing}
 use Rattle.spool_types.specs.declared.event.Reply.TheVariants.{Done}
@@ -14,13 +14,14 @@ use Rattle.event_records.specs.declared.seen.JobTimes.{JobTimes}
 use Rattle.service_texts.specs.FoundTexts.{found_text}
 use Rattle.service_texts.specs.LeftJobs.{incoming_text}
 use Rattle.service_texts.specs.Listings.{listed_text}
+use Rattle.service_texts.specs.MeasuredTexts.{now_text, room_text}
 use Rattle.service_texts.specs.Notices.{watch_text}
 use Rattle.service_texts.specs.QueueShown.{IsShownQueue}
 use Rattle.service_texts.specs.Shown.{has_settled, shown_job, told_job}
 use Rattle.service_texts.specs.declared.left_jobs.LeftJob.{LeftJob}
 use Rattle.service_texts.specs.declared.tokens.Tokens.{Tokens}
 use Rattle.service_texts.specs.declared.own_words.OwnWord.{OwnWord}
-use Rattle.service_texts.specs.declared.own_words.OwnWord.TheVariants.{Job, Wait, End, Stop, Watch, WatchFrom, Shutdown, Challenge, Prove, Queue, List as Listing, Find, Incoming, CloseAs}
+use Rattle.service_texts.specs.declared.own_words.OwnWord.TheVariants.{Job, Wait, End, Stop, Watch, WatchFrom, Shutdown, Challenge, Prove, Queue, List as Listing, Find, Incoming, Room, Now, CloseAs}
 use Rattle.client_reader.specs.declared.ask.Ask.{Ask}
 use Rattle.client_reader.specs.declared.ask.Ask.TheVariants as asking
 use Rattle.client_standing.specs.ClientStanding.{ClientStanding, with_job, with_proof}
@@ -34,8 +35,11 @@ use Rattle.spool_engine.specs.EngineRuns.{CommandStep, IsCommandStep, is_round}
 use Rattle.spool_engine.specs.EngineTicks.{Ticked, IsTicked}
 use Rattle.spool_engine.specs.Script.{closing_as, closing_line}
 use Rattle.service_loop.specs.ConnectionViews.{ProofStep, named, examined}
-use Rattle.service_loop.specs.ProofTexts.{denied_text, offer_text, proof_text}
+use Rattle.service_rules.specs.Listeners.{may_listen}
+use Rattle.service_rules.specs.declared.listening.Listening.{Listening}
+use Rattle.service_loop.specs.ProofTexts.{busy_text, denied_text, offer_text, proof_text}
 use Rattle.service_loop.specs.ShownAnswers.{shown_answer}
+use Rattle.service_loop.specs.TakenRoom.{full_text, is_reserved}
 
 pub data Action (D : Type 0) : Type 0 where
   -- A command, answered by the engine. The text shows the answer to the client.
@@ -52,6 +56,10 @@ pub data Action (D : Type 0) : Type 0 where
   proves : Option Proved → Action D
   -- A request that the roles do not allow. Nothing was done.
   denies : Ask → Action D
+  -- A request that would take room from the reserve of the journal. Nothing was done.
+  reserves : Ask → Action D
+  -- A word that listens, while no more clients may. Nothing was done.
+  turns_away : Listening → OwnWord → Action D
   -- The end of this job was reported with this text.
   ends : ℕ → List ℕ → Action D
   -- A change was sent without a request. This is never part of the client's turn.
@@ -66,6 +74,8 @@ asks_by (says word text) = asking.Own word ∷ []
 asks_by (offers path) = asking.Own Challenge ∷ []
 asks_by (proves who) = asking.Own Prove ∷ []
 asks_by (denies ask) = ask ∷ []
+asks_by (reserves ask) = ask ∷ []
+asks_by (turns_away l word) = asking.Own word ∷ []
 asks_by (ends job text) = []
 asks_by (tells text) = []
 
@@ -78,6 +88,8 @@ text_by (says word text) = text
 text_by (offers path) = offer_text path
 text_by (proves who) = proof_text who
 text_by (denies ask) = denied_text
+text_by (reserves ask) = full_text
+text_by (turns_away l word) = busy_text
 text_by (ends job text) = text
 text_by (tells text) = text
 
@@ -95,6 +107,8 @@ after_action s (says word text) = s
 after_action s (offers path) = s
 after_action s (proves who) = s
 after_action s (denies ask) = s
+after_action s (reserves ask) = s
+after_action s (turns_away l word) = s
 after_action s (ends job text) = s
 after_action s (tells text) = s
 
@@ -134,8 +148,15 @@ IsByRole c s (says word text) = is_allowed c s (asking.Own word) ≡ true
 IsByRole c s (offers path) = is_allowed c s (asking.Own Challenge) ≡ true
 IsByRole c s (proves who) = is_allowed c s (asking.Own Prove) ≡ true
 IsByRole c s (denies ask) = is_allowed c s ask ≡ false
+IsByRole c s (reserves ask) = is_allowed c s ask ≡ true
+IsByRole c s (turns_away l word) = is_allowed c s (asking.Own word) ≡ true
 IsByRole c s (ends job text) = Unit {0}
 IsByRole c s (tells text) = Unit {0}
+
+-- The moment of the service. If the clock cannot be read, it is that of the table.
+abbrev pub moment_of : Option ℕ → State → ℕ
+moment_of None s = s.moment
+moment_of (Some now) s = now
 
 -- The answer to a word of the service that has no other action, over a table.
 abbrev pub IsSaid : ClientStanding → State → OwnWord → List ℕ → Type 0
@@ -144,12 +165,21 @@ IsSaid c s (Queue name) text = (changed : Option ℕ) × IsShownQueue c changed 
 IsSaid c s (Listing selection) text = (times : ℕ → JobTimes) × (text ≡ listed_text c times selection s)
 IsSaid c s (Find token) text = (tokens : Tokens) × (text ≡ found_text tokens s token)
 IsSaid c s Incoming text = (now : ℕ) × (left : List LeftJob) × (text ≡ incoming_text now s left)
+IsSaid c s Room text = (bytes : ℕ) × (text ≡ room_text bytes)
+IsSaid c s Now text = (now : Option ℕ) × (text ≡ now_text (moment_of now s))
 IsSaid c s (Wait j) text = text ≡ []
 IsSaid c s (End j) text = (text ≡ codes "ok\n") ⊎ (text ≡ codes "error job\n")
 IsSaid c s Watch text = text ≡ codes "ok\n"
 IsSaid c s Shutdown text = text ≡ codes "ok\n"
 IsSaid c s (WatchFrom number) text = (changes : NumberedChanges) × (text ≡ watch_text c s changes number)
 IsSaid c s word text = ⊥
+
+-- A word after which the client listens.
+abbrev pub begins_to_listen : OwnWord → Bool
+begins_to_listen (Wait j) = true
+begins_to_listen Watch = true
+begins_to_listen (WatchFrom number) = true
+begins_to_listen word = false
 
 -- The command that a word of the service means.
 abbrev pub IsMeant : {D : Type 0} → Setting D → State → OwnWord → Command → Type 0
@@ -201,6 +231,8 @@ IsAction v c s (says word text) = IsSaid c s.spool.state word text
 IsAction v c s (offers path) = Unit {0}
 IsAction v c s (proves who) = Unit {0}
 IsAction v c s (denies ask) = Unit {0}
+IsAction v c s (reserves ask) = (area : ℕ) × (is_reserved area s ask ≡ true)
+IsAction v c s (turns_away l word) = (begins_to_listen word ≡ true) × (may_listen l ≡ false)
 IsAction v c s (ends job text) = IsEndReported c s.spool.state job text
 IsAction v c s (tells text) = ⊥
 

@@ -25,7 +25,7 @@ pub record IsQuietUntil (s : State) (m : ℕ) : Type 0 where
   pub at_most : m ≤ greatest_moment
   pub none_due : (j : ℕ) (r : Job) → job_at s j ≡ Some r → IfSome (due_of s r) (λ due. m < due)
 
--- What maintenance knows of the time, over a table, in a second of the system's clock.
+-- What maintenance knows of the time, over a table, in a second of the service's time.
 abbrev pub clocks_of : Maintenance → State → ℕ → Clocks
 clocks_of maintenance s system = record { system = system; table = s.moment; told = maintenance.told; due = maintenance.due }
 

@@ -1,5 +1,6 @@
 pub mod ServiceCalls
 pub mod AdmissionViews
+pub mod ClientListening
 pub mod ProofTexts
 pub mod ShownAnswers
 pub mod ClientActions
@@ -14,3 +15,6 @@ pub mod SlotHistories
 pub mod ClientSteps
 pub mod KnownJobs
 pub mod LoopWaits
+pub mod TakenRoom
+pub mod RetryClocks
+pub mod AbandonedJobs

@@ -1,5 +1,5 @@
 -- How long a wait of the loop is at most, and when a requested end is reached. Waits are in microseconds, and an end in milliseconds.
-use Rattle.std.specs.Prelude.{◌≡◌, ℕ, ◌-◌, ◌*◌, ◌/◌, ◌%◌, ◌^◌, ◌≤◌, min, Bool, true, false, cond, nat_lt, nat_le, Option, None, Some, Result, Ok, Err}
+use Rattle.std.specs.Prelude.{◌≡◌, ℕ, ◌-◌, ◌*◌, ◌/◌, ◌%◌, ◌^◌, ◌≤◌, min, Bool, true, false, cond, not, nat_lt, nat_le, Option, None, Some, Result, Ok, Err}
 use Rattle.std.specs.Option.{option_map}
 use Rattle.spool_types.specs.Limits.{greatest_moment}
 use Rattle.spool_types.specs.State.{State}
@@ -8,6 +8,7 @@ use Rattle.print_rounds.specs.declared.outcome.RoundFault.{RoundFault}
 use Rattle.service_rules.specs.Bounds.{millisecond}
 use Rattle.service_rules.specs.ChildPolling.{earlier, poll_wait}
 use Rattle.service_rules.specs.Clocks.{clock_wait}
+use Rattle.service_rules.specs.Incoming.{check_wait}
 use Rattle.service_loop.specs.Due.{clocks_of}
 use Rattle.service_loop.specs.declared.maintenance.Maintenance.{Maintenance}
 
@@ -20,7 +21,7 @@ longest_idle = 1000000
 abbrev pub longest_end : ℕ
 longest_end = 60000
 
--- The milliseconds until maintenance has something to do, at this time of the system's clock: until the next second if something was done since
+-- The milliseconds until maintenance has something to do, at this time of the service: until the next second if something was done since
 -- it last examined the table, or until the time must be sent.
 abbrev pub maintenance_wait : Maintenance → Bool → State → ℕ → Option ℕ
 maintenance_wait m true s millis = Some (1000 - millis % 1000)
@@ -31,6 +32,10 @@ maintenance_wait m false s millis =
 abbrev pub clock_bound : Maintenance → Bool → State → Option ℕ → Option ℕ
 clock_bound m active s None = Some longest_idle
 clock_bound m active s (Some millis) = option_map (λ wait. min (wait * millisecond) (2 ^ 64 - 1)) (maintenance_wait m active s millis)
+
+-- The time until abandoned jobs are checked, if some jobs were left.
+abbrev pub check_bound : Bool → ℕ → ℕ → Option ℕ
+check_bound none next now = option_map (λ wait. min (wait * millisecond) (2 ^ 64 - 1)) (check_wait (not none) next now)
 
 -- The wait of a turn, given the time until the next check of the children and until maintenance has something to do. `wakes`: at most a second.
 abbrev pub loop_wait : Bool → Bool → Option ℕ → Option ℕ → Option ℕ

@@ -7,7 +7,7 @@ use Rattle.service_texts.specs.Notices.{Noted, change_text, told}
 use Rattle.service_texts.specs.Shown.{has_settled}
 use Rattle.service_texts.specs.declared.own_words.OwnWord.{OwnWord}
 use Rattle.service_texts.specs.declared.own_words.OwnWord.TheVariants.{Shutdown, Watch, WatchFrom}
-use Rattle.client_reader.specs.AwaitedRequests.{Awaits}
+use Rattle.client_reader.specs.AwaitedRequests.{Awaits, is_in_send}
 use Rattle.client_reader.specs.declared.ask.Ask.{Ask}
 use Rattle.service_loop.specs.AdmissionViews.{unread, watches}
 use Rattle.service_loop.specs.ConnectionViews.{ConnectionView, has_no_more, is_cut, takes_later, takes_no_more}
@@ -74,13 +74,13 @@ pub record IsRead {L : Type 0} (view : ConnectionView L) (old : Client L) (piece
   pub taken : new.taken ≡ old.taken
   pub replies : new.replies.items ≡ old.replies.items
 
--- Some bytes came, and it was heard now.
+-- Some bytes came. It was heard now if they are of a send.
 pub record HasPiece {L : Type 0} (view : ConnectionView L) (old : Client L) (now : ℕ) (new : Client L) : Type 0 where
   pub piece : List ℕ
   pub some : 0 < length piece
   pub read : IsRead view old piece new
   pub over : new.over ≡ old.over
-  pub heard : new.last_active ≡ now
+  pub heard : new.last_active ≡ cond (is_in_send old.reader) now old.last_active
 
 -- Nothing comes now, or its text has ended.
 pub record HasNoMore {L : Type 0} (view : ConnectionView L) (old new : Client L) : Type 0 where

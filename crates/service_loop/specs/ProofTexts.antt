@@ -1,4 +1,4 @@
--- The replies to a client that proves who it is, and to one that is denied.
+-- The replies to a client that proves who it is, to one that is denied, and to one for which no place is left.
 use Rattle.std.specs.Prelude.{ℕ, cond, List, ◌++◌, codes, Option, None, Some}
 use Rattle.command_lines.specs.Replies.{quoted}
 use Rattle.client_standing.specs.declared.caller.Proved.{Proved}
@@ -17,3 +17,6 @@ proof_text (Some who) = cond who.is_operator (codes "ok operator ") (codes "ok u
 
 abbrev pub denied_text : List ℕ
 denied_text = codes "error denied\n"
+
+abbrev pub busy_text : List ℕ
+busy_text = codes "error busy\n"

@@ -49,7 +49,7 @@ pub record HasTicked {D : Type 0} (device : DiskView D) (old : Engine D) (has : 
 abbrev pub HasNoneToPurge : Maintenance → Type 0
 HasNoneToPurge maintenance = (maintenance.listed.items ≡ []) ⊎ (maintenance.ended ≤ maintenance.keep)
 
--- The last result of the system's clock, if it could be read, leaves no due time to send over a table.
+-- The last time of the service, if a clock could be read, leaves no due time to send over a table.
 abbrev pub IsTimely : Maintenance → State → Option ℕ → Type 0
 IsTimely maintenance s None = Unit {0}
 IsTimely maintenance s (Some millis) = millis / 1000 ≤ greatest_moment → clock_to_announce (clocks_of maintenance s (millis / 1000)) ≡ None

@@ -30,8 +30,8 @@ pub data LoopEvent (L : Type 0) : Type 0 where
   works : LoopEvent L
   -- The connection of the client in this slot was ready: whether it may take more, and whether it has hung up.
   readies : ℕ → Bool → Bool → LoopEvent L
-  -- The client in this slot had been idle for long enough, and gave its slot up at this moment.
-  gives_up : ℕ → ℕ → LoopEvent L
+  -- The client in this slot had been idle for long enough, and gave its slot up at this moment. There is this number of places.
+  gives_up : ℕ → ℕ → ℕ → LoopEvent L
   -- A new client with this connection got a free slot.
   enters : L → LoopEvent L
   -- The slot had its turn.
@@ -39,9 +39,9 @@ pub data LoopEvent (L : Type 0) : Type 0 where
   -- The watching clients were sent these changes. The last one has this number.
   notifies : Noted → ℕ → LoopEvent L
 
--- No free slot was left, and it was the idle client that was heard least recently.
-pub record HasGivenUp {L : Type 0} (old : Slab (Client L)) (key now : ℕ) (new : Slab (Client L)) : Type 0 where
-  pub idle : IsAdmission (heard_of old) now (InsteadOf key)
+-- No free place was left, and it was the idle client that was heard least recently.
+pub record HasGivenUp {L : Type 0} (old : Slab (Client L)) (key now places : ℕ) (new : Slab (Client L)) : Type 0 where
+  pub idle : IsAdmission places (heard_of old) now (InsteadOf key)
   pub gone : Updates old new key None
 
 -- Each client was sent its part of a text, or it watches and was disconnected because memory ran out.
@@ -54,7 +54,7 @@ abbrev pub IsLoopEvent : {D L : Type 0} → DiskView D → ConnectionView L → 
 IsLoopEvent device view e slots works new left = GoesByCalls device e new × SameValues slots left
 IsLoopEvent device view e slots (readies key writable gone) new left =
     (new ≡ e) × IsSlotSignaled view writable gone (get slots key) (get left key) × KeepsOthers key slots left
-IsLoopEvent device view e slots (gives_up key now) new left = (new ≡ e) × HasGivenUp slots key now left
+IsLoopEvent device view e slots (gives_up key now places) new left = (new ≡ e) × HasGivenUp slots key now places left
 IsLoopEvent device view e slots (enters connection) new left = (new ≡ e) × HasEntered view connection slots left
 IsLoopEvent device view e slots (takes_turn key turn) new left = HasTurn device view e slots key turn new left
 IsLoopEvent device view e slots (notifies noted last) new left = (new ≡ e) × AreNotified (news_for e.run_state.spool.state noted last) slots left
@@ -73,9 +73,9 @@ pub record GoesByEvents {D L : Type 0} (device : DiskView D) (view : ConnectionV
 -- ## Admission
 
 -- Nothing changed, or a new client was admitted or rejected by the rules of admission.
-abbrev pub HasAdmitted : {L : Type 0} → ConnectionView L → L → ℕ → Slab (Client L) → Slab (Client L) → Type 0
-HasAdmitted view connection now old new =
-    SameValues old new ⊎ ((admission : Admission) × IsAdmission (heard_of old) now admission × IsLetIn view connection admission old new)
+abbrev pub HasAdmitted : {L : Type 0} → ConnectionView L → ℕ → L → ℕ → Slab (Client L) → Slab (Client L) → Type 0
+HasAdmitted view places connection now old new =
+    SameValues old new ⊎ ((admission : Admission) × IsAdmission places (heard_of old) now admission × IsLetIn view connection admission old new)
 
 -- A client with this connection was admitted.
 abbrev pub HasBrought : {L : Type 0} → List (LoopEvent L) → L → Type 0
@@ -97,7 +97,7 @@ pub record HasParted {D L : Type 0} (device : DiskView D) (view : ConnectionView
 abbrev pub IsCause : {D L : Type 0} → DiskView D → ConnectionView L → Engine D → Slab (Client L) → LoopEvent L → Engine D → ℕ → Client L → Type 0
 IsCause device view e slots works new key c = ⊥
 IsCause device view e slots (readies other writable gone) new key c = ⊥
-IsCause device view e slots (gives_up other now) new key c = (other ≡ key) × IsAdmission (heard_of slots) now (InsteadOf other)
+IsCause device view e slots (gives_up other now places) new key c = (other ≡ key) × IsAdmission places (heard_of slots) now (InsteadOf other)
 IsCause device view e slots (enters connection) new key c = ⊥
 IsCause device view e slots (takes_turn other None) new key c = ⊥
 IsCause device view e slots (takes_turn other (Some turn)) new key c = (other ≡ key) × ((turn.disconnect ≡ Some Memory) ⊎ HasParted device view e c new)

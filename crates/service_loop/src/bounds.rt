@@ -9,7 +9,7 @@ pub const MOST_STEPS: usize = 256;
 /// The most connections accepted in a turn.
 pub const MOST_ACCEPTED: usize = 64;
 
-/// The longest wait of a turn without children, in microseconds, if the system's clock cannot be read, an end was requested, the journal is
+/// The longest wait of a turn without children, in microseconds, if no clock can be read, an end was requested, the journal is
 /// full, or a client could not be accepted.
 pub const LONGEST_IDLE: u64 = 1_000_000;
 

@@ -1,16 +1,20 @@
 //! A client: its unserved text, and the replies that it has not taken.
 //!
 //! At most a piece beyond the beginning of a line is read of its text. Its reader (`client_reader`) returns its requests in order.
-ghost use Rattle.std.specs.Prelude.{◌≡◌, ◌⊎◌, ◌<◌, ◌&&◌, ◌||◌, ℕ, nat_lt, vec_len, is_some, true, false, List, [], None, Some, IfOk, OnOk};
+ghost use Rattle.std.specs.Prelude.{◌≡◌, ◌⊎◌, ◌<◌, ◌&&◌, ◌||◌, ℕ, cond, nat_lt, vec_len, is_some, true, false, List, [], None, Some, IfOk, OnOk};
+ghost use Rattle.client_reader.specs.AwaitedRequests.{is_in_send};
 ghost use Rattle.service_rules.specs.Bounds.{most_unread};
+ghost use Rattle.service_rules.specs.Listeners.{may_listen};
+ghost use Rattle.service_loop.specs.ClientListening.{BeginsAtMost, IsHeard};
 ghost use Rattle.service_loop.specs.ServiceCalls.{GoesByCalls};
-ghost use Rattle.service_loop.specs.AdmissionViews.{listens, unread, watches};
+ghost use Rattle.service_loop.specs.AdmissionViews.{is_listener, listens, unread, watches};
 ghost use Rattle.service_loop.specs.ClientActions.{Action};
 ghost use Rattle.service_loop.specs.Progress.{EndsTurn, HasLeft, HasRead, IsAtRest, IsBacklogged, IsCut, IsGiven, IsMarked, IsReadAs, IsUnheard, as_given, as_read, as_served, as_told, heard_after, misses, news_for, signed, text_for};
 ghost use Rattle.service_loop.specs.ClientSteps.{Goes, GivesNext, IsAdded, IsEntry, IsNotified, IsClientStep, is_starved, status_of};
 
 mod answers;
 mod applied;
+mod listening;
 mod looks;
 
 use crate::bounds::{MOST_STEPS, PIECE};
@@ -21,7 +25,7 @@ use client_reader::{Next, Reader};
 use client_standing::Standing;
 use job_table::Table;
 use service_rules::bounds::MOST_UNREAD;
-use service_rules::is_served_on;
+use service_rules::{Listening, is_served_on};
 use service_texts::{Notes, has_settled, job_told, push_change};
 use spool_disk::Disk;
 use spool_types::JobId;
@@ -66,19 +70,22 @@ pub struct Turn {
     pub more: bool,
     // Whether serving stopped because too much of its replies was unread.
     is_backlogged: bool,
+    // The places that other clients have that listen.
+    listening: Listening,
     /// Whether it requested the end of the service.
     pub shutdown: bool,
     pub disconnect: Option<Disconnect>,
 }
 
 impl Turn {
-    fn new() -> Turn
-        ensures { result ≡ record { served = false; more = false; is_backlogged = false; shutdown = false; disconnect = None } }
+    fn new(listening: Listening) -> Turn
+        ensures { result ≡ record { served = false; more = false; is_backlogged = false; listening = listening; shutdown = false; disconnect = None } }
     {
         Turn {
             served: false,
             more: false,
             is_backlogged: false,
+            listening,
             shutdown: false,
             disconnect: None,
         }
@@ -118,7 +125,8 @@ pub struct Client<L: Connection> {
     missed: bool,
     // Whether it is sent the number of the last change too.
     counts: bool,
-    // When bytes were last read from it or written to it, in milliseconds.
+    // When it was last heard, in milliseconds: when a request of it was answered, when bytes of a send arrived, or when it took bytes. An
+    // empty line is no sign of life.
     last_active: u64,
     // Who it is, and which jobs are its own.
     standing: Standing,
@@ -151,7 +159,7 @@ impl<L: Connection> Client<L> {
         }
     }
 
-    /// When bytes were last read from it or written to it, in milliseconds.
+    /// When it was last heard, in milliseconds.
     pub fn last_active(&self) -> u64
         ensures { result ≡ self.now.last_active }
     {
@@ -183,23 +191,53 @@ impl<L: Connection> Client<L> {
         self.gone = self.gone || gone;
     }
 
+    /// Whether it waits for a job's end or watches. Then it has one of the places for clients that listen.
+    pub fn is_listener(&self) -> bool
+        ensures { result ≡ is_listener self.now }
+    {
+        self.waits.is_some() || self.watches()
+    }
+
+    /// Whether its connection may have more of its text. Otherwise it has no request now.
+    pub fn is_readable(&self) -> bool
+        ensures { result ≡ self.now.readable }
+    {
+        self.readable
+    }
+
+    /// The rights of the client.
+    pub fn standing(&self) -> &Standing
+        ensures { result.now ≡ self.now.standing }
+    {
+        &self.standing
+    }
+
     fn unread(&self) -> usize
         ensures { result ≡ unread self.now }
     {
         self.replies.len().saturating_sub(self.taken)
     }
 
-    /// Gives the client a turn: writes pending replies, serves some requests and writes their replies.
-    pub fn serve<D: Disk, C: Children>(&mut self, shared: &mut Shared<D, C>, now: u64) -> Turn
+    /// Gives the client a turn: writes pending replies, serves some requests and writes their replies. `listening`: the places of the other
+    /// clients that listen.
+    pub fn serve<D: Disk, C: Children>(
+        &mut self,
+        shared: &mut Shared<D, C>,
+        listening: Listening,
+        now: u64,
+    ) -> Turn
         // Unless memory ran out for it, its next requests were answered in order, and it was sent nothing else.
         ensures client_step { is_starved result.disconnect ≡ false → (actions : List (Action D)) ×
             IsClientStep D.device L.view shared.old.engine self.old actions shared.new.engine self.new }
+
+        // It listens afterwards only if it listened before, or one more client might.
+        ensures listens { is_starved result.disconnect ≡ false → BeginsAtMost (may_listen listening) self.old self.new }
 
         // What its connection takes was written. Unless there is more to do at once, nothing can be done for it now.
         ensures ends { EndsTurn L.view shared.new.engine.run_state.spool.state self.old result self.new }
         ensures calls { GoesByCalls D.device shared.old.engine shared.new.engine }
     {
-        let mut turn = Turn::new();
+        let mut turn = Turn::new(listening);
         match self.try_serve(shared, now, &mut turn) {
             Ok(true) => {}
             Ok(false) => turn.disconnect = Some(Disconnect::Left),
@@ -218,6 +256,7 @@ impl<L: Connection> Client<L> {
         requires { turn.old.is_backlogged ≡ false }
         ensures client_step { OnOk result ((actions : List (Action D)) ×
             IsClientStep D.device L.view shared.old.engine self.old actions shared.new.engine self.new) }
+        ensures listens { OnOk result (BeginsAtMost (may_listen turn.old.listening) self.old self.new) }
         ensures given { IfOk result (λ there. there ≡ true → IsGiven self.new) }
         ensures rests { IfOk result (λ there. there ≡ true → turn.new.more ≡ false → IsAtRest shared.new.engine.run_state.spool.state self.new ⊎ IsBacklogged self.new) }
         ensures leaves { IfOk result (λ there. there ≡ false → HasLeft L.view self.new) }
@@ -272,6 +311,7 @@ impl<L: Connection> Client<L> {
         requires { turn.old.is_backlogged ≡ false }
         ensures client_step { OnOk result ((actions : List (Action D)) ×
             IsClientStep D.device L.view shared.old.engine self.old actions shared.new.engine self.new) }
+        ensures listens { OnOk result (BeginsAtMost (may_listen turn.old.listening) self.old self.new) }
         ensures rests { IfOk result (λ there. there ≡ true → turn.new.more ≡ false → IsAtRest shared.new.engine.run_state.spool.state self.new ⊎ (turn.new.is_backlogged ≡ true)) }
         ensures leaves { IfOk result (λ there. there ≡ false → IsCut L.view self.new) }
         ensures marked { IsMarked L.view self.old → IsMarked L.view self.new }
@@ -311,6 +351,8 @@ impl<L: Connection> Client<L> {
         ensures rests { IfOk result (λ step. step ≡ Step.Rests → IsAtRest shared.new.engine.run_state.spool.state self.new) }
         ensures leaves { IfOk result (λ step. step ≡ Step.Lost → IsCut L.view self.new) }
         ensures marked { IsMarked L.view self.old → IsMarked L.view self.new }
+        ensures listens { OnOk result (BeginsAtMost (may_listen turn.old.listening) self.old self.new) }
+        ensures heard { IfOk result (λ step. IsHeard self.old now step self.new) }
         ensures turn { turn.new ≡ as_served turn.old turn.new }
         ensures calls { GoesByCalls D.device shared.old.engine shared.new.engine }
     {
@@ -320,11 +362,21 @@ impl<L: Connection> Client<L> {
         match self.next_asked()? {
             Next::Asked(ask) => {
                 self.answer(shared, ask, turn)?;
+                self.note_heard(now);
                 Ok(Step::Served)
             }
             Next::Again => Ok(Step::Goes),
             Next::Text => Ok(self.read_more(now)?),
         }
+    }
+
+    // Notes that a request of it was answered.
+    fn note_heard(&mut self, now: u64)
+        ensures goes { Goes L.view self.old [] [] self.new }
+        ensures status { status_of self.new ≡ status_of self.old }
+        ensures kept { self.new ≡ record self.old { last_active = now } }
+    {
+        self.last_active = now;
     }
 
     // The next request of its reader.
@@ -347,6 +399,7 @@ impl<L: Connection> Client<L> {
             IsClientStep D.device L.view shared.now.engine self.old actions shared.now.engine self.new) }
         ensures waits { IfOk result (λ over. over ≡ true → self.new.waits ≡ None) }
         ensures rests { IfOk result (λ over. over ≡ false → IsAtRest shared.now.engine.run_state.spool.state self.new) }
+        ensures listens { is_listener self.new ≡ true → is_listener self.old ≡ true }
         ensures marked { IsMarked L.view self.old → IsMarked L.view self.new }
         ensures kept { self.new ≡ record self.old { replies = self.new.replies; waits = self.new.waits } }
     {
@@ -487,6 +540,8 @@ impl<L: Connection> Client<L> {
         ensures goes { OnOk result (Goes L.view self.old [] [] self.new) }
         ensures status { status_of self.new ≡ status_of self.old }
         ensures read { IfOk result (λ step. IsReadAs L.view self.old now step self.new) }
+        ensures listens { is_listener self.new ≡ true → is_listener self.old ≡ true }
+        ensures heard { IfOk result (λ step. IsHeard self.old now step self.new) }
         ensures marked { IsMarked L.view self.old → IsMarked L.view self.new }
         ensures kept { self.new ≡ as_read self.old self.new }
     {
@@ -500,12 +555,25 @@ impl<L: Connection> Client<L> {
         }
     }
 
+    // When it was heard once a piece of its text has arrived: now if the piece is of a send.
+    fn heard_by_read(&self, now: u64) -> u64
+        ensures { result ≡ cond (is_in_send self.now.reader) now self.now.last_active }
+    {
+        if self.reader.is_in_send() {
+            now
+        } else {
+            self.last_active
+        }
+    }
+
     // Reads a piece of its text. Returns false if the connection is lost.
     fn read(&mut self, now: u64) -> Result<bool, AllocError>
         requires { self.old.readable ≡ true }
         ensures goes { OnOk result (Goes L.view self.old [] [] self.new) }
         ensures there { IfOk result (λ there. there ≡ true → HasRead L.view self.old now self.new) }
         ensures lost { IfOk result (λ there. there ≡ false → IsCut L.view self.new) }
+        ensures listens { is_listener self.new ≡ true → is_listener self.old ≡ true }
+        ensures heard { IfOk result (λ there. IsHeard self.old now (cond there Step.Goes Step.Lost) self.new) }
         ensures marked { IsMarked L.view self.old → IsMarked L.view self.new }
         ensures kept { self.new ≡ as_read self.old self.new }
     {
@@ -517,7 +585,7 @@ impl<L: Connection> Client<L> {
                 Ok(true)
             }
             Ok(count) => {
-                self.last_active = now;
+                self.last_active = self.heard_by_read(now);
                 self.reader.take(&piece[..count])?;
                 Ok(true)
             }

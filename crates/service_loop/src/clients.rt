@@ -1,6 +1,9 @@
 //! The clients, each in its own slot.
-ghost use Rattle.std.specs.Prelude.{◌≡◌, ◌+◌, ◌<◌, ◌≤◌, ◌||◌, ℕ, cond, true, false, None, IfOk, IfSome, OnOk};
+ghost use Rattle.std.specs.Prelude.{◌≡◌, ◌+◌, ◌<◌, ◌≤◌, ◌||◌, ℕ, cond, min, true, false, None, IfOk, IfSome, OnOk};
+ghost use Rattle.service_rules.specs.Bounds.{most_clients};
 ghost use Rattle.service_rules.specs.ClientAdmission.{IsAdmission};
+ghost use Rattle.service_rules.specs.Listeners.{most_listeners};
+ghost use Rattle.service_loop.specs.ClientListening.{listeners_below};
 ghost use Rattle.slab.specs.Slab.{get, slab_len};
 ghost use Rattle.service_loop.specs.ServiceCalls.{GoesByCalls};
 ghost use Rattle.service_loop.specs.AdmissionViews.{heard_of, is_watched};
@@ -12,6 +15,7 @@ ghost use Rattle.service_loop.specs.SlotHistories.{HasAdmitted};
 use crate::client::{Client, Disconnect, Turn};
 use crate::connection::Connection;
 use crate::listener::Listener;
+use crate::listeners::{count_listeners, end_of_keys, listening_of, one_if};
 use crate::shared::Shared;
 use child_pipeline::Children;
 use job_table::Table;
@@ -59,18 +63,26 @@ impl Turns {
 pub struct Clients<L: Connection> {
     alloc: Global,
     slots: Slab<Client<L>>,
-    // When each client was heard last, listed when a new client needs a slot.
+    // The number of places, and how many clients listen. They are counted once a turn, and the count is then kept.
+    places: usize,
+    listeners: usize,
+    // When each client was heard last, listed when a new client needs a place.
     heard: Vec<Heard>,
 }
 
 impl<L: Connection> Clients<L> {
-    pub fn new(alloc: Global) -> Result<Clients<L>, AllocError>
-        ensures { IfOk result (λ clients. (key : ℕ) → get clients.slots key ≡ None) }
+    /// No clients, and this number of places, at most [`MOST_CLIENTS`].
+    pub fn new(alloc: Global, places: usize) -> Result<Clients<L>, AllocError>
+        ensures none { IfOk result (λ clients. (key : ℕ) → get clients.slots key ≡ None) }
+        ensures places { IfOk result (λ clients. clients.places ≡ min places most_clients) }
     {
+        let places = places.min(MOST_CLIENTS);
         Ok(Clients {
             alloc,
-            slots: Slab::with_capacity(alloc, MOST_CLIENTS)?,
-            heard: Vec::with_capacity(alloc, MOST_CLIENTS)?,
+            slots: Slab::with_capacity(alloc, places)?,
+            places,
+            listeners: 0,
+            heard: Vec::with_capacity(alloc, places)?,
         })
     }
 
@@ -90,7 +102,7 @@ impl<L: Connection> Clients<L> {
         }
     }
 
-    /// Admits a client, or sends it `error busy`. If no slot is free, it replaces the client that has been idle longest, if that was long
+    /// Admits a client, or sends it `error busy`. If no place is free, it replaces the client that has been idle longest, if that was long
     /// enough; a client that listens is not idle. Returns the decision.
     pub fn admit<R: Listener<Stream = L>>(
         &mut self,
@@ -98,13 +110,14 @@ impl<L: Connection> Clients<L> {
         connection: L,
         now: u64,
     ) -> Result<Admission, AllocError>
-        ensures admission { IfOk result (IsAdmission (heard_of self.old.slots) now) }
+        ensures admission { IfOk result (IsAdmission self.old.places (heard_of self.old.slots) now) }
         ensures lets_in { IfOk result (λ admission. IsLetIn L.view connection admission self.old.slots self.new.slots) }
         // Also if memory runs out, only an idle client has left, and only for a new one.
-        ensures admitted { HasAdmitted L.view connection now self.old.slots self.new.slots }
+        ensures admitted { HasAdmitted L.view self.old.places connection now self.old.slots self.new.slots }
+        ensures places { self.new.places ≡ self.old.places }
     {
         list_heard(&self.slots, &mut self.heard)?;
-        let admission = admit(&self.heard, now);
+        let admission = admit(&self.heard, self.places, now);
         match admission {
             Admission::Free => {}
             Admission::InsteadOf(key) => {
@@ -126,7 +139,8 @@ impl<L: Connection> Clients<L> {
         connection: L,
         now: u64,
     ) -> Result<(), AllocError>
-        ensures { IsEntered L.view connection self.old.slots self.new.slots }
+        ensures entered { IsEntered L.view connection self.old.slots self.new.slots }
+        ensures kept { self.new ≡ record self.old { slots = self.new.slots } }
     {
         let mut connection = connection;
         self.slots.reserve(1)?;
@@ -143,7 +157,8 @@ impl<L: Connection> Clients<L> {
         ensures some { result ≡ true → (key : ℕ) × (key < MOST_CLIENTS) × (is_watched (get self.now.slots key) ≡ true) }
         ensures none { result ≡ false → (key : ℕ) → key < MOST_CLIENTS → is_watched (get self.now.slots key) ≡ false }
     {
-        for key in 0..MOST_CLIENTS {
+        let end = end_of_keys(&self.slots);
+        for key in 0..end {
             if self.is_watched(key) {
                 return true;
             }
@@ -199,6 +214,10 @@ impl<L: Connection> Clients<L> {
         ensures own { (key : ℕ) → key < MOST_CLIENTS → HadOwnTurn D.device L.view (get self.old.slots key) (get self.new.slots key) }
         ensures others { (key : ℕ) → MOST_CLIENTS ≤ key → get self.new.slots key ≡ get self.old.slots key }
 
+        // Clients that listen leave a quarter of the places to others.
+        ensures listeners { listeners_below self.old.slots most_clients ≤ most_listeners self.old.places → listeners_below self.new.slots most_clients ≤ most_listeners self.old.places }
+        ensures places { self.new.places ≡ self.old.places }
+
         // Each remaining client was sent what its connection takes. Unless there is more, nothing can be done for it now.
         ensures given { (key : ℕ) → key < MOST_CLIENTS → IfSome (get self.new.slots key) IsGiven }
         ensures rests { result.more ≡ false → (key : ℕ) → key < MOST_CLIENTS → IfSome (get self.new.slots key) HasNoneNow }
@@ -209,7 +228,9 @@ impl<L: Connection> Clients<L> {
             shutdown: false,
             starved: 0,
         };
-        for key in 0..MOST_CLIENTS {
+        self.listeners = count_listeners(&self.slots);
+        let end = end_of_keys(&self.slots);
+        for key in 0..end {
             if let Some(turn) = self.serve_at(shared, key, now) {
                 turns.add(turn);
             }
@@ -224,16 +245,27 @@ impl<L: Connection> Clients<L> {
         key: usize,
         now: u64,
     ) -> Option<Turn>
-        ensures { HasTurn D.device L.view shared.old.engine self.old.slots key result shared.new.engine self.new.slots }
+        requires key { key < MOST_CLIENTS }
+        requires counted { self.old.listeners ≡ listeners_below self.old.slots most_clients }
+        ensures turn { HasTurn D.device L.view shared.old.engine self.old.slots key result shared.new.engine self.new.slots }
+        ensures counted { self.new.listeners ≡ listeners_below self.new.slots most_clients }
+        ensures few { self.old.listeners ≤ most_listeners self.old.places → self.new.listeners ≤ most_listeners self.old.places }
+        ensures places { self.new.places ≡ self.old.places }
     {
+        let client = self.slots.get(key)?;
+        let others = self.listeners - one_if(client.is_listener());
+        let listening = listening_of(&self.slots, client, self.places, others);
         let client = self.slots.get_mut(key)?;
         shared.known.now = now;
-        let turn = client.serve(shared, now);
+        let turn = client.serve(shared, listening, now);
+        self.listeners = others;
         if turn.disconnect.is_some() {
             shared
                 .known
                 .leave(shared.engine.table(), client.made_jobs());
             self.slots.try_remove(key);
+        } else if client.is_listener() {
+            self.listeners += 1;
         }
         Some(turn)
     }

@@ -33,7 +33,7 @@ pub(crate) struct Records {
     alloc: Global,
     pub changes: Changes,
     pub seen: Seen,
-    /// The moment of the turn, if the system's clock can be read.
+    /// The moment of the turn by the service's time, if a clock can be read.
     pub now: Option<Moment>,
     /// The number of the last change that the watching clients were sent.
     pub told: u64,

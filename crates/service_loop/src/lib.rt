@@ -14,9 +14,10 @@
 //! 2. `Service::let_in` accepts up to 64 new clients.
 //! 3. `Service::serve_clients` gives each client a turn (`Client::serve`, `client.rt`), handles `shutdown`, and sends signals to the
 //!    children that must end (`Endings::act`, `endings.rt`).
-//! 4. `Service::tick` makes one tick of the engine (`Shared::tick`, `shared.rt`).
-//! 5. `Service::maintain` sends the engine commands: the time, purges of ended jobs, and a checkpoint (`maintenance.rt`), each only if it
-//!    is due.
+//! 4. `Service::refresh_time` sends the engine the time if a stage may end that is retried after an interval. `Service::tick` makes one tick
+//!    of the engine (`Shared::tick`, `shared.rt`).
+//! 5. `Service::maintain` sends the engine commands: the time, purges of ended jobs, the cancel of an abandoned job, and a checkpoint
+//!    (`maintenance.rt`), each only if it is due.
 //! 6. `Service::log_events` writes a line to the log for each event that matters, and `Service::notify_changes` sends the watching clients
 //!    what changed.
 //!
@@ -32,29 +33,33 @@
 //! | Reply to | Made by |
 //! |---|---|
 //! | a request that the roles do not allow | `Client::answer`: `error denied`, and nothing is done |
+//! | a request that would take room from the reserve | `Client::answer`: `error full`, and nothing is done (`reserve.rt`) |
 //! | a command | `Client::answer_command`: the engine's answer (`Shared::execute`), as text (`append_shown_answer`) |
 //! | `round`, `drain` | `Client::answer_command`: one tick, and its counts at once; no client waits for the children |
 //! | `job`, `watch`, `end`, `shutdown` | `Client::answer_own`; texts of `service_texts` |
 //! | `i-am`, `made` | `Client::offer_proof`, `Client::examine_proof`: the connection names the folder and examines it |
+//! | `wait`, `watch` while too many clients listen | `Client::wait_for`, `Client::watch`, `Client::watch_after`: `error busy`, and nothing is done |
 //! | `wait` | `Client::has_reported_end`, in the first step after the job's end |
 //! | nothing: a notice to a watching client | `Client::notify` |
-//! | a connection without a slot | `send_busy` (`clients.rt`), written at once |
+//! | a connection without a place | `send_busy` (`clients.rt`), written at once |
 //!
 //! # Limits of a client
 //!
 //! | A client that | Then | Bound |
 //! |---|---|---|
 //! | sends in pieces | is read by pieces; an incomplete line or send is retained | 65,537 bytes, plus a piece and a line |
-//! | stalls in a send | nothing is applied, and no other client waits | one of 64 slots |
+//! | stalls in a send | nothing is applied, and no other client waits | one of the places |
 //! | never reads | is not served or read further | 65,536 bytes and one reply |
 //! | floods | is served 32 commands, then the other clients have their turn | 32 commands a turn |
-//! | is the 65th | replaces the client that has been idle longest, if that is at least 10 s; otherwise it gets `error busy` | 64 clients |
+//! | finds no place | replaces the client that has been idle longest, if that is at least 10 s; otherwise it gets `error busy` | the places |
+//! | sends empty lines | becomes idle: only an answered request, bytes of a send, or bytes that it took count (`IsHeard`) | |
+//! | waits or watches | has a place for those that listen, or gets `error busy` and stays | three quarters of the places, half of these for a user |
 //! | waits for a job | is not read until the job ends, and no other client waits; if it hangs up, its slot is freed | |
 //! | watches and does not read | is sent `missed` later | 65,536 bytes and the lines of a turn |
-//! | leaves | its complete requests are served, a last line without line feed is not; its incoming jobs remain | |
+//! | leaves | its complete requests are served, a last line without line feed is not; its incoming jobs are canceled later | `Keeping::incoming` |
 //!
-//! If all 64 clients listen, the 65th gets `error busy`: it knows and may try again, but a client that was dropped would have lost its
-//! answer.
+//! A client that listens is not replaced: it would lose its answer, while a new one that gets `error busy` knows and may try again. But
+//! clients that listen never fill all places.
 //!
 //! # Promises
 //!
@@ -82,6 +87,8 @@
 //!   they do not allow it (`denies`), and then nothing is done, so a command that is not allowed has no turn of the engine. A listing
 //!   shows title and user of a job only if the client may see them (`shown_answer`). So `history` of [`Service::serve`] carries the table
 //!   of roles.
+//! - **The reserve.** A request whose event would take room from the reserve of the journal is answered with `error full`, and nothing is done
+//!   (`reserved` of `Client::answer`, `is_reserved`). Such an answer is an action of its own (`reserves`). A checkpoint is wanted then.
 //! - **All clients.** Each slot has its turn, on the engine that the previous slot left (`turns` of `Clients::serve`, `HaveTurns`), and
 //!   only its own turn changes a client (`own`, `others`, `HadOwnTurn`). No other client changes when a watching client is sent what
 //!   changed (`told` of `Clients::notify`: that text, with or without `missed` before it, or none of it), when a connection is ready
@@ -103,7 +110,8 @@
 //!   cannot be served further (`clients`, `AreAtRest`); the tick started and ended nothing, and maintenance sent no command or tried a
 //!   checkpoint in vain (`still`); no listed job remains to be purged (`maintenance`, `HasNoneToPurge`); and no client waits to be admitted
 //!   (`listener`). So no wait begins while one of these is left. A tick that ran out of memory or of room is repeated after the wait. If
-//!   the clock reports its last result, no due time is left unsent (`KeepsTime`, `IsTimely`).
+//!   the clock reports its last result, no due time is left unsent (`KeepsTime`, `IsTimely`). Each time that it reports is at least the
+//!   table's moment (`table` of [`Times::system`]).
 //! - **Waits.** The wait of a turn is at most the time until the next check of the children, by how long the last child ran, and until
 //!   maintenance has something to do; and at most a second while the journal is full, an end was requested, or a client could not be accepted
 //!   (`wait` of `Service::pause`, `loop_wait`; `lasted` of `Service::note_times`). A minute after it was requested, an end is reached
@@ -135,10 +143,21 @@
 //! - **Purges.** `Maintenance::look` takes the first 1,024 ended jobs and their number from the table (`listed`, `AreListed`, `ended`). A
 //!   purged job is removed from the list and no longer counted (`crossed`, `counted` of `Maintenance::purge`). Each purge is a command that
 //!   the engine answers (`purged`).
+//! - **Abandoned jobs.** An incoming job whose client has disconnected, and to which nothing was sent for `Keeping::incoming`, is canceled, one a
+//!   turn (`found`, `canceled` of `Maintenance::cancel_abandoned`). Such jobs are checked at most once a second (`next`), and the wait of the loop
+//!   ends in time for it (`wait` of `Service::pause`).
+//! - **Retries.** Before a tick that may see the end of a last stage of a queue with an interval, or start one, the engine is sent the time if
+//!   the table's moment is earlier (`sent` of `Maintenance::refresh_time`, `may_retry`). Otherwise nothing is sent (`idle`).
 //! - **Checkpoints.** A checkpoint is wanted by the room that the last one left (`wants_checkpoint`, `left` of `checkpoint`), before the
 //!   first one by half of the disk (`keeping_of` of `spool_service`). It is a command that the engine answers (`answered`).
 //! - **Admission.** A new client is admitted according to when each client was heard last and which clients listen (`admission` of
 //!   `Clients::admit`, `IsAdmission`, `heard_of`, `listens`).
+//! - **Listening.** At most three quarters of the places are for clients that wait or watch: each turn of all clients leaves it so
+//!   (`listeners` of `Clients::serve`). A client begins to listen only if it may, by how many others do and how many of them are of its
+//!   user (`listens` of `Client::serve`, `listening_of`); otherwise its request is answered `error busy` (`turns_away`, `IsAction`). Clients
+//!   that have proved nothing count as one user (`is_same_user`).
+//! - **Signs of life.** A step leaves the moment when its client was heard, unless it answered a request, or read bytes of a send (`heard` of
+//!   `Client::step`, `IsHeard`), or the client took bytes (`heard` of `Client::give`).
 //! - **Children to end.** A child that must end is noted by its process group, once (`group` of `Endings::ask`, `with_ending`). It is sent
 //!   SIGTERM, and SIGKILL no sooner than 10 s later (`signal_of`). The children still noted are those noted before whose job still runs a
 //!   child in that group (`kept` of `Endings::act`, `is_current`). If [`Signals`] reports the signals that it sends, they were sent their
@@ -173,7 +192,8 @@
 //!
 //! # Cost
 //!
-//! No step of a turn waits for a client or a child; only the disk's syncs take time. The table is asked for the next due moment and the
+//! No step of a turn waits for a client or a child; only the disk's syncs take time. A turn looks at each of 1,000 slots four times. The
+//! clients of a user are counted only if the client may have a request and half of the places for listening are taken. The table is asked for the next due moment and the
 //! ended jobs at most once a second, and only if something was done. It finds them, and the jobs that a clock changes, without a search of
 //! its jobs (`job_table`). `bench/due.py` measures this.
 #![tactic(auto)]
@@ -188,8 +208,10 @@ mod fault;
 mod known_jobs;
 mod laws;
 mod listener;
+mod listeners;
 mod maintenance;
 mod proof_texts;
+mod reserve;
 mod service;
 mod shared;
 mod shown_answers;
@@ -203,6 +225,6 @@ pub use laws::{
     crashes_lose_no_call, nothing_is_due_before, services_order_no_stage_twice,
 };
 pub use listener::{AcceptOutcome, Listener, Readiness};
-pub use service::{Keeping, Service};
+pub use service::{Keeping, Limits, Service};
 pub use signals::{Signal, Signals};
 pub use times::Times;

@@ -1,11 +1,15 @@
-//! Maintenance: the time, the purge of ended jobs and the checkpoint, which the service sends to its own engine as commands.
+//! Maintenance: the time, the purge of ended jobs, the cancel of abandoned jobs and the checkpoint, which the service sends to its own engine as commands.
 //!
 //! The table is asked for the next due moment and the ended jobs to purge at most once a second, and only if something was done since
 //! ([`Maintenance::look`]). It finds both without a search of its jobs. So an idle service asks for nothing and sends no command.
-ghost use Rattle.std.specs.Prelude.{◌≡◌, ◌≢◌, ◌<◌, ◌≤◌, ◌-◌, ◌/◌, ◌%◌, true, false, [], None, Some, cond, length, IfOk, IfSome, OnErr, OnOk, Ok};
+ghost use Rattle.std.specs.Prelude.{◌≡◌, ◌≢◌, ◌<◌, ◌≤◌, ◌-◌, ◌/◌, ◌%◌, ◌^◌, nat_eq, not, true, false, [], None, Some, cond, length, IfOk, IfSome, OnErr, OnOk, Ok};
 ghost use Rattle.spool_types.specs.Limits.{greatest_moment};
 ghost use Rattle.service_rules.specs.Checkpoints.{is_wanted, room_in};
-ghost use Rattle.service_rules.specs.Clocks.{clock_to_announce, clock_wait};
+ghost use Rattle.service_rules.specs.Clocks.{clock_for_retry, clock_to_announce, clock_wait};
+ghost use Rattle.service_rules.specs.Incoming.{abandoned_until, check_wait, next_check};
+ghost use Rattle.service_texts.specs.LeftJobs.{oldest_of, still_incoming};
+ghost use Rattle.service_loop.specs.AbandonedJobs.{abandoned_in};
+ghost use Rattle.service_loop.specs.RetryClocks.{may_retry};
 ghost use Rattle.service_rules.specs.Purges.{above, purge_count, purged, swept_to};
 ghost use Rattle.service_loop.specs.ServiceCalls.{GoesByCalls, HasAnswered, HasAnsweredAll, purges};
 ghost use Rattle.job_table.specs.DueTimes.{ended_numbers, next_due};
@@ -17,11 +21,11 @@ use child_pipeline::Children;
 use command_lines::{Answer, Command};
 use job_table::Table;
 use service_rules::{
-    Candidate, Checkpoint, Clocks, clock_to_announce, clock_wait, is_wanted, jobs_to_purge,
-    purge_count, room_in, swept_to,
+    Candidate, Checkpoint, Clocks, abandoned_until, check_wait, clock_for_retry, clock_to_announce,
+    clock_wait, is_wanted, jobs_to_purge, next_check, purge_count, room_in, swept_to,
 };
 use spool_disk::Disk;
-use spool_types::{Event, Moment};
+use spool_types::{Event, JobId, Moment};
 use std::alloc::{AllocError, Global};
 
 // How many of the oldest ended jobs are listed at once.
@@ -46,15 +50,20 @@ pub(crate) struct Maintenance {
     area: u64,
     left: Option<u64>,
     last: Option<Checkpoint>,
+    // How long an incoming job stays whose client has disconnected, and when such jobs are checked next, in milliseconds.
+    limit: u64,
+    check: u64,
 }
 
 impl Maintenance {
-    /// Maintenance of an engine whose journal is in areas of this number of bytes.
+    /// Maintenance of an engine whose journal is in areas of this number of bytes. An incoming job is canceled if its client has disconnected
+    /// and nothing was sent to it for `limit` milliseconds.
     pub fn new(
         alloc: Global,
         keep: usize,
         percent: u8,
         area: u64,
+        limit: u64,
     ) -> Result<Maintenance, AllocError>
         ensures keep { IfOk result (λ maintenance. maintenance.keep ≡ keep) }
         ensures percent { IfOk result (λ maintenance. maintenance.percent ≡ percent) }
@@ -62,6 +71,7 @@ impl Maintenance {
         ensures left { IfOk result (λ maintenance. maintenance.left ≡ None) }
         ensures last { IfOk result (λ maintenance. maintenance.last ≡ None) }
         ensures times { IfOk result (λ maintenance. (maintenance.looked ≡ None) × (maintenance.told ≡ None) × (maintenance.due ≡ None)) }
+        ensures incoming { IfOk result (λ maintenance. (maintenance.limit ≡ limit) × (maintenance.check ≡ 0)) }
         ensures jobs { IfOk result (λ maintenance. (maintenance.ended ≡ 0) × (maintenance.listed.items ≡ [])) }
     {
         Ok(Maintenance {
@@ -75,10 +85,12 @@ impl Maintenance {
             area,
             left: None,
             last: None,
+            limit,
+            check: 0,
         })
     }
 
-    /// Examines the table and sends the engine the system's time, given in milliseconds, if something is due. Returns whether the time was
+    /// Examines the table and sends the engine the service's time, given in milliseconds, if something is due. Returns whether the time was
     /// sent.
     pub fn announce_time<D: Disk, C: Children>(
         &mut self,
@@ -111,6 +123,33 @@ impl Maintenance {
         };
         self.told = Some(moment);
         say(shared, Command::Apply(Event::Clock(moment)))?;
+        Ok(true)
+    }
+
+    /// Sends the engine the system's time, given in milliseconds, if a stage runs whose end may lead to a retry and the table's moment is
+    /// earlier: the interval of the retry counts from the table's moment. Returns whether it was sent.
+    pub fn refresh_time<D: Disk, C: Children>(
+        &mut self,
+        shared: &mut Shared<D, C>,
+        millis: u64,
+    ) -> Result<bool, AllocError>
+        ensures sent { OnOk result (IfSome (clock_for_retry (clocks_of self.old shared.old.engine.run_state.spool.state (millis / 1000)) (may_retry shared.old.engine.run_state.spool.state))
+            (λ moment. moment ≤ greatest_moment → HasAnswered D.device shared.old.engine (Command.Apply (Event.Clock moment)) shared.new.engine)) }
+        // If no such stage runs, nothing changes.
+        ensures idle { may_retry shared.old.engine.run_state.spool.state ≡ false → (shared.new ≡ shared.old) × (self.new ≡ self.old) }
+        ensures silent { result ≡ Ok false → shared.new.engine ≡ shared.old.engine }
+        ensures kept { self.new ≡ record self.old { told = self.new.told } }
+        ensures calls { GoesByCalls D.device shared.old.engine shared.new.engine }
+    {
+        let Some(system) = Moment::new(millis / SECOND) else {
+            return Ok(false);
+        };
+        let clocks = self.clocks(shared.engine.table(), system);
+        let Some(second) = clock_for_retry(&clocks, shared.may_retry()) else {
+            return Ok(false);
+        };
+        self.told = Some(second);
+        say(shared, Command::Apply(Event::Clock(second)))?;
         Ok(true)
     }
 
@@ -224,6 +263,47 @@ impl Maintenance {
         !self.listed.is_empty() && self.keep < self.ended
     }
 
+    /// Cancels an incoming job whose client has disconnected, if nothing was sent to it for the limit, at a moment in milliseconds. Returns
+    /// that job.
+    pub fn cancel_abandoned<D: Disk, C: Children>(
+        &mut self,
+        shared: &mut Shared<D, C>,
+        now: u64,
+    ) -> Result<Option<JobId>, AllocError>
+        // Before the next check nothing changes.
+        ensures early { now < self.old.check → (result ≡ Ok None) × (shared.new ≡ shared.old) × (self.new ≡ self.old) }
+        // It is the first one that is abandoned. If there is none, the next check is noted.
+        ensures found { IfOk result (λ job. self.old.check ≤ now → job ≡ abandoned_in (abandoned_until self.old.limit now) shared.old.engine.run_state.spool.state shared.old.known.left) }
+        ensures canceled { IfOk result (λ job. IfSome job (λ j. HasAnswered D.device shared.old.engine (Command.Apply (Event.Cancel j)) shared.new.engine)) }
+        ensures next { result ≡ Ok None → self.old.check ≤ now → next_check self.old.limit now (oldest_of (still_incoming shared.old.engine.run_state.spool.state shared.old.known.left)) < 2 ^ 64 →
+            self.new.check ≡ next_check self.old.limit now (oldest_of (still_incoming shared.old.engine.run_state.spool.state shared.old.known.left)) }
+        ensures silent { result ≡ Ok None → shared.new.engine ≡ shared.old.engine }
+        ensures kept { self.new ≡ record self.old { check = self.new.check } }
+        ensures calls { GoesByCalls D.device shared.old.engine shared.new.engine }
+    {
+        if now < self.check {
+            return Ok(None);
+        }
+        let Some(job) = abandoned_in(shared, abandoned_until(self.limit, now)) else {
+            shared.known.left.keep_incoming(shared.engine.table());
+            self.check = next_check(self.limit, now, shared.known.left.oldest());
+            return Ok(None);
+        };
+        let answer = shared.execute(Command::Apply(Event::Cancel(job)))?;
+        if !is_done(&answer) {
+            // It is tried again a second later.
+            self.check = now.saturating_add(SECOND);
+        }
+        Ok(Some(job))
+    }
+
+    /// The milliseconds until abandoned jobs are checked, at a moment in milliseconds.
+    pub fn check_wait<D: Disk, C: Children>(&self, shared: &Shared<D, C>, now: u64) -> Option<u64>
+        ensures { result ≡ check_wait (not (nat_eq (length shared.now.known.left) 0)) self.now.check now }
+    {
+        check_wait(!shared.known.left.is_empty(), self.check, now)
+    }
+
     /// Whether a checkpoint is wanted at a moment in milliseconds.
     pub fn wants_checkpoint<D: Disk, C: Children>(&self, shared: &Shared<D, C>, now: u64) -> bool
         ensures { result ≡ is_wanted (room_in self.now.area self.now.left shared.now.engine.run_state.spool.room) self.now.percent shared.now.full self.now.last now }
@@ -258,6 +338,13 @@ impl Maintenance {
         let left = if made { Some(0) } else { None };
         self.last = Some(Checkpoint { began, ended, left });
     }
+}
+
+// The first job that is still incoming, and to which nothing was sent after a moment, if there is such a moment.
+fn abandoned_in<D: Disk, C: Children>(shared: &Shared<D, C>, until: Option<u64>) -> Option<JobId>
+    ensures { result ≡ abandoned_in until shared.now.engine.run_state.spool.state shared.now.known.left }
+{
+    shared.known.left.left_until(shared.engine.table(), until?)
 }
 
 fn is_done(answer: &Answer) -> bool {

@@ -1,11 +1,11 @@
 //! The loop: serves clients while children run.
-ghost use Rattle.std.specs.Prelude.{◌≡◌, ◌*◌, ◌-◌, ◌^◌, ◌||◌, ◌≤◌, ℕ, Option, is_some, min, true, false, None, IfOk, IfSome, OnErr, OnOk, Ok, Err};
+ghost use Rattle.std.specs.Prelude.{◌≡◌, ◌*◌, ◌-◌, ◌^◌, ◌||◌, ◌≤◌, ℕ, Option, is_some, length, min, nat_eq, true, false, None, IfOk, IfSome, OnErr, OnOk, Ok, Err};
 ghost use Rattle.slab.specs.Slab.{get};
 ghost use Rattle.std.specs.Option.{option_map};
-ghost use Rattle.service_rules.specs.Bounds.{millisecond};
+ghost use Rattle.service_rules.specs.Bounds.{millisecond, most_clients};
 ghost use Rattle.print_rounds.specs.RoundTicks.{count_running};
-ghost use Rattle.service_rules.specs.ChildPolling.{next_look};
-ghost use Rattle.service_loop.specs.LoopWaits.{IsEndedBy, clock_bound, lasted_after, loop_wait};
+ghost use Rattle.service_rules.specs.ChildPolling.{earlier, next_look};
+ghost use Rattle.service_loop.specs.LoopWaits.{IsEndedBy, check_bound, clock_bound, lasted_after, loop_wait};
 ghost use Rattle.service_loop.specs.ServiceCalls.{GoesByCalls};
 ghost use Rattle.service_loop.specs.SlotHistories.{GoesByEvents};
 ghost use Rattle.service_loop.specs.ServiceTurns.{AreAtRest, HasNoneToPurge, HasTicked, HasTriedAtMost, HasTurned, IsTimely, KeepsTime, has_moved, has_new_client_waiting};
@@ -41,6 +41,17 @@ pub struct Keeping {
     pub room: u8,
     /// The size of an area of the disk in bytes.
     pub area: u64,
+    /// How long an incoming job stays whose client has disconnected, in milliseconds.
+    pub incoming: u64,
+}
+
+/// The limits on what a service does at once.
+#[derive(Clone, Copy, Debug)]
+pub struct Limits {
+    /// How many children run at once.
+    pub children: usize,
+    /// How many clients have a place, at most 1,000.
+    pub clients: usize,
 }
 
 /// The service of one engine, with its clients.
@@ -64,30 +75,38 @@ pub struct Service<'a, L, D: Disk, C: Children, R: Listener> {
 }
 
 impl<'a, L: Log, D: Disk + Drop, C: Children + Drop, R: Listener> Service<'a, L, D, C, R> {
-    /// A service of an engine. At most `most` children run at once. The first change has the number after `last_change`. If this is greater
+    /// A service of an engine, within these limits. The first change has the number after `last_change`. If this is greater
     /// than each number that an earlier service gave, none of those is known.
     pub fn new(
         log: &'a L,
         alloc: Global,
-        most: usize,
+        limits: Limits,
         engine: Engine<D, C>,
         keeping: Keeping,
         last_change: u64,
     ) -> Result<Service<'a, L, D, C, R>, AllocError>
         ensures engine { IfOk result (λ service. service.shared.engine ≡ engine) }
-        ensures most { IfOk result (λ service. service.shared.most ≡ most) }
+        ensures most { IfOk result (λ service. service.shared.most ≡ limits.children) }
+        ensures places { IfOk result (λ service. service.clients.places ≡ min limits.clients most_clients) }
+        ensures area { IfOk result (λ service. service.shared.area ≡ keeping.area) }
         ensures clients { IfOk result (λ service. (key : ℕ) → get service.clients.slots key ≡ None) }
-        ensures maintenance { IfOk result (λ service. (service.maintenance.keep ≡ keeping.jobs) × (service.maintenance.percent ≡ keeping.room) × (service.maintenance.area ≡ keeping.area)) }
+        ensures maintenance { IfOk result (λ service. (service.maintenance.keep ≡ keeping.jobs) × (service.maintenance.percent ≡ keeping.room) × (service.maintenance.area ≡ keeping.area) × (service.maintenance.limit ≡ keeping.incoming)) }
         ensures starts { IfOk result (λ service. (service.more ≡ true) × (service.has_new_client ≡ true) × (service.barred ≡ false) × (service.ends ≡ None) × (service.begun ≡ 0) × (service.lasted ≡ 0)) }
     {
-        let maintenance = Maintenance::new(alloc, keeping.jobs, keeping.room, keeping.area)?;
+        let maintenance = Maintenance::new(
+            alloc,
+            keeping.jobs,
+            keeping.room,
+            keeping.area,
+            keeping.incoming,
+        )?;
         let records = Records::new(alloc, last_change)?;
         let known = KnownJobs::of_table(alloc, engine.table(), 0)?;
         Ok(Service {
             log,
             alloc,
-            shared: Shared::new(alloc, most, engine, records, known),
-            clients: Clients::new(alloc)?,
+            shared: Shared::new(alloc, limits.children, keeping.area, engine, records, known),
+            clients: Clients::new(alloc, limits.clients)?,
             maintenance,
             begun: 0,
             lasted: 0,
@@ -145,9 +164,10 @@ impl<'a, L: Log, D: Disk + Drop, C: Children + Drop, R: Listener> Service<'a, L,
         let over = self.is_over(now);
         self.let_in(listener, now)?;
         let turns = self.serve_clients(signals, now);
+        let fresh = self.refresh_time(times)?;
         let ticked = self.tick(times);
         let kept = self.maintain(times)?;
-        self.note_more(turns, ticked, kept);
+        self.note_more(turns, ticked, kept, fresh);
         self.log_events();
         self.notify_changes()?;
         if self.shared.engine.met_fault() {
@@ -158,12 +178,12 @@ impl<'a, L: Log, D: Disk + Drop, C: Children + Drop, R: Listener> Service<'a, L,
 
     // Notes whether there is more to do at once. After the end of an attempt the next job of its queue is started. New clients that are
     // already waiting cause no further readiness.
-    fn note_more(&mut self, turns: Turns, ticked: bool, kept: bool)
-        ensures more { self.new.more ≡ (turns.more || (turns.served || (ticked || (kept || has_new_client_waiting self.old.has_new_client self.old.barred self.old.ends)))) }
+    fn note_more(&mut self, turns: Turns, ticked: bool, kept: bool, fresh: bool)
+        ensures more { self.new.more ≡ (turns.more || (turns.served || (ticked || (kept || (fresh || has_new_client_waiting self.old.has_new_client self.old.barred self.old.ends))))) }
         ensures kept { self.new ≡ record self.old { more = self.new.more } }
     {
         let has_new_client = self.has_new_client && !self.barred && self.ends.is_none();
-        self.more = turns.more || turns.served || ticked || kept || has_new_client;
+        self.more = turns.more || turns.served || ticked || kept || fresh || has_new_client;
     }
 
     // Gives each client a turn, and handles the results.
@@ -237,13 +257,15 @@ impl<'a, L: Log, D: Disk + Drop, C: Children + Drop, R: Listener> Service<'a, L,
         ensures wait { (ran running : ℕ) × (clock : Option ℕ) ×
             (count_running self.now.shared.engine.run_state.slots ≤ self.now.shared.most → running ≡ count_running self.now.shared.engine.run_state.slots) ×
             IfSome (T.told times.new) (λ last. clock ≡ clock_bound self.now.maintenance self.now.shared.active self.now.shared.engine.run_state.spool.state last) ×
-            (result ≡ loop_wait self.now.more (is_some self.now.ends || (self.now.shared.full || self.now.barred)) (next_look self.now.lasted ran running) clock) }
+            (left : Option ℕ) × ((now : ℕ) × (left ≡ check_bound (nat_eq (length self.now.shared.known.left) 0) self.now.maintenance.check now)) ×
+            (result ≡ loop_wait self.now.more (is_some self.now.ends || (self.now.shared.full || self.now.barred)) (next_look self.now.lasted ran running) (earlier clock left)) }
     {
         let ran = times.micros().saturating_sub(self.begun);
         let running = self.shared.running();
         let look = next_look(self.lasted, ran, running);
         let clock = self.clock_bound(times);
-        loop_wait(self.more, self.wakes(), look, clock)
+        let left = self.check_bound(times);
+        loop_wait(self.more, self.wakes(), look, poll_wait(false, clock, left))
     }
 
     // Whether the next wait is at most a second.
@@ -257,10 +279,19 @@ impl<'a, L: Log, D: Disk + Drop, C: Children + Drop, R: Listener> Service<'a, L,
     fn clock_bound<T: Times>(&self, times: &mut T) -> Option<u64>
         ensures { IfSome (T.told times.new) (λ last. result ≡ clock_bound self.now.maintenance self.now.shared.active self.now.shared.engine.run_state.spool.state last) }
     {
-        match times.system() {
+        match times.system(self.shared.engine.table().now()) {
             Some(millis) => micros_of(self.maintenance.wait(&self.shared, millis)),
             None => Some(LONGEST_IDLE),
         }
+    }
+
+    // How long it is until abandoned jobs are checked, in microseconds.
+    fn check_bound<T: Times>(&self, times: &mut T) -> Option<u64>
+        ensures bound { (now : ℕ) × (result ≡ check_bound (nat_eq (length self.now.shared.known.left) 0) self.now.maintenance.check now) }
+        ensures told { T.told times.new ≡ T.told times.old }
+    {
+        let now = times.millis();
+        micros_of(self.maintenance.check_wait(&self.shared, now))
     }
 
     // Accepts new clients.
@@ -378,6 +409,18 @@ impl<'a, L: Log, D: Disk + Drop, C: Children + Drop, R: Listener> Service<'a, L,
         }
     }
 
+    // Sends the engine the system's time before a tick that may see the end of a stage which is retried after an interval. Returns whether it
+    // did.
+    fn refresh_time<T: Times>(&mut self, times: &mut T) -> Result<bool, AllocError>
+        ensures calls { GoesByCalls D.device self.old.shared.engine self.new.shared.engine }
+        ensures kept { self.new ≡ record self.old { shared = self.new.shared; maintenance = self.new.maintenance } }
+    {
+        match times.system(self.shared.engine.table().now()) {
+            Some(millis) => self.maintenance.refresh_time(&mut self.shared, millis),
+            None => Ok(false),
+        }
+    }
+
     fn log_fault(&self, fault: RoundFault) {
         match fault {
             RoundFault::Full => {}
@@ -396,20 +439,35 @@ impl<'a, L: Log, D: Disk + Drop, C: Children + Drop, R: Listener> Service<'a, L,
     {
         // Before the table is asked for further ended jobs: a client that waits for one of these has its row in the next turn.
         let purged = self.maintenance.purge(&mut self.shared)?;
+        let canceled = self.cancel_abandoned(times)?;
         let told = self.announce_time(times)?;
         let made = self.make_checkpoint(times)?;
         let left = self.maintenance.has_some_to_purge();
-        Ok(told || purged || made || left)
+        Ok(told || purged || canceled || made || left)
     }
 
-    // Sends the engine the system's time, if it can be read and something is due. Returns whether it did.
+    // Cancels an incoming job that its client has abandoned, if there is one. Returns whether it did.
+    fn cancel_abandoned<T: Times>(&mut self, times: &mut T) -> Result<bool, AllocError>
+        ensures calls { GoesByCalls D.device self.old.shared.engine self.new.shared.engine }
+        ensures silent { result ≡ Ok false → self.new.shared.engine ≡ self.old.shared.engine }
+        ensures kept { self.new ≡ record self.old { shared = self.new.shared; maintenance = record self.old.maintenance { check = self.new.maintenance.check } } }
+    {
+        let now = times.millis();
+        let Some(job) = self.maintenance.cancel_abandoned(&mut self.shared, now)? else {
+            return Ok(false);
+        };
+        info!(self.log; "job {} canceled: its client disconnected before it was closed", job.get());
+        Ok(true)
+    }
+
+    // Sends the engine the service's time, if a clock can be read and something is due. Returns whether it did.
     fn announce_time<T: Times>(&mut self, times: &mut T) -> Result<bool, AllocError>
         ensures calls { GoesByCalls D.device self.old.shared.engine self.new.shared.engine }
         ensures timely { OnOk result (IfSome (T.told times.new) (λ last. IsTimely self.new.maintenance self.new.shared.engine.run_state.spool.state last)) }
         ensures silent { result ≡ Ok false → self.new.shared.engine ≡ self.old.shared.engine }
         ensures kept { self.new ≡ record self.old { shared = self.new.shared; maintenance = self.new.maintenance } }
     {
-        match times.system() {
+        match times.system(self.shared.engine.table().now()) {
             Some(millis) => self.maintenance.announce_time(&mut self.shared, millis),
             None => Ok(false),
         }
@@ -460,7 +518,7 @@ impl<'a, L: Log, D: Disk + Drop, C: Children + Drop, R: Listener> Service<'a, L,
         ensures engine { self.new.shared.engine ≡ self.old.shared.engine }
         ensures kept { self.new ≡ record self.old { shared = self.new.shared } }
     {
-        self.shared.records.now = match times.system() {
+        self.shared.records.now = match times.system(self.shared.engine.table().now()) {
             Some(millis) => Moment::new(millis / 1_000),
             None => None,
         };

@@ -11,11 +11,13 @@ ghost use Rattle.command_lines.specs.declared.reply.Answer.{Answer as AnswerOf};
 ghost use Rattle.print_rounds.specs.RoundTicks.{count_running};
 ghost use Rattle.print_rounds.specs.Happenings.{IsTickThat, happenings_of};
 ghost use Rattle.print_rounds.specs.declared.start_room.TickLimits.{TickLimits as LimitsOf};
-ghost use Rattle.spool_types.specs.State.{State};
+ghost use Rattle.job_table.specs.Attempts.{busy_of};
+ghost use Rattle.spool_types.specs.State.{State, job_at};
 ghost use Rattle.spool_types.specs.declared.event.Closing.{Closing};
 ghost use Rattle.spool_types.specs.declared.event.Event.{Event};
 ghost use Rattle.spool_types.specs.declared.event.Reply.TheVariants.{Done};
 ghost use Rattle.service_loop.specs.RecordedEvents.{HasRecordedAll, HasRecordedCommand, happened_deed};
+ghost use Rattle.service_loop.specs.RetryClocks.{is_row_in_last_stage, may_end, may_retry};
 ghost use Rattle.service_loop.specs.ServiceCalls.{GoesByCalls};
 ghost use Rattle.spool_engine.specs.EventSteps.{setting};
 ghost use Rattle.spool_engine.specs.AnswerTexts.{answer_text};
@@ -34,7 +36,7 @@ use print_rounds::{Happening, Round, RoundFault, TickLimits};
 use service_texts::{Notes, push_change};
 use spool_disk::Disk;
 use spool_engine::Engine;
-use spool_types::{Event, JobId, MediaType};
+use spool_types::{Event, JobId, MediaType, Phase, QueueName};
 use std::alloc::{AllocError, Global};
 
 /// An engine, the number of children that may run at once, those that must end, and the records of the events that the engine accepted.
@@ -44,6 +46,8 @@ pub(crate) struct Shared<D: Disk, C: Children> {
     pub engine: Engine<D, C>,
     /// How many children may run at once.
     pub most: usize,
+    /// The size of an area of the disk in bytes.
+    pub area: u64,
     /// Whether a child was started since the service last noted when one was.
     pub started: bool,
     pub endings: Endings,
@@ -65,12 +69,14 @@ impl<D: Disk, C: Children> Shared<D, C> {
     pub fn new(
         alloc: Global,
         most: usize,
+        area: u64,
         engine: Engine<D, C>,
         records: Records,
         known: KnownJobs,
     ) -> Shared<D, C>
         ensures engine { result.engine ≡ engine }
         ensures most { result.most ≡ most }
+        ensures area { result.area ≡ area }
         ensures marks { (result.started ≡ false) × (result.watched ≡ false) × (result.full ≡ false) × (result.active ≡ true) × (result.ends ≡ false) }
         ensures none { (result.endings.list.items ≡ []) × (result.records ≡ records) × (result.known ≡ known) }
     {
@@ -78,6 +84,7 @@ impl<D: Disk, C: Children> Shared<D, C> {
             alloc,
             engine,
             most,
+            area,
             started: false,
             endings: Endings::new(alloc),
             records,
@@ -254,6 +261,19 @@ impl<D: Disk, C: Children> Shared<D, C> {
         count
     }
 
+    /// Whether a stage runs or is started whose end may lead to a retry after an interval.
+    pub fn may_retry(&self) -> bool
+        ensures { result ≡ may_retry self.now.engine.run_state.spool.state }
+    {
+        let table = self.engine.table();
+        for queue in table.queues() {
+            if 0 < queue.interval.get() && may_end(table, &queue.name) {
+                return true;
+            }
+        }
+        false
+    }
+
     /// The number of running children, if no more run than may at once.
     pub fn running(&self) -> usize
         ensures { count_running self.now.engine.run_state.slots ≤ self.now.most → result ≡ count_running self.now.engine.run_state.slots }
@@ -264,6 +284,28 @@ impl<D: Disk, C: Children> Shared<D, C> {
     /// Whether no job is processing and no child runs.
     pub fn is_quiet(&self) -> bool {
         self.running() == 0 && self.at_rest() == 0
+    }
+}
+
+// Whether the processing job of a queue is in its last stage or, if none is processing, the next job is started.
+fn may_end(table: &Table, queue: &QueueName) -> bool
+    ensures { result ≡ may_end table.now.state queue.now (busy_of table.now.state queue.now) }
+{
+    match table.processing(queue) {
+        Some(job) => is_in_last_stage(table, job),
+        None => table.next(queue).is_some(),
+    }
+}
+
+fn is_in_last_stage(table: &Table, job: JobId) -> bool
+    ensures { result ≡ is_row_in_last_stage (job_at table.now.state job) }
+{
+    let Some(row) = table.job(job) else {
+        return false;
+    };
+    match row.job.phase {
+        Phase::Processing { stage, stages, .. } => stages <= stage,
+        _ => false,
     }
 }
 

@@ -24,10 +24,11 @@ with_roles app =
     with_rule (with_rule (with_rule (with_rule (with_rule app (text_option (codes "trust"))) (flag_of (codes "show-all"))) (text_option (codes "operators")))
     (text_option (codes "operators-socket"))) (text_option (codes "proofs"))
 
--- `[--keep N] [--room PERCENT] [--children N]`
+-- `[--keep N] [--room PERCENT] [--children N] [--clients N] [--incoming SECONDS]`
 abbrev pub with_bounds : App → App
 with_bounds app =
-    with_rule (with_rule (with_rule app (option_in 0 1000000 (codes "keep"))) (option_in 1 90 (codes "room"))) (option_in 1 1000 (codes "children"))
+    with_rule (with_rule (with_rule (with_rule (with_rule app (option_in 0 1000000 (codes "keep"))) (option_in 1 90 (codes "room"))) (option_in 1 1000 (codes "children")))
+    (option_in 1 1000 (codes "clients"))) (option_in 1 86400 (codes "incoming"))
 
 -- The options of a spool, these, and `[--quiet] [--verbose]`.
 abbrev pub service_app : App
@@ -66,7 +67,7 @@ SaysTrust (Some text) mode said = said ≡ trust_in text
 abbrev pub level_of : List Row → Level
 level_of found = if is_told (one_of (codes "verbose") found) then Debug else (if is_told (one_of (codes "quiet") found) then Error else Info)
 
--- The values are those found, or the defaults: 500 ended jobs, 25 percent of the room, 32 children.
+-- The values are those found, or the defaults: 500 ended jobs, 25 percent of the room, 32 children, 256 clients, 900 seconds for incoming jobs.
 pub record IsAsked (found : List Row) (words : ServiceWords) : Type 0 where
   pub root : first_of (codes "root") found ≡ Some words.root.now
   pub listen : option_map (λ socket. socket.now) words.listen ≡ first_of (codes "listen") found
@@ -83,6 +84,8 @@ pub record IsAsked (found : List Row) (words : ServiceWords) : Type 0 where
   pub keep : words.keep ≡ number_or 500 (one_of (codes "keep") found)
   pub room : words.room ≡ number_or 25 (one_of (codes "room") found)
   pub children : words.children ≡ number_or 32 (one_of (codes "children") found)
+  pub clients : words.clients ≡ number_or 256 (one_of (codes "clients") found)
+  pub incoming : words.incoming ≡ number_or 900 (one_of (codes "incoming") found)
   pub level : words.level ≡ level_of found
 
 -- The values are within their limits.
@@ -93,6 +96,8 @@ pub record AreInRange (words : ServiceWords) : Type 0 where
   pub keep : words.keep ≤ 1000000
   pub room : (1 ≤ words.room) × (words.room ≤ 90)
   pub children : (1 ≤ words.children) × (words.children ≤ 1000)
+  pub clients : (1 ≤ words.clients) × (words.clients ≤ 1000)
+  pub incoming : (1 ≤ words.incoming) × (words.incoming ≤ 86400)
 
 -- `all` or `none`.
 abbrev pub IsTrust : Text → Type 0
@@ -120,6 +125,8 @@ pub record HasNumbers (m : ArgMatches) : Type 0 where
   pub keep : HasNumberIn 0 1000000 (codes "keep") m
   pub room : HasNumberIn 1 90 (codes "room") m
   pub children : HasNumberIn 1 1000 (codes "children") m
+  pub clients : HasNumberIn 1 1000 (codes "clients") m
+  pub incoming : HasNumberIn 1 86400 (codes "incoming") m
 
 -- The flags found are flags.
 pub record HasFlags (m : ArgMatches) : Type 0 where

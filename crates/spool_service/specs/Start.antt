@@ -1,5 +1,5 @@
 -- The start of the service, and its end.
-use Rattle.std.specs.Prelude.{ℕ, ◌++◌, List, Option, None, Some, Result, Ok, Err, codes}
+use Rattle.std.specs.Prelude.{ℕ, ◌*◌, ◌++◌, min, List, Option, None, Some, Result, Ok, Err, codes}
 use Rattle.std.specs.Borrow.{Bor}
 use Rattle.std.specs.declared.io.ErrorKind.{ErrorKind}
 use Rattle.std.specs.declared.io.ErrorKind.TheVariants.{OutOfMemory}
@@ -16,8 +16,8 @@ abbrev pub disk_of : List ℕ → List ℕ
 disk_of root = root ++ codes "/spool.disk"
 
 -- The settings of maintenance over a disk of `size` bytes. Each area has half of them.
-abbrev pub keeping_of : ℕ → ℕ → ℕ → Keeping
-keeping_of keep room size = record { jobs = keep; room = room; area = half size }
+abbrev pub keeping_of : ℕ → ℕ → ℕ → ℕ → Keeping
+keeping_of keep room incoming size = record { jobs = keep; room = room; area = half size; incoming = min (incoming * 1000) 18446744073709551615 }
 
 -- SOCKET, or the socket in DIR.
 abbrev pub socket_of : List ℕ → Option (Bor (List ℕ)) → List ℕ

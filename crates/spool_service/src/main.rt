@@ -1,8 +1,8 @@
 //! The service: serves a print spool to the clients of a Unix socket while children run.
 //!
 //! Arguments: `--root DIR [--listen SOCKET] [--mode MODE] [--trust TRUST] [--show-all] [--operators GROUP] [--operators-socket SOCKET]
-//! [--proofs FOLDER] [--types FILE] [--convs FILE] [--programs FILE] [--size BYTES] [--keep N] [--room PERCENT] [--children N] [--quiet]
-//! [--verbose]`, or `--help` or `--version` ([`words`]).
+//! [--proofs FOLDER] [--types FILE] [--convs FILE] [--programs FILE] [--size BYTES] [--keep N] [--room PERCENT] [--children N] [--clients N]
+//! [--incoming SECONDS] [--quiet] [--verbose]`, or `--help` or `--version` ([`words`]).
 //!
 //! # Parts
 //!
@@ -19,7 +19,8 @@
 //!   accepted first.
 //! - [`proving`]: the folder in which clients prove who they are. `user_proofs` decides by what the system reports.
 //! - [`lookups`]: names and groups of users, by getent(1) and id(1). The loop waits for them, two seconds each at most.
-//! - [`clocks`]: the system's clocks.
+//! - [`clocks`]: the steady clock, and the time of the service, which starts at the table's moment if the system's clock is before it. What
+//!   the system's clock does is logged.
 //! - [`kills`]: signals to children that must end. `/bin/sh` sends them. It has no variables, and `cat` is named by its path, so the result
 //!   does not depend on who started the service.
 //!
@@ -38,7 +39,8 @@
 //!   and `group_words`. So no name is an option or part of a script.
 //! - `SocketListener::wait` reports the readiness of each event that the system found (`push_readiness`, `readiness_of`). An accept reports
 //!   a client, none, or a failure (`accept_outcome_of`).
-//! - The clock of the loop never goes back (`never_back` of `SystemTimes::micros`).
+//! - The clock of the loop never goes back (`never_back` of `SystemTimes::micros`). The time of the service is read by `service_rules` from
+//!   the last one, the steady clock and the table's moment, whatever the system's clock shows (`read`, `value` of `SystemTimes::system`).
 //! - `command_of` returns `/bin/sh` without variables, with exactly the fixed script, the signal and the number of the child
 //!   (`arguments_of`).
 //! - Each error of the loop and of the socket is converted to one of the program (`told_as`, `at_socket`).

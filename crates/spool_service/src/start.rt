@@ -12,7 +12,7 @@ use filter_args::Place;
 use log::{Log, info};
 use mime_costs::Convs;
 use mime_rules::Types;
-use service_loop::{Keeping, Service, ServiceFault, Times};
+use service_loop::{Keeping, Limits, Service, ServiceFault, Times};
 use spool_disk::Disk;
 use spool_engine::Engine;
 use spool_runtime::{
@@ -106,17 +106,18 @@ where
     C: Children + Drop,
 {
     let keeping = keeping_of(words, disk_size(rt, words.root)?);
+    let mut times = SystemTimes::new(logged, rt);
     // The milliseconds since 1970, so that the next service does not know the numbers of this one.
-    let last_change = SystemTimes::new(rt).system().unwrap_or(0);
+    let last_change = times.system(engine.table().now()).unwrap_or(0);
     let mut service = Service::new(
         logged,
         rt.alloc(),
-        words.children,
+        limits_of(words),
         engine,
         keeping,
         last_change,
     )?;
-    serve_at_socket(logged, rt, words, &mut service)
+    serve_at_socket(logged, rt, words, &mut times, &mut service)
 }
 
 // Creates the sockets, serves their clients, and removes them when the service has ended.
@@ -124,6 +125,7 @@ fn serve_at_socket<L, D, C>(
     logged: &L,
     rt: &HostRuntime,
     words: &ServiceWords<'_>,
+    times: &mut SystemTimes<'_, L, HostRuntime>,
     service: &mut Service<'_, L, D, C, SocketListener>,
 ) -> Result<(), ShellFault>
 where
@@ -132,7 +134,7 @@ where
     C: Children + Drop,
 {
     let socket = socket_name(rt, words)?;
-    let served = listen(logged, rt, words, socket.as_str(), service);
+    let served = listen(logged, rt, words, socket.as_str(), times, service);
     remove_sockets(rt, words, socket.as_str());
     served
 }
@@ -143,6 +145,7 @@ fn listen<L, D, C>(
     rt: &HostRuntime,
     words: &ServiceWords<'_>,
     socket: &str,
+    times: &mut SystemTimes<'_, L, HostRuntime>,
     service: &mut Service<'_, L, D, C, SocketListener>,
 ) -> Result<(), ShellFault>
 where
@@ -152,11 +155,7 @@ where
 {
     let mut listener = open_listener(logged, rt, words, socket)?;
     info!(logged; "listening on {socket}");
-    let served = service.serve(
-        &mut listener,
-        &mut SystemTimes::new(rt),
-        &mut Kills::new(rt),
-    );
+    let served = service.serve(&mut listener, times, &mut Kills::new(rt));
     listener.close();
     told_as(served)
 }
@@ -177,14 +176,25 @@ fn disk_name(alloc: Global, root: &str) -> Result<String, AllocError>
     format!(in alloc; "{root}/spool.disk")
 }
 
+// Returns the limits on what the service does at once.
+fn limits_of(words: &ServiceWords<'_>) -> Limits
+    ensures { result ≡ record { children = words.now.children; clients = words.now.clients } }
+{
+    Limits {
+        children: words.children,
+        clients: words.clients,
+    }
+}
+
 // Returns the settings of maintenance over a disk of `size` bytes.
 fn keeping_of(words: &ServiceWords<'_>, size: u64) -> Keeping
-    ensures { result ≡ keeping_of words.now.keep words.now.room size }
+    ensures { result ≡ keeping_of words.now.keep words.now.room words.now.incoming size }
 {
     Keeping {
         jobs: words.keep,
         room: words.room,
         area: size / 2,
+        incoming: words.incoming.saturating_mul(1_000),
     }
 }
 

@@ -9,7 +9,9 @@ ghost use Rattle.spool_service.specs.ServiceArguments.{service_app, with_bounds,
 use clap::{ArgMatches, Command};
 use client_standing::Trust;
 use log::Level;
-use service_rules::bounds::{KEPT_JOBS, LEAST_ROOM, MOST_CHILDREN};
+use service_rules::bounds::{
+    INCOMING_SECONDS, KEPT_JOBS, LEAST_ROOM, MOST_CHILDREN, USUAL_CLIENTS,
+};
 use spool_runtime::{
     DEFAULT_SIZE, LONGEST_ROOT, WordsFault, flag_given, flag_option, long_root, mistake,
     number_given, number_option, parse, spool_command, text_option,
@@ -55,6 +57,10 @@ pub struct ServiceWords<'a> {
     pub room: u8,
     /// The most children at once.
     pub children: usize,
+    /// The most clients at once.
+    pub clients: usize,
+    /// How long an incoming job stays whose client has disconnected, in seconds.
+    pub incoming: u64,
     /// The highest level of the lines to log.
     pub level: Level,
 }
@@ -120,6 +126,8 @@ fn words_in<'a>(
         keep: number_given(matches, "keep", KEPT_JOBS as u64) as usize,
         room: number_given(matches, "room", u64::from(LEAST_ROOM)) as u8,
         children: number_given(matches, "children", MOST_CHILDREN as u64) as usize,
+        clients: number_given(matches, "clients", USUAL_CLIENTS as u64) as usize,
+        incoming: number_given(matches, "incoming", INCOMING_SECONDS),
         level: level_given(matches),
     })
 }
@@ -269,7 +277,7 @@ fn role_options<'a>(alloc: Global, command: Command<'a>) -> Result<Command<'a>, 
         ))
 }
 
-// Adds the options that limit jobs, the journal and children.
+// Adds the options that limit jobs, the journal, children and clients.
 fn bound_options<'a>(alloc: Global, command: Command<'a>) -> Result<Command<'a>, AllocError>
     ensures { IfOk result (λ more. app_of more ≡ with_bounds (app_of command.entry)) }
 {
@@ -294,5 +302,19 @@ fn bound_options<'a>(alloc: Global, command: Command<'a>) -> Result<Command<'a>,
             "N",
             (1, 1_000),
             "Run at most N filters and backends at once, 1 to 1000 [default: 32]",
+        ))?
+        .arg(number_option(
+            alloc,
+            "clients",
+            "N",
+            (1, 1_000),
+            "Serve at most N clients at once, 1 to 1000 [default: 256]",
+        ))?
+        .arg(number_option(
+            alloc,
+            "incoming",
+            "SECONDS",
+            (1, 86_400),
+            "Cancel an unfinished job SECONDS after its client has gone, 1 to 86400 [default: 900]",
         ))
 }

@@ -1,5 +1,5 @@
 //! The answers to a client's requests.
-ghost use Rattle.std.specs.Prelude.{◌≡◌, ◌||◌, ℕ, true, List, [], ◌∷◌, Option, None, OnOk};
+ghost use Rattle.std.specs.Prelude.{◌≡◌, ◌&&◌, ◌||◌, ℕ, true, List, [], ◌∷◌, Option, None, OnOk};
 ghost use Rattle.client_roles.specs.RoleTable.{is_allowed};
 ghost use Rattle.client_standing.specs.ClientStanding.{with_proof};
 ghost use Rattle.client_standing.specs.declared.caller.Proved.{Proved};
@@ -9,6 +9,10 @@ ghost use Rattle.service_loop.specs.ClientActions.{with_answer};
 ghost use Rattle.service_loop.specs.ConnectionViews.{examined, named};
 ghost use Rattle.service_loop.specs.ProofTexts.{offer_text, proof_text};
 ghost use Rattle.service_loop.specs.ShownAnswers.{shown_answer};
+ghost use Rattle.service_loop.specs.TakenRoom.{full_text, is_reserved};
+ghost use Rattle.service_rules.specs.Listeners.{may_listen};
+ghost use Rattle.service_loop.specs.AdmissionViews.{is_listener};
+ghost use Rattle.service_loop.specs.ClientListening.{BeginsAtMost, wait_for};
 ghost use Rattle.service_loop.specs.Progress.{IsMarked, as_answered, is_shutdown, is_watch};
 ghost use Rattle.service_loop.specs.ClientSteps.{GoesProving, IsAdded, IsAnswered, status_of};
 
@@ -35,8 +39,11 @@ const DONE: &[u8] = b"ok\n";
 // The reply to a request that the roles do not allow.
 const DENIED: &[u8] = b"error denied\n";
 
+// The reply to a request that would take room from the reserve of the journal.
+const FULL: &[u8] = b"error full\n";
+
 impl<L: Connection> Client<L> {
-    // Serves a request, if the roles allow it.
+    // Serves a request, if the roles allow it and it takes no room from the reserve of the journal.
     pub(super) fn answer<D: Disk, C: Children>(
         &mut self,
         shared: &mut Shared<D, C>,
@@ -47,13 +54,24 @@ impl<L: Connection> Client<L> {
         ensures done { OnOk result (IsAnswered D.device L.view shared.old.engine self.old ask shared.new.engine self.new) }
         ensures marked { IsMarked L.view self.old → IsMarked L.view self.new }
         ensures kept { self.new ≡ as_answered self.old self.new }
+        ensures listens { OnOk result (BeginsAtMost (may_listen turn.old.listening) self.old self.new) }
         ensures turn { turn.new ≡ record turn.old { served = true; shutdown = turn.new.shutdown } }
+        // A request that would take room from the reserve is answered with `error full`, and nothing is done.
+        ensures reserved { is_allowed self.old.standing shared.old.engine.run_state.spool.state ask ≡ true → is_reserved shared.old.area shared.old.engine.run_state ask ≡ true →
+            (shared.new ≡ record shared.old { full = true }) × OnOk result (IsAdded self.old full_text self.new) }
         ensures calls { GoesByCalls D.device shared.old.engine shared.new.engine }
     {
         turn.served = true;
         if !is_allowed(&self.standing, shared.engine.table(), &ask) {
             drop(ask);
             self.add(DENIED)?;
+            return Ok(());
+        }
+        if shared.is_reserved(&ask) {
+            drop(ask);
+            // Maintenance makes room.
+            shared.full = true;
+            self.add(FULL)?;
             return Ok(());
         }
         match ask {
@@ -102,7 +120,8 @@ impl<L: Connection> Client<L> {
         ensures done { OnOk result (IsAnswered D.device L.view shared.old.engine self.old (Ask.Own word) shared.new.engine self.new) }
         ensures marked { IsMarked L.view self.old → IsMarked L.view self.new }
         ensures kept { self.new ≡ as_answered self.old self.new }
-        ensures watches { OnOk result (self.new.watches ≡ (self.old.watches || is_watch word)) }
+        ensures watches { OnOk result (self.new.watches ≡ (self.old.watches || (is_watch word && (is_listener self.old || may_listen turn.old.listening)))) }
+        ensures waits { OnOk result (self.new.waits ≡ wait_for word (is_listener self.old || may_listen turn.old.listening)) }
         ensures turn { turn.new ≡ record turn.old { shutdown = turn.old.shutdown || is_shutdown word } }
         ensures calls { GoesByCalls D.device shared.old.engine shared.new.engine }
     {
@@ -112,12 +131,11 @@ impl<L: Connection> Client<L> {
             OwnWord::List(selection) => self.list(shared, &selection)?,
             OwnWord::Find(token) => self.find(shared, &token)?,
             OwnWord::Incoming => self.list_left(shared)?,
-            OwnWord::Wait(job) => self.waits = Some(job),
-            OwnWord::Watch => {
-                self.watches = true;
-                self.add(DONE)?;
-            }
-            OwnWord::WatchFrom(number) => self.watch_from(shared, number)?,
+            OwnWord::Room => self.show_room(shared)?,
+            OwnWord::Now => self.show_now(shared)?,
+            OwnWord::Wait(job) => self.wait_for(shared, job, &turn.listening)?,
+            OwnWord::Watch => self.watch(shared, &turn.listening)?,
+            OwnWord::WatchFrom(number) => self.watch_after(shared, number, &turn.listening)?,
             OwnWord::Stop(job) => self.stop_job(shared, job)?,
             OwnWord::CloseAs { job, name, media } => self.close_as(shared, job, name, media)?,
             OwnWord::End(job) => {

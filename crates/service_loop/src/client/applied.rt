@@ -3,16 +3,20 @@ ghost use Rattle.std.specs.Prelude.{◌≡◌, ℕ, List, true, None, OnOk};
 ghost use Rattle.client_reader.specs.declared.ask.Ask.{Ask};
 ghost use Rattle.client_roles.specs.RoleTable.{is_allowed};
 ghost use Rattle.event_records.specs.NumberedChanges.{NumberedChanges};
+ghost use Rattle.service_texts.specs.MeasuredTexts.{room_text};
 ghost use Rattle.service_texts.specs.Notices.{watch_text};
 ghost use Rattle.service_texts.specs.declared.own_words.OwnWord.{OwnWord};
 ghost use Rattle.service_loop.specs.ServiceCalls.{GoesByCalls};
 ghost use Rattle.service_loop.specs.Progress.{IsMarked};
 ghost use Rattle.service_loop.specs.ClientSteps.{IsAdded, IsAnswered, status_of};
+ghost use Rattle.service_loop.specs.TakenRoom.{room_for};
 
 use super::{Client, ClientFault};
 use crate::connection::Connection;
 use crate::shared::Shared;
 use child_pipeline::Children;
+use service_rules::bounds::LONGEST_DOCUMENT;
+use service_texts::push_room;
 use spool_disk::Disk;
 use spool_types::{FileName, JobId, MediaType};
 use std::alloc::AllocError;
@@ -54,6 +58,26 @@ impl<L: Connection> Client<L> {
         drop(name);
         let answer = shared.close_as(job, media)?;
         self.add_answer(shared.engine.table(), &answer)?;
+        Ok(())
+    }
+
+    // Shows the length of the longest document that is let in now. If a longer one is allowed, a checkpoint may make room for it.
+    pub(super) fn show_room<D: Disk, C: Children>(
+        &mut self,
+        shared: &mut Shared<D, C>,
+    ) -> Result<(), ClientFault>
+        requires waits { self.old.waits ≡ None }
+        requires role { is_allowed self.old.standing shared.old.engine.run_state.spool.state (Ask.Own OwnWord.Room) ≡ true }
+        ensures done { OnOk result (IsAnswered D.device L.view shared.old.engine self.old (Ask.Own OwnWord.Room) shared.new.engine self.new) }
+        ensures shown { OnOk result (IsAdded self.old (room_text (room_for shared.old.area shared.old.engine.run_state)) self.new) }
+        ensures marked { IsMarked L.view self.old → IsMarked L.view self.new }
+        ensures kept { self.new ≡ record self.old { replies = self.new.replies } }
+        ensures engine { shared.new ≡ record shared.old { full = shared.new.full } }
+        ensures calls { GoesByCalls D.device shared.old.engine shared.new.engine }
+    {
+        let bytes = shared.room_for_document();
+        shared.full = shared.full | (bytes < LONGEST_DOCUMENT);
+        push_room(&mut self.replies, bytes)?;
         Ok(())
     }
 

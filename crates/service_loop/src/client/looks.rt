@@ -4,15 +4,17 @@ ghost use Rattle.event_records.specs.SeenTimes.{job_times, queue_time};
 ghost use Rattle.service_texts.specs.FoundTexts.{found_text};
 ghost use Rattle.service_texts.specs.LeftJobs.{incoming_text};
 ghost use Rattle.service_texts.specs.Listings.{listed_text};
+ghost use Rattle.service_texts.specs.MeasuredTexts.{now_text};
 ghost use Rattle.service_texts.specs.QueueShown.{IsShownQueue};
 ghost use Rattle.service_texts.specs.Shown.{shown_job};
+ghost use Rattle.service_loop.specs.ClientActions.{moment_of};
 ghost use Rattle.service_loop.specs.ClientSteps.{IsAdded, status_of};
 
 use super::Client;
 use crate::connection::Connection;
 use crate::shared::Shared;
 use child_pipeline::Children;
-use service_texts::{Selection, TokenText, listed_text, shown_job, shown_queue};
+use service_texts::{Selection, TokenText, listed_text, push_now, shown_job, shown_queue};
 use spool_disk::Disk;
 use spool_types::{JobId, QueueName};
 use std::alloc::AllocError;
@@ -88,6 +90,19 @@ impl<L: Connection> Client<L> {
             .tokens
             .found_text(alloc, shared.engine.table(), token)?;
         self.add(&text)
+    }
+
+    // Shows the moment of the service, or that of the table if the clock cannot be read.
+    pub(super) fn show_now<D: Disk, C: Children>(
+        &mut self,
+        shared: &Shared<D, C>,
+    ) -> Result<(), AllocError>
+        ensures shown { OnOk result (IsAdded self.old (now_text (moment_of shared.now.records.now shared.now.engine.run_state.spool.state)) self.new) }
+        ensures status { status_of self.new ≡ status_of self.old }
+        ensures kept { self.new ≡ record self.old { replies = self.new.replies } }
+    {
+        let table = shared.engine.table().now();
+        push_now(&mut self.replies, shared.records.now.unwrap_or(table).get())
     }
 
     // Lists the incoming jobs whose clients have disconnected, with their age.

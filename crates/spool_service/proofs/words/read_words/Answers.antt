@@ -16,6 +16,8 @@ has_numbers m pass = record {
   keep = has_number service_app m (codes "keep") 0 1000000 pass (λ none. cc) (refl, refl);
   room = has_number service_app m (codes "room") 1 90 pass (λ none. cc) (refl, refl);
   children = has_number service_app m (codes "children") 1 1000 pass (λ none. cc) (refl, refl);
+  clients = has_number service_app m (codes "clients") 1 1000 pass (λ none. cc) (refl, refl);
+  incoming = has_number service_app m (codes "incoming") 1 86400 pass (λ none. cc) (refl, refl);
 }
 
 has_flags : (m : ArgMatches) → PassParsers service_app m → HasFlags m

@@ -112,6 +112,8 @@ returns-clause-asked c =
       keep = c.number_given-2.ensures.number;
       room = c.number_given-3.ensures.number ∙ ap (λ (n : ℕ). number_or n (one_of (codes "room") (rows_of f))) usual;
       children = c.number_given-4.ensures.number;
+      clients = c.number_given-5.ensures.number;
+      incoming = c.number_given-6.ensures.number;
       level = c.level_given.ensures;
     }
 
@@ -127,6 +129,8 @@ returns-clause-in_range c =
       keep = (c.number_given-2.ensures.in_range 0 1000000 c.requires.numbers.keep (omega arith) (omega arith)).1;
       room = c.number_given-3.ensures.in_range 1 90 c.requires.numbers.room (omega (arith, usual)) (omega (arith, usual));
       children = c.number_given-4.ensures.in_range 1 1000 c.requires.numbers.children (omega arith) (omega arith);
+      clients = c.number_given-5.ensures.in_range 1 1000 c.requires.numbers.clients (omega arith) (omega arith);
+      incoming = c.number_given-6.ensures.in_range 1 86400 c.requires.numbers.incoming (omega arith) (omega arith);
     }
 
 pub returns-clause-fit : goal.returns-clause-fit

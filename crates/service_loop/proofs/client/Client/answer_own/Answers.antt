@@ -1,18 +1,18 @@
 -- One action: the answer to the word, over the table.
-use Rattle.std.proofs.Common.{◌≡◌, ◌⊎◌, true, ℕ, List, Bor, refl, ap, sym, inl, inr, [], codes, subst}
+use Rattle.std.proofs.Common.{◌≡◌, ◌⊎◌, true, ℕ, List, Bor, refl, ap, sym, inl, inr, codes, subst}
 use Rattle.event_records.specs.SeenTimes.{job_times, queue_time}
 use Rattle.service_texts.specs.FoundTexts.{found_text}
 use Rattle.service_texts.specs.LeftJobs.{incoming_text}
 use Rattle.service_texts.specs.Listings.{listed_text}
+use Rattle.service_texts.specs.MeasuredTexts.{now_text}
 use Rattle.service_texts.specs.Shown.{shown_job}
 use Rattle.client_roles.specs.RoleTable.{is_allowed}
 use Rattle.client_reader.specs.declared.ask.Ask.TheVariants as asking
-use Rattle.service_texts.specs.Notices.{watch_text}
 use Rattle.service_texts.specs.declared.own_words.OwnWord.{OwnWord}
 use Rattle.service_texts.specs.declared.own_words.OwnWord.TheVariants as words
-use Rattle.service_loop.specs.ClientActions.{IsSaid}
+use Rattle.service_loop.specs.ClientActions.{IsSaid, moment_of}
 use Rattle.service_loop.specs.ClientSteps.{IsAnswered}
-use Rattle.service_loop.proofs.ClientStepLaws.{added_none, answered_by_offer, answered_by_proof, answered_by_word}
+use Rattle.service_loop.proofs.ClientStepLaws.{answered_by_offer, answered_by_proof, answered_by_word}
 use Rattle.service_loop.proofs.client.Client.answer_own.Goals as goal
 use Rattle.service_loop.proofs.client.Client.answer_own.Goals.{then-ends, else-ends}
 
@@ -60,13 +60,38 @@ returns-in_ok-list_left-in-Incoming-clause-done g c =
     let said : IsSaid c.args.self.now.standing s c.args.word text = (rw c.in-Incoming.is (now, left, refl)) in
     answered_by_word _ _ _ _ _ c.args.word text c.requires.role said e.shown c.requires.waits (rw c.in-Incoming.is (sym e.status))
 
-pub returns-in_ok-watch_from-in-WatchFrom-clause-done : goal.returns-in_ok-watch_from-in-WatchFrom-clause-done
-returns-in_ok-watch_from-in-WatchFrom-clause-done g c =
-    let e = c.in_ok-watch_from-in-WatchFrom.ensures in
+pub returns-in_ok-show_room-in-Room-clause-done : goal.returns-in_ok-show_room-in-Room-clause-done
+returns-in_ok-show_room-in-Room-clause-done g c = (rw c.in-Room.is c.in_ok-show_room-in-Room.ensures.done)
+
+pub show_room-requires-clause-role : goal.show_room-requires-clause-role
+show_room-requires-clause-role g c = subst (λ (word : OwnWord). is_allowed c.args.self.now.standing c.args.shared.now.engine.run_state.spool.state (asking.Own word) ≡ true) c.in-Room.is c.requires.role
+
+pub returns-in_ok-show_now-in-Now-clause-done : goal.returns-in_ok-show_now-in-Now-clause-done
+returns-in_ok-show_now-in-Now-clause-done g c =
+    let e = c.in_ok-show_now-in-Now.ensures in
     let s = c.args.shared.now.engine.run_state.spool.state in
-    let text = watch_text c.args.self.now.standing s e.added.0 c.in-WatchFrom.number in
-    let said : IsSaid c.args.self.now.standing s c.args.word text = (rw c.in-WatchFrom.is (e.added.0, refl)) in
-    answered_by_word _ _ _ _ _ c.args.word text c.requires.role said e.added.1 c.requires.waits (rw c.in-WatchFrom.is (sym e.status))
+    let now = c.args.shared.now.records.now in
+    let text = now_text (moment_of now s) in
+    let said : IsSaid c.args.self.now.standing s c.args.word text = (rw c.in-Now.is (now, refl)) in
+    answered_by_word _ _ _ _ _ c.args.word text c.requires.role said e.shown c.requires.waits (rw c.in-Now.is (sym e.status))
+
+pub returns-in_ok-wait_for-in-Wait-clause-done : goal.returns-in_ok-wait_for-in-Wait-clause-done
+returns-in_ok-wait_for-in-Wait-clause-done g c = (rw c.in-Wait.is c.in_ok-wait_for-in-Wait.ensures.done)
+
+pub wait_for-requires-clause-role : goal.wait_for-requires-clause-role
+wait_for-requires-clause-role g c = subst (λ (word : OwnWord). is_allowed c.args.self.now.standing c.args.shared.now.engine.run_state.spool.state (asking.Own word) ≡ true) c.in-Wait.is c.requires.role
+
+pub returns-in_ok-watch-in-Watch-clause-done : goal.returns-in_ok-watch-in-Watch-clause-done
+returns-in_ok-watch-in-Watch-clause-done g c = (rw c.in-Watch.is c.in_ok-watch-in-Watch.ensures.done)
+
+pub watch-requires-clause-role : goal.watch-requires-clause-role
+watch-requires-clause-role g c = subst (λ (word : OwnWord). is_allowed c.args.self.now.standing c.args.shared.now.engine.run_state.spool.state (asking.Own word) ≡ true) c.in-Watch.is c.requires.role
+
+pub returns-in_ok-watch_after-in-WatchFrom-clause-done : goal.returns-in_ok-watch_after-in-WatchFrom-clause-done
+returns-in_ok-watch_after-in-WatchFrom-clause-done g c = (rw c.in-WatchFrom.is c.in_ok-watch_after-in-WatchFrom.ensures.done)
+
+pub watch_after-requires-clause-role : goal.watch_after-requires-clause-role
+watch_after-requires-clause-role g c = subst (λ (word : OwnWord). is_allowed c.args.self.now.standing c.args.shared.now.engine.run_state.spool.state (asking.Own word) ≡ true) c.in-WatchFrom.is c.requires.role
 
 pub returns-in_ok-stop_job-in-Stop-clause-done : goal.returns-in_ok-stop_job-in-Stop-clause-done
 returns-in_ok-stop_job-in-Stop-clause-done g c = (rw c.in-Stop.is c.in_ok-stop_job-in-Stop.ensures.done)
@@ -79,17 +104,6 @@ stop_job-requires-clause-role g c = subst (λ (word : OwnWord). is_allowed c.arg
 
 pub close_as-requires-clause-role : goal.close_as-requires-clause-role
 close_as-requires-clause-role g c = subst (λ (word : OwnWord). is_allowed c.args.self.now.standing c.args.shared.now.engine.run_state.spool.state (asking.Own word) ≡ true) c.in-CloseAs.is c.requires.role
-
-pub returns-in-Wait-clause-done : goal.returns-in-Wait-clause-done
-returns-in-Wait-clause-done g c =
-    let said : IsSaid c.args.self.now.standing c.args.shared.now.engine.run_state.spool.state c.args.word [] = (rw c.in-Wait.is refl) in
-    answered_by_word _ _ _ _ _ c.args.word [] c.requires.role said (added_none _ _ refl refl refl refl) c.requires.waits (rw c.in-Wait.is refl)
-
-pub returns-in_ok-add-in-Watch-clause-done : goal.returns-in_ok-add-in-Watch-clause-done
-returns-in_ok-add-in-Watch-clause-done g c =
-    let said : IsSaid c.args.self.now.standing c.args.shared.now.engine.run_state.spool.state c.args.word (codes "ok\n") = (rw c.in-Watch.is refl) in
-    let added = c.in_ok-add-in-Watch.ensures.added in
-    answered_by_word _ _ _ _ _ c.args.word (codes "ok\n") c.requires.role said (record { connection = added.connection; reader = added.reader; taken = added.taken; replies = added.replies }) c.requires.waits (rw c.in-Watch.is (sym c.in_ok-add-in-Watch.ensures.status))
 
 pub returns-in_ok-add-in-End-clause-done : goal.returns-in_ok-add-in-End-clause-done
 returns-in_ok-add-in-End-clause-done g c =

@@ -8,7 +8,7 @@ returns-in_ok-take-in-Ok-clause-goes g c =
     goes_read _ _ (take c.in-Ok.count c.read_of.new.piece) _ (record {
       consumed = c.in-Ok.ensures.bytes.0;
       kept = c.in-Ok.ensures.kept;
-      took = c.in_ok-take-in-Ok.ensures;
+      took = c.in_ok-take-in-Ok.ensures.awaits;
       taken = refl;
       replies = refl;
     }) c.in-Ok.ensures.proofs

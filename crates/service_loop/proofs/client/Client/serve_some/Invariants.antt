@@ -1,6 +1,8 @@
 -- The actions so far.
 use Rattle.std.proofs.Common.{◌≡◌, ◌≤◌, true, false}
+use Rattle.service_rules.specs.Listeners.{may_listen}
 use Rattle.service_loop.specs.ServiceCalls.{GoesByCalls}
+use Rattle.service_loop.specs.ClientListening.{BeginsAtMost}
 use Rattle.service_loop.specs.Progress.{IsMarked}
 use Rattle.service_loop.proofs.ClientStepLaws.{Stepped}
 use Rattle.service_loop.proofs.client.Client.serve_some.Given as goal
@@ -14,4 +16,6 @@ invariant-loop g l = record {
   is_backlogged : l.turn.is_backlogged ≡ false;
   more : l.turn.more ≡ true;
   disconnect : l.turn.disconnect ≡ l.fn.turn.disconnect;
+  listening : l.turn.listening ≡ l.fn.turn.listening;
+  listens : BeginsAtMost (may_listen l.fn.turn.listening) l.fn.self l.self;
 }

@@ -7,7 +7,9 @@ use Rattle.service_loop.proofs.client.Client.step.Goals as goal
 pub returns-in_ok-answer-in-Asked-clause-client_step : goal.returns-in_ok-answer-in-Asked-clause-client_step
 returns-in_ok-answer-in-Asked-clause-client_step g c =
     let asked = (rw c.in-Asked.is at c.in_ok-ask.ensures.next) in
-    stepped_then _ _ _ _ _ _ _ _ c.in_ok-has_reported_end.ensures.client_step (step_answered _ _ _ _ _ _ _ _ asked c.in_ok-ask.ensures.status c.in_ok-answer-in-Asked.ensures.done)
+    stepped_then _ _ _ _ _ _ _ _ c.in_ok-has_reported_end.ensures.client_step
+    (stepped_then _ _ _ _ _ _ _ _ (step_answered _ _ _ _ _ _ _ _ asked c.in_ok-ask.ensures.status c.in_ok-answer-in-Asked.ensures.done)
+    (step_none _ _ _ _ _ c.note_heard.ensures.goes c.note_heard.ensures.status))
 
 pub returns-in-Again-clause-client_step : goal.returns-in-Again-clause-client_step
 returns-in-Again-clause-client_step g c =

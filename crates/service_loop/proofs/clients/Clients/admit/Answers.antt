@@ -26,29 +26,29 @@ one_gone : {L : Type 0} (admission : Admission) (old left removed : Slab (Client
 one_gone {L} admission old left removed key is same updates =
     subst (λ (a : Admission). HasGone a old left) (sym is) (subst (λ (s : Slab (Client L)). Updates old s key None) (sym same) updates)
 
-admits : {L : Type 0} (view : ConnectionView L) (connection : L) (now : ℕ) (old left new : Slab (Client L)) (clients : List Heard) (admission : Admission) → IsAdmission clients now admission →
-    clients ≡ heard_of old → HasGone admission old left → IsEntered view connection left new → HasAdmitted view connection now old new
-admits view connection now old left new clients admission is listed gone entered =
-    inr (admission, subst (λ (l : List Heard). IsAdmission l now admission) listed is, record { left = left; gone = gone; entered = entered })
+admits : {L : Type 0} (view : ConnectionView L) (places : ℕ) (connection : L) (now : ℕ) (old left new : Slab (Client L)) (clients : List Heard) (admission : Admission) → IsAdmission places clients now admission →
+    clients ≡ heard_of old → HasGone admission old left → IsEntered view connection left new → HasAdmitted view places connection now old new
+admits view places connection now old left new clients admission is listed gone entered =
+    inr (admission, subst (λ (l : List Heard). IsAdmission places l now admission) listed is, record { left = left; gone = gone; entered = entered })
 
 pub returns-in_err-enter-clause-admitted : goal.returns-in_err-enter-clause-admitted
 returns-in_err-enter-clause-admitted g c =
-    admits g.L.Connection.view c.args.connection c.args.now c.args.self.now.slots c.match-admission.self.slots c.enter.new.self.slots c.deref.result.now c.admit-admission.result c.admit-admission.ensures
+    admits g.L.Connection.view c.args.self.now.places c.args.connection c.args.now c.args.self.now.slots c.match-admission.self.slots c.enter.new.self.slots c.deref.result.now c.admit-admission.result c.admit-admission.ensures
     (c.deref.ensures.value ∙ c.in_ok-list_heard.ensures)
     (elim c.match-admission.branch [
       | in-Free w ↦ none_gone c.admit-admission.result c.args.self.now.slots c.match-admission.self.slots w.in-Free.is (ap (λ s. s.slots) w.self-is)
       | in-InsteadOf+in-Some-1 w ↦ one_gone c.admit-admission.result c.args.self.now.slots c.match-admission.self.slots w.try_remove.new.self w.in-InsteadOf.key w.in-InsteadOf.is (ap (λ s. s.slots) w.self-is) w.try_remove.ensures.updates
       | in-InsteadOf+in-None-1 w ↦ one_gone c.admit-admission.result c.args.self.now.slots c.match-admission.self.slots w.try_remove.new.self w.in-InsteadOf.key w.in-InsteadOf.is (ap (λ s. s.slots) w.self-is) w.try_remove.ensures.updates
     ])
-    c.enter.ensures
+    c.enter.ensures.entered
 
 pub returns-clause-admitted : goal.returns-clause-admitted
 returns-clause-admitted g c =
-    admits g.L.Connection.view c.args.connection c.args.now c.args.self.now.slots c.match-admission.self.slots c.enter.new.self.slots c.deref.result.now c.admit-admission.result c.admit-admission.ensures
+    admits g.L.Connection.view c.args.self.now.places c.args.connection c.args.now c.args.self.now.slots c.match-admission.self.slots c.enter.new.self.slots c.deref.result.now c.admit-admission.result c.admit-admission.ensures
     (c.deref.ensures.value ∙ c.in_ok-list_heard.ensures)
     (elim c.match-admission.branch [
       | in-Free w ↦ none_gone c.admit-admission.result c.args.self.now.slots c.match-admission.self.slots w.in-Free.is (ap (λ s. s.slots) w.self-is)
       | in-InsteadOf+in-Some-1 w ↦ one_gone c.admit-admission.result c.args.self.now.slots c.match-admission.self.slots w.try_remove.new.self w.in-InsteadOf.key w.in-InsteadOf.is (ap (λ s. s.slots) w.self-is) w.try_remove.ensures.updates
       | in-InsteadOf+in-None-1 w ↦ one_gone c.admit-admission.result c.args.self.now.slots c.match-admission.self.slots w.try_remove.new.self w.in-InsteadOf.key w.in-InsteadOf.is (ap (λ s. s.slots) w.self-is) w.try_remove.ensures.updates
     ])
-    c.enter.ensures
+    c.enter.ensures.entered

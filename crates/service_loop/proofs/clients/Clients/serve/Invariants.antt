@@ -1,6 +1,8 @@
 -- The slots below this one had their turns, and at most one client left for each of them.
 use Rattle.std.proofs.Common.{◌≡◌, ◌<◌, ◌≤◌, ℕ, false, IfSome}
 use Rattle.slab.specs.Slab.{get}
+use Rattle.service_rules.specs.Listeners.{most_listeners}
+use Rattle.service_loop.specs.ClientListening.{listeners_below}
 use Rattle.service_loop.specs.ClientSlots.{HasNoneNow, HaveTurns}
 use Rattle.service_loop.specs.Progress.{IsGiven}
 use Rattle.service_loop.proofs.clients.Clients.serve.Given as goal
@@ -10,5 +12,8 @@ invariant-loop-key g l = record {
   starved : l.turns.starved ≤ l.key;
   turns : HaveTurns g.D.Disk.device g.L.Connection.view l.fn.shared.engine l.fn.self.slots l.key l.shared.engine l.self.slots;
   given : (key : ℕ) → key < l.key → IfSome (get l.self.slots key) IsGiven;
+  counted : l.self.listeners ≡ listeners_below l.self.slots 1000;
+  few : listeners_below l.fn.self.slots 1000 ≤ most_listeners l.fn.self.places → l.self.listeners ≤ most_listeners l.fn.self.places;
+  places : l.self.places ≡ l.fn.self.places;
   rests : l.turns.more ≡ false → (key : ℕ) → key < l.key → IfSome (get l.self.slots key) HasNoneNow;
 }

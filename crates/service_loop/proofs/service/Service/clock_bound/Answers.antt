@@ -1,7 +1,6 @@
 -- The clock, if it reports its last result, has reported the result that was used.
-use Rattle.std.proofs.Common.{◌≡◌, Option, ℕ, sym, subst}
+use Rattle.std.proofs.Common.{Option, ℕ}
 use Rattle.std.proofs.lemmas.Option.{IfSome_then}
-use Rattle.service_loop.specs.LoopWaits.{clock_bound}
 use Rattle.service_loop.proofs.WaitLaws.{clock_bound_by, maintenance_wait_by}
 use Rattle.service_loop.proofs.service.Service.clock_bound.Goals as goal
 

@@ -5,5 +5,5 @@ use Rattle.service_loop.proofs.service.Service.serve_clients.Goals as goal
 
 pub returns-clause-history : goal.returns-clause-history
 returns-clause-history g c =
-    history_kept _ _ _ _ _ _ _ _ (history_turns _ _ _ _ 64 _ _ c.serve-turns.ensures.turns) (ap (λ s. s.engine) c.end_children.ensures ∙ c.handle_turns.ensures.engine)
+    history_kept _ _ _ _ _ _ _ _ (history_turns _ _ _ _ 1000 _ _ c.serve-turns.ensures.turns) (ap (λ s. s.engine) c.end_children.ensures ∙ c.handle_turns.ensures.engine)
     (ap (λ s. s.slots) c.handle_turns.ensures.clients)
