@@ -1,3 +1,4 @@
 pub mod Half
+pub mod Replaced
 pub mod Tellable
 pub mod Writing

@@ -7,7 +7,8 @@
 //!
 //! - [`Half::takes`] returns exactly whether the half has a queue (`takes`). Each name is in one half and not in the other.
 //! - [`are_queues`] and [`are_jobs`] return true only if the rows are exactly those of the whole that the half takes, in order.
-//!   They compare the encodings of two rows; a row has only one encoding (`one_row` of `event_codec`).
+//!   They compare the encodings of two rows; a row has only one encoding (`one_row` of `event_codec`). [`are_queues_with`] does the
+//!   same for all queues, with one row in place of the one with its name (`replaced`).
 //! - [`begin`] and the steps of a [`Writing`] may be called in order (`may`, `MayWrite`). [`Writing::put_queue`],
 //!   [`Writing::put_job`] and [`Writing::put_row`] add exactly the record of the row, after those that were added before it
 //!   (`added`, `AddsRows` of `listing_rows`). If it does not fit, they fail with [`HalfFault::Full`]. After
@@ -35,5 +36,5 @@ mod writing;
 
 pub use fault::HalfFault;
 pub use half::Half;
-pub use rows::{are_jobs, are_queues};
+pub use rows::{are_jobs, are_queues, are_queues_with};
 pub use writing::{Writing, begin};

@@ -7,6 +7,7 @@ ghost use Rattle.spool_types.specs.declared.listing.Row.{Row as RowOf};
 ghost use Rattle.spool_types.specs.declared.version.Version.TheVariants.{Two};
 ghost use Rattle.event_codec.specs.RowSpelling.{row_spelling, IsOrderedQueue, IsRowSpellable};
 ghost use Rattle.split_rows.specs.Half.{takes};
+ghost use Rattle.split_rows.specs.Replaced.{replaced};
 ghost use Rattle.split_rows.specs.Tellable.{IsTellable, jobs_in};
 
 use crate::half::Half;
@@ -40,6 +41,49 @@ pub fn are_queues(
         }
     }
     Ok(at == part.len())
+}
+
+/// Returns whether the part has exactly the queues of the whole, in order, with this row in place of the one with its name.
+pub fn are_queues_with(
+    alloc: Global,
+    whole: &[QueueRow],
+    part: &[QueueRow],
+    row: &QueueRow,
+) -> Result<bool, AllocError>
+    requires whole { AllByRecursion IsOrderedQueue whole.now }
+    requires part { AllByRecursion IsOrderedQueue part.now }
+    requires row { IsOrderedQueue row.now }
+    ensures { IfOk result (λ are. IsTrue are → part.now ≡ map (replaced row.now) whole.now) }
+{
+    if whole.len() != part.len() {
+        return Ok(false);
+    }
+    for at in 0..whole.len() {
+        let same = is_replaced(alloc, &whole[at], &part[at], row)?;
+        if !same {
+            return Ok(false);
+        }
+    }
+    Ok(true)
+}
+
+// Returns whether the other row is the queue's, or the given one if that has its name.
+fn is_replaced(
+    alloc: Global,
+    queue: &QueueRow,
+    other: &QueueRow,
+    row: &QueueRow,
+) -> Result<bool, AllocError>
+    requires queue { IsOrderedQueue queue.now }
+    requires other { IsOrderedQueue other.now }
+    requires row { IsOrderedQueue row.now }
+    ensures { IfOk result (λ same. IsTrue same → other.now ≡ replaced row.now queue.now) }
+{
+    if queue.name == row.name {
+        is_same_queue(alloc, row, other)
+    } else {
+        is_same_queue(alloc, queue, other)
+    }
 }
 
 /// Returns whether the part has exactly the jobs of the half, in order. Documents are not compared.

@@ -6,7 +6,7 @@ use Rattle.clap.specs.declared.builder.value_parser.ValueParser.{ValueParser}
 use Rattle.clap.specs.declared.builder.value_parser.ValueParser.TheVariants.{NonEmptyString}
 use Rattle.spool_runtime.specs.ProgramArguments.{number_of, versioned_app}
 use Rattle.spool_admin.specs.declared.words.Asked.{Asked}
-use Rattle.spool_admin.specs.declared.words.Asked.TheVariants.{Grow, Look, Split}
+use Rattle.spool_admin.specs.declared.words.Asked.TheVariants.{Grow, Look, Remove, Set, Split}
 
 -- A positional argument.
 abbrev pub placed : Text → ValueParser → Rule
@@ -35,18 +35,24 @@ abbrev pub IsLook : Text → List Text → Asked → Type 0
 IsLook dir rest (Look d) = (d.now ≡ dir) × (rest ≡ [])
 IsLook dir rest (Grow d size) = ⊥
 IsLook dir rest (Split s) = ⊥
+IsLook dir rest (Set words) = ⊥
+IsLook dir rest (Remove words) = ⊥
 
 -- A length that a file may have.
 abbrev pub IsGrow : Text → List Text → Asked → Type 0
 IsGrow dir rest (Look d) = ⊥
 IsGrow dir rest (Grow d size) = (d.now ≡ dir) × ((text : Text) × (rest ≡ text ∷ []) × IsUnsignedIn 4096 1073741824 text × (size ≡ number_of text))
 IsGrow dir rest (Split s) = ⊥
+IsGrow dir rest (Set words) = ⊥
+IsGrow dir rest (Remove words) = ⊥
 
 -- Another folder, and at least one queue.
 abbrev pub IsSplit : Text → List Text → Asked → Type 0
 IsSplit dir rest (Look d) = ⊥
 IsSplit dir rest (Grow d size) = ⊥
 IsSplit dir rest (Split s) = (s.from.now ≡ dir) × (rest ≡ s.into.now ∷ map (λ queue. queue.now) s.queues.items) × (0 < length s.queues.items)
+IsSplit dir rest (Set words) = ⊥
+IsSplit dir rest (Remove words) = ⊥
 
 abbrev pub IsFor : Text → Text → List Text → Asked → Type 0
 IsFor task dir rest asked =

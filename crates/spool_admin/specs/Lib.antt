@@ -5,3 +5,6 @@ pub mod AdminFaults
 pub mod HalfImages
 pub mod Record
 pub mod AdminArguments
+pub mod QueueArguments
+pub mod QueueEdit
+pub mod AdminForms

@@ -3,11 +3,12 @@ ghost use Rattle.std.specs.Prelude.{◌≡◌, OnErr, OnOk};
 ghost use Rattle.std.specs.Process.{exit_status};
 ghost use Rattle.spool_runtime.specs.ProgramFaults.{of_opening};
 ghost use Rattle.spool_runtime.specs.declared.fault.ShellFault.TheVariants.{Memory};
-ghost use Rattle.spool_admin.specs.AdminFaults.{of_checkpoint, of_half};
+ghost use Rattle.spool_admin.specs.AdminFaults.{of_checkpoint, of_edit, of_half, of_refusal};
 ghost use Rattle.spool_admin.specs.declared.fault.AdminFault.TheVariants.{Shell};
 
+use queue_edits::EditRefusal;
 use spool_core::{CheckpointFault, OpenFault};
-use spool_halves::HalfFault;
+use spool_halves::{EditFault, HalfFault};
 use spool_runtime::{DiskCause, ShellFault, report_end};
 use std::alloc::AllocError;
 use std::process::ExitCode;
@@ -31,6 +32,18 @@ pub enum AdminFault {
     /// The spool has no queue with this name.
     #[error("queue")]
     Queue,
+    /// A job of the queue has not ended.
+    #[error("jobs of the queue have not ended")]
+    Unended,
+    /// A job of the queue has ended and would be removed.
+    #[error("the queue has ended jobs, which --purge removes")]
+    Ended,
+    /// The URI is not that of a device.
+    #[error("the URI is not that of a device")]
+    BadUri,
+    /// The media type is not one.
+    #[error("the type is not a media type")]
+    BadMedia,
     /// The folder for the part already has a spool.
     #[error("taken")]
     Taken,
@@ -63,6 +76,31 @@ impl From<HalfFault> for AdminFault {
             HalfFault::Memory => AdminFault::Shell(ShellFault::Memory),
             HalfFault::Full => AdminFault::Full,
             HalfFault::Disk => AdminFault::Shell(ShellFault::Disk(DiskCause::Failed)),
+        }
+    }
+}
+
+impl From<EditRefusal> for AdminFault {
+    ghost from_gives = { λ refusal told. told ≡ of_refusal refusal };
+
+    fn from(refusal: EditRefusal) -> AdminFault {
+        match refusal {
+            EditRefusal::NoQueue => AdminFault::Queue,
+            EditRefusal::Unended => AdminFault::Unended,
+            EditRefusal::Ended => AdminFault::Ended,
+        }
+    }
+}
+
+impl From<EditFault> for AdminFault {
+    ghost from_gives = { λ fault told. told ≡ of_edit fault };
+
+    fn from(fault: EditFault) -> AdminFault {
+        match fault {
+            EditFault::Refused(refusal) => AdminFault::from(refusal),
+            EditFault::Memory => AdminFault::Shell(ShellFault::Memory),
+            EditFault::Full => AdminFault::Full,
+            EditFault::Disk => AdminFault::Shell(ShellFault::Disk(DiskCause::Failed)),
         }
     }
 }

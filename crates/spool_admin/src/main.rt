@@ -1,8 +1,9 @@
-//! Administers a spool that no other program has open: shows how full it is, enlarges its file, or splits it by queues.
+//! Administers a spool that no other program has open: shows how full it is, enlarges its file, splits it by queues, or changes or
+//! removes a queue.
 //!
-//! Words: `look DIR`, `grow DIR BYTES` or `split DIR INTO QUEUE..` ([`words`]). The spool is the file `DIR/spool.disk`. No other
-//! program may have the folder open meanwhile. `grow` and `split` reject a file with a second name. The new files get the owner
-//! and the mode of the old one.
+//! Words: `look DIR`, `grow DIR BYTES` or `split DIR INTO QUEUE..` ([`words`]), `queue set DIR NAME` with options, or
+//! `queue remove DIR NAME` ([`queue_words`]). The spool is the file `DIR/spool.disk`. No other program may have the folder open
+//! meanwhile. All but `look` reject a file with a second name. The new files get the owner and the mode of the old one.
 //!
 //! # look
 //!
@@ -42,10 +43,28 @@
 //! If a call was killed, a later call with the same words continues: from step 4 if `spool.rest` is gone; otherwise it removes
 //! the new files and begins again. Until then other words are rejected.
 //!
+//! # queue
+//!
+//! `queue set` gives fields of a queue other values, and `queue remove` removes a queue, with its ended jobs if `--purge` is given
+//! ([`queue`], [`edit`]). The old file is never written to.
+//!
+//! 1. Load the old spool. If the edit is refused (`queue_edits`), end without a change.
+//! 2. Create a file of zeros with the old length under the name of an unfinished one, as `grow` does.
+//! 3. Write the rows of the edited table with all documents to it, read it back and compare it (`spool_halves`). The new file is
+//!    synced then.
+//! 4. Rename it to the old file's name, and sync the folder.
+//!
+//! If the program is killed at any moment, the name refers to the old or to the new spool, complete. The next `queue` or `grow`
+//! removes an unfinished file.
+//!
 //! # Promises
 //!
-//! - [`read_words`] returns what clap's definition of the command finds in the words (`asked`). It rejects them exactly if clap
-//!   finds an error or they are not those of a task (`taken`).
+//! - [`read_words`] returns what clap's definition of the command of their form finds in the words (`asked`). It rejects them
+//!   exactly if clap finds an error or they are not those of a task (`taken`).
+//! - [`change::change_in`] returns exactly the values of the words (`IsChangeOf`).
+//! - [`edit::list_edited`]: afterwards a crash leaves exactly the edited table (`edited`, `after_edit`), and each job that has not
+//!   ended has the document of the old disk (`documents`). The edit was allowed (`allowed`). The new disk is synced (`synced`), and
+//!   nothing changes on the old one (`state`, `still`). [`edit::refusal_of`] returns exactly why an edit is refused.
 //! - [`found::find`] changes nothing on the disk (`still`), and returns the current area of its bytes (`area`, `HasArea`) and the
 //!   number of queues and jobs of their table (`counts`, `HasCounts`). A fault of the bytes is theirs (`fault`).
 //! - [`copying::copy`] leaves exactly the copied bytes at the beginning of the target, and changes nothing else (`copied`,
@@ -64,6 +83,8 @@
 //!
 //! # Not proved
 //!
+//! - That an edit is one step. `list_edited` is proved for every disk and every table. `tests/queue_set.py` shows that a kill at any
+//!   moment leaves the old file or the new one, and that the same command then ends with the new one.
 //! - That a split and a growth are one step each. `list_halves` is proved for every disk and every table, `list` for every disk.
 //!   No clause covers files, their names and the moments between their changes. The code of `split` and `tests/split.py` show:
 //!   `part` is INTO's file and `rest` is FROM's; a kill at any moment leaves either the old spool, with none in INTO, or each job
@@ -78,12 +99,18 @@
 //!
 //! Status 0, 1 and 2, and the lines on standard error, are those of `spool_runtime`. In addition to its errors: `smaller`, if
 //! BYTES is less than the length of the file; `full`, if the table, or a half of it, does not fit into half of the file; `queue`,
-//! if the spool has no such queue; `taken`, if INTO has a spool; `unfinished`, if a split with other words is not finished; and
+//! if the spool has no such queue; the sentences of [`fault`] if the jobs of the queue or a value forbid the
+//! edit; `taken`, if INTO has a spool; `unfinished`, if a split with other words is not finished; and
 //! `epoch-end`, if the spool has the greatest epoch. After an error the old spool exists unchanged, unless the last sync of the
 //! folder failed: then the new file already has the name.
 #![tactic(auto)]
 
+ghost use Rattle.spool_admin.specs.AdminForms.{IsInRange};
+ghost use Rattle.spool_admin.specs.QueueArguments.{AreInRange};
+
+mod change;
 mod copying;
+mod edit;
 mod fault;
 mod folder;
 mod found;
@@ -91,13 +118,21 @@ mod grow;
 mod halves;
 mod look;
 mod names;
+mod queue;
+mod queue_words;
 mod record;
 mod split;
+mod whole;
 mod words;
 
+use crate::change::change_in;
+use crate::edit::QueueEdit;
 use crate::fault::{AdminFault, report_admin_end};
 use crate::grow::grow;
 use crate::look::look;
+use crate::names::name_of;
+use crate::queue::edit_queue;
+use crate::queue_words::{RemoveWords, SetWords};
 use crate::split::split;
 use crate::words::{Asked, read_words};
 use spool_runtime::{given_words, no_words, report_words_fault};
@@ -116,10 +151,28 @@ fn main(rt: HostRuntime) -> ExitCode {
 }
 
 // Does the task that the words request.
-fn done(rt: &HostRuntime, asked: Asked<'_>) -> Result<(), AdminFault> {
+fn done(rt: &HostRuntime, asked: Asked<'_>) -> Result<(), AdminFault>
+    requires { IsInRange asked }
+{
     match asked {
         Asked::Look(dir) => Ok(look(rt, dir, &mut rt.stdout())?),
         Asked::Grow(dir, size) => grow(rt, dir, size),
         Asked::Split(parts) => split(rt, &parts),
+        Asked::Set(words) => set(rt, &words),
+        Asked::Remove(words) => remove(rt, &words),
     }
+}
+
+// Sets fields of a queue.
+fn set(rt: &HostRuntime, words: &SetWords<'_>) -> Result<(), AdminFault>
+    requires { AreInRange words.now }
+{
+    let change = change_in(rt.alloc(), words)?;
+    let name = name_of(rt.alloc(), words.name)?;
+    edit_queue(rt, words.dir, &name, &QueueEdit::Set(change))
+}
+
+fn remove(rt: &HostRuntime, words: &RemoveWords<'_>) -> Result<(), AdminFault> {
+    let name = name_of(rt.alloc(), words.name)?;
+    edit_queue(rt, words.dir, &name, &QueueEdit::Remove(words.purge))
 }

@@ -30,7 +30,8 @@ fn push_name(names: &mut Vec<QueueName>, name: QueueName) -> Result<(), AllocErr
     Ok(names.push(name)?)
 }
 
-fn name_of(alloc: Global, queue: &str) -> Result<QueueName, AdminFault>
+/// Returns the word as the name of a queue.
+pub fn name_of(alloc: Global, queue: &str) -> Result<QueueName, AdminFault>
     ensures name { IfOk result (λ name. name ≡ queue.now) }
     ensures fault { IfErr result (λ fault. (fault ≡ Shell Memory) ⊎ ((fault ≡ Queue) × (is_queue_name queue.now ≡ false))) }
 {

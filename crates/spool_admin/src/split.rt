@@ -4,10 +4,10 @@ use crate::folder::Folder;
 use crate::halves::{Halves, list_halves};
 use crate::names::{has_queues, names_of};
 use crate::record::{noted, part_in, part_name, words_of};
+use crate::whole::whole_spool;
 use crate::words::Split;
-use spool_core::Spool;
-use spool_disk::{Disk, FileDisk};
-use spool_runtime::{NamedDisk, ShellFault};
+use spool_disk::FileDisk;
+use spool_runtime::ShellFault;
 use std::fs::{File, Files};
 use std::time::Clock;
 
@@ -118,26 +118,13 @@ fn prepare<R: Files<File = File> + Clock + AllocGlobal>(
     queues: &[&str],
 ) -> Result<(), AdminFault> {
     let names = names_of(rt.alloc(), queues)?;
-    let (mut whole, size) = whole_spool(rt, source)?;
+    let (mut whole, size) = whole_spool(rt, &source.owned)?;
     if !has_queues(whole.table(), &names) {
         return Err(AdminFault::Queue);
     }
     let disks = begin_halves(rt, source, target, part, words, size)?;
     drop(list_halves(rt.alloc(), &mut whole, &names, disks)?);
     Ok(())
-}
-
-// Returns the spool to be split, and the length of its file.
-fn whole_spool<'r, R: Files<File = File> + Clock + AllocGlobal>(
-    rt: &'r R,
-    source: &Folder<'_>,
-) -> Result<(Spool<NamedDisk<'r, R>>, u64), AdminFault> {
-    let disk = source.owned.device_there(rt)?;
-    let size = disk.len();
-    match Spool::load(rt.alloc(), disk) {
-        Ok(whole) => Ok((whole, size)),
-        Err(error) => Err(AdminFault::from(error.fault)),
-    }
 }
 
 // Creates the two empty files, in the folders of the whole and of the part.

@@ -1,10 +1,12 @@
 //! The words of the command line.
-ghost use Rattle.std.specs.Prelude.{◌≡◌, [], IfNone, IfOk, IfSome, MatchResult, codes, false, map};
+ghost use Rattle.std.specs.Prelude.{◌≡◌, [], IfNone, IfOk, IfSome, MatchResult, codes, drop, false, map};
 ghost use Rattle.std.specs.Option.{option_map};
 ghost use Rattle.clap.specs.Words.{IsUnsignedIn, app_of, first_of, found_of, matches_of, rows_of, rule_of};
 ghost use Rattle.spool_runtime.specs.ProgramArguments.{RefusesOnly, number_of};
+ghost use Rattle.spool_admin.specs.AdminForms.{AreFaultlessBy, AreTakenBy, IsAskedBy, IsInRange, form_of, form_of_act};
 ghost use Rattle.spool_admin.specs.AdminArguments.{AreFaultless, ArePlaces, AreTaken, HasTask, IsAsked, IsFor, IsGrow, IsLook, IsOfTask, IsSize, IsSplit, admin_app, needed, rest_of, several};
 
+use crate::queue_words::{RemoveWords, SetWords, read_remove_words, read_set_words};
 use clap::builder::ValueParser;
 use clap::{Arg, ArgAction, ArgMatches, Command};
 use program_version::VERSION;
@@ -21,6 +23,10 @@ pub enum Asked<'a> {
     Grow(&'a str, u64),
     /// Move some of the queues to a spool of their own.
     Split(Split<'a>),
+    /// Set fields of a queue.
+    Set(SetWords<'a>),
+    /// Remove a queue.
+    Remove(RemoveWords<'a>),
 }
 
 /// A split: the folder of the whole spool, the folder for the part, and the queues of the part, at least one.
@@ -31,8 +37,68 @@ pub struct Split<'a> {
     pub queues: Vec<&'a str>,
 }
 
+/// The form of a command line. Each form has its own options.
+#[derive(Clone, Copy)]
+enum Form {
+    /// A task on the spool of a folder.
+    Folder,
+    /// `queue set`
+    Set,
+    /// `queue remove`
+    Remove,
+}
+
 /// Reads the words of the command line. The first word is the program's name.
 pub fn read_words<'a, S: AsStr>(alloc: Global, words: &'a [S]) -> Result<Asked<'a>, WordsFault>
+    ensures asked { IfOk result (IsAskedBy (map S.text words.entry.now)) }
+    ensures in_range { IfOk result IsInRange }
+    ensures taken { MatchResult result (λ _. AreFaultlessBy (map S.text words.entry.now))
+        (RefusesOnly (AreTakenBy (map S.text words.entry.now))) }
+{
+    match form_of(words) {
+        Form::Folder => read_folder_words(alloc, words),
+        Form::Set => match read_set_words(alloc, after_two(words)) {
+            Ok(words) => Ok(Asked::Set(words)),
+            Err(fault) => Err(fault),
+        },
+        Form::Remove => match read_remove_words(alloc, after_two(words)) {
+            Ok(words) => Ok(Asked::Remove(words)),
+            Err(fault) => Err(fault),
+        },
+    }
+}
+
+// Returns the form of the words.
+fn form_of<S: AsStr>(words: &[S]) -> Form
+    ensures { result ≡ form_of (map S.text words.now) }
+{
+    match words {
+        [_, queue, act, ..] if queue.as_str() == "queue" => form_of_act(act.as_str()),
+        _ => Form::Folder,
+    }
+}
+
+fn form_of_act(act: &str) -> Form
+    ensures { result ≡ form_of_act act.now }
+{
+    if act == "set" {
+        Form::Set
+    } else if act == "remove" {
+        Form::Remove
+    } else {
+        Form::Folder
+    }
+}
+
+// Returns the words without the first two, if there are so many.
+fn after_two<S: AsStr>(words: &[S]) -> &[S]
+    ensures { map S.text result.now ≡ drop 2 (map S.text words.now) }
+{
+    if 2 <= words.len() { &words[2..] } else { &[] }
+}
+
+// Reads the words of a task on the spool of a folder.
+fn read_folder_words<'a, S: AsStr>(alloc: Global, words: &'a [S]) -> Result<Asked<'a>, WordsFault>
     ensures asked { IfOk result (IsAsked (matches_of admin_app (map S.text words.entry.now))) }
     ensures taken { MatchResult result (λ _. AreFaultless (map S.text words.entry.now))
         (RefusesOnly (AreTaken (map S.text words.entry.now))) }
@@ -48,7 +114,7 @@ pub fn read_words<'a, S: AsStr>(alloc: Global, words: &'a [S]) -> Result<Asked<'
         Ok(Some(asked)) => Ok(asked),
         Ok(None) => Err(mistake(
             &mut command,
-            "expected `look DIR`, `grow DIR BYTES` or `split DIR INTO QUEUE..`",
+            "expected `look DIR`, `grow DIR BYTES`, `split DIR INTO QUEUE..`, `queue set DIR NAME` or `queue remove DIR NAME`",
         )),
         Err(_) => Err(WordsFault::Memory),
     }
@@ -68,8 +134,8 @@ fn task_of<'a>(alloc: Global, matches: &ArgMatches<'a>) -> Result<Option<Asked<'
     asked_with_rest(alloc, matches, task, dir)
 }
 
-// Returns the text of a word that is given once.
-fn text_given<'a>(matches: &ArgMatches<'a>, name: &str) -> Option<&'a str>
+/// Returns the text of a word that is given once.
+pub fn text_given<'a>(matches: &ArgMatches<'a>, name: &str) -> Option<&'a str>
     ensures { option_map (λ text. text.now) result ≡ first_of name.now (rows_of (found_of matches.now)) }
 {
     matches.get_str(name)
@@ -164,13 +230,13 @@ fn admin_command<'a>(alloc: Global) -> Result<Command<'a>, AllocError>
     ensures { IfOk result (λ command. app_of command ≡ admin_app) }
 {
     Command::new(alloc, "spool_admin")
-        .about("Inspects, enlarges or splits a print spool that no other program has open")
+        .about("Inspects, enlarges, splits or edits a print spool that no other program has open")
         .version(VERSION)
         .arg(word(
             alloc,
             "task",
             "TASK",
-            "`look DIR` shows how full the spool is, `grow DIR BYTES` enlarges its file, and `split DIR INTO QUEUE..` moves queues to a new spool",
+            "`look DIR` shows how full the spool is, `grow DIR BYTES` enlarges its file, `split DIR INTO QUEUE..` moves queues to a new spool, `queue set DIR NAME OPTION..` sets fields of a queue, and `queue remove DIR NAME` removes a queue",
         ))?
         .arg(word(
             alloc,
@@ -181,8 +247,8 @@ fn admin_command<'a>(alloc: Global) -> Result<Command<'a>, AllocError>
         .arg(more_words(alloc))
 }
 
-// Returns a required word that is not empty.
-fn word<'a>(alloc: Global, name: &'a str, value: &'a str, help: &'a str) -> Arg<'a>
+/// Returns a required word that is not empty.
+pub fn word<'a>(alloc: Global, name: &'a str, value: &'a str, help: &'a str) -> Arg<'a>
     ensures rule { rule_of result ≡ needed name.entry.now }
     ensures local { result.global ≡ false }
 {

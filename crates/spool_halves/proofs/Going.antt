@@ -1,10 +1,9 @@
 -- A half after further events.
-use Rattle.std.proofs.Common.{◌≡◌, ◌∙◌, ℕ, Bool, true, false, cond, List, None, Some, Option, IsSome, refl, sym, ap, subst, arith}
+use Rattle.std.proofs.Common.{◌≡◌, ◌∙◌, ℕ, Bool, true, false, cond, List, None, Some, Option, refl, sym, ap, subst}
 use Rattle.spool_types.specs.State.{State, Job, queue_at, job_at}
-use Rattle.spool_types.specs.declared.rows.QueueRow.{QueueRow}
 use Rattle.spool_types.specs.Busy.{is_of}
 use Rattle.split_rows.specs.Half.{takes}
-use Rattle.job_table.specs.Apart.{IsPart, own_of, rows_of}
+use Rattle.job_table.specs.Apart.{IsPart, own_of}
 use Rattle.job_table.specs.Legal.{IsLegal}
 use Rattle.spool_types.specs.declared.version.Version.TheVariants.{Two}
 use Rattle.std.specs.Prelude.{◌≤◌}

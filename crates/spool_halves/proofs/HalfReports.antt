@@ -1,5 +1,5 @@
 -- Properties of the rows of a table that can be listed.
-use Rattle.std.proofs.Common.{◌≡◌, ℕ, ◌≤◌, List, [], ◌∷◌, length, sym, subst}
+use Rattle.std.proofs.Common.{List, [], ◌∷◌}
 use Rattle.std.specs.FinMap as finite
 use Rattle.std.specs.List.{AllByRecursion}
 use Rattle.spool_types.specs.State.{State, Job}

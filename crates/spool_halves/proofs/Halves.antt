@@ -1,16 +1,13 @@
 -- The rows and documents of the whole that a half has.
-use Rattle.std.proofs.Common.{◌≡◌, ◌∙◌, ℕ, ◌≤◌, Bool, true, false, not, List, map, None, Some, Option, IsSome, refl, sym, ap, subst, arith}
-use Rattle.std.specs.Prelude.{◌⊎◌}
-use Rattle.std.proofs.Common.{inl, inr}
-use Rattle.std.specs.List.{AllByRecursion, Contains, filter}
+use Rattle.std.proofs.Common.{◌≡◌, ◌∙◌, ℕ, Bool, true, false, not, List, map, None, Some, Option, refl, sym, ap, subst}
+use Rattle.std.specs.List.{AllByRecursion, Contains}
 use Rattle.std.specs.Ordering.{nat_cmp}
 use Rattle.std.specs.Cmp.{nat_cmp_total}
 use Rattle.std.specs.Cmp.Lexicographic.{slice_cmp, nat_list_cmp_total}
 use Rattle.std.specs.FinMap as finite
-use Rattle.spool_types.specs.Phases.{has_ended}
 use Rattle.spool_types.specs.State.{State, Job, queue_at, job_at}
 use Rattle.spool_types.specs.declared.rows.QueueRow.{QueueRow}
-use Rattle.split_rows.specs.Half.{is_named, takes}
+use Rattle.split_rows.specs.Half.{takes}
 use Rattle.job_table.specs.Legal.{IsLegal}
 use Rattle.job_table.specs.Over.{is_over, is_over_by}
 use Rattle.spool_core.specs.Image.{HasDocument, HasDocuments}

@@ -1,3 +1,4 @@
+pub mod Edited
 pub mod Elements
 pub mod Halves
 pub mod Going

@@ -11,19 +11,35 @@ use spool_disk::Disk;
 use spool_types::{JobId, LONGEST_SEND, Piece, QueueRow, Row};
 use std::alloc::{AllocError, Global};
 
-/// Makes the disk a spool that lists the rows of a half, with their documents. The caller reads the disk back to check its
-/// contents.
-pub(crate) fn write_half<S: Disk, T: Disk + Drop>(
+/// Which rows are listed: those of a half, with a row, if one is given, in place of the queue with its name.
+#[derive(Clone, Copy)]
+pub(crate) struct Listed<'a> {
+    pub half: Half<'a>,
+    pub row: Option<&'a QueueRow>,
+}
+
+impl<'a> Listed<'a> {
+    // Returns the row to list for a queue.
+    fn row_for(self, queue: &'a QueueRow) -> &'a QueueRow {
+        match self.row {
+            Some(row) if row.name == queue.name => row,
+            _ => queue,
+        }
+    }
+}
+
+/// Makes the disk a spool that lists these rows, with their documents. The caller reads the disk back to check its contents.
+pub(crate) fn write_rows<S: Disk, T: Disk + Drop>(
     alloc: Global,
     whole: &mut Spool<S>,
-    half: Half<'_>,
+    listed: Listed<'_>,
     disk: T,
 ) -> Result<T, HalfFault>
     ensures state { whole.new.state ≡ whole.old.state }
     ensures still { ChangesNothing S.device whole.old.disk whole.new.disk }
 {
     let mut writing = begin(alloc, disk)?;
-    match put_half(alloc, &mut writing, whole, half) {
+    match put_rows(alloc, &mut writing, whole, listed) {
         Ok(()) => writing.finish(),
         Err(fault) => {
             drop(writing);
@@ -32,12 +48,12 @@ pub(crate) fn write_half<S: Disk, T: Disk + Drop>(
     }
 }
 
-// Adds the rows of the half, with the documents.
-fn put_half<S: Disk, T: Disk + Drop>(
+// Adds the rows, with the documents.
+fn put_rows<S: Disk, T: Disk + Drop>(
     alloc: Global,
     writing: &mut Writing<T>,
     whole: &mut Spool<S>,
-    half: Half<'_>,
+    listed: Listed<'_>,
 ) -> Result<(), HalfFault>
     requires may { MayWrite writing.old.areas writing.old.filler writing.old.end }
     ensures may { OnOk result (MayWrite writing.new.areas writing.new.filler writing.new.end) }
@@ -45,26 +61,26 @@ fn put_half<S: Disk, T: Disk + Drop>(
     ensures still { ChangesNothing S.device whole.old.disk whole.new.disk }
 {
     writing.put_row(&Row::Head(whole.table().head()))?;
-    put_queues(writing, half, whole.table().queues())?;
-    let jobs = jobs_of(alloc, half, whole.table().jobs())?;
+    put_queues(writing, listed, whole.table().queues())?;
+    let jobs = jobs_of(alloc, listed.half, whole.table().jobs())?;
     for job in jobs.iter() {
         put_job(alloc, writing, whole, *job)?;
     }
     Ok(())
 }
 
-// Adds the rows of the half's queues.
+// Adds the rows of the queues.
 fn put_queues<T: Disk + Drop>(
     writing: &mut Writing<T>,
-    half: Half<'_>,
+    listed: Listed<'_>,
     queues: &[QueueRow],
 ) -> Result<(), HalfFault>
     requires may { MayWrite writing.old.areas writing.old.filler writing.old.end }
     ensures may { OnOk result (MayWrite writing.new.areas writing.new.filler writing.new.end) }
 {
     for queue in queues {
-        if half.takes(&queue.name) {
-            writing.put_queue(queue)?;
+        if listed.half.takes(&queue.name) {
+            writing.put_queue(listed.row_for(queue))?;
         }
     }
     Ok(())

@@ -3,7 +3,7 @@ ghost use Rattle.std.specs.Prelude.{◌≡◌, List, ℕ, Some, IfOk, IsSome, On
 ghost use Rattle.spool_disk.specs.Disk.{ChangesNothing, IsSynced};
 ghost use Rattle.spool_halves.specs.Halves.{HasHalf, KeepsDocuments};
 
-use crate::filling::write_half;
+use crate::filling::{Listed, write_rows};
 use crate::reading_back::are_same_documents;
 use crate::tables::is_half;
 use job_rows::Rows;
@@ -33,7 +33,7 @@ pub fn list_half<S: Disk, T: Disk + Drop>(
     ensures state { whole.new.state ≡ whole.old.state }
     ensures still { ChangesNothing S.device whole.old.disk whole.new.disk }
 {
-    let written = write_half(alloc, whole, half, disk)?;
+    let written = write_rows(alloc, whole, Listed { half, row: None }, disk)?;
     let Ok(mut part) = Spool::load(alloc, written) else {
         return Err(HalfFault::Disk);
     };
@@ -75,7 +75,7 @@ fn look_back<S: Disk, T: Disk>(
 }
 
 // Returns the numbers of all jobs.
-fn numbers_of(alloc: Global, jobs: &Rows) -> Result<Vec<JobId>, AllocError>
+pub(crate) fn numbers_of(alloc: Global, jobs: &Rows) -> Result<Vec<JobId>, AllocError>
     ensures { IfOk result (λ numbers. numbers.items ≡ map (λ row. row.job.id) jobs.now.items) }
 {
     let mut numbers = Vec::new(alloc);

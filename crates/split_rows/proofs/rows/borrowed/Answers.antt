@@ -1,4 +1,4 @@
-use Rattle.std.proofs.Common.{◌≡◌, ◌∙◌, List, None, map, refl, ap}
+use Rattle.std.proofs.Common.{◌∙◌, List, None, map, refl, ap}
 use Rattle.std.specs.Borrow.{Bor}
 use Rattle.std.proofs.lemmas.Iterator.Consumers.{YieldsList-from_first, YieldsList-end}
 use Rattle.spool_types.specs.declared.rows.JobRow.{JobRow}

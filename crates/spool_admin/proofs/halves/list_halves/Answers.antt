@@ -1,5 +1,5 @@
 -- The second half is listed from the same table, with the same bytes.
-use Rattle.std.proofs.Common.{◌∙◌, Option, List, ℕ, false, subst, sym}
+use Rattle.std.proofs.Common.{Option, List, ℕ, false, subst}
 use Rattle.spool_types.specs.State.{State}
 use Rattle.spool_disk.proofs.Moments.{twice_still}
 use Rattle.spool_admin.specs.HalfImages.{LeavesHalf}

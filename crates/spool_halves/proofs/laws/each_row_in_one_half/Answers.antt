@@ -1,6 +1,6 @@
-use Rattle.std.proofs.Common.{◌≡◌, ◌∙◌, ℕ, Bool, true, false, not, List, None, Some, inl, inr, refl, ap, subst}
+use Rattle.std.proofs.Common.{◌≡◌, ℕ, Bool, true, false, List, None, Some, inl, inr, refl}
 use Rattle.std.specs.Prelude.{◌⊎◌}
-use Rattle.spool_types.specs.State.{State, Job, queue_at, job_at}
+use Rattle.spool_types.specs.State.{State, Job, job_at}
 use Rattle.split_rows.specs.Half.{takes}
 use Rattle.job_table.specs.Legal.{IsLegal}
 use Rattle.spool_halves.specs.Halves.{IsHalf}

@@ -1,6 +1,5 @@
-use Rattle.std.proofs.Common.{◌≡◌, ◌∙◌, ℕ, Bool, true, List, sym, subst}
+use Rattle.std.proofs.Common.{List, sym, subst}
 use Rattle.spool_types.specs.declared.event.Event.{Event}
-use Rattle.spool_types.specs.State.{State, queue_at, job_at}
 use Rattle.job_table.specs.Apart.{IsPart, own_events}
 use Rattle.job_table.specs.EventFold.{accepted, after_all}
 use Rattle.spool_halves.proofs.Going.{part_of_half, same_rows}

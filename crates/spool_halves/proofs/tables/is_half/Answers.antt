@@ -1,4 +1,4 @@
-use Rattle.std.proofs.Common.{◌≡◌, ◌∙◌, ◌≤◌, List, subst, sym, arith}
+use Rattle.std.proofs.Common.{◌≤◌, subst, sym, arith}
 use Rattle.std.specs.List.{AllByRecursion}
 use Rattle.spool_types.specs.Limits.{greatest_number}
 use Rattle.event_codec.specs.RowSpelling.{IsOrderedQueue}

@@ -1,6 +1,6 @@
 use Rattle.std.proofs.Common.{◌∙◌}
 use Rattle.spool_disk.proofs.Moments.{twice_still}
-use Rattle.spool_halves.proofs.filling.put_half.Goals as goal
+use Rattle.spool_halves.proofs.filling.put_rows.Goals as goal
 
 pub loop-job-preserved : goal.loop-job-preserved
 loop-job-preserved g c = record {

@@ -2,7 +2,7 @@
 use Rattle.std.proofs.Common.{◌≡◌}
 use Rattle.spool_disk.specs.Disk.{ChangesNothing}
 use Rattle.split_rows.specs.Writing.{MayWrite}
-use Rattle.spool_halves.proofs.filling.put_half.Given as goal
+use Rattle.spool_halves.proofs.filling.put_rows.Given as goal
 
 abbrev pub invariant-loop-job : goal.invariant-loop-job
 invariant-loop-job g l = record {

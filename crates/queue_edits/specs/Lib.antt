@@ -1,0 +1,2 @@
+pub mod QueueEdits
+pub mod EditRefusals

@@ -1,0 +1,20 @@
+//! Loading the spool of a folder.
+use crate::fault::AdminFault;
+use spool_core::Spool;
+use spool_disk::Disk;
+use spool_runtime::{NamedDisk, SpoolFolder};
+use std::fs::{File, Files};
+use std::time::Clock;
+
+/// Returns the folder's spool, and the length of its file. Writes nothing.
+pub fn whole_spool<'r, R: Files<File = File> + Clock + AllocGlobal>(
+    rt: &'r R,
+    folder: &SpoolFolder<'_>,
+) -> Result<(Spool<NamedDisk<'r, R>>, u64), AdminFault> {
+    let disk = folder.device_there(rt)?;
+    let size = disk.len();
+    match Spool::load(rt.alloc(), disk) {
+        Ok(whole) => Ok((whole, size)),
+        Err(error) => Err(AdminFault::from(error.fault)),
+    }
+}
