@@ -36,6 +36,11 @@ const DEVICES: &str = "Name the command that lists the devices that backends fin
 const CHECK: &str =
     "Check whether the service is running, its programs can be run and each queue can print";
 
+const QUEUE_SET: &str = "Set the description and the location of a queue
+
+To set its URI, media type, policy, interval or limit, or to remove it, stop the service and run
+`spool_admin queue set DIR NAME` or `spool_admin queue remove DIR NAME`: see spool_admin(8).";
+
 /// The options that a command has before its parameters.
 #[derive(Clone, Copy)]
 enum Base {
@@ -101,10 +106,7 @@ fn name_and_purpose<'a>(form: Form) -> (&'a str, &'a str)
         ),
         Form::QueueShow => ("spool queue show", "Show a queue"),
         Form::QueueAdd => ("spool queue add", "Create a queue"),
-        Form::QueueSet => (
-            "spool queue set",
-            "Set the description and the location of a queue",
-        ),
+        Form::QueueSet => ("spool queue set", QUEUE_SET),
         Form::QueueAccept => ("spool queue accept", "Let a queue accept jobs"),
         Form::QueueReject => ("spool queue reject", "Let a queue reject jobs"),
         Form::QueueEnable => ("spool queue enable", "Start a queue"),

@@ -9,20 +9,21 @@ use Rattle.front_words.specs.declared.asked.JobAct.TheVariants.{Cancel, CancelOn
 use Rattle.front_words.specs.declared.asked.QueueAct.{QueueAct}
 use Rattle.front_words.specs.declared.asked.QueueAct.TheVariants.{Add, Set, Accept, Reject, Enable, Disable}
 use Rattle.spool_front.specs.SentCommands.{hold_line, info_line, job_line, name_line, queue_line}
-use Rattle.spool_front.specs.JobDrafts.{IsMoment}
+use Rattle.spool_front.specs.ServiceMoments.{second_of}
+use Rattle.spool_front.specs.declared.moments.Clocks.{Clocks}
 use Rattle.spool_front.specs.declared.commands.Until.TheVariants.{Released, Reached}
 use Rattle.spool_front.specs.declared.fault.Fault.{Fault}
 use Rattle.spool_front.specs.declared.fault.Fault.TheVariants.{Refused}
 
--- The command for one job.
-abbrev pub IsActLine : JobAct → ℕ → List ℕ → Type 0
-IsActLine Cancel job line = line ≡ job_line (codes "stop") job
-IsActLine CancelOnly job line = line ≡ job_line (codes "cancel") job
-IsActLine Release job line = line ≡ job_line (codes "release") job
-IsActLine Purge job line = line ≡ job_line (codes "purge") job
-IsActLine End job line = line ≡ job_line (codes "end") job
-IsActLine (Hold None) job line = line ≡ hold_line job Released
-IsActLine (Hold (Some moment)) job line = (told : ℕ) × IsMoment moment told × (line ≡ hold_line job (Reached told))
+-- The command for one job, with its moment by these clocks.
+abbrev pub act_line : Clocks → JobAct → ℕ → List ℕ
+act_line c Cancel job = job_line (codes "stop") job
+act_line c CancelOnly job = job_line (codes "cancel") job
+act_line c Release job = job_line (codes "release") job
+act_line c Purge job = job_line (codes "purge") job
+act_line c End job = job_line (codes "end") job
+act_line c (Hold None) job = hold_line job Released
+act_line c (Hold (Some moment)) job = hold_line job (Reached (second_of c moment))
 
 -- The command of this action is `stop`, which an older service does not know.
 abbrev pub is_stop : JobAct → Bool

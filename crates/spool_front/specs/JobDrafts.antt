@@ -1,31 +1,21 @@
 -- The fields of the job that a document becomes.
-use Rattle.std.specs.Prelude.{◌≡◌, ◌≢◌, ℕ, ◌<◌, ◌≤◌, ◌⊎◌, cond, List, [], ◌∷◌, ◌++◌, length, slice_index, map, chars, codes, encode_utf8_all, Option, None, Some}
+use Rattle.std.specs.Prelude.{◌≡◌, ◌≢◌, ℕ, ◌<◌, ◌⊎◌, cond, List, [], ◌∷◌, ◌++◌, length, slice_index, map, chars, codes, encode_utf8_all, Option, None, Some}
 use Rattle.std.specs.List.{flat_map}
 use Rattle.std.specs.Option.{option_map}
 use Rattle.front_words.specs.declared.asked.Hold.{Hold}
 use Rattle.front_words.specs.declared.asked.Hold.TheVariants.{No, Indefinite, Until as Waits}
-use Rattle.front_words.specs.declared.asked.Moment.{Moment}
-use Rattle.front_words.specs.declared.asked.Moment.TheVariants.{Epoch, FromNow}
 use Rattle.front_words.specs.declared.asked.Submission.{Submission}
 use Rattle.spool_front.specs.SentCommands.{is_control}
+use Rattle.spool_front.specs.ServiceMoments.{second_of}
+use Rattle.spool_front.specs.declared.moments.Clocks.{Clocks}
 use Rattle.spool_front.specs.declared.commands.Until.{Until}
 use Rattle.spool_front.specs.declared.commands.Until.TheVariants.{Released, Reached}
 
--- A moment in seconds since 1970. The time of the clock is unknown.
-abbrev pub IsMoment : Moment → ℕ → Type 0
-IsMoment (Epoch seconds) told = told ≡ seconds
-IsMoment (FromNow seconds) told = seconds ≤ told
-
--- The end of a hold.
-abbrev pub IsUntil : Hold → Option Until → Type 0
-IsUntil No until = until ≡ None
-IsUntil Indefinite until = until ≡ Some Released
-IsUntil (Waits moment) until = (told : ℕ) × (until ≡ Some (Reached told)) × IsMoment moment told
-
--- The moment by which a job must have started.
-abbrev pub IsBy : Option Moment → Option ℕ → Type 0
-IsBy None by = by ≡ None
-IsBy (Some moment) by = (told : ℕ) × (by ≡ Some told) × IsMoment moment told
+-- The end of a hold, by these clocks.
+abbrev pub until_of : Clocks → Hold → Option Until
+until_of c No = None
+until_of c Indefinite = Some Released
+until_of c (Waits moment) = Some (Reached (second_of c moment))
 
 -- A text, followed by a blank.
 abbrev pub option_text : List ℕ → List ℕ

@@ -4,6 +4,7 @@ pub mod ReachableTypes
 pub mod Checks
 pub mod SentCommands
 pub mod CupsForms
+pub mod ServiceMoments
 pub mod JobDrafts
 pub mod TaskFaults
 pub mod FoundJobs
@@ -15,3 +16,4 @@ pub mod Submissions
 pub mod EnvironmentValues
 pub mod Proofs
 pub mod DeniedCommands
+pub mod DocumentRoom

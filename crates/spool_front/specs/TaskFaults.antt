@@ -9,7 +9,7 @@ use Rattle.std.specs.declared.io.ErrorKind.TheVariants.{OutOfMemory}
 use Rattle.spool_front.specs.declared.connection.ConnectionFault.{ConnectionFault}
 use Rattle.spool_front.specs.declared.connection.ConnectionFault.TheVariants as connection
 use Rattle.spool_front.specs.declared.fault.Fault.{Fault}
-use Rattle.spool_front.specs.declared.fault.Fault.TheVariants.{Memory, Nobody, Gone, Unknown, Write, File}
+use Rattle.spool_front.specs.declared.fault.Fault.TheVariants.{Memory, Nobody, Busy, Gone, Unknown, Write, File}
 
 -- The status is 3 if it is unknown whether the task was done, and otherwise 1: it was not done.
 abbrev pub status_of : Fault → ℕ
@@ -45,3 +45,7 @@ variable_as (Err fault) = Ok None
 -- No service can be reached at this socket.
 abbrev pub IsNobodyAt : List ℕ → Fault → Type 0
 IsNobodyAt socket fault = (name : String Global) × (fault ≡ Nobody name) × (string_bytes name ≡ socket)
+
+-- The service at this socket is busy.
+abbrev pub IsBusyAt : List ℕ → Fault → Type 0
+IsBusyAt socket fault = (name : String Global) × (fault ≡ Busy name) × (string_bytes name ≡ socket)

@@ -8,6 +8,7 @@ use crate::chains::{Chains, read_chains};
 use crate::fault::Fault;
 use crate::programs::report_programs;
 use crate::services::{Services, queues_at};
+use clean_texts::clean;
 use front_texts::{PrinterState, QueueLine};
 use std::alloc::AllocError;
 use std::io;
@@ -69,7 +70,7 @@ fn report_queues(
 ) -> Result<bool, Fault>
     ensures { IfOk result (λ all. all ≡ list_all (prints chains.now) queues.now) }
 {
-    println!(rt; "service {socket} is running")?;
+    println!(rt; "service {} is running", clean(socket))?;
     let mut all = true;
     for queue in queues {
         let hindrance = hindrance_of(chains, queue)?;

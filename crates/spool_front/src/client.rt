@@ -1,17 +1,19 @@
 //! The client of a service, which sends a command and reads the complete reply.
-ghost use Rattle.std.specs.Prelude.{◌≡◌, ◌*◌, ◌↔◌, IfErr, IfNone, IfOk, IfSome, IsSome, IsTrue, IsUtf8, MatchResult, None, codes, filter_map, option_copied, string_bytes};
+ghost use Rattle.std.specs.Prelude.{◌≡◌, ◌*◌, ◌↔◌, true, false, IfErr, IfNone, IfOk, IfSome, IsSome, IsTrue, IsUtf8, MatchResult, None, codes, filter_map, option_copied, string_bytes};
 ghost use Rattle.spool_front.specs.Proofs.{caller_of};
 ghost use Rattle.command_lines.specs.CommandGrammar.{is_word};
 ghost use Rattle.front_texts.specs.JobPage.{shown_job};
 ghost use Rattle.front_texts.specs.JobRows.{job_row};
 ghost use Rattle.front_texts.specs.QueueRows.{queue_row};
 ghost use Rattle.front_texts.specs.ReplyLines.{last_line};
+ghost use Rattle.spool_front.specs.ServiceMoments.{moment_in};
 ghost use Rattle.spool_front.specs.ReplyOutcomes.{accepted, is_done, rows_text};
-ghost use Rattle.spool_front.specs.TaskFaults.{IsNobodyAt};
+ghost use Rattle.spool_front.specs.TaskFaults.{IsBusyAt, IsNobodyAt};
 
 use crate::commands::{job_line, name_line};
 use crate::connection::{Connection, ConnectionFault};
 use crate::fault::Fault;
+use crate::moments::moment_in;
 use crate::proving::first_exchange;
 use crate::replies::is_gone;
 use front_proof::Caller;
@@ -26,6 +28,8 @@ use std::time::Duration;
 const PAUSE: u64 = 100;
 
 const PAUSES_A_SECOND: u64 = 10;
+
+const INVALID: Fault = Fault::Words("the reply of the service is invalid");
 
 /// A reply: its rows and its last line.
 #[derive(Drop)]
@@ -194,7 +198,7 @@ impl<'a> Client<'a> {
         }
     }
 
-    /// Sends a command that changes nothing, again if the connection is lost. A refusal is a fault.
+    /// Sends a command that changes nothing, again if the connection is lost or the service is busy. A refusal is a fault.
     pub fn ask(&mut self, text: &[u8]) -> Result<Answer, Fault>
         ensures done { IfOk result (λ answer. IsTrue (is_done (string_bytes answer.last))) }
         ensures kept { self.new ≡ record self.old { connection = self.new.connection } }
@@ -202,21 +206,41 @@ impl<'a> Client<'a> {
         accepted(self.ask_or_refused(text)?)
     }
 
-    // Does the same, but may return a refusal.
+    // Does the same, but may return a refusal other than `error busy`.
     fn ask_or_refused(&mut self, text: &[u8]) -> Result<Answer, Fault>
-        ensures { self.new ≡ record self.old { connection = self.new.connection } }
+        ensures busy { IfOk result (λ answer. ¬ (IsTrue (is_word (string_bytes answer.last) (codes "error busy")))) }
+        ensures kept { self.new ≡ record self.old { connection = self.new.connection } }
     {
+        let mut is_busy = false;
         for _ in 0..=self.pauses {
             if !self.connect()? {
                 return Err(self.nobody()?);
             }
             match self.exchange(text) {
+                Ok(answer) if answer.is_busy() => {
+                    drop(answer);
+                    is_busy = true;
+                    self.disconnect();
+                }
                 Ok(answer) => return Ok(answer),
-                Err(ConnectionFault::Lost) => pause(self.rt),
+                Err(ConnectionFault::Lost) => is_busy = false,
                 Err(ConnectionFault::Memory) => return Err(Fault::Memory),
             }
+            pause(self.rt);
         }
-        Err(self.nobody()?)
+        Err(self.unserved(is_busy)?)
+    }
+
+    // The fault if the patience is over.
+    fn unserved(&self, is_busy: bool) -> Result<Fault, AllocError>
+        ensures busy { is_busy ≡ true → IfOk result (IsBusyAt self.now.socket.now) }
+        ensures nobody { is_busy ≡ false → IfOk result (IsNobodyAt self.now.socket.now) }
+    {
+        if is_busy {
+            Ok(Fault::Busy(String::from_str(self.rt.alloc(), self.socket)?))
+        } else {
+            self.nobody()
+        }
     }
 
     /// Sends a command once. If its reply is lost, it is unknown whether the command was executed.
@@ -254,6 +278,16 @@ impl<'a> Client<'a> {
             return Ok(None);
         }
         shown_of_answer(self.rt.alloc(), accepted(answer)?)
+    }
+
+    /// Returns the time of the service in seconds since 1970, or `None` if the service does not know the question.
+    pub fn now(&mut self) -> Result<Option<u64>, Fault> {
+        let answer = self.ask_or_refused(b"now\n")?;
+        if answer.is_unknown() {
+            drop(answer);
+            return Ok(None);
+        }
+        moment_of_answer(accepted(answer)?)
     }
 
     /// Returns the reply to a question about a queue, or `None` if the service does not know the question.
@@ -336,6 +370,18 @@ fn done(answer: Answer) -> Result<(), Fault>
     Ok(())
 }
 
+// Returns the moment in the reply to `now`.
+fn moment_of_answer(answer: Answer) -> Result<Option<u64>, Fault>
+    ensures { IfOk result (λ moment. IsSome moment × (moment ≡ moment_in (string_bytes answer.last))) }
+{
+    let moment = moment_in(answer.last.as_str());
+    drop(answer);
+    match moment {
+        Some(moment) => Ok(Some(moment)),
+        None => Err(INVALID),
+    }
+}
+
 fn shown_of_answer(alloc: Global, answer: Answer) -> Result<Option<JobShown>, Fault>
     ensures { IfOk result (λ job. IsSome job × (job ≡ shown_job (rows_text answer.rows.items))) }
 {
@@ -351,7 +397,7 @@ fn shown_in(alloc: Global, answer: &Answer) -> Result<Option<JobShown>, Fault>
     let text = answer.text(alloc)?;
     match read_job_shown(alloc, text.as_slice())? {
         Some(shown) => Ok(Some(shown)),
-        None => Err(Fault::Words("the reply of the service is invalid")),
+        None => Err(INVALID),
     }
 }
 

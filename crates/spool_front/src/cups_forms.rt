@@ -7,6 +7,7 @@ ghost use Rattle.spool_front.specs.CupsForms.{has_name, is_meant, is_named, is_n
 use crate::fault::Fault;
 use crate::output::print_bytes;
 use crate::services::{Services, all_jobs, all_queues, queue_of};
+use clean_texts::clean;
 use front_texts::{JobLine, QueueLine, lpq, lpstat_accepting, lpstat_jobs, lpstat_printers};
 use front_words::{Lpq, Lpstat};
 use std::alloc::{AllocError, Global};
@@ -197,7 +198,7 @@ fn job_id(alloc: Global, job: &JobLine) -> Result<String, AllocError>
 
 fn report_usual(rt: &HostRuntime, services: Services<'_, '_>) -> Result<(), Fault> {
     let told = match queue_of(rt, services, None) {
-        Ok((_, queue)) => println!(rt; "system default destination: {queue}"),
+        Ok((_, queue)) => println!(rt; "system default destination: {}", clean(queue.as_str())),
         Err(Fault::Words(_)) => println!(rt; "no system default destination"),
         Err(fault) => return Err(fault),
     };

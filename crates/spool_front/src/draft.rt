@@ -1,20 +1,22 @@
 //! The fields of the job that a document becomes.
 ghost use Rattle.std.specs.Prelude.{◌≡◌, ◌++◌, IfOk, IfSome, OnOk, is_some, string_bytes, unwrap_or};
 ghost use Rattle.std.specs.Option.{option_map};
-ghost use Rattle.spool_front.specs.JobDrafts.{IsBy, IsMoment, IsUntil, option_text, options_of, pages_option, plain_char, plain_text};
+ghost use Rattle.spool_front.specs.ServiceMoments.{second_of};
+ghost use Rattle.spool_front.specs.JobDrafts.{option_text, options_of, pages_option, plain_char, plain_text, until_of};
 
 use crate::commands::{Draft, Until};
 use crate::fault::Fault;
 use crate::host::variable;
+use crate::moments::Clocks;
 use front_words::{Hold, Moment, Submission};
 use std::alloc::{AllocError, Global};
 use std::random::RandomSource;
-use std::time::SystemTime;
 
-/// Returns the job of a document for a queue. `title` is the title if the user gives none, and `name` is the name of the document's file.
+/// Returns the job of a document for a queue, with its moments by these clocks. `title` is the title if the user gives none, and `name` is the name of the document's file.
 pub fn draft_of(
     rt: &HostRuntime,
     asked: &Submission<'_>,
+    clocks: Clocks,
     queue: &str,
     title: &str,
     name: &str,
@@ -27,13 +29,13 @@ pub fn draft_of(
     ensures copies { IfOk result (λ draft. draft.copies ≡ asked.now.copies) }
     ensures priority { IfOk result (λ draft. draft.priority ≡ asked.now.priority) }
     ensures options { IfOk result (λ draft. string_bytes draft.options ≡ options_of asked.now (string_bytes draft.token)) }
-    ensures by { IfOk result (λ draft. IsBy asked.now.by draft.by) }
-    ensures hold { IfOk result (λ draft. IsUntil asked.now.hold draft.hold) }
+    ensures by { IfOk result (λ draft. draft.by ≡ option_map (second_of clocks) asked.now.by) }
+    ensures hold { IfOk result (λ draft. draft.hold ≡ until_of clocks asked.now.hold) }
     ensures name { IfOk result (λ draft. string_bytes draft.name ≡ plain_text name.now) }
 {
     let alloc = rt.alloc();
-    let by = by_of(rt, asked.by)?;
-    let hold = until_of(rt, asked.hold)?;
+    let by = by_of(clocks, asked.by);
+    let hold = until_of(clocks, asked.hold);
     let token = token_option(rt)?;
     let media = media_of(alloc, asked.media)?;
     Ok(Draft {
@@ -61,22 +63,22 @@ fn media_of(alloc: Global, media: Option<&str>) -> Result<Option<String>, AllocE
     }
 }
 
-fn by_of(rt: &HostRuntime, by: Option<Moment>) -> Result<Option<u64>, Fault>
-    ensures { IfOk result (IsBy by) }
+fn by_of(clocks: Clocks, by: Option<Moment>) -> Option<u64>
+    ensures { result ≡ option_map (second_of clocks) by }
 {
     match by {
-        Some(moment) => Ok(Some(seconds_of(rt, moment)?)),
-        None => Ok(None),
+        Some(moment) => Some(clocks.second_of(moment)),
+        None => None,
     }
 }
 
-fn until_of(rt: &HostRuntime, hold: Hold) -> Result<Option<Until>, Fault>
-    ensures { IfOk result (IsUntil hold) }
+fn until_of(clocks: Clocks, hold: Hold) -> Option<Until>
+    ensures { result ≡ until_of clocks hold }
 {
     match hold {
-        Hold::No => Ok(None),
-        Hold::Indefinite => Ok(Some(Until::Released)),
-        Hold::Until(moment) => Ok(Some(Until::Reached(seconds_of(rt, moment)?))),
+        Hold::No => None,
+        Hold::Indefinite => Some(Until::Released),
+        Hold::Until(moment) => Some(Until::Reached(clocks.second_of(moment))),
     }
 }
 
@@ -153,25 +155,4 @@ fn push_option(options: &mut String, text: &str) -> Result<(), AllocError>
 {
     options.push_str(text)?;
     options.push_str(" ")
-}
-
-/// Returns a moment in seconds since 1970.
-pub fn seconds_of(rt: &HostRuntime, moment: Moment) -> Result<u64, Fault>
-    ensures { IfOk result (IsMoment moment) }
-{
-    match moment {
-        Moment::Epoch(seconds) => Ok(seconds),
-        Moment::FromNow(seconds) => Ok(now(rt)?.saturating_add(seconds)),
-    }
-}
-
-/// Returns the seconds since 1970, or 0 if the clock is before 1970.
-pub fn now(rt: &HostRuntime) -> Result<u64, Fault> {
-    let Ok(now) = SystemTime::now(rt) else {
-        return Err(Fault::Words("cannot read the clock"));
-    };
-    match now.duration_since(SystemTime::UNIX_EPOCH) {
-        Ok(passed) => Ok(passed.as_secs()),
-        Err(_) => Ok(0),
-    }
 }

@@ -4,18 +4,23 @@ ghost use Rattle.std.specs.IoError.{error_kind};
 ghost use Rattle.spool_front.specs.TaskFaults.{gone_by, status_of, unwritten_by};
 
 use crate::connection::ConnectionFault;
+use clean_texts::clean;
 use std::alloc::{AllocError, AllocFailed};
 use std::io::{self, ErrorKind};
 use thiserror::Error;
 
-/// Why a task fails.
+/// Why a task fails. Its message is clean: the texts of a service and of files are printed with U+FFFD for each character that steers a
+/// terminal.
 #[derive(Debug, Drop, Error)]
 pub enum Fault {
     #[error("out of memory")]
     Memory,
     /// No service can be reached at this socket.
-    #[error("cannot reach the service at {0}")]
+    #[error("cannot reach the service at {socket}", socket = clean(.0.as_str()))]
     Nobody(String),
+    /// The service at this socket had no place for the client, as often as it was asked.
+    #[error("the service at {0} is busy")]
+    Busy(String),
     /// The connection was lost while waiting for lines from the service.
     #[error("the connection to the service was lost")]
     Gone,
@@ -23,22 +28,22 @@ pub enum Fault {
     #[error("the connection was lost before the service replied; the command may have been executed")]
     Unknown,
     /// The service refused the command. The text is its reply.
-    #[error("{0}")]
+    #[error("{text}", text = clean(.0.as_str()))]
     Refused(String),
     /// The service denied the command. The text explains why.
-    #[error("{0}")]
+    #[error("{text}", text = clean(.0.as_str()))]
     Denied(String),
     /// Standard output or standard error cannot be written.
     #[error("cannot write the output")]
     Write,
     /// A file cannot be read.
-    #[error("cannot read {0}")]
+    #[error("cannot read {file}", file = clean(.0.as_str()))]
     File(String),
     /// A file cannot be written.
-    #[error("cannot write {0}")]
+    #[error("cannot write {file}", file = clean(.0.as_str()))]
     NotWritten(String),
     /// A line of a file is invalid.
-    #[error("{0} is invalid")]
+    #[error("{file} is invalid", file = clean(.0.as_str()))]
     Invalid(String),
     /// The task cannot be done as requested.
     #[error("{0}")]

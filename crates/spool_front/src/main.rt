@@ -22,7 +22,7 @@
 //! - [`proving`]: the proof of the user. [`denials`]: explanations of denied commands.
 //! - [`commands`], [`replies`]: the bytes of each command, and the meaning of each reply (`SentCommands`, `ServiceReplies`).
 //! - [`submit`]: submits one document as one job, by the decisions of `front_submission`. [`document`]: the pieces of a document.
-//!   [`draft`]: the fields of its job. [`printing`]: printing files.
+//!   [`draft`]: the fields of its job. [`moments`]: moments by the time of the service. [`printing`]: printing files.
 //! - [`tasks`]: the other tasks of `spool`. [`check`], [`programs`] and [`chains`]: whether a queue can print. [`web_page`]: the page.
 //!   [`cups_forms`]: lpstat and lpq. [`output`]: standard output. [`services`]: the choice of services and queues.
 //!
@@ -40,6 +40,9 @@
 //! - Pieces: a piece of a document consists of the bytes that were read last, up to 65,536 bytes, and fewer only at the document's end
 //!   (`next_piece`, `piece`).
 //! - System errors are reported by their kind (`lost_by`, `unwritten_by`, `unread_by`, `no_words`).
+//! - Moments: a relative moment counts from the time that the service reports, and an absolute one is shifted by the difference from the
+//!   system's clock if that is more than two seconds (`second_of`, `shifted`, `moment_in`). A service that does not know `now` has the
+//!   system's clock (`clocks_of`).
 //! - Drafts: the draft of a job has the requested fields, and a title and a file name without control characters (`draft_of`,
 //!   `plain_text`). The file name is the part of the path after the last slash (`base_name`).
 //! - Queues and services: the named queue is used, at one of the named services (`queue_of`). If there is only one service, it is not asked
@@ -59,6 +62,8 @@
 //! - `spool check`: `lead_to` returns whether filters convert from a type in the file of types, or from that of an unknown document, to a
 //!   printer's type (`leads`), by the least chain of `mime_costs`. `kinds_in` returns these types.
 //! - The page is that of the rows that were read (`page_at`).
+//! - Texts that are printed are clean (`clean_texts`): tables and JSON by the clauses of `front_texts`, a line of `watch` by `clean_bytes`, and
+//!   the message of a fault since each variant prints its text by `clean`.
 //!
 //! # Not proved
 //!
@@ -108,11 +113,13 @@ mod draft;
 mod fault;
 mod files;
 mod host;
+mod moments;
 mod output;
 mod printing;
 mod programs;
 mod proving;
 mod replies;
+mod room;
 mod services;
 mod submit;
 mod tasks;

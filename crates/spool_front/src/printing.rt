@@ -11,8 +11,10 @@ use crate::document::Document;
 use crate::draft::draft_of;
 use crate::fault::{Fault, first_failure};
 use crate::host::Screen;
+use crate::moments::{Clocks, clocks_for_job};
 use crate::services::{Services, client_at, queue_of};
 use crate::submit::Submitting;
+use clean_texts::clean;
 use front_submission::End;
 use front_texts::{JobShown, JobState};
 use front_words::Submission;
@@ -47,12 +49,13 @@ fn print_all(
     queue: &str,
     screen: Screen,
 ) -> Result<u8, Fault> {
+    let clocks = clocks_for_job(rt, client, asked)?;
     if asked.files.is_empty() {
-        return print_input(rt, client, asked, queue, screen);
+        return print_input(rt, client, asked, clocks, queue, screen);
     }
     let mut status = 0;
     for file in &asked.files {
-        let ended = print_named(rt, client, asked, queue, file, screen)?;
+        let ended = print_named(rt, client, asked, clocks, queue, file, screen)?;
         status = first_failure(status, ended);
     }
     Ok(status)
@@ -62,34 +65,45 @@ fn print_named(
     rt: &HostRuntime,
     client: &mut Client<'_>,
     asked: &Submission<'_>,
+    clocks: Clocks,
     queue: &str,
     file: &str,
     screen: Screen,
 ) -> Result<u8, Fault> {
     if file == "-" {
-        return print_input(rt, client, asked, queue, screen);
+        return print_input(rt, client, asked, clocks, queue, screen);
     }
     let source = match fs::open(rt, file) {
         Ok(source) => source,
         Err(_) => {
-            let _ = eprintln!(rt; "spool: cannot open {file}");
+            let _ = eprintln!(rt; "spool: cannot open {}", clean(file));
             return Ok(FAILED);
         }
     };
     let name = base_name(file);
-    let draft = draft_of(rt, asked, queue, name, name)?;
-    print_document(rt, client, asked, &draft, source, screen)
+    let draft = draft_of(rt, asked, clocks, queue, name, name)?;
+    let size = size_of(rt, file);
+    print_document(rt, client, asked, &draft, size, source, screen)
 }
 
 fn print_input(
     rt: &HostRuntime,
     client: &mut Client<'_>,
     asked: &Submission<'_>,
+    clocks: Clocks,
     queue: &str,
     screen: Screen,
 ) -> Result<u8, Fault> {
-    let draft = draft_of(rt, asked, queue, "(stdin)", "")?;
-    print_document(rt, client, asked, &draft, rt.reader(), screen)
+    let draft = draft_of(rt, asked, clocks, queue, "(stdin)", "")?;
+    print_document(rt, client, asked, &draft, None, rt.reader(), screen)
+}
+
+// Returns the length of a regular file in bytes. Other files have none that is known before they are read.
+fn size_of(rt: &HostRuntime, file: &str) -> Option<u64> {
+    match fs::metadata(rt, file) {
+        Ok(found) if found.is_file() => Some(found.len()),
+        _ => None,
+    }
 }
 
 // Returns the last part of a path.
@@ -107,11 +121,13 @@ fn print_document<S: Read + Drop>(
     client: &mut Client<'_>,
     asked: &Submission<'_>,
     draft: &Draft,
+    size: Option<u64>,
     source: S,
     screen: Screen,
 ) -> Result<u8, Fault> {
     let mut document = Document::new(rt.alloc(), source)?;
-    let end = submit(rt, client, asked.quiet, draft, &mut document, screen);
+    let submitting = Submitting::new(rt, draft, size, screen);
+    let end = submit(rt, client, asked.quiet, submitting, &mut document);
     drop(document);
     match end {
         End::Accepted { job } if asked.wait => Ok(wait_for(rt, client, job, screen)),
@@ -124,24 +140,22 @@ fn submit<S: Read + Drop>(
     rt: &HostRuntime,
     client: &mut Client<'_>,
     quiet: bool,
-    draft: &Draft,
+    submitting: Submitting<'_>,
     document: &mut Document<S>,
-    screen: Screen,
 ) -> End
     ensures { IsTrue (was_closed result) → IsAtEnd (S.remaining document.new.source) }
 {
-    let mut submitting = Submitting::new(rt, draft, screen);
+    let mut submitting = submitting;
     let end = submitting.submit(client, document);
-    if screen.shows {
-        let _ = eprint!(rt; "\r");
-    }
-    report(rt, quiet, draft.queue.as_str(), end, &submitting);
+    submitting.end_line();
+    report(rt, quiet, submitting.queue(), end, &submitting);
     drop(submitting);
     end
 }
 
 // Reports the outcome of a submission. A report that cannot be written does not change the status.
 fn report(rt: &HostRuntime, quiet: bool, queue: &str, end: End, submitting: &Submitting<'_>) {
+    let queue = clean(queue);
     match end {
         End::Accepted { .. } if quiet => {}
         End::Accepted { job } => {
@@ -164,6 +178,7 @@ fn report(rt: &HostRuntime, quiet: bool, queue: &str, end: End, submitting: &Sub
 }
 
 fn report_refused(rt: &HostRuntime, job: Option<u32>, cause: &str, canceled: bool) {
+    let cause = clean(cause);
     let _ = match job {
         Some(job) if canceled => eprintln!(rt; "spool: {cause}; job {job} was canceled"),
         Some(job) => eprintln!(rt; "spool: {cause}; job {job} is not printed"),

@@ -20,6 +20,7 @@ use crate::connection::ConnectionFault;
 use crate::document::Document;
 use crate::host::Screen;
 use crate::replies::{has_reason, reply_in, shown_of};
+use crate::room::lacking_text;
 use front_proof::Caller;
 use front_submission::{Cause, End, Found, Own, Reply, Request, Shown, Step};
 use front_texts::{JobLine, JobShown, read_job_line, read_job_shown};
@@ -36,6 +37,8 @@ const NO_JOBS: Found = Found {
 pub struct Submitting<'a> {
     rt: &'a HostRuntime,
     draft: &'a Draft,
+    // The length of the document in bytes, if it is known.
+    size: Option<u64>,
     screen: Screen,
     // The last refusal, in the service's words.
     refusal: Option<String>,
@@ -46,8 +49,14 @@ pub struct Submitting<'a> {
 }
 
 impl<'a> Submitting<'a> {
-    pub fn new(rt: &'a HostRuntime, draft: &'a Draft, screen: Screen) -> Submitting<'a>
+    pub fn new(
+        rt: &'a HostRuntime,
+        draft: &'a Draft,
+        size: Option<u64>,
+        screen: Screen,
+    ) -> Submitting<'a>
         ensures draft { result.draft.now ≡ draft.now }
+        ensures size { result.size ≡ size }
         ensures screen { result.screen ≡ screen }
         ensures refusal { result.refusal ≡ None }
         ensures memory { result.memory ≡ false }
@@ -56,6 +65,7 @@ impl<'a> Submitting<'a> {
         Submitting {
             rt,
             draft,
+            size,
             screen,
             refusal: None,
             memory: false,
@@ -105,6 +115,20 @@ impl<'a> Submitting<'a> {
             };
         }
         ended(step)
+    }
+
+    /// Returns the queue.
+    pub fn queue(&self) -> &str
+        ensures { result.now ≡ string_bytes self.now.draft.now.queue }
+    {
+        self.draft.queue.as_str()
+    }
+
+    /// Ends the line that shows the progress.
+    pub fn end_line(&self) {
+        if self.screen.shows {
+            let _ = eprint!(self.rt; "\r");
+        }
     }
 
     fn read_piece<S: Read + Drop>(&self, step: Step, document: &mut Document<S>, size: u64) -> Step
@@ -209,9 +233,23 @@ impl<'a> Submitting<'a> {
         }
     }
 
+    // Creates the job, if the spool has room for the document. Otherwise the request is put off: the service may make room meanwhile.
+    fn create(&mut self, client: &mut Client<'_>) -> Result<Reply, ConnectionFault> {
+        if let Some(size) = self.size {
+            let answer = client.exchange(b"room\n")?;
+            let lacking = lacking_text(self.rt.alloc(), size, answer.last.as_str());
+            drop(answer);
+            if let Some(text) = lacking? {
+                self.refusal = Some(text);
+                return Ok(Reply::Later);
+            }
+        }
+        self.create_job(client)
+    }
+
     // Creates the job. The service's name for the user may come with the reply to `create` only: if that was denied for another name, it
     // is sent again with this one.
-    fn create(&mut self, client: &mut Client<'_>) -> Result<Reply, ConnectionFault> {
+    fn create_job(&mut self, client: &mut Client<'_>) -> Result<Reply, ConnectionFault> {
         let is_known = client.caller().is_some();
         let reply = self.create_once(client)?;
         if is_known

@@ -3,22 +3,23 @@ ghost use Rattle.std.specs.Prelude.{◌≡◌, IfOk, filter, filter_map};
 ghost use Rattle.std.specs.List.{list_any};
 ghost use Rattle.std.specs.Option.{option_map};
 ghost use Rattle.command_lines.specs.CommandGrammar.{is_word};
-ghost use Rattle.spool_front.specs.Acts.{IsActLine, is_cleared, is_of, is_refused, is_stop, is_unknown, number_of, queue_act_line, unless_refused};
+ghost use Rattle.spool_front.specs.Acts.{act_line, is_cleared, is_of, is_refused, is_stop, is_unknown, number_of, queue_act_line, unless_refused};
 ghost use Rattle.spool_front.specs.TaskFaults.{status_of};
 
 use crate::client::{Answer, Client};
 use crate::commands::{Until, hold_line, info_line, job_line, name_line, queue_line};
 use crate::denials::{explain_job, explain_queue};
-use crate::draft::seconds_of;
 use crate::fault::{Fault, first_failure};
 use crate::host::Screen;
-use crate::output::{print_bytes, print_lines};
+use crate::moments::{Clocks, clocks_for_act};
+use crate::output::print_lines;
 use crate::services::{
     Services, all_jobs, all_queues, client_at, has_queue, only_socket, socket_of,
 };
+use clean_texts::clean_bytes;
 use front_texts::{
-    JobLine, JobShown, QueueLine, job_page, job_shown_json, jobs_json, jobs_table, queue_page,
-    queues_json, queues_table,
+    JobLine, JobShown, QueueLine, job_page, job_shown_json, jobs_json, jobs_table, json_text,
+    queue_page, queues_json, queues_table,
 };
 use front_words::{JobAct, QueueAct, Status};
 use serde_json::Value;
@@ -54,7 +55,7 @@ fn print_jobs(rt: &HostRuntime, jobs: &[JobLine], json: bool, screen: Screen) ->
 }
 
 fn print_json(rt: &HostRuntime, value: Value) -> Result<(), Fault> {
-    let text = value.to_string(rt.alloc());
+    let text = json_text(rt.alloc(), &value);
     drop(value);
     let text = text?;
     println!(rt; "{text}")?;
@@ -206,7 +207,7 @@ fn show_row(
     shown
 }
 
-/// Prints each line that the service sends about a change, until the connection is lost.
+/// Prints each line that the service sends about a change, clean, until the connection is lost.
 pub fn watch(rt: &HostRuntime, services: Services<'_, '_>) -> Result<u8, Fault>
     ensures { IfOk result (λ status. status ≡ 0) }
 {
@@ -218,11 +219,11 @@ pub fn watch(rt: &HostRuntime, services: Services<'_, '_>) -> Result<u8, Fault>
 }
 
 fn watch_by(rt: &HostRuntime, client: &mut Client<'_>) -> Result<(), Fault> {
-    client.order(b"watch\n")?;
+    drop(client.ask(b"watch\n")?);
     for _ in 0..u64::MAX {
-        let mut line = client.read_line()?;
-        line.push(b'\n')?;
-        print_bytes(rt, line.as_slice())?;
+        let line = client.read_line()?;
+        let shown = clean_bytes(rt.alloc(), line.as_slice())?;
+        println!(rt; "{shown}")?;
     }
     Ok(())
 }
@@ -247,9 +248,10 @@ fn act_by(
     act: JobAct,
     jobs: &[u32],
 ) -> Result<u8, Fault> {
+    let clocks = clocks_for_act(rt, client, act)?;
     let mut status = 0;
     for job in jobs {
-        let line = act_line(rt, act, *job)?;
+        let line = act_line(rt.alloc(), clocks, act, *job)?;
         if let Err(fault) = order_act(rt, client, act, *job, line.as_slice()) {
             let fault = explain_job(rt.alloc(), act, *job, client.caller(), fault)?;
             let ended = report_fault(rt, *job, fault)?;
@@ -326,7 +328,7 @@ fn report_fault(rt: &HostRuntime, job: u32, fault: Fault) -> Result<u8, Fault>
     }
     let status = fault.status();
     let told = match &fault {
-        Fault::Denied(text) => eprintln!(rt; "spool: {text}"),
+        Fault::Denied(_) => eprintln!(rt; "spool: {fault}"),
         _ => eprintln!(rt; "spool: job {job}: {fault}"),
     };
     drop(fault);
@@ -334,11 +336,10 @@ fn report_fault(rt: &HostRuntime, job: u32, fault: Fault) -> Result<u8, Fault>
     Ok(status)
 }
 
-fn act_line(rt: &HostRuntime, act: JobAct, job: u32) -> Result<Vec<u8>, Fault>
-    ensures { IfOk result (λ line. IsActLine act job line.items) }
+fn act_line(alloc: Global, clocks: Clocks, act: JobAct, job: u32) -> Result<Vec<u8>, AllocError>
+    ensures { IfOk result (λ line. line.items ≡ act_line clocks act job) }
 {
-    let alloc = rt.alloc();
-    let line = match act {
+    match act {
         JobAct::Cancel => job_line(alloc, "stop", job),
         JobAct::CancelOnly => job_line(alloc, "cancel", job),
         JobAct::Release => job_line(alloc, "release", job),
@@ -346,10 +347,9 @@ fn act_line(rt: &HostRuntime, act: JobAct, job: u32) -> Result<Vec<u8>, Fault>
         JobAct::End => job_line(alloc, "end", job),
         JobAct::Hold(None) => hold_line(alloc, job, Until::Released),
         JobAct::Hold(Some(moment)) => {
-            hold_line(alloc, job, Until::Reached(seconds_of(rt, moment)?))
+            hold_line(alloc, job, Until::Reached(clocks.second_of(moment)))
         }
-    };
-    Ok(line?)
+    }
 }
 
 /// Cancels all jobs of these queues, or of all queues, that have not ended.

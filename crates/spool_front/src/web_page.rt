@@ -2,8 +2,8 @@
 ghost use Rattle.std.specs.Prelude.{◌≡◌, IfOk};
 ghost use Rattle.spool_front.specs.StatusPages.{IsPage};
 
-use crate::draft::now;
 use crate::fault::Fault;
+use crate::moments::now;
 use crate::services::{Services, all_jobs, all_queues};
 use front_texts::{JobLine, QueueLine, moment_text, page};
 use spool_types::Moment;

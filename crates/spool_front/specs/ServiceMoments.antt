@@ -1,0 +1,49 @@
+-- Moments by the time of the service.
+use Rattle.std.specs.Prelude.{ℕ, ◌+◌, ◌-◌, ◌^◌, min, nat_lt, Bool, true, false, ◌||◌, cond, List, codes, Option, None, Some, unwrap_or}
+use Rattle.std.specs.List.{before_first, after_first}
+use Rattle.line_words.specs.DecimalNumbers.{decimal}
+use Rattle.command_lines.specs.CommandGrammar.{is_word}
+use Rattle.front_texts.specs.ReplyLines.{Last, done, last_line, is_space}
+use Rattle.front_words.specs.declared.asked.Hold.{Hold}
+use Rattle.front_words.specs.declared.asked.Hold.TheVariants.{Until}
+use Rattle.front_words.specs.declared.asked.Moment.{Moment}
+use Rattle.front_words.specs.declared.asked.Moment.TheVariants.{Epoch, FromNow}
+use Rattle.spool_front.specs.declared.moments.Clocks.{Clocks}
+
+-- A service that does not know `now` has the system's clock.
+abbrev pub clocks_of : Option ℕ → ℕ → Clocks
+clocks_of told system = record { service = unwrap_or told system; system = system }
+
+-- The clocks differ by more than two seconds.
+abbrev pub are_apart : Clocks → Bool
+are_apart c = nat_lt 2 (c.service - c.system) || nat_lt 2 (c.system - c.service)
+
+-- A moment of the system's clock, by the service's time.
+abbrev pub shifted : Clocks → ℕ → ℕ
+shifted c seconds = min (seconds + c.service) (2 ^ 64 - 1) - c.system
+
+-- A relative moment counts from the service's time. An absolute one is shifted by the difference of the clocks if they are apart.
+abbrev pub second_of : Clocks → Moment → ℕ
+second_of c (FromNow seconds) = min (c.service + seconds) (2 ^ 64 - 1)
+second_of c (Epoch seconds) = cond (are_apart c) (shifted c seconds) seconds
+
+-- The moment until which a job is held.
+abbrev pub hold_moment : Hold → Option Moment
+hold_moment (Until moment) = Some moment
+hold_moment hold = None
+
+abbrev pub is_absolute : Option Moment → Bool
+is_absolute (Some (Epoch seconds)) = true
+is_absolute moment = false
+
+-- The words `now SECONDS` after `ok`.
+abbrev pub moment_words : List ℕ → Option ℕ
+moment_words words = cond (is_word (before_first is_space words) (codes "now")) (decimal 4000000000000 (after_first is_space words)) None
+
+abbrev pub moment_as : Option Last → Option ℕ
+moment_as (Some (done words)) = moment_words words
+moment_as last = None
+
+-- The moment in the last line of a reply to `now`.
+abbrev pub moment_in : List ℕ → Option ℕ
+moment_in line = moment_as (last_line line)
