@@ -43,6 +43,7 @@ SCRIPTS = {
     "service.py": [],
     "front.py": [],
     "front_roles.py": [],
+    "clean_output.py": [],
     "lives.py": [],
     "failover.py": [],
     "killed.py": [],
@@ -68,6 +69,7 @@ SCRIPTS = {
     "cups_types.py": [CUPS_TYPES],
     "grow.py": [],
     "split.py": [],
+    "queue_set.py": [],
     "large.py": [],
 }
 
@@ -87,6 +89,7 @@ PARTS = [
     "cups_beside.py",
     "failover_volume.py",
     "fast_clock.c",
+    "front_parts.py",
     "journal.py",
     "large_children.py",
     "large_disks.py",
@@ -97,17 +100,27 @@ PARTS = [
     "large_pieces.py",
     "large_run.py",
     "large_tables.py",
-    "real_children.py",
-    "front_parts.py",
     "poll_child.c",
+    "real_children.py",
     "service_children.py",
     "service_clients.py",
+    "service_clock.py",
     "service_crashes.py",
+    "service_facts.py",
     "service_faults.py",
+    "service_incoming.py",
+    "service_limits.py",
+    "service_looks.py",
     "service_office.py",
     "service_parts.py",
+    "service_places.py",
     "service_printing.py",
+    "service_proof.py",
+    "service_reserve.py",
+    "service_roles.py",
     "service_times.py",
+    "service_users.py",
+    "service_watches.py",
     "service_words.py",
     "spool_model.py",
     "stock_backends.py",
@@ -118,6 +131,7 @@ PARTS = [
     "stories.py",
     "traces.py",
     "version_one.txt",
+    "watched_calls.c",
 ]
 
 PROGRAMS = ["spool_scripts", "spool_shell", "spool_admin", "spool_service", "spool_front", "spool_tools"]
@@ -165,7 +179,7 @@ def missing_parts():
         missing["front_roles.py"] = (False, "other users, and a folder of another owner (as root)")
     if not shutil.which("strace"):
         missing["syncs.py"] = (True, "strace (Debian's package strace)")
-        missing["grow.py"] = missing["split.py"] = (False, "kills at each call (Debian's package strace)")
+        missing["grow.py"] = missing["split.py"] = missing["queue_set.py"] = (False, "kills at each call (Debian's package strace)")
         missing["children.py"] = (False, "refused system calls (Debian's package strace)")
         missing["service.py"] = (False, "power cuts (Debian's package strace)")
     elif os.geteuid():

@@ -23,6 +23,7 @@ PROMISED = {
     "changes-an-exit",
     "checkpoint-does-nothing",
     "closes-current-first",
+    "create-in-the-reserve",
     "document-to-every-stage",
     "does-a-denied-command",
     "drive-appends-nothing",
@@ -35,6 +36,7 @@ PROMISED = {
     "gate-with-payload",
     "header-in-one-write",
     "keeps-after-full",
+    "keeps-control-characters",
     "keeps-no-disk",
     "next-stage-after-cancel",
     "ok-before-apply",
@@ -43,6 +45,7 @@ PROMISED = {
     "opens-empty",
     "owner-from-the-claim",
     "purges-beside-its-child",
+    "removes-unended-jobs",
     "reopens-as-pending",
     "retry-current-as-retry",
     "round-starts-nothing",
@@ -54,6 +57,7 @@ PROMISED = {
     "swaps-words",
     "takes-away-and-puts-back",
     "tick-ignores-the-look",
+    "time-stands-still",
     "waits-for-a-purged-job-forever",
 }
 

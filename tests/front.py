@@ -177,6 +177,71 @@ def played_lost_order(folder):
     service.end()
 
 
+def moments_played(folder, now, words, status=0):
+    """Submits three bytes with moments to a simulated service that replies `now` to the question for its time. Returns the moments that it
+    was sent, by the command, and the output on standard error."""
+    asked = [("now\n", now)] if now else []
+    created = "createby" if "--by" in words else "create"
+    steps = [*asked, (f'{created} "q" ', "ok job 5\n"), ("send 5 3", "ok bytes 3\n"), ("hold 5 ", "ok\n"), ("close 5 ", CLOSED)]
+    service = Played(folder, [steps if not status else asked])
+    front = Front(folder)
+    folder.write("doc", "abc")
+    ended = front.run("spool", "submit", "q", folder.at("doc"), *words)
+    service.end()
+    same("status", ended.returncode, status)
+    return {line.split()[0]: int(line.split()[-1]) for line in service.heard if line.startswith(("createby", "hold"))}, ended.stderr.decode()
+
+
+def played_now(folder):
+    """Seconds from now count from the time of the service."""
+    sent, errors = moments_played(folder, "ok now 5000000000\n", ["--at", "+60", "--by", "+90"])
+    same("moments", (sent, errors), ({"hold": 5000000060, "createby": 5000000090}, ""))
+
+
+def played_now_apart(folder):
+    """A moment of the system's clock is shifted if the service's time is another one, in either direction."""
+    for apart, side in ((1_000_000, "service's time"), (-1_000_000, "system's clock")):
+        began = int(time.time())
+        sent, errors = moments_played(folder, f"ok now {began + apart}\n", ["--at", str(began + 60)])
+        holds(f"a moment {apart} s away: {sent}", abs(sent["hold"] - began - 60 - apart) <= 2)
+        holds(f"a note: {errors}", f"spool: the {side} is " in errors and "the moment is shifted by as much" in errors)
+    began = int(time.time())
+    sent, errors = moments_played(folder, f"ok now {began}\n", ["--at", str(began + 60)])
+    same("an equal clock", (sent, errors), ({"hold": began + 60}, ""))
+
+
+def played_without_now(folder):
+    """A service that does not know `now` has the system's clock."""
+    began = int(time.time())
+    sent, errors = moments_played(folder, None, ["--at", "+60"])
+    holds(f"a moment a minute ahead: {sent}", began + 60 <= sent["hold"] <= began + 65)
+    sent, errors = moments_played(folder, None, ["--at", "1000"])
+    same("an absolute moment", (sent, errors), ({"hold": 1000}, ""))
+
+
+def played_now_invalid(folder):
+    for reply in ("ok now\n", "ok now 12x\n", "ok now 4000000000001\n", "ok room 12\n", "ok 12\n"):
+        sent, errors = moments_played(folder, reply, ["--at", "+60"], status=1)
+        same(f"after {reply}", (sent, errors), ({}, "spool: the reply of the service is invalid\n"))
+
+
+def played_looks_at_a_busy_service(folder):
+    """Tasks that look try again while the service is busy, and then say so."""
+    busy, steps = [("jobs", "error busy\n")], [("jobs", "ok 0\n")]
+    for count in (1, 3):
+        service = Played(folder, [busy] * count + [steps])
+        Front(folder, 5).says("spool", "status")
+        service.end()
+    service = Played(folder, [busy] * 11)
+    same("a service that stays busy", Front(folder, 1).fails("spool", "status"), f"spool: the service at {folder.socket} is busy\n")
+    service.end()
+    # The second connection is closed before its reply.
+    service = Played(folder, [[("watch", "error busy\n")], [("watch", None)]])
+    Front(folder, 1).fails("spool", "watch")
+    service.end()
+    same("watch", service.heard, ["watch", "watch"])
+
+
 def played_without_a_service(folder):
     played(folder, [SENDS + [("close 5 ", None)]], 3, "job 5", patience=1)
     played(folder, [[SENDS[0], ("send 5 3", None)]], 1, "cannot reach the service", patience=1)
@@ -192,6 +257,37 @@ def office(folder, more=""):
     client = Client(folder)
     folder.queue(client, "q")
     return client, Front(folder)
+
+
+def submits_what_fits(folder):
+    """`spool submit` asks for room before it sends: a document that does not fit is refused with both numbers, and leaves no job. If jobs that
+    have ended use the room, the service makes some, and the document is accepted.
+    """
+    folder.size = 4_194_304
+    folder.start()
+    client, front = Client(folder), Front(folder)
+    folder.queue(client, "q")
+    same("disable", client.ask("disable q\n"), "ok")
+    # A checkpoint may use some bytes more than the events.
+    room = int(client.ask("room\n").split()[2]) - 100
+    folder.write("large", "x" * (room + 200))
+    folder.write("most", "x" * room)
+    text = front.fails("spool", "submit", "q", folder.at("large"))
+    holds(f"the refusal: {text}", text.startswith(f"spool: the document has {room + 200} bytes, and the spool has room for {room // 1_000}"))
+    same("no job", client.states(), {})
+    job = number_of(front.says("spool", "submit", "q", folder.at("most")))
+    same("its size", client.fields(job)["size"], str(room))
+    holds("no more fits", "the spool has room for" in front.fails("spool", "submit", "q", folder.at("most")))
+    same("cancel", client.ask(f"cancel {job}\n"), "ok")
+    same("purge", client.ask(f"purge {job}\n"), "ok")
+    folder.write("less", "x" * (room - 1_000))
+    # The service makes a checkpoint for this, at most ten times as long after the last one as that one took.
+    until("the room again", lambda: room - 1_000 <= int(client.ask("room\n").split()[2]))
+    number_of(front.says("spool", "submit", "q", folder.at("less")))
+    # Standard input has no known length: the job is canceled when a piece of it does not fit.
+    text = front.fails("spool", "submit", "q", "-", text=b"x" * room)
+    holds(f"canceled: {text}", "error full; job" in text and "was canceled" in text)
+    same("no incoming job", [job for job, state in client.states().items() if state == "4 job-incoming"], [])
 
 
 def submits_a_file(folder):
@@ -305,6 +401,7 @@ def submits_and_is_refused(folder):
     front.fails("spool", "submit", status=2)
     front.fails("spool", "bogus", status=2)
     front.says("spool", "--help")
+    holds("how the other fields of a queue are set", "spool_admin queue set DIR NAME" in front.says("spool", "queue", "set", "--help"))
     holds("the version", front.says("spool", "--version").startswith("spool (Cegmandi) "))
 
 

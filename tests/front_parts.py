@@ -91,7 +91,7 @@ class Played:
     It is an older service: the words of `UNKNOWN` are answered `error syntax`, unless a step expects them.
     """
 
-    UNKNOWN = ("i-am\n", "find ", "stop ", "list")
+    UNKNOWN = ("i-am\n", "now\n", "room\n", "find ", "stop ", "list")
 
     def __init__(self, folder, connections):
         self.heard = []

@@ -37,7 +37,7 @@ OTHERS |= {"systemctl(1)", "journalctl(1)", "date(1)", "cups(1)", "signal(7)", "
 SPOOLERS = {
     "spool_shell": ("spool_shell.8", ["spool_runtime/src/options.rt", "spool_runtime/src/words.rt"]),
     "spool_service": ("spool_service.8", ["spool_runtime/src/options.rt", "spool_service/src/words.rt"]),
-    "spool_admin": ("spool_admin.8", ["spool_admin/src/words.rt"]),
+    "spool_admin": ("spool_admin.8", ["spool_admin/src/words.rt", "spool_admin/src/queue_words.rt"]),
 }
 FRONT = ("spool.1", "front_words/src")
 

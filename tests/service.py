@@ -11,6 +11,7 @@ one, or of one of these files; without one all are run. --list prints their name
 | service_looks.py | its commands that look at queues and jobs (`queue`, `list`, `find`, `incoming`) |
 | service_watches.py | what watching clients are sent, numbered changes, `stop`, `close` with a type, and lines of the log |
 | service_clients.py | clients that stall, flood, never read, are too many, and are cut off at each byte |
+| service_places.py | how many clients have places, which keep theirs, and how many wait or watch |
 | service_children.py | children that are slow, hang and are ended, how many run at once, and a full folder |
 | service_printing.py | whole documents, the same results of children as in the shell, and the children that are ended |
 | service_roles.py | each row of the table of roles, by users of the system |
@@ -21,6 +22,9 @@ one, or of one of these files; without one all are run. --list prints their name
 | service_crashes.py | a service that is killed, also at random, and the files that a power cut leaves |
 | service_times.py | a hold that ends, processor time, and the time until an end is seen |
 | service_limits.py | the longest waits, the polls of a child, and the descriptors that are left free |
+| service_clock.py | a system's clock that is set, jumps ahead and steps, and the moments of the front end then |
+| service_reserve.py | a full spool, the reserve of its journal, and the document that fits (`room`) |
+| service_incoming.py | incoming jobs whose clients have gone, the moment of the service (`now`), and the first retry of a job |
 | service_office.py | the clock, the maintenance, a day of an office in fast motion, and thousands of jobs |
 
 The backends are small programs of sh in a fresh folder for each test. Some tests take long, and are shorter unless --long is given, or
@@ -36,14 +40,18 @@ import sys
 
 import service_children
 import service_clients
+import service_clock
 import service_crashes
 import service_facts
 import service_faults
+import service_incoming
 import service_limits
 import service_looks
 import service_office
+import service_places
 import service_printing
 import service_proof
+import service_reserve
 import service_roles
 import service_times
 import service_users
@@ -56,6 +64,7 @@ FILES = [
     service_looks,
     service_watches,
     service_clients,
+    service_places,
     service_children,
     service_printing,
     service_proof,
@@ -65,7 +74,10 @@ FILES = [
     service_faults,
     service_crashes,
     service_times,
+    service_clock,
     service_limits,
+    service_reserve,
+    service_incoming,
     service_office,
 ]
 

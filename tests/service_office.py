@@ -6,7 +6,7 @@ import subprocess
 import time
 from dataclasses import dataclass
 
-from service_parts import Client, Difference, HERE, Skipped, at_once, holds, patient_client, same, until
+from service_parts import Client, Difference, HERE, TYPE, Skipped, at_once, holds, patient_client, same, until
 
 ADMIN = os.path.join(HERE, "..", "crates", "spool_admin", "out", "spool_admin")
 
@@ -51,7 +51,7 @@ def a_deadline_that_passes(folder):
 
 
 def a_clock_that_moves_back(folder):
-    """A system clock that is earlier than the spool's time changes nothing until it has caught up."""
+    """If the system's clock is earlier than the spool's time, this goes on by the steady clock, and nothing is written until it is due."""
     library = fast_clock(folder)
     folder.environment = {"LD_PRELOAD": library, "FAST_CLOCK": f"{time.time()} {DAWN} 1"}
     folder.start()
@@ -69,13 +69,18 @@ def a_clock_that_moves_back(folder):
     client = Client(folder)
     client.until_state(client.submit("q"), "9")
     held = client.create("q")
-    same("hold", client.ask(f"hold {held} {known + 2}\n"), "ok")
+    began = time.monotonic()
+    same("hold", client.ask(f"hold {held} {known + 6}\n"), "ok")
     client.finish(held)
     before = folder.disk_time()
     time.sleep(3)
     same("nothing is written", folder.disk_time(), before)
     same("it is still held", client.state(held)[0], "4")
-    same("the time is unchanged", moment_of(client), known)
+    client.until_state(held, "9")
+    took = time.monotonic() - began
+    holds(f"a hold of 6 s took {took:.2f} s", 4 <= took <= 9)
+    after = moment_of(client)
+    holds(f"the time of the table: {known}, then {after}", known + 6 <= after <= known + 12)
 
 
 def a_clock_that_is_set(folder):
@@ -99,7 +104,7 @@ def a_clock_that_is_set(folder):
 
 def moment_of(client):
     """The engine's time: the last moment until which a hold ends at once."""
-    low, high = 0, 4_000_000_000
+    low, high = 0, 4_000_000_000_000
     job = client.create("q")
     while low + 1 < high:
         middle = (low + high) // 2
@@ -268,31 +273,32 @@ def the_share_that_must_be_free(folder):
 
 
 def a_spool_that_stays_full(folder):
-    """If the state does not fit into the other half, changes are refused and the checkpoint fails, which is logged, and nothing is lost. In a
-    larger file there is room again.
+    """If queues have used the reserve, so that the state does not fit into the other half, changes are refused and the checkpoint fails, which
+    is logged, and nothing is lost. In a larger file there is room again.
     """
     folder.size = 16_384
     folder.start()
     client = Client(folder)
     folder.queue(client, "q")
     same("disable", client.ask("disable q\n"), "ok")
-    jobs, reply = [], "ok"
-    while reply != "error full":
-        reply = client.ask('create q u "t" 1 50 ""\n')
-        jobs += [int(reply.split()[2])] if reply.startswith("ok") else []
+    names = []
+    for length in (900, 100, 1):
+        while client.ask(f"queue n{len(names)} slow:/{'0' * length} {TYPE} abort-job 0 0\n") == "ok":
+            names.append(f"n{len(names)}")
     until("a failed checkpoint", lambda: "spool: checkpoint failed\n" in folder.log())
+    made = checkpoints(folder)
     same("a checkpoint", client.ask("checkpoint\n"), "error full")
     same("another job", client.ask('create q u "t" 1 50 ""\n'), "error full")
-    same("no checkpoint is made", checkpoints(folder), 0)
-    rows = client.listing("jobs\n")
-    same("rows", len(rows), len(jobs))
+    same("no further checkpoint is made", checkpoints(folder), made)
+    rows = client.listing("queues\n")
+    same("rows", [row.split()[1] for row in rows], sorted([*names, "q"]))
     folder.kill()
     if not os.path.exists(ADMIN):
         raise Skipped("the built spool_admin, for a larger file (`rt run` in crates/spool_admin)")
     subprocess.run([ADMIN, "grow", folder.at("spool"), "65536"], check=True, timeout=60)
     folder.start()
     client = Client(folder)
-    same("the jobs in the larger file", client.listing("jobs\n"), rows)
+    same("the queues in the larger file", client.listing("queues\n"), rows)
     same("enable", client.ask("enable q\n"), "ok")
     client.until_state(client.submit("q"), "9")
 

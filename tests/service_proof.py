@@ -365,7 +365,7 @@ def many_prove_themselves_at_once(folder, people):
 
 
 def admitted(folder):
-    """A client with a challenge. A service with 64 clients rejects the others, which try again."""
+    """A client with a challenge. A service without a free place rejects the others, which try again."""
     for _ in range(2000):
         try:
             client = Client(folder)
