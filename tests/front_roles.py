@@ -403,11 +403,12 @@ def explains_what_only_operators_may(folder):
 CLOSED = {"send 5": "ok bytes 3\n", "close 5": "ok type a/b stages 1\n"}
 
 
-def submitted(folder, replies, *words, status=0, made="ok user ann\n", **more):
-    """Submits three bytes, and returns the service and the program's output."""
+def submitted(folder, replies, *words, status=0, made="ok user ann\n", text=None, **more):
+    """Submits a file of three bytes, or a text on standard input, and returns the service and the program's output."""
     service, front = started(folder, {**CLOSED, **replies}, made=made, **more)
     folder.write("doc", "abc")
-    ended = front.run("spool", "submit", "q", folder.at("doc"), *words)
+    source = folder.at("doc") if text is None else "-"
+    ended = front.run("spool", "submit", "q", source, *words, text=text or b"")
     same(f"status, with the output {ended.stderr!r}", ended.returncode, status)
     return service, ended.stdout.decode() + ended.stderr.decode()
 
@@ -420,10 +421,15 @@ def owns_by_its_proved_name(folder):
     service, output = submitted(folder, {'create "q" "ann"': "ok job 5\n"})
     same("output", output, "request id is q-5 (1 file(s))\n")
     same("users", creates(service), ["ann"])
-    same("round trips", service.trips, 4)
+    # The proof with `room`, `create`, `send`, `close` and the fields of the job.
+    same("round trips", service.trips, 5)
     service.end()
-    # The environment names another user: the service's name is used.
+    # The environment names another user: the service's name is used. It comes with the reply to `room`, or to `create` if the length of the
+    # document is not known.
     service, output = submitted(folder, {'create "q" "bob"': "ok job 5\n", 'create "q" ': "error denied\n"}, made="ok user bob\n")
+    same("users", creates(service), ["bob"])
+    service.end()
+    service, output = submitted(folder, {'create "q" "bob"': "ok job 5\n", 'create "q" ': "error denied\n"}, made="ok user bob\n", text=b"abc")
     same("users", creates(service), ["ann", "bob"])
     service.end()
     service, output = submitted(folder, {'create "q" "b o\\"b"': "ok job 5\n", 'create "q" ': "error denied\n"}, made='ok user b o"b\n')
@@ -496,8 +502,10 @@ def asks_for_its_job(folder):
     """After a lost reply the job is found by its token, also if its fields are not shown."""
     service, output = submitted(folder, {"create": [None, "ok job 6\n"], "find ": "ok job 5\n", "job 5": shown()}, proof="error proof\n")
     same("output", output, "request id is q-5 (1 file(s))\n")
-    token = service.heard[1].split("submission=")[1].split('"')[0]
-    same("said", service.heard[2:5], ["i-am", f"find {token}", "job 5"])
+    created = next(line for line in service.heard if line.startswith("create "))
+    token = created.split("submission=")[1].split('"')[0]
+    said = [line for line in service.heard if line != "room"]
+    same("said", said[2:5], ["i-am", f"find {token}", "job 5"])
     service.end()
     # There is none: the job is created again.
     service, output = submitted(folder, {"create": [None, "ok job 5\n"], "find ": "error job\n"}, proof="error proof\n")

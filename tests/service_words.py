@@ -388,7 +388,7 @@ def names_that_belong_to_others(folder):
     for options in (["--listen"], ["--operators-socket"]):
         for name in ("file", "room", "link"):
             folder.launch(*options, folder.at(name))
-            text = f"cannot listen on {folder.at(name)}: it exists and is no socket\nspool: socket\n"
+            text = f"spool: cannot listen on {folder.at(name)}: it exists and is no socket\nspool: socket\n"
             same(f"the end at a {name}", (folder.running.wait(LONGEST), folder.log()), (1, text))
             os.remove(folder.at("log"))
     with open(folder.at("file"), encoding="ascii") as file:
@@ -399,7 +399,7 @@ def names_that_belong_to_others(folder):
         other.bind(folder.at("other.sock"))
         other.listen(1)
         folder.launch("--listen", folder.at("other.sock"))
-        text = f"cannot listen on {folder.at('other.sock')}: another program serves this socket\nspool: socket\n"
+        text = f"spool: cannot listen on {folder.at('other.sock')}: another program serves this socket\nspool: socket\n"
         same("the end at a socket that is served", (folder.running.wait(LONGEST), folder.log()), (1, text))
         same("it is still there", stat.S_ISSOCK(os.stat(folder.at("other.sock")).st_mode), True)
     folder.socket = folder.at("other.sock")
