@@ -234,12 +234,14 @@ def one_checkpoint_after_a_start(folder):
     """A spool that consists mostly of documents makes one checkpoint after each start, and then none while nothing is written. A few more
     events do not cause one either.
     """
-    folder.size = 65_536
+    folder.size = 1_048_576
     folder.start()
     client = Client(folder)
     folder.queue(client, "q")
     job = client.create("q")
-    same("send", client.ask(b"send %d 27000\n" % job + bytes(27_000) + b"\n"), "ok bytes 27000")
+    # Four fifths of an area. An eighth of it is the reserve.
+    for sent in range(1, 8):
+        same("send", client.ask(b"send %d 60000\n" % job + bytes(60_000) + b"\n"), f"ok bytes {sent * 60_000}")
     for _ in range(2):
         folder.kill()
         before = checkpoints(folder)
