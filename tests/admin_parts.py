@@ -1,6 +1,6 @@
-"""The shared parts of the tests of spool_admin, grow.py and split.py.
+"""The shared parts of the tests of spool_admin, grow.py, queue_set.py and split.py.
 
-They are the programs, the spools, the system calls to kill or to fail, and the loop that runs all tests.
+They are the programs, the spools and their folders, the system calls to kill or to fail, and the loop that runs all tests.
 """
 import os
 import shutil
@@ -11,7 +11,7 @@ import tempfile
 import journal
 import traces
 from journal import cancel, close, hold, image, send, start
-from stories import LAB, Q, Difference, of_lab, of_q, spelled
+from stories import LAB, Q, Difference, of_lab, of_q, same, spelled
 
 HERE = os.path.dirname(os.path.abspath(__file__))
 
@@ -47,11 +47,59 @@ def image_of(version=journal.NEWEST, size=SIZE, epoch=1):
     return image(size, [spelled(event, version) for event in EVENTS], epoch=epoch, version=version)
 
 
+def image_of_documents():
+    """A spool with documents of several pieces, and with empty ones."""
+    long = bytes(range(256)) * 600
+    events = [Q.event(), LAB.event()]
+    for number, data in ((1, long), (2, b""), (3, long[:65_536]), (4, long[1:65_536])):
+        events.append((of_q if number % 2 else of_lab)(number).event())
+        events += [send(number, data[at:at + 65_536]) for at in range(0, len(data), 65_536)]
+        events.append(close(number))
+    return image(1_000_000, [spelled(event) for event in events])
+
+
 def in_second_area(file, epoch=7):
     """The same spool with its areas exchanged, and an older one in the other area."""
     first, second = journal.halves(file)
     rest = file[2 * len(first):]
     return journal.area(len(first), epoch - 1, [spelled(Q.event())]) + journal.header(epoch, version=first[1]) + first[journal.HEADER:] + rest
+
+
+def names_in(root):
+    """The names in a folder, except that of the lock file, which remains."""
+    return [name for name in os.listdir(root) if name != LOCK]
+
+
+class SpoolFolder:
+    """A folder with a spool of these bytes, and the lock file of an earlier program."""
+
+    def __init__(self, folder, content=None):
+        self.root = tempfile.mkdtemp(dir=folder)
+        self.file = os.path.join(self.root, NAME)
+        if content is not None:
+            self.write(content)
+            os.close(os.open(os.path.join(self.root, LOCK), os.O_CREAT, 0o600))
+
+    def write(self, content):
+        with open(self.file, "wb") as file:
+            file.write(content)
+
+    def content(self):
+        with open(self.file, "rb") as file:
+            return file.read()
+
+    def is_unchanged(self, fault, *words):
+        """The arguments are refused with this error, and the file and its folder are unchanged."""
+        before, names = self.content(), names_in(self.root)
+        same("the end", administer(*words), (1, "", fault))
+        same("the file is unchanged", self.content() == before, True)
+        same("the names", names_in(self.root), names)
+
+    def serve(self, *commands):
+        script = "".join(f"{command}\n" for command in commands)
+        done = subprocess.run([SHELL, "--root", self.root], input=script, capture_output=True, text=True, timeout=SECONDS)
+        same("the shell's end", (done.returncode, done.stderr), (0, ""))
+        return done.stdout.splitlines()
 
 
 def administer(*words, before=()):

@@ -16,7 +16,6 @@ characters, such as U+009B, and U+202E, which reverses the text after it. The te
 The last line is `N of N`, and status 0; or the number that failed, with status 1.
 """
 import json
-import os
 import re
 import socket
 import sys
@@ -24,8 +23,8 @@ import threading
 import time
 import unicodedata
 
-from front_parts import Front
-from service_parts import Client, Folder, holds, run_test, same, until
+from front_parts import Front, run_tests
+from service_parts import Client, holds, same, until
 
 # The title, the user, the options and the description of a hostile client. A title may not contain ESC.
 TITLE = "\u009b31mred\u0085two\u009d2;name\u009c \u202egnp.exe\u2066x\u200b\u00ad\ufeff\U000e0041."
@@ -215,24 +214,5 @@ def logs_users(folder):
 TESTS = [test for name, test in list(globals().items()) if name.startswith(("prints_", "writes_", "logs_"))]
 
 
-def main():
-    words = [word for word in sys.argv[1:] if not word.startswith("--")]
-    if "--list" in sys.argv[1:]:
-        print("\n".join(test.__name__ for test in TESTS))
-        return 0
-    Folder.service = os.path.abspath(words[0] if words else Folder.service)
-    Front.program = os.path.abspath(words[1] if len(words) > 1 else Front.program)
-    for program in (Folder.service, Front.program):
-        if not os.path.exists(program):
-            sys.exit(f"no program {program}: run `rt run` in its crate's folder first")
-    names = words[2:]
-    unknown = set(names) - {test.__name__ for test in TESTS}
-    if unknown:
-        sys.exit(f"no test {' '.join(unknown)}: --list prints them")
-    ends = [run_test(test) for test in TESTS if not names or test.__name__ in names]
-    print(f"{ends.count('passed')} of {len(ends)}")
-    return 1 if "failed" in ends else 0
-
-
 if __name__ == "__main__":
-    sys.exit(main())
+    sys.exit(run_tests(TESTS))

@@ -28,8 +28,8 @@ import threading
 import time
 import unicodedata
 
-from front_parts import Front, Played, number_of
-from service_parts import TYPE, Client, Folder, Skipped, holds, patient_client, run_test, same, until
+from front_parts import Front, Played, number_of, run_tests
+from service_parts import TYPE, Client, Folder, Skipped, holds, patient_client, same, until
 
 # ---- a simulated service
 
@@ -734,27 +734,5 @@ TESTS = [test for name, test in list(globals().items()) if name.startswith(("pla
 TESTS += [refuses_memory, kills, fits_terminals, lp_scripts]
 
 
-def main():
-    flags = [word for word in sys.argv[1:] if word.startswith("--")]
-    words = [word for word in sys.argv[1:] if not word.startswith("--")]
-    if "--list" in flags:
-        print("\n".join(test.__name__ for test in TESTS))
-        return 0
-    Folder.is_long = "--long" in flags
-    Folder.service = os.path.abspath(words[0] if words else Folder.service)
-    Front.program = os.path.abspath(words[1] if len(words) > 1 else Front.program)
-    for program in (Folder.service, Front.program):
-        if not os.path.exists(program):
-            sys.exit(f"no program {program}: run `rt run` in its crate's folder first")
-    names = words[2:]
-    unknown = set(names) - {test.__name__ for test in TESTS}
-    if unknown:
-        sys.exit(f"no test {' '.join(unknown)}: --list prints them")
-    ends = [run_test(test) for test in TESTS if not names or test.__name__ in names]
-    passed, skipped = ends.count("passed"), ends.count("skipped")
-    print(f"{passed} of {len(ends) - skipped}" + (f", {skipped} left out" if skipped else ""))
-    return 1 if "failed" in ends else 0
-
-
 if __name__ == "__main__":
-    sys.exit(main())
+    sys.exit(run_tests(TESTS))

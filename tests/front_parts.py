@@ -1,15 +1,16 @@
 """The shared parts of the tests of the front end. tests/front.py describes how to run them.
 
-They are its program by each of its names, a service that a test simulates, and a terminal.
+They are its program by each of its names, a service that a test simulates, a terminal, and the loop that runs all tests.
 """
 import os
 import pty
 import select
 import socket
 import subprocess
+import sys
 import threading
 
-from service_parts import HERE, LONGEST, Difference, same
+from service_parts import HERE, LONGEST, Difference, Folder, run_test, same
 
 BUILT = os.path.join(HERE, "..", "crates", "spool_front", "out", "spool_front")
 
@@ -149,3 +150,26 @@ class Played:
             raise Difference(f"the simulated service: {self.fault!r}")
         if self.thread.is_alive():
             raise Difference("not all expected commands were sent")
+
+
+def run_tests(tests):
+    """Runs these tests, or those that the arguments name after the programs, and returns the status."""
+    flags = [word for word in sys.argv[1:] if word.startswith("--")]
+    words = [word for word in sys.argv[1:] if not word.startswith("--")]
+    if "--list" in flags:
+        print("\n".join(test.__name__ for test in tests))
+        return 0
+    Folder.is_long = "--long" in flags
+    Folder.service = os.path.abspath(words[0] if words else Folder.service)
+    Front.program = os.path.abspath(words[1] if len(words) > 1 else Front.program)
+    for program in (Folder.service, Front.program):
+        if not os.path.exists(program):
+            sys.exit(f"no program {program}: run `rt run` in its crate's folder first")
+    names = words[2:]
+    unknown = set(names) - {test.__name__ for test in tests}
+    if unknown:
+        sys.exit(f"no test {' '.join(unknown)}: --list prints them")
+    ends = [run_test(test) for test in tests if not names or test.__name__ in names]
+    passed, skipped = ends.count("passed"), ends.count("skipped")
+    print(f"{passed} of {len(ends) - skipped}" + (f", {skipped} left out" if skipped else ""))
+    return 1 if "failed" in ends else 0

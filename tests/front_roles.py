@@ -28,8 +28,8 @@ import subprocess
 import sys
 import threading
 
-from front_parts import Front
-from service_parts import HERE, LONGEST, TYPE, Folder, Skipped, holds, run_test, same
+from front_parts import Front, run_tests
+from service_parts import HERE, LONGEST, TYPE, Folder, Skipped, holds, same
 
 ME = os.getuid()
 OLDER = "error syntax\n"
@@ -574,25 +574,5 @@ PREFIXES = ("proves_", "goes_on_", "leaves_", "refuses_", "explains_", "owns_", 
 TESTS = [test for name, test in list(globals().items()) if name.startswith(PREFIXES)]
 
 
-def main():
-    words = [word for word in sys.argv[1:] if not word.startswith("--")]
-    if "--list" in sys.argv[1:]:
-        print("\n".join(test.__name__ for test in TESTS))
-        return 0
-    Folder.service = os.path.abspath(words[0] if words else Folder.service)
-    Front.program = os.path.abspath(words[1] if len(words) > 1 else Front.program)
-    for program in (Folder.service, Front.program):
-        if not os.path.exists(program):
-            sys.exit(f"no program {program}: run `rt run` in its crate's folder first")
-    names = words[2:]
-    unknown = set(names) - {test.__name__ for test in TESTS}
-    if unknown:
-        sys.exit(f"no test {' '.join(unknown)}: --list prints them")
-    ends = [run_test(test) for test in TESTS if not names or test.__name__ in names]
-    passed, skipped = ends.count("passed"), ends.count("skipped")
-    print(f"{passed} of {len(ends) - skipped}" + (f", {skipped} left out" if skipped else ""))
-    return 1 if "failed" in ends else 0
-
-
 if __name__ == "__main__":
-    sys.exit(main())
+    sys.exit(run_tests(TESTS))

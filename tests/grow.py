@@ -22,12 +22,11 @@ import re
 import shutil
 import stat
 import subprocess
-import tempfile
 
 import journal
 import spool_model as model
 import traces
-from admin_parts import ERRORS, KILLED, LOCK, NAME, OTHERS, OWNED, SECONDS, SHELL, SIZE, administer, image_of, in_second_area, run_all
+from admin_parts import ERRORS, KILLED, LOCK, NAME, OTHERS, OWNED, SHELL, SIZE, SpoolFolder, administer, image_of, in_second_area, names_in, run_all
 from journal import image
 from stories import Q, Difference, of_q, same, spelled
 
@@ -35,44 +34,14 @@ LARGER = 20_001
 UNFINISHED = "spool.disk.new"
 
 
-def names_in(root):
-    """The names in a folder, except that of the lock file, which remains."""
-    return [name for name in os.listdir(root) if name != LOCK]
-
-
-class Place:
-    """A folder with a spool of these bytes, and the lock file of an earlier program."""
-
-    def __init__(self, folder, content=None):
-        self.root = tempfile.mkdtemp(dir=folder)
-        self.file = os.path.join(self.root, NAME)
-        if content is not None:
-            self.write(content)
-            os.close(os.open(os.path.join(self.root, LOCK), os.O_CREAT, 0o600))
-
-    def write(self, content):
-        with open(self.file, "wb") as file:
-            file.write(content)
-
-    def content(self):
-        with open(self.file, "rb") as file:
-            return file.read()
+class Place(SpoolFolder):
+    """A spool that grows."""
 
     def grow(self, size=LARGER):
         same("the end of `grow`", administer("grow", self.root, str(size)), (0, "", ""))
 
     def refuses(self, fault, *words):
-        """The file and its folder are unchanged."""
-        before, names = self.content(), names_in(self.root)
-        same("the end", administer(*(words or ("grow", self.root, str(LARGER)))), (1, "", fault))
-        same("the file is unchanged", self.content() == before, True)
-        same("the names", names_in(self.root), names)
-
-    def serve(self, *commands):
-        script = "".join(f"{command}\n" for command in commands)
-        done = subprocess.run([SHELL, "--root", self.root], input=script, capture_output=True, text=True, timeout=SECONDS)
-        same("the shell's end", (done.returncode, done.stderr), (0, ""))
-        return done.stdout.splitlines()
+        self.is_unchanged(fault, *(words or ("grow", self.root, str(LARGER))))
 
 
 def is_grown(old, new, size=LARGER):

@@ -25,14 +25,13 @@ import shutil
 import stat
 import subprocess
 import sys
-import tempfile
 from concurrent.futures import ThreadPoolExecutor
 
 import journal
 import service_parts
 import spool_model as model
 import traces
-from admin_parts import ERRORS, KILLED, LOCK, NAME, OTHERS, OWNED, SECONDS, SHELL, SIZE, administer, image_of, in_second_area, run_all
+from admin_parts import ERRORS, KILLED, NAME, OTHERS, OWNED, SHELL, SIZE, SpoolFolder, administer, image_of, image_of_documents, in_second_area, names_in, run_all
 from journal import cancel, close, image, send
 from stories import LAB, Q, of_lab, of_q, same, spelled
 
@@ -64,24 +63,8 @@ def with_fields(file, name, fields):
     return table
 
 
-def names_in(root):
-    return [name for name in os.listdir(root) if name != LOCK]
-
-
-class Place:
-    """A folder with a spool of these bytes, and the lock file of an earlier program."""
-
-    def __init__(self, folder, content=None):
-        self.root = tempfile.mkdtemp(dir=folder)
-        self.file = os.path.join(self.root, NAME)
-        if content is not None:
-            with open(self.file, "wb") as file:
-                file.write(content)
-            os.close(os.open(os.path.join(self.root, LOCK), os.O_CREAT, 0o600))
-
-    def content(self):
-        with open(self.file, "rb") as file:
-            return file.read()
+class Place(SpoolFolder):
+    """A spool whose queues change."""
 
     def set(self, *words, name="lab"):
         same("the end of `set`", administer("queue", "set", self.root, name, *words), (0, "", ""))
@@ -90,11 +73,7 @@ class Place:
         same("the end of `remove`", administer("queue", "remove", self.root, name, *words), (0, "", ""))
 
     def refuses(self, fault, act, *words, name="lab"):
-        """The file and its folder are unchanged."""
-        before, names = self.content(), names_in(self.root)
-        same("the end", administer("queue", act, self.root, name, *words), (1, "", fault))
-        same("the file is unchanged", self.content() == before, True)
-        same("the names", names_in(self.root), names)
+        self.is_unchanged(fault, "queue", act, self.root, name, *words)
 
     def lists(self, table, size):
         """The file lists exactly this table, in the newest version."""
@@ -102,12 +81,6 @@ class Place:
         payloads, _ = journal.current(file)
         same("the file", (len(file), payloads, journal.current_version(file)), (size, table.listing(), journal.NEWEST))
         same("the names", names_in(self.root), [NAME])
-
-    def serve(self, *commands):
-        script = "".join(f"{command}\n" for command in commands)
-        done = subprocess.run([SHELL, "--root", self.root], input=script, capture_output=True, text=True, timeout=SECONDS)
-        same("the shell's end", (done.returncode, done.stderr), (0, ""))
-        return done.stdout.splitlines()
 
 
 FILES = (lambda: image_of(), lambda: image_of(1), lambda: in_second_area(image_of()), lambda: in_second_area(image_of(1)), lambda: image_of(size=8_193))
@@ -149,13 +122,7 @@ def the_changed_spool_is_served(folder):
 
 def documents_are_whole(folder):
     """Documents of several pieces, and of none, that wait."""
-    long = bytes(range(256)) * 600
-    events = [Q.event(), LAB.event()]
-    for number, data in ((1, long), (2, b""), (3, long[:65_536]), (4, long[1:65_536])):
-        events.append((of_q if number % 2 else of_lab)(number).event())
-        events += [send(number, data[at:at + 65_536]) for at in range(0, len(data), 65_536)]
-        events.append(close(number))
-    file = image(1_000_000, [spelled(event) for event in events])
+    file = image_of_documents()
     place = Place(folder, file)
     place.set(*ALL)
     place.lists(with_fields(file, "lab", ALL_FIELDS), len(file))

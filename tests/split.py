@@ -30,9 +30,9 @@ from concurrent.futures import ThreadPoolExecutor
 import journal
 import spool_model as model
 import traces
-from admin_parts import ERRORS, KILLED, LOCK, NAME, OTHERS, OWNED, SECONDS, SHELL, SIZE, administer, image_of, in_second_area, run_all
-from journal import close, image, send
-from stories import LAB, Q, of_lab, of_q, same, spelled
+from admin_parts import ERRORS, KILLED, LOCK, NAME, OTHERS, OWNED, SECONDS, SHELL, SIZE, administer, image_of, image_of_documents, in_second_area, run_all
+from journal import image
+from stories import Q, of_q, same, spelled
 
 SIDE_BY_SIDE = 4
 PART = "spool.part."
@@ -132,13 +132,7 @@ def both_are_served(folder):
 
 def documents_are_whole(folder):
     """Documents of several pieces, and of none."""
-    long = bytes(range(256)) * 600
-    events = [Q.event(), LAB.event()]
-    for number, data in ((1, long), (2, b""), (3, long[:65_536]), (4, long[1:65_536])):
-        events.append((of_q if number % 2 else of_lab)(number).event())
-        events += [send(number, data[at:at + 65_536]) for at in range(0, len(data), 65_536)]
-        events.append(close(number))
-    file = image(1_000_000, [spelled(event) for event in events])
+    file = image_of_documents()
     place = Place(folder, file)
     place.split()
     is_split(place, file)
