@@ -192,10 +192,11 @@
 //!
 //! # Cost
 //!
-//! No step of a turn waits for a client or a child; only the disk's syncs take time. A turn looks at each of 1,000 slots four times. The
-//! clients of a user are counted only if the client may have a request and half of the places for listening are taken. The table is asked for the next due moment and the
-//! ended jobs at most once a second, and only if something was done. It finds them, and the jobs that a clock changes, without a search of
-//! its jobs (`job_table`). `bench/due.py` measures this.
+//! No step of a turn waits for a client or a child; only the disk's syncs take time. A turn looks at each slot three times, at as many as
+//! there are places, and a notice at each of 1,000. For a client that may have a request, while half of the places for listening are taken,
+//! the clients of its user are counted, which looks at each of 1,000 too. The table is asked for the next due moment and the ended jobs at
+//! most once a second, and only if something was done. It finds them, and the jobs that a clock changes, without a search of its jobs
+//! (`job_table`). `bench/due.py` measures this.
 #![tactic(auto)]
 
 mod bounds;
