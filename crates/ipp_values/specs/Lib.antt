@@ -1,0 +1,5 @@
+pub mod Limits
+pub mod Opaque
+pub mod Tags
+pub mod Values
+pub mod Messages
