@@ -1,5 +1,5 @@
-pub mod Limits
+pub mod TextLimits
 pub mod Opaque
 pub mod Tags
-pub mod Values
+pub mod ValueTexts
 pub mod Messages

@@ -1,9 +1,10 @@
 -- The tags of RFC 8010, 3.5, each with its number.
-use Rattle.std.specs.Prelude.{ℕ, Option, Some, None, ◌==◌, List, [], ◌∷◌, find}
+use Rattle.std.specs.Prelude.{◌≡◌, ◌<◌, ℕ, true, Option, Some, None, ◌==◌, List, [], ◌∷◌, find, if◌then◌else◌}
 use Rattle.ipp_values.specs.declared.tags.GroupTag.{GroupTag}
 use Rattle.ipp_values.specs.declared.tags.GroupTag.TheVariants as group
 use Rattle.ipp_values.specs.declared.tags.ValueTag.{ValueTag}
 use Rattle.ipp_values.specs.declared.tags.ValueTag.TheVariants as value
+use Rattle.ipp_values.specs.Opaque.{is_opaque}
 
 -- RFC 8010, 3.5.1; RFC 3995; PWG 5100.5; PWG 5100.22. 0x03 is the end of the attributes.
 abbrev pub group_number : GroupTag → ℕ
@@ -57,3 +58,12 @@ value_tags = value.Unsupported ∷ value.Unknown ∷ value.NoValue ∷ value.Int
 -- The tag with this number, if a document assigns it.
 abbrev pub assigned_tag : ℕ → Option ValueTag
 assigned_tag n = find (λ tag. tag_number tag == n) value_tags
+
+-- The tag with this number. Those of delimiters are below 0x10.
+abbrev pub tag_of_number : ℕ → Option ValueTag
+tag_of_number n = if is_opaque n then Some (value.Opaque n) else assigned_tag n
+
+-- The number of the tag is that of no other one.
+abbrev pub HasOwnNumber : ValueTag → Type 0
+HasOwnNumber (value.Opaque n) = (is_opaque n ≡ true) × (n < 256)
+HasOwnNumber _ = Unit {0}

@@ -1,6 +1,6 @@
 //! Messages, groups and attributes (RFC 8010, 3.1).
 ghost use Rattle.std.specs.Prelude.{◌≡◌, ◌↔◌, ◌∷◌, [], option_copied, find, IfOk, IsErrOf, true, false};
-ghost use Rattle.ipp_values.specs.Limits.{is_text};
+ghost use Rattle.ipp_values.specs.TextLimits.{is_text};
 ghost use Rattle.ipp_values.specs.Messages.{is_named, has_tag};
 
 use crate::fault::ValueFault;

@@ -1,7 +1,7 @@
 //! The tags of RFC 8010, 3.5: each with its number.
 ghost use Rattle.std.specs.Prelude.{◌≡◌, ◌<◌, ◌↔◌, IfSome, IsNone, IsTrue, is_some};
 ghost use Rattle.ipp_values.specs.Opaque.{is_opaque};
-ghost use Rattle.ipp_values.specs.Tags.{assigned_tag, group_number, group_of, tag_number};
+ghost use Rattle.ipp_values.specs.Tags.{assigned_tag, group_number, group_of, tag_number, tag_of_number, HasOwnNumber};
 
 use std::marker::Model;
 
@@ -121,7 +121,8 @@ pub enum ValueTag {
 impl ValueTag {
     /// Returns the number of the tag.
     pub fn number(self) -> u8
-        ensures { result ≡ tag_number self }
+        ensures value { result ≡ tag_number self }
+        ensures own { HasOwnNumber self }
     {
         match self {
             ValueTag::Unsupported => 0x10,
@@ -153,12 +154,11 @@ impl ValueTag {
 
     /// Returns the tag with this number, or `None` for the number of a delimiter, which is below 0x10.
     pub fn from_number(number: u8) -> Option<ValueTag>
-        ensures value { IfSome result (λ tag. tag_number tag ≡ number) }
-        ensures delimiter { IsNone result ↔ (number < 16) }
+        ensures { result ≡ tag_of_number number }
     {
-        match assigned_tag(number) {
-            Some(tag) => Some(tag),
-            None => Some(ValueTag::Opaque(OpaqueTag::new(number)?)),
+        match OpaqueTag::new(number) {
+            Some(tag) => Some(ValueTag::Opaque(tag)),
+            None => assigned_tag(number),
         }
     }
 }

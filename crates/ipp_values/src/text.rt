@@ -1,7 +1,7 @@
 //! Character strings with limits.
 ghost use Rattle.std.specs.Prelude.{◌≡◌, ◌↔◌, IfOk, OnOk, IsTrue, IsErrOf, false};
 ghost use Rattle.std.specs.List.{list_all};
-ghost use Rattle.ipp_values.specs.Limits.{is_text, is_up_to};
+ghost use Rattle.ipp_values.specs.TextLimits.{is_text, is_up_to};
 
 use crate::fault::ValueFault;
 use std::alloc::Global;
@@ -18,7 +18,7 @@ impl<const LEAST: usize, const MOST: usize, const HIGHEST: u8> Model
     for Text<LEAST, MOST, HIGHEST> {
     ghost use Rattle.std.specs.Prelude.{List, ℕ, IsTrue};
     ghost use Rattle.std.specs.String.{string_bytes};
-    ghost use Rattle.ipp_values.specs.Limits.{is_text};
+    ghost use Rattle.ipp_values.specs.TextLimits.{is_text};
 
     ghost Value = { List ℕ };
 

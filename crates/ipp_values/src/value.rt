@@ -1,6 +1,6 @@
 //! Values (RFC 8011, 5.1).
 ghost use Rattle.std.specs.Prelude.{◌≡◌, option_map};
-ghost use Rattle.ipp_values.specs.Values.{tag_of, text_of};
+ghost use Rattle.ipp_values.specs.ValueTexts.{tag_of, text_of};
 
 use crate::items::Octets;
 use crate::tags::{OpaqueTag, ValueTag};
