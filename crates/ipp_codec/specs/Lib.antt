@@ -1,0 +1,5 @@
+pub mod ReadSteps
+pub mod Collections
+pub mod Octets
+pub mod MessageSpelling
+pub mod Reading
