@@ -1,5 +1,5 @@
 -- What decoding returns, in terms of spellings.
-use Rattle.std.proofs.Common.{◌≡◌, ℕ, ◌+◌, ◌-◌, ◌<◌, ◌≤◌, Bool, true, false, cond, List, ◌++◌, length, take, drop, Result, Ok, Err, refl, sym, ap, subst, ◌∙◌, append_assoc, arith, get_or}
+use Rattle.std.proofs.Common.{◌≡◌, ℕ, ◌+◌, ◌-◌, ◌≤◌, Bool, true, false, List, ◌++◌, length, take, drop, Result, Ok, Err, refl, sym, ap, subst, ◌∙◌, append_assoc, arith}
 use Rattle.std.specs.Prelude.{nat_le, IfOk}
 use Rattle.std.proofs.lemmas.List.{length-append, length-take, length-take-le, take-append-drop, take_all, take_at}
 use Rattle.std.proofs.Math.Seq.{take-append-add, take-length}
@@ -8,8 +8,8 @@ use Rattle.ipp_codec.specs.declared.fault.DecodeFault.{DecodeFault}
 use Rattle.ipp_codec.specs.declared.fault.DecodeFault.TheVariants.{NeedMore, TooLarge, Delimiter, Name, Length, Text, Boolean, Collection, Memory}
 use Rattle.ipp_codec.specs.Reading.{at_limit, limited, message_at, reading}
 use Rattle.ipp_codec.specs.MessageSpelling.{message_spelling, IsMessage, Spells}
-use Rattle.ipp_codec.specs.ReadSteps.{Field, ◌>>=◌, Fails, Gives}
-use Rattle.ipp_codec.proofs.Fields.{IsBytes, IsBytes-take, Stepped, bind_ok, done, ok_as, ok_is, Takes}
+use Rattle.ipp_codec.specs.ReadSteps.{◌>>=◌, Fails, Gives}
+use Rattle.ipp_codec.proofs.Fields.{IsBytes, IsBytes-take, bind_ok, done, ok_as, ok_is}
 use Rattle.ipp_codec.proofs.MessageLaws.{message_takes, message_again}
 
 limited_ok : {A : Type 0} (b : Bool) (r : Result A DecodeFault) (x : A) → limited b r ≡ done x → r ≡ done x

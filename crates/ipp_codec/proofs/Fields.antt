@@ -5,7 +5,6 @@ use Rattle.std.proofs.lemmas.Bool.{cases_lt, ltb-false, le-ltb}
 use Rattle.std.proofs.lemmas.List.{take_at, drop_at, take-append-drop, length-append, length-take, get_or-drop, get_or-take, get_or_past}
 use Rattle.std.proofs.lemmas.Nat.{be_bytes_2, be_bytes_4, from_be_bytes-to_be_bytes_2, from_be_bytes-to_be_bytes_4}
 use Rattle.ipp_codec.specs.declared.fault.DecodeFault.{DecodeFault}
-use Rattle.ipp_codec.specs.Octets.{counted}
 use Rattle.ipp_codec.specs.Reading.{part_at, number_at, checked}
 use Rattle.ipp_codec.specs.ReadSteps.{Field, ◌>>=◌}
 

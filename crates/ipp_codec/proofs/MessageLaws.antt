@@ -1,11 +1,10 @@
 -- A message that is read is spelled by the octets that were taken, and a spelling is read as its message.
-use Rattle.std.proofs.Common.{◌≡◌, ◌≢◌, ℕ, ℤ, zero, suc, ◌+◌, ◌^◌, ◌<◌, ◌≤◌, Bool, true, false, cond, ltb, leb, eqb, List, [], ◌∷◌, ◌++◌, ◌&&◌, length, Result, Ok, Err, Some, None, Option, refl, sym, ap, subst, ◌∙◌, append_assoc, arith}
+use Rattle.std.proofs.Common.{◌≡◌, ℕ, ℤ, zero, suc, ◌^◌, ◌<◌, ◌≤◌, Bool, true, false, cond, ltb, eqb, List, [], ◌∷◌, ◌++◌, ◌&&◌, length, Result, Ok, Some, None, Option, refl, sym, ap, subst, ◌∙◌, append_assoc, arith}
 use Rattle.std.specs.Prelude.{find, nat_le}
 use Rattle.std.specs.Int.{w8, w16, w32, to_be_bytes, cast_signed, cast_unsigned}
 use Rattle.std.specs.List.{flat_map, AllByRecursion}
-use Rattle.std.proofs.lemmas.Bool.{eqb-true, ltb-true, ltb-false, lt-ltb, le-ltb, leb-true}
+use Rattle.std.proofs.lemmas.Bool.{eqb-true, lt-ltb, le-ltb, leb-true}
 use Rattle.std.proofs.lemmas.List.{length-append}
-use Rattle.std.proofs.lemmas.List.Concat.{flat_map-cons}
 use Rattle.ipp_values.specs.declared.tags.GroupTag.{GroupTag}
 use Rattle.ipp_values.specs.declared.tags.GroupTag.TheVariants as group
 use Rattle.ipp_values.specs.declared.tags.ValueTag.{ValueTag}
@@ -16,7 +15,7 @@ use Rattle.ipp_values.specs.declared.message.Message.{Message}
 use Rattle.ipp_values.specs.Tags.{group_number, group_of, group_tags, tag_number}
 use Rattle.ipp_values.specs.ValueTexts.{tag_of}
 use Rattle.ipp_codec.specs.declared.fault.DecodeFault.{DecodeFault}
-use Rattle.ipp_codec.specs.declared.fault.DecodeFault.TheVariants.{NeedMore, TooLarge, Delimiter, Name, Collection}
+use Rattle.ipp_codec.specs.declared.fault.DecodeFault.TheVariants.{NeedMore, Name, Collection}
 use Rattle.ipp_codec.specs.declared.place.Place.{Place}
 use Rattle.ipp_codec.specs.declared.place.Place.TheVariants.{Outside, Begun, Named, Filled}
 use Rattle.ipp_codec.specs.Collections.{after_tag, is_outside, place_after}
@@ -24,7 +23,7 @@ use Rattle.ipp_codec.specs.Octets.{counted, integer_octets, octets_of, IsText, I
 use Rattle.ipp_codec.specs.Reading.{additional_at, attribute_at, attributes_at, checked, follows, group_at, group_or, groups_at, message_at, name_at, no_name_at, number_at, part_at, tag_at, text_of, value_at, values_at}
 use Rattle.ipp_codec.specs.MessageSpelling.{attribute_spelling, group_spelling, message_spelling, value_spelling, values_spelling, IsAttribute, IsGroup, IsMessage}
 use Rattle.ipp_codec.specs.ReadSteps.{Field, ◌>>=◌}
-use Rattle.ipp_codec.proofs.Fields.{IsBytes, Stepped, bind_ok, done, ok_is, ok_as, Takes, ◌⨾◌, Reads, Got, got, again-step, part_takes, part_again, reads_16, reads_32, reads_octet, checked_ok, checked_again}
+use Rattle.ipp_codec.proofs.Fields.{IsBytes, bind_ok, done, ok_is, ok_as, Takes, ◌⨾◌, Reads, got, again-step, part_takes, part_again, reads_16, reads_32, reads_octet, checked_ok, checked_again}
 use Rattle.ipp_codec.proofs.TextLaws.{IsTag, tag_small, reads_tag, text_takes, text_again, text_length, text_some, signed_takes, signed_again, unsigned_small}
 use Rattle.ipp_codec.proofs.ValueLaws.{reads_value, value_tag}
 

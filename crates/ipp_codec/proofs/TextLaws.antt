@@ -1,26 +1,22 @@
 -- The octets of a value that is read are those of the value, and the octets of a value are read as this value.
-use Rattle.std.proofs.Common.{◌≡◌, ℕ, ℤ, ◌+◌, ◌*◌, ◌^◌, ◌<◌, ◌≤◌, Bool, true, false, cond, ltb, leb, eqb, List, [], ◌∷◌, ◌++◌, ◌&&◌, ◌||◌, not, length, get_or, take, drop, Result, Ok, Err, Some, None, Option, refl, sym, ap, subst, ◌∙◌, append_assoc, arith, pos, negsuc}
+use Rattle.std.proofs.Common.{◌≡◌, ℕ, ℤ, ◌^◌, ◌<◌, ◌≤◌, Bool, true, false, cond, eqb, List, [], ◌∷◌, ◌++◌, ◌&&◌, ◌||◌, not, length, Ok, Err, Some, None, Option, refl, sym, ap, subst, ◌∙◌, arith, pos, negsuc}
 use Rattle.std.specs.Prelude.{FitsSigned, find, nat_le}
-use Rattle.std.specs.Int.{w8, w16, w32, from_be_bytes, to_be_bytes, cast_signed, cast_unsigned}
+use Rattle.std.specs.Int.{w8, w32, from_be_bytes, to_be_bytes, cast_signed, cast_unsigned}
 use Rattle.std.specs.List.{AllByRecursion}
 use Rattle.std.specs.Str.{is_utf8}
-use Rattle.std.proofs.lemmas.Bool.{eqb-true, eq-eqb, leb-true, leb-false, le-leb}
-use Rattle.std.proofs.lemmas.List.{length-append}
+use Rattle.std.proofs.lemmas.Bool.{eqb-true, leb-false}
 use Rattle.std.proofs.lemmas.Int.{to_z-of_z, of_z-to_z}
 use Rattle.std.proofs.Math.Facts.{sfits_to_z, Fits-bits}
 use Rattle.ipp_values.specs.declared.tags.ValueTag.{ValueTag}
 use Rattle.ipp_values.specs.declared.tags.ValueTag.TheVariants as tags
-use Rattle.ipp_values.specs.declared.value.Value.{Value}
-use Rattle.ipp_values.specs.declared.value.Value.TheVariants as value
-use Rattle.ipp_values.specs.TextLimits.{is_text, is_up_to}
+use Rattle.ipp_values.specs.TextLimits.{is_text}
 use Rattle.ipp_values.specs.Opaque.{is_opaque, is_within}
-use Rattle.ipp_values.specs.Tags.{assigned_tag, tag_number, tag_of_number, value_tags, HasOwnNumber}
-use Rattle.ipp_values.specs.ValueTexts.{tag_of}
-use Rattle.ipp_codec.specs.declared.fault.DecodeFault.TheVariants.{NeedMore, Length, Text, Boolean}
-use Rattle.ipp_codec.specs.Octets.{counted, date_octets, integer_octets, is_length, octets_of, IsDate, IsText, IsValue}
-use Rattle.ipp_codec.specs.Reading.{boolean_of, checked, counted_at, date_of, integer_of, localized_of, number_at, part_at, range_of, resolution_of, tag_at, tag_or, text_of, value_at, value_of, value_tag_of}
-use Rattle.ipp_codec.specs.ReadSteps.{Field, ◌>>=◌}
-use Rattle.ipp_codec.proofs.Fields.{IsBytes, IsBytes-take, IsBytes-drop, Stepped, bind_ok, passed_ok, ok_is, ok_as, Takes, ◌⨾◌, Reads, Got, got, again-step, Parts, part_takes, part_again, IsWide, wide16, wide32, reads_16, reads_octet, checked_ok, checked_again}
+use Rattle.ipp_values.specs.Tags.{assigned_tag, tag_number, value_tags, HasOwnNumber}
+use Rattle.ipp_codec.specs.declared.fault.DecodeFault.TheVariants.{NeedMore, Text}
+use Rattle.ipp_codec.specs.Octets.{integer_octets, IsText}
+use Rattle.ipp_codec.specs.Reading.{integer_of, number_at, tag_at, tag_or, text_of, value_tag_of}
+use Rattle.ipp_codec.specs.ReadSteps.{◌>>=◌}
+use Rattle.ipp_codec.proofs.Fields.{IsBytes, bind_ok, passed_ok, ok_as, Takes, Reads, got, wide32, reads_octet}
 
 -- ---- tags
 

@@ -1,5 +1,5 @@
 -- The octets of values, and their limits (RFC 8010, 3.5.2 and 3.9; RFC 8011, 5.1).
-use Rattle.std.specs.Prelude.{◌≡◌, ℕ, ℤ, ◌+◌, ◌<◌, ◌≤◌, ◌^◌, List, [], ◌∷◌, ◌++◌, length, Bool, true, ◌==◌, nat_le, if◌then◌else◌, FitsSigned}
+use Rattle.std.specs.Prelude.{◌≡◌, ℕ, ℤ, ◌<◌, ◌≤◌, ◌^◌, List, [], ◌∷◌, ◌++◌, length, Bool, true, ◌==◌, nat_le, if◌then◌else◌, FitsSigned}
 use Rattle.std.specs.Int.{w16, w32, to_be_bytes, cast_unsigned}
 use Rattle.std.specs.Str.{is_utf8}
 use Rattle.ipp_values.specs.declared.tags.ValueTag.{ValueTag}

@@ -1,5 +1,5 @@
 -- Reading a message from left to right, up to the first fault.
-use Rattle.std.specs.Prelude.{ℕ, ℤ, ◌-◌, zero, suc, List, [], ◌∷◌, ◌++◌, length, take, drop, slice_index, Bool, true, false, ◌&&◌, Result, Ok, Err, Option, Some, None, nat_lt, nat_le, ◌==◌, if◌then◌else◌}
+use Rattle.std.specs.Prelude.{ℕ, ℤ, ◌-◌, zero, suc, List, [], ◌∷◌, length, take, drop, slice_index, Bool, true, false, ◌&&◌, Result, Ok, Err, Option, Some, None, nat_lt, nat_le, ◌==◌, if◌then◌else◌}
 use Rattle.std.specs.Int.{Width, w8, w16, w32, byte_len, from_be_bytes, cast_signed}
 use Rattle.std.specs.Str.{is_utf8}
 use Rattle.ipp_values.specs.declared.tags.GroupTag.{GroupTag}
@@ -16,7 +16,7 @@ use Rattle.ipp_values.specs.declared.message.Message.{Message}
 use Rattle.ipp_values.specs.TextLimits.{is_text}
 use Rattle.ipp_values.specs.Tags.{tag_of_number, group_of}
 use Rattle.ipp_codec.specs.declared.fault.DecodeFault.{DecodeFault}
-use Rattle.ipp_codec.specs.declared.fault.DecodeFault.TheVariants.{NeedMore, TooLarge, Delimiter, Name, Length, Text, Boolean, Collection, Memory}
+use Rattle.ipp_codec.specs.declared.fault.DecodeFault.TheVariants.{NeedMore, TooLarge, Delimiter, Name, Length, Text, Boolean, Collection}
 use Rattle.ipp_codec.specs.declared.place.Place.{Place}
 use Rattle.ipp_codec.specs.declared.place.Place.TheVariants.{Outside}
 use Rattle.ipp_codec.specs.Collections.{after_tag, is_outside}

@@ -1,4 +1,4 @@
-use Rattle.std.proofs.Common.{ℕ, rules, true, false, eqb, ◌≡◌, ◌+◌, ◌-◌, ap, sym, subst, arith, List}
+use Rattle.std.proofs.Common.{rules, true, false, eqb, ◌≡◌, ◌+◌, ◌-◌, ap, sym, subst, arith, List}
 use Rattle.std.specs.Int.{w8}
 use Rattle.std.proofs.lemmas.Bool.{eq-eqb, ne_eqb}
 use Rattle.std.proofs.lemmas.Result.{err_from_is_err_and}

@@ -1,9 +1,9 @@
-use Rattle.std.proofs.Common.{ℕ, Ok, rules, true, ◌≡◌, ◌+◌, ◌-◌, false, not, ap, sym, subst, ◌∙◌, arith, List, [], ◌∷◌, ◌++◌}
+use Rattle.std.proofs.Common.{ℕ, Ok, rules, true, ◌≡◌, ◌+◌, ◌-◌, false, ap, sym, subst, ◌∙◌, arith, List, []}
 use Rattle.std.proofs.lemmas.Result.{err_from_is_err_and}
 use Rattle.ipp_values.specs.declared.value.Value.{Value}
 use Rattle.ipp_codec.specs.declared.fault.DecodeFault.TheVariants.{TooLarge, Collection}
 use Rattle.ipp_codec.specs.Collections.{is_outside}
-use Rattle.ipp_codec.specs.Reading.{additional_at, checked, follows, values_at}
+use Rattle.ipp_codec.specs.Reading.{additional_at, follows, values_at}
 use Rattle.ipp_codec.specs.ReadSteps.{before}
 use Rattle.ipp_codec.proofs.Fields.{checked_again}
 use Rattle.ipp_codec.proofs.Loops.{carried, checked_not, ended, failed, goes_on, not_false, not_true, values_end, values_fail, values_next, values_over, values_stop}
