@@ -1,5 +1,5 @@
 -- The tags of RFC 8010, 3.5, each with its number.
-use Rattle.std.specs.Prelude.{◌≡◌, ◌<◌, ℕ, true, Option, Some, None, ◌==◌, List, [], ◌∷◌, find, if◌then◌else◌}
+use Rattle.std.specs.Prelude.{◌≡◌, ◌<◌, ℕ, true, Option, Some, ◌==◌, List, [], ◌∷◌, find, if◌then◌else◌}
 use Rattle.ipp_values.specs.declared.tags.GroupTag.{GroupTag}
 use Rattle.ipp_values.specs.declared.tags.GroupTag.TheVariants as group
 use Rattle.ipp_values.specs.declared.tags.ValueTag.{ValueTag}

@@ -1,6 +1,5 @@
 -- The tag and the text of a value, and what a message contains under a name.
-use Rattle.std.specs.Prelude.{ℕ, List, Option, Some, None, Bool, ◌==◌, find}
-use Rattle.std.specs.Cmp.Lexicographic.{pointwise}
+use Rattle.std.specs.Prelude.{ℕ, List, Option, Some, None}
 use Rattle.ipp_values.specs.declared.tags.ValueTag.{ValueTag}
 use Rattle.ipp_values.specs.declared.tags.ValueTag.TheVariants as tags
 use Rattle.ipp_values.specs.declared.value.Value.{Value}
