@@ -39,6 +39,7 @@ PROMISED = {
     "keeps-control-characters",
     "keeps-no-disk",
     "next-stage-after-cancel",
+    "offers-an-absent-operation",
     "ok-before-apply",
     "ok-before-second-sync",
     "open-without-sync",

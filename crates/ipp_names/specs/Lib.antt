@@ -1,0 +1,4 @@
+pub mod IppJobStates
+pub mod IppOperations
+pub mod IppPrinterStates
+pub mod IppStatuses
