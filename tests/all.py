@@ -17,6 +17,7 @@ status 1. It takes about seven minutes on four processors, and up to fifteen on 
 """
 import ast
 import concurrent.futures
+import ctypes.util
 import os
 import shutil
 import signal
@@ -66,6 +67,7 @@ SCRIPTS = {
     "stock.py": [],
     "walk.py": [],
     "manuals.py": [],
+    "ipp_names.py": [],
     "cups_types.py": [CUPS_TYPES],
     "grow.py": [],
     "split.py": [],
@@ -173,6 +175,8 @@ def missing_parts():
         missing["office.py"] = (False, "CUPS's own backend socket (Debian's package cups)")
     if not installed(CUPS_TYPES):
         missing["cups_types.py"] = (True, "CUPS's file of types (Debian's package cups-daemon)")
+    if not ctypes.util.find_library("cups"):
+        missing["ipp_names.py"] = (True, "libcups (Debian's package libcups2)")
     if not shutil.which("chromium"):
         missing["front.py"] = (False, "the page in a browser (Debian's package chromium)")
     if os.geteuid():
