@@ -17,6 +17,7 @@ HERE = Path(__file__).resolve().parent.parent
 # The wrong bodies that the promises name. Two more are refused by tests: a call that always runs out of memory, and a start that waits for
 # its child's end.
 PROMISED = {
+    "accepts-without-a-charset",
     "always-appends-reopen",
     "bytes-left-over",
     "cheapest-first-step",
@@ -28,6 +29,7 @@ PROMISED = {
     "does-a-denied-command",
     "drive-appends-nothing",
     "drops-cut-line",
+    "drops-last-document",
     "empty-listing-after-full",
     "finish-before-next-start",
     "follows-a-link",
@@ -42,6 +44,7 @@ PROMISED = {
     "offers-an-absent-operation",
     "ok-before-apply",
     "ok-before-second-sync",
+    "ok-to-an-absent-operation",
     "open-without-sync",
     "opens-empty",
     "owner-from-the-claim",
@@ -57,8 +60,10 @@ PROMISED = {
     "stops-all-queues",
     "swaps-words",
     "takes-away-and-puts-back",
+    "targets-another-job",
     "tick-ignores-the-look",
     "time-stands-still",
+    "version-as-bad-request",
     "waits-for-a-purged-job-forever",
 }
 
