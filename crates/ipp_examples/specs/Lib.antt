@@ -1,0 +1,2 @@
+pub mod ClientMessages
+pub mod RequestExamples

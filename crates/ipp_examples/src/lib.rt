@@ -1,0 +1,40 @@
+//! Examples of requests, stated as facts: the messages of clients, and messages with a fault.
+//!
+//! Each function does nothing. Each of its clauses is a table of examples in `specs/`, and the check computes the definitions on each row.
+//! `ClientMessages` has messages of lp(1), lpstat(1), cancel(1), cupsdisable(8) and ipptool(1) of CUPS 2.4.2, as they were sent: each
+//! operation occurs. The requests and statuses are written from RFC 8011.
+//!
+//! # Promises
+//!
+//! A fact is about the definition `request_of`. That the code does the same is promised by `Request::of` of `ipp_requests`.
+//!
+//! # Errors
+//!
+//! None: nothing here is ever called.
+#![tactic(auto)]
+
+ghost use Rattle.ipp_examples.specs.RequestExamples as requests;
+
+/// The requests of CUPS's commands.
+pub fn command_examples()
+    ensures lp { requests.LpRows }
+    ensures lpstat { requests.LpstatRows }
+    ensures cancel { requests.CancelRows }
+    ensures printers { requests.PrinterRows }
+{}
+
+/// The requests of ipptool(1).
+pub fn tool_examples()
+    ensures tool { requests.ToolRows }
+    ensures questions { requests.QuestionRows }
+    ensures faults { requests.ToolFaultRows }
+{}
+
+/// Messages with faults, and URIs.
+pub fn fault_examples()
+    ensures order { requests.OrderRows }
+    ensures values { requests.ValueRows }
+    ensures settings { requests.SettingRows }
+    ensures printer_uris { requests.PrinterUriRows }
+    ensures job_uris { requests.JobUriRows }
+{}
