@@ -8,8 +8,9 @@ The script reads the names that the pages in docs/man must document from the sou
 2. The page of a program documents exactly the options in the program's sources and, if the program is built, in its `--help`. All
    options and tasks of `spool` are in spool(1) and in the completion, and all its environment variables in spool(1).
 3. cegmandi_protocol(5) documents each command, each command of the service, each refusal with its number, each other error, each
-   policy and each reason of a job. cegmandi_programs(5) documents each variable of a child and each kind of warning. No other page
-   has an entry for a command, a refusal or an error.
+   policy and each reason of a job. cegmandi_programs(5) documents each variable of a child and each kind of warning, and
+   cegmandi_printers(5) each property of a printer and each reason for which its line is rejected. No other page has an entry for a
+   command, a refusal or an error.
 4. The page of a program documents each of its errors and causes, and each message about a program or a stage.
 5. spool_tools(8) documents each small tool and its error messages.
 6. The version in crates/program_version/src/lib.rt is that of the newest heading in CHANGES.md, of `.Os` in each page, and of each
@@ -43,6 +44,7 @@ FRONT = ("spool.1", "front_words/src")
 
 PROTOCOL = "cegmandi_protocol.5"
 PROGRAMS = "cegmandi_programs.5"
+PRINTERS = "cegmandi_printers.5"
 
 MACRO = re.compile(r"^(?:[A-Z][a-z]|[A-Z]{2}|D1|Dl)$")
 OPTION = re.compile(r"\b(?:text|number|flag)_option\(\s*alloc,\s*\"([a-z-]+)\"")
@@ -263,6 +265,18 @@ def tools():
         check(text in silent or f"ERROR: {text}" in said, f"spool_tools.8 lacks ERROR: {text}")
 
 
+def printers():
+    """Checks the properties of printers, and the reasons for which their lines are rejected."""
+    heads_there = [head.split()[0] for head in items_of(PRINTERS)]
+    keywords = re.findall(r'PropertyKind::\w+ => "([a-z-]+)"', source("ipp_printers/src/kind.rt"))
+    reasons_there = re.findall(r'LineFault::\w+ => "([a-z ]+)"', source("ipp_printers/src/fault.rt"))
+    check(keywords and reasons_there, "the properties of ipp_printers cannot be read")
+    for word in keywords:
+        check(word in heads_there, f"{PRINTERS} lacks {word}")
+    for reason in reasons_there:
+        check(reason in items_of(PRINTERS), f"{PRINTERS} lacks `{reason}`")
+
+
 def versions():
     """Checks the version and the date in the pages and in CHANGES.md."""
     found = re.search(r'concat!\(\$before, "([^"]+)", \$after\)', source("program_version/src/lib.rt"))
@@ -283,7 +297,7 @@ def versions():
 
 
 def main():
-    for part in (lint, heads, options, front, commands, faults, tools, versions):
+    for part in (lint, heads, options, front, commands, printers, faults, tools, versions):
         part()
     if not shutil.which("mandoc"):
         print("skipped: the lint, because mandoc is not installed (Debian's package mandoc)")

@@ -1,0 +1,4 @@
+pub mod PartLaws
+pub mod WordLists
+pub mod SectionLaws
+pub mod LineLaws
