@@ -19,6 +19,7 @@ HERE = Path(__file__).resolve().parent.parent
 PROMISED = {
     "accepts-without-a-charset",
     "always-appends-reopen",
+    "answers-what-was-not-asked",
     "bytes-left-over",
     "cheapest-first-step",
     "changes-an-exit",
@@ -37,6 +38,7 @@ PROMISED = {
     "forgets-other-children",
     "gate-with-payload",
     "header-in-one-write",
+    "ignores-requested-attributes",
     "keeps-after-full",
     "keeps-control-characters",
     "keeps-no-disk",
