@@ -1,7 +1,7 @@
 -- Which attributes a client asks for (RFC 8011, 4.2.5.1, 4.2.6.1 and 4.3.4.1), and the answer.
-use Rattle.std.specs.Prelude.{◌≡◌, ℕ, Bool, true, false, ◌||◌, ◌&&◌, not, cond, nat_eq, nat_le, length, List, [], ◌∷◌, codes, filter, Option, None, Some}
+use Rattle.std.specs.Prelude.{ℕ, Bool, true, false, ◌||◌, ◌&&◌, not, cond, nat_eq, List, [], ◌∷◌, codes, filter, Option, None, Some}
 use Rattle.std.specs.Cmp.Lexicographic.{pointwise}
-use Rattle.std.specs.List.{list_any, filter_map, flat_map}
+use Rattle.std.specs.List.{list_any, filter_map}
 use Rattle.ipp_values.specs.Limits.{is_text}
 use Rattle.ipp_values.specs.declared.message.Attribute.{Attribute}
 use Rattle.ipp_values.specs.declared.value.Value.{Value}
