@@ -225,6 +225,8 @@ CONSTANTS = {
     ("mime_rules", "GREATEST"): 1,
     ("side_channel", "SESSION_READS"): 1,
     ("spool_areas", "LAST_EPOCH"): 1,
+    ("ipp_answers", "END"): 1,
+    ("ipp_answers", "MOST_INTEGER"): 1,
     ("listing_rows", "BLOCK_ROOM"): 1,
     ("service_rules", "LONGEST_DOCUMENT"): 1,
     ("service_rules", "LONGEST_DOUBT"): 1,

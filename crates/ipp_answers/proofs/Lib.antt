@@ -1,0 +1,2 @@
+pub mod PagedJobs
+pub mod SelectedRows

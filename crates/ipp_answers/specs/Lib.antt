@@ -1,0 +1,11 @@
+pub mod AnswerUris
+pub mod AnswerValues
+pub mod JobAnswerLaws
+pub mod JobAnswers
+pub mod JobQueries
+pub mod JobRows
+pub mod JobSelections
+pub mod JobSources
+pub mod JobStates
+pub mod Timestamps
+pub mod WhichJobs
