@@ -4,10 +4,11 @@
 SPOOL_TOOLS is the program; the default is crates/spool_tools/out/spool_tools (built by `rt run` in that crate). Each case compares a tool's
 output, its standard error, its status and the files that it leaves: the output of each filter for some bytes, from standard input and from
 a file with several copies, also with little memory; the results of each backend, with each of its options; the packets on the side channel;
-printers that accept a document, reset the connection, send data, stay silent or do not exist; and arguments that are refused, which write
-nothing. With SLOW=1 in the environment the 20 turns of `meet` and the 90 seconds of `appsocket` are tested too.
+printers that take a document fast or slowly, read nothing, close the connection too early, last or never, reset it, send data or do not
+exist, with each value of `waiteof` and `afterlast`; and arguments that are refused, which write nothing. With SLOW=1 in the environment the
+20 turns of `meet` and the 90 seconds of `appsocket` are tested too.
 
-The last line is `N of N`, with status 0, or follows a line for each case that differs, with status 1. It takes about thirty seconds.
+The last line is `N of N`, with status 0, or follows a line for each case that differs, with status 1. It takes about a minute.
 """
 import os
 import re
@@ -453,6 +454,24 @@ def end_before(connection):
     return take(connection)
 
 
+def end_first(connection):
+    """Closes its half once the first bytes have come, and then reads everything."""
+    connection.recv(1, socket.MSG_PEEK)
+    return end_before(connection)
+
+
+def end_late(connection):
+    """Reads everything, and closes the connection two seconds after the writer has closed its half."""
+    taken = take(connection)
+    time.sleep(2)
+    return taken
+
+
+def read_nothing(connection):
+    """Reads nothing, and keeps the connection open for longer than the writer waits."""
+    time.sleep(3)
+
+
 def take_slowly(connection):
     """Reads nothing for two seconds, during which the writer must wait."""
     time.sleep(2)
@@ -470,18 +489,26 @@ def stay(connection):
 
 SENT = (b"", b"", 0)
 
+# How often a printer that may end the connection at several moments is tried.
+TIMES = 10
+
 
 def sent(printer, given, query="", words=JOB, name="127.0.0.1"):
     return run(["appsocket", *words], given, uri=f"appsocket://{name}:{printer.port}/{query}")
+
+
+def told(printer, what, level="ERROR"):
+    """The standard error about an end of the connection to this printer."""
+    return f"{level}: 127.0.0.1:{printer.port} {what}\n".encode()
 
 
 def appsocket(folder):
     text = bytes(range(256)) * 79  # more than 20,000 bytes
     large = text * 500  # about ten million, more than any system accepts at once
     for length in (0, 1, 500, 20_000):
-        printer = Printer(take, 20)
-        ended = [sent(printer, text[:length]) for _ in range(20)]
-        check(f"a printer that takes {length} bytes", (ended, printer.all()), ([SENT] * 20, [text[:length]] * 20))
+        printer = Printer(take, TIMES)
+        ended = [sent(printer, text[:length]) for _ in range(TIMES)]
+        check(f"a printer that takes {length} bytes", (ended, printer.all()), ([SENT] * TIMES, [text[:length]] * TIMES))
     document = write(os.path.join(folder, "document"), text)
     for given, words, serve, wanted in (
         (text, [*JOB, document], take, text * 3),  # three copies
@@ -491,8 +518,6 @@ def appsocket(folder):
         (text, JOB, answer_before, text),
         (text, JOB, answer_after, text),
         (large, JOB, answer_after, large),
-        (text, JOB, end_before, text),
-        (large, JOB, end_before, large),
     ):
         printer = Printer(serve)
         ended = sent(printer, given, words=words)
@@ -500,9 +525,82 @@ def appsocket(folder):
     for query in ("?contimeout=4294967295&endtimeout=4294967295", "?contimeout=0", "?contimeout=4294967296&endtimeout=-1"):
         printer = Printer(answer_after)
         check(f"a printer with {query}", (sent(printer, text, query), printer.all()), (SENT, [text]))
+    connection_ends(text, large)
+    unknown_options(text)
+    early_close()
     resets(text, large)
     unreached(folder, text)
     bounds(text)
+
+
+def connection_ends(text, large):
+    """The status and the message of each end of a connection, by the options of the URI."""
+    small, whole = text[:500], text * 10
+    closed = "closed the connection too early, after {} bytes"
+    open_still = "did not close the connection after all {} bytes"
+    lost = "reset the connection after all {} bytes"
+    counted, again = f"{lost}; counted as printed", f"{lost}; to be tried again"
+    for serve, given, query, status, what, level in (
+        # A printer that closes the connection last has printed the document, whatever the options say.
+        (take, whole, "?waiteof=true", 0, None, None),
+        (take, whole, "?waiteof=false&afterlast=retry", 0, None, None),
+        (take, b"", "?waiteof=true&afterlast=retry", 0, None, None),
+        (end_late, text, "?afterlast=retry", 0, None, None),
+        (take_slowly, large, "?waiteof=true&endtimeout=5", 0, None, None),
+        # One that does not close it in time.
+        (end_late, text, "?endtimeout=1", 1, open_still, "ERROR"),
+        (end_late, text, "?endtimeout=1&waiteof=false", 0, None, None),
+        (read_nothing, whole[:200_000], "?endtimeout=1", 1, open_still, "ERROR"),
+        (read_nothing, whole[:200_000], "?endtimeout=1&waiteof=true&afterlast=done", 1, open_still, "ERROR"),
+        (read_nothing, whole[:200_000], "?endtimeout=1&waiteof=false", 0, None, None),
+        (stay, text, "?endtimeout=1&waiteof=x&waiteof=true", 1, open_still, "ERROR"),
+        (stay, text, "?endtimeout=1&waiteof=true&waiteof=false", 0, None, None),
+        # One that closes its half first, also if it reads everything.
+        (end_first, small, "", 1, closed, "ERROR"),
+        (end_first, small, "?waiteof=true&afterlast=done", 1, closed, "ERROR"),
+        (end_first, small, "?waiteof=false&afterlast=retry", 0, None, None),
+        # One that resets it after the last byte.
+        (reset_after_all, text, "", 1, lost, "ERROR"),
+        (reset_after_all, text, "?waiteof=false", 1, lost, "ERROR"),
+        (reset_after_all, text, "?afterlast=retry", 6, again, "ERROR"),
+        (reset_after_all, text, "?afterlast=done&afterlast=retry&waiteof=false", 6, again, "ERROR"),
+        (reset_after_all, text, "?afterlast=done", 0, counted, "INFO"),
+        (reset_after_all, text, "?afterlast=x&afterlast=done&waiteof=false", 0, counted, "INFO"),
+    ):
+        printer = Printer(serve)
+        errors = told(printer, what.format(len(given)), level) if what else b""
+        ended = sent(printer, given, query)
+        name = f"{serve.__name__} of {len(given)} bytes with {query or 'no option'}"
+        check(name, ended, (b"", errors, status))
+        taken = printer.all()
+        if serve in (take, end_late, take_slowly, end_first):
+            check(f"{name}: what was taken", taken == [given], True)
+
+
+def unknown_options(text):
+    """A value of an option that nobody knows is refused before the printer is reached."""
+    for name, line in (("waiteof", b"ERROR: waiteof is not true or false\n"), ("afterlast", b"ERROR: afterlast is not done or retry\n")):
+        for value in ("", "=", "=x", "=True", "=yes", "=0", "=true%20", "=fals", "=don", "=retry6", "=done&" + name):
+            got = run(["appsocket", *JOB], text, uri=f"appsocket://127.0.0.1:1/?{name}{value}")
+            check(f"the option {name}{value}", got, (b"", line, 4))
+    check("both options", run(["appsocket", *JOB], text, uri="appsocket://127.0.0.1:1/?afterlast=x&waiteof=x"),
+          (b"", b"ERROR: waiteof is not true or false\n", 4))
+    # Options that cannot be read have their defaults, as all options then.
+    check("65 options", run(["appsocket", *JOB], text, uri="appsocket://127.0.0.1:1/?waiteof=x" + "&a" * 64)[2], 6)
+
+
+def early_close():
+    """A printer that closes its half before the document has come, which is sent half a second later."""
+    for query in ("", "?waiteof=false", "?waiteof=false&afterlast=done"):
+        printer = Printer(end_before)
+        uri = f"appsocket://127.0.0.1:{printer.port}/{query}"
+        child = subprocess.Popen([tools, "appsocket", *JOB], stdin=subprocess.PIPE, stdout=subprocess.PIPE,
+                                 stderr=subprocess.PIPE, env={"DEVICE_URI": uri})
+        time.sleep(0.5)
+        out, errors = child.communicate(b"x" * 500, timeout=SECONDS)
+        wanted = (b"", told(printer, "closed the connection too early, after 0 bytes"), 1)
+        check(f"a close before the document {query}", (out, errors, child.returncode), wanted)
+        check(f"nothing was sent {query}", printer.all(), [b""])
 
 
 def resets(text, large):
@@ -515,19 +613,22 @@ def resets(text, large):
             (reset_after_all, "after the end"),
             (leave, "by leaving unread"),
         ):
-            printer = Printer(serve, 20)
-            ended = [sent(printer, text[:length]) for _ in range(20)]
-            messages = {(out, errors) for out, errors, _ in ended}
+            printer = Printer(serve, TIMES)
+            ended = [sent(printer, text[:length]) for _ in range(TIMES)]
             statuses = [status for _, _, status in ended]
-            check(f"{length} bytes that are reset {name}", statuses, [1] * 20)
-            check(f"its standard error, {name}", messages <= {(b"", b"ERROR: cannot write\n"),
-                                                          (b"", b"ERROR: connection reset\n")}, True)
+            check(f"{length} bytes that are reset {name}", statuses, [1] * TIMES)
+            lines = {b"ERROR: connection reset\n", told(printer, f"reset the connection after all {length} bytes"),
+                     told(printer, "reset the connection after 0 bytes"), told(printer, "closed the connection too early, after 0 bytes")}
+            check(f"its standard error, {name}", {out + errors for out, errors, _ in ended} - lines, set())
             printer.all()
     for count in (1, 100_000):
-        printer = Printer(reset_after(count))
-        ended = sent(printer, large)
-        check(f"a long document that is reset after {count} bytes", ended, (b"", b"ERROR: cannot write\n", 1))
-        printer.all()
+        for query in ("", "?afterlast=done&waiteof=false", "?afterlast=retry"):
+            printer = Printer(reset_after(count))
+            out, errors, status = sent(printer, large, query)
+            check(f"a long document that is reset after {count} bytes {query}", (out, status), (b"", 1))
+            line = re.fullmatch(rb"ERROR: 127.0.0.1:\d+ reset the connection after (\d+) bytes\n", errors)
+            check(f"its bytes {query}", line is not None and count <= int(line[1]) < len(large), True)
+            printer.all()
 
 
 def unreached(folder, text):
@@ -579,6 +680,7 @@ def unreached(folder, text):
         child = subprocess.Popen([tools, "appsocket", *JOB], stdin=subprocess.DEVNULL, stdout=subprocess.PIPE,
                                  stderr=subprocess.PIPE, env={"DEVICE_URI": "appsocket://127.0.0.1"})
         connection, _ = listener.accept()
+        take(connection)
         connection.close()
         out, errors = child.communicate(timeout=SECONDS)
         check("the usual port", (out, errors, child.returncode), SENT)
@@ -592,7 +694,8 @@ def bounds(text):
         began = time.monotonic()
         ended = sent(printer, text, query)
         took = time.monotonic() - began
-        check(f"a printer that never ends {query}", (ended, least <= took < most), (SENT, True))
+        wanted = (b"", told(printer, f"did not close the connection after all {len(text)} bytes"), 1)
+        check(f"a printer that never ends {query}", (ended, least <= took < most), (wanted, True))
         printer.all()
 
 

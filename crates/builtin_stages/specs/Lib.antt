@@ -6,6 +6,7 @@ pub mod Results
 pub mod Filters
 pub mod Side
 pub mod ToolDevices
+pub mod ConnectionEnds
 pub mod Backends
 pub mod ToolEnding
 pub mod Targets

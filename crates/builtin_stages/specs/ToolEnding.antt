@@ -1,12 +1,16 @@
 -- The end of the tools.
 use Rattle.std.specs.Prelude.{◌≡◌, ℕ, ◌⊎◌, ◌≤◌, List, [], ◌∷◌, ◌++◌, codes, Option, None, Some, Result, Ok, Err}
+use Rattle.std.specs.String.{string_bytes}
 use Rattle.std.specs.Io.KnownBytes.{Appends, Keeps}
 use Rattle.whole_writes.specs.Writes.{WroteSome}
 use Rattle.builtin_stages.specs.Backends as backends
 use Rattle.builtin_stages.specs.Filters.{Filtered}
+use Rattle.builtin_stages.specs.ConnectionEnds.{connection_status, end_line}
+use Rattle.builtin_stages.specs.declared.connection_ends.ConnectionEnd.{ConnectionEnd}
+use Rattle.builtin_stages.specs.declared.network.Sending.{Sending}
 use Rattle.builtin_stages.specs.ToolArguments.{Printed, Request, filter, backend, device_line, side_end, version}
 use Rattle.builtin_stages.specs.declared.fault.ToolFault.{ToolFault}
-use Rattle.builtin_stages.specs.declared.fault.ToolFault.TheVariants.{Connect, Device, Memory, Partner, Read, Reset, Side, Write}
+use Rattle.builtin_stages.specs.declared.fault.ToolFault.TheVariants.{AfterLast, Connect, Device, Memory, Partner, Read, Reset, Side, WaitEof, Write}
 use Rattle.builtin_stages.specs.declared.running.TheConstants.{VERSION_LINE}
 use Rattle.builtin_stages.specs.declared.words.Backend.{Backend}
 use Rattle.builtin_stages.specs.declared.words.Backend.TheVariants.{AppSocket, SpoolFile}
@@ -22,6 +26,8 @@ message Side = codes "no answer"
 message Partner = codes "no partner"
 message Connect = codes "cannot connect"
 message Reset = codes "connection reset"
+message WaitEof = codes "waiteof is not true or false"
+message AfterLast = codes "afterlast is not done or retry"
 message Memory = codes "out of memory"
 
 -- The line that reports a fault on standard error (filter(7)).
@@ -32,7 +38,8 @@ error_line fault = codes "ERROR: " ++ message fault ++ 10 ∷ []
 abbrev pub Tells : ToolFault → Option (List ℕ) → Option (List ℕ) → Type 0
 Tells fault old new = Appends old new (error_line fault) ⊎ WroteSome old new (error_line fault)
 
--- The exit status of a fault. If the printer cannot be reached, the job must be tried again later (6, backend(7)).
+-- The exit status of a fault (backend(7)). If the printer cannot be reached, the job must be tried again later (6). If an option of the URI is
+-- unknown, the queue stops until it is corrected, and the job waits (4).
 abbrev pub fault_status : ToolFault → ℕ
 fault_status Connect = 6
 fault_status Read = 1
@@ -41,12 +48,24 @@ fault_status Device = 1
 fault_status Side = 1
 fault_status Partner = 1
 fault_status Reset = 1
+fault_status WaitEof = 4
+fault_status AfterLast = 4
 fault_status Memory = 1
 
 -- The requested status, or that of the fault.
 abbrev pub status_of : Result ℕ ToolFault → ℕ
 status_of (Ok status) = status
 status_of (Err fault) = fault_status fault
+
+-- The line of the end was written, which is empty for a document that was printed, or as much of it as the writer accepted, or nothing if
+-- memory for it ran out.
+abbrev pub TellsEnd : ConnectionEnd → List ℕ → ℕ → Option (List ℕ) → Option (List ℕ) → Type 0
+TellsEnd end peer sent old new = Appends old new (end_line end peer sent) ⊎ WroteSome old new (end_line end peer sent) ⊎ Keeps old new
+
+-- The end of a connection is reported with the printer's address and the number of bytes, or a fault is reported.
+abbrev pub SendingEnds : Result Sending ToolFault → Option (List ℕ) → Option (List ℕ) → ℕ → Type 0
+SendingEnds (Ok s) old new status = (status ≡ connection_status s.end) × TellsEnd s.end (string_bytes s.peer) s.sent old new
+SendingEnds (Err fault) old new status = (status ≡ fault_status fault) × Tells fault old new
 
 -- ---- the end of the program, by the request of its arguments
 
@@ -66,10 +85,18 @@ pub record TellsFault (old new : Option (List ℕ)) (status : ℕ) : Type 0 wher
   pub ended : status ≡ fault_status fault
   pub tells : Tells fault old new
 
+-- The end of a connection to some printer after some bytes is reported, and the status is that of the end.
+pub record TellsConnection (old new : Option (List ℕ)) (status : ℕ) : Type 0 where
+  pub end : ConnectionEnd
+  pub peer : List ℕ
+  pub sent : ℕ
+  pub ended : status ≡ connection_status end
+  pub tells : TellsEnd end peer sent old new
+
 -- Nothing is written on standard output. `spoolfile` and `appsocket` report their faults, the others do not.
 abbrev pub BackendEnds : Backend → Option (List ℕ) → Option (List ℕ) → ℕ → Type 0
 BackendEnds SpoolFile err_old err_new status = Keeps err_old err_new ⊎ ((status ≡ 1) × Tells Write err_old err_new)
-BackendEnds AppSocket err_old err_new status = ((status ≡ 0) × Keeps err_old err_new) ⊎ TellsFault err_old err_new status
+BackendEnds AppSocket err_old err_new status = TellsConnection err_old err_new status ⊎ TellsFault err_old err_new status
 BackendEnds _ err_old err_new status = (status ≤ 1) × Keeps err_old err_new
 
 -- The whole line is written, or the status is 1 and the line is truncated.

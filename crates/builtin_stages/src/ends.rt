@@ -2,9 +2,12 @@
 ghost use Rattle.std.specs.Prelude.{◌≡◌, IfErr, OnErr, OnOk};
 ghost use Rattle.std.specs.Process.{exit_status};
 ghost use Rattle.std.specs.Io.KnownBytes.{Keeps};
-ghost use Rattle.builtin_stages.specs.ToolEnding.{Tells, status_of};
+ghost use Rattle.builtin_stages.specs.ToolEnding.{SendingEnds, Tells, status_of};
 
+use crate::connection_ends::end_line;
 use crate::fault::ToolFault;
+use crate::network::Sending;
+use std::alloc::Global;
 use std::io::Write;
 use std::process::ExitCode;
 use std::rt::Env;
@@ -29,6 +32,27 @@ pub(crate) fn report_end<E: Write>(errors: &mut E, ended: Result<u8, ToolFault>)
             let _ = write_whole(errors, fault.error_line().as_bytes());
             ExitCode::from(fault.status())
         }
+    }
+}
+
+/// Reports the end of a connection, or a fault, on standard error, and returns the exit status. If the line cannot be made or written, only
+/// the status reports the end.
+pub(crate) fn report_sending<E: Write>(
+    alloc: Global,
+    errors: &mut E,
+    ended: Result<Sending, ToolFault>,
+) -> ExitCode
+    ensures { SendingEnds ended (E.contents errors.old) (E.contents errors.new) (exit_status result) }
+{
+    match ended {
+        Ok(sending) => {
+            let end = sending.end;
+            if let Ok(line) = end_line(alloc, end, sending.peer.as_str(), sending.sent) {
+                let _ = write_whole(errors, line.as_bytes());
+            }
+            ExitCode::from(end.status())
+        }
+        Err(fault) => report_end(errors, Err(fault)),
     }
 }
 

@@ -21,8 +21,12 @@ pub enum ToolFault {
     Partner,
     /// The printer cannot be reached, or its host is unknown.
     Connect,
-    /// The connection to the printer was reset or lost.
+    /// The printer reset the connection at once.
     Reset,
+    /// The option `waiteof` is neither `true` nor `false`.
+    WaitEof,
+    /// The option `afterlast` is neither `done` nor `retry`.
+    AfterLast,
     /// Memory ran out.
     Memory,
 }
@@ -40,18 +44,22 @@ impl ToolFault {
             ToolFault::Partner => "ERROR: no partner\n",
             ToolFault::Connect => "ERROR: cannot connect\n",
             ToolFault::Reset => "ERROR: connection reset\n",
+            ToolFault::WaitEof => "ERROR: waiteof is not true or false\n",
+            ToolFault::AfterLast => "ERROR: afterlast is not done or retry\n",
             ToolFault::Memory => "ERROR: out of memory\n",
         }
     }
 }
 
 impl ToolFault {
-    /// Returns the exit status: 6 if a later attempt may reach the printer (backend(7)), otherwise 1.
+    /// Returns the exit status (backend(7)): 6 if a later attempt may reach the printer, 4 if an option of the URI must be corrected first,
+    /// otherwise 1.
     pub fn status(self) -> u8
         ensures { result ≡ fault_status self }
     {
         match self {
             ToolFault::Connect => 6,
+            ToolFault::WaitEof | ToolFault::AfterLast => 4,
             _ => 1,
         }
     }

@@ -11,7 +11,7 @@
 //! | `spoolfile` | writes the document to the device's file ([`targets`]), and exits with the option `exit`, 0 to 255 |
 //! | `meet` | creates the device's file as a mark, unless it exists, and checks up to `turns` times, a second apart, for the file of the option `partner`; if it does not find it, it removes the mark; without `partner` it exits with 1 |
 //! | `sideask` | requests the device id on the side channel, and writes it to the device's file |
-//! | `appsocket` | sends the document to the network printer of the URI, closes its half of the connection and waits until the printer closes the other ([`network`]) |
+//! | `appsocket` | sends the document to the network printer of the URI, closes its half of the connection and waits until the printer closes the other ([`network`]); how that ends decides about the status ([`connection_ends`]) |
 //! | `side-end SOCKET` | ends the session on the socket with the packet FF 00 00 00 |
 //!
 //! A file is printed COPIES times, a decimal number from 1 to 9,999, and standard input once. The device's file is the decoded path of the
@@ -31,10 +31,16 @@
 //!   byte is lost between two pieces.
 //! - [`read_device`] returns the path and the options of the URI, and [`read_printer`] its host, port and options. They refuse a text only
 //!   if it is not a URI, or if its path is not UTF-8 or it has no host.
+//! - [`end_of_connection`] decides by the options [`rules_of`] of the URI what the end of a connection that was seen means, exactly as its
+//!   table says. Unless the URI says `waiteof=false`, a document is printed only if the printer closed the connection last (`printed`), or
+//!   if it was reset after the last byte and the URI says `afterlast=done`. An unknown value of one of these options is refused.
+//!   [`end_line`] is the line that reports the end, and [`ConnectionEnd::status`] its status.
 //! - [`exit_of`], [`turns_of`], [`connect_seconds_of`] and [`end_seconds_of`] return the options' numbers or their defaults. If an option
 //!   is repeated, the last one counts (`last_value` of `device_options`).
-//! - `report_end` returns the tool's status; after a fault this is 6 if a printer cannot be reached, otherwise 1 (`fault_status`).
-//!   `appsocket` exits with 0 and reports nothing, or reports a fault (`BackendEnds`). `spoolfile` exits with its option, by default 0.
+//! - `report_end` returns the tool's status; after a fault this is 6 if a printer cannot be reached, 4 if an option is unknown, otherwise 1
+//!   (`fault_status`). `report_sending` returns the status of a connection's end (`connection_status`). `appsocket` reports the end of its
+//!   connection with the printer's address and the number of bytes, unless the document was printed, or it reports a fault (`BackendEnds`).
+//!   `spoolfile` exits with its option, by default 0.
 //! - A file that a backend may write ([`may_be_replaced`], [`may_be_written`]) is new, or a regular file of its own user. [`is_inside`]:
 //!   whether a folder is the spool's folder or below it; no backend writes there (`targets` is read for that, and `tests/tools.py` shows it).
 //! - [`ask_id`] writes 04 00 00 00 and returns the first packet received. Only an answer with the status OK whose data are stored has an id
@@ -42,15 +48,16 @@
 //!
 //! # Not proved
 //!
-//! - What files and sockets the tools reach, and how long they wait: `tests/tools.py` shows it.
+//! - What files and sockets the tools reach, what `appsocket` sees of a connection, and how long they wait: `tests/tools.py` shows it.
 //! - These bodies meet their clauses: a document, a copy, a packet or a device line that is a fault at once, a `spoolfile` that exits with
 //!   0 or 1 and writes nothing, and an `appsocket` that exits with 0 and sends nothing.
 //!
 //! # Errors
 //!
 //! A filter reports a fault on standard error as `ERROR: cannot read`, `ERROR: cannot write` or `ERROR: out of memory` ([`fault`]), and
-//! `spoolfile` each of its faults as `ERROR: cannot write`. `appsocket` has these three, and `ERROR: no device`, `ERROR: cannot connect`
-//! and `ERROR: connection reset`. The other tools report faults by the status only, because a message of `side-end` after a stage would
+//! `spoolfile` each of its faults as `ERROR: cannot write`. `appsocket` has the first and the third, `ERROR: no device`, `ERROR: cannot
+//! connect`, `ERROR: connection reset` if the printer resets the connection at once, a line for an unknown option, and those of
+//! [`end_line`]. The other tools report faults by the status only, because a message of `side-end` after a stage would
 //! count as a message of the stage.
 //!
 //! # Cost
@@ -59,6 +66,7 @@
 #![tactic(auto)]
 
 mod backends;
+mod connection_ends;
 mod device;
 mod ends;
 mod fault;
@@ -74,6 +82,9 @@ mod sources;
 mod targets;
 mod words;
 
+pub use connection_ends::{
+    AfterLast, ConnectionEnd, EndRules, Observed, end_line, end_of_connection, rules_of,
+};
 pub use device::{Device, read_device};
 pub use ends::given_words;
 pub use fault::ToolFault;

@@ -5,16 +5,22 @@
 //! A printer that resets the connection may have lost the document. The writer does not notice this, because the system accepts its last
 //! bytes. So the backend closes its half and waits until the printer closes the other half, at most the seconds of the option
 //! `endtimeout`. It reads and discards the printer's data, also while it writes, so that neither waits for the other; there is no back
-//! channel. If the printer neither closes nor resets the connection in time, nothing indicates a failure, and the document counts as
-//! printed. If nobody listens, the backend exits with 6 at once, so that other children do not wait.
-ghost use Rattle.std.specs.Prelude.{◌≡◌};
+//! channel. [`crate::connection_ends`] says what the end means that it has seen (`Observed`).
+//!
+//! A printer that closes the connection at once has not read the document. So the backend closes its half no earlier than 0.1 s after it
+//! connected, and sees a close before that as one that does not answer its own.
+//!
+//! If nobody listens, the backend exits with 6 at once, so that other children do not wait.
+ghost use Rattle.std.specs.Prelude.{◌≡◌, ◌+◌, min, true, false, IfOk};
 ghost use Rattle.std.specs.IoError.{error_kind};
 
 use crate::backends::variable;
+use crate::connection_ends::{ConnectionEnd, Observed, end_of_connection, rules_of};
 use crate::fault::ToolFault;
 use crate::options::{connect_seconds_of, end_seconds_of};
 use crate::printer::{Printer, read_printer};
 use crate::results::{Form, Source, write_copies};
+use std::alloc::Global;
 use std::fs::{File, Files};
 use std::io::{ErrorKind, Read, Write};
 use std::net::{Net, OpenStream, Shutdown, SocketAddr, TcpStream, ToSocketAddrs};
@@ -31,23 +37,67 @@ const PIECES: usize = 4_096;
 // The longest wait of a write before the printer's data is read, in milliseconds. The write is repeated as long as needed.
 const TURN: u64 = 100;
 
-// The wait for a reset after the printer closed the connection, in milliseconds.
+// The wait for a reset after the printer closed the connection, and the least age of a connection whose half is closed, in milliseconds.
 const SETTLING: u64 = 100;
 
-/// Sends the copies to the printer that DEVICE_URI names, and waits until it closes the connection.
+/// How an attempt to send a document ended.
+#[derive(Drop)]
+pub struct Sending {
+    pub end: ConnectionEnd,
+    /// The address and the port of the printer.
+    pub peer: String,
+    /// The number of bytes that the system took for the printer.
+    pub sent: u64,
+}
+
+/// Sends the copies to the printer that DEVICE_URI names, and waits until it closes the connection. A fault comes before the connection or
+/// from the document.
 pub fn app_socket<H: Files<File = File> + Env + Clock + Net + AllocGlobal, S: Source>(
     rt: &H,
     source: &S,
     copies: u32,
-) -> Result<(), ToolFault> {
+) -> Result<Sending, ToolFault> {
     let printer = read_printer(rt.alloc(), variable(rt, "DEVICE_URI")?.as_str())?;
+    let rules = rules_of(&printer.options)?;
     let stream = connect(rt, &printer)?;
+    let peer = peer_of(rt.alloc(), &stream)?;
     let mut line = Line {
         stream,
-        ended: false,
+        sent: 0,
+        closed: false,
     };
-    write_copies(rt.alloc(), Form::Plain, source, copies, &mut line)?;
-    line.finish(rt, end_seconds_of(&printer.options))
+    let observed = send(rt, source, copies, &printer, &mut line)?;
+    Ok(Sending {
+        end: end_of_connection(rules, observed),
+        peer,
+        sent: line.sent,
+    })
+}
+
+// Sends the copies over the line, and returns how it ended.
+fn send<H: Clock + AllocGlobal, S: Source, T: Read + Write + OpenStream + Drop>(
+    rt: &H,
+    source: &S,
+    copies: u32,
+    printer: &Printer,
+    line: &mut Line<T>,
+) -> Result<Observed, ToolFault> {
+    let Ok(start) = Instant::now(rt) else {
+        return Err(ToolFault::Connect);
+    };
+    match write_copies(rt.alloc(), Form::Plain, source, copies, line) {
+        Ok(_) => Ok(line.finish(rt, start, end_seconds_of(&printer.options))),
+        Err(ToolFault::Write) => Ok(line.cut()),
+        Err(fault) => Err(fault),
+    }
+}
+
+// Returns the address of the printer.
+fn peer_of<S: OpenStream>(alloc: Global, stream: &S) -> Result<String, ToolFault> {
+    match stream.peer_addr() {
+        Ok(address) => Ok(format!(in alloc; "{address}")?),
+        Err(_) => Err(ToolFault::Reset),
+    }
 }
 
 // Connects to the first of the printer's addresses that answers.
@@ -103,14 +153,16 @@ fn connect_to<H: Net>(rt: &H, address: SocketAddr, seconds: u32) -> io::Result<H
 #[derive(Drop)]
 struct Line<S: Read + Write + OpenStream + Drop> {
     stream: S,
+    // The number of bytes that the system took.
+    sent: u64,
     // Whether the printer has closed its half.
-    ended: bool,
+    closed: bool,
 }
 
 impl<S: Read + Write + OpenStream + Drop> Line<S> {
     // Reads the data that the printer has sent, without waiting.
     fn hear(&mut self) -> io::Result<()> {
-        if self.ended {
+        if self.closed {
             return Ok(());
         }
         self.stream.set_nonblocking(true)?;
@@ -124,7 +176,7 @@ impl<S: Read + Write + OpenStream + Drop> Line<S> {
         for _ in 0..PIECES {
             match self.stream.read(&mut piece) {
                 Ok(0) => {
-                    self.ended = true;
+                    self.closed = true;
                     return Ok(());
                 }
                 Ok(_) => {}
@@ -138,38 +190,74 @@ impl<S: Read + Write + OpenStream + Drop> Line<S> {
         Ok(())
     }
 
-    // Closes this half, and waits until the printer closes the other.
-    fn finish<H: Clock>(self, rt: &H, seconds: u32) -> Result<(), ToolFault> {
-        let mut line = self;
-        if line.stream.shutdown(Shutdown::Write).is_err() {
-            return Err(ToolFault::Reset);
-        }
-        match line.wait(rt, Duration::from_secs(u64::from(seconds))) {
-            Ok(()) => Ok(()),
-            Err(_) => Err(ToolFault::Reset),
+    // Counts the bytes that a write has taken.
+    fn count(&mut self, written: &io::Result<usize>)
+        ensures counted { IfOk written.now (λ count. self.new.sent ≡ min (self.old.sent + count) u64.MAX) }
+        ensures closed { self.new.closed ≡ self.old.closed }
+    {
+        if let Ok(count) = written {
+            self.sent = self.sent.saturating_add(*count as u64);
         }
     }
 
-    // Waits at most `most` until the printer closes the connection. An `Err` is a reset or a lost connection.
-    fn wait<H: Clock>(&mut self, rt: &H, most: Duration) -> io::Result<()> {
-        let start = Instant::now(rt)?;
+    // Returns how the line ended after a write failed.
+    fn cut(&self) -> Observed
+        ensures closed { self.now.closed ≡ true → result ≡ Observed.ClosedEarly }
+        ensures reset { self.now.closed ≡ false → result ≡ Observed.ResetEarly }
+    {
+        if self.closed {
+            Observed::ClosedEarly
+        } else {
+            Observed::ResetEarly
+        }
+    }
+
+    // Ends the line after all bytes were sent: closes this half, and waits until the printer closes the other. `start` is the time of the
+    // connection.
+    fn finish<H: Clock>(&mut self, rt: &H, start: Instant, seconds: u32) -> Observed {
+        match self.end(rt, start, Duration::from_secs(u64::from(seconds))) {
+            Ok(observed) => observed,
+            Err(_) => Observed::ResetLate,
+        }
+    }
+
+    // The same. An `Err` is a reset or a lost connection.
+    fn end<H: Clock>(&mut self, rt: &H, start: Instant, most: Duration) -> io::Result<Observed> {
+        self.wait(rt, start, Duration::from_millis(SETTLING))?;
+        let first = self.closed;
+        self.stream.shutdown(Shutdown::Write)?;
+        self.wait(rt, Instant::now(rt)?, most)?;
+        if !self.closed {
+            return Ok(Observed::StillOpen);
+        }
+        self.settle(rt)?;
+        if first {
+            Ok(Observed::ClosedFirst)
+        } else {
+            Ok(Observed::ClosedLast)
+        }
+    }
+
+    // Waits until the printer closes its half, at most `most` after `start`, and reads at least once. An `Err` is a reset or a lost
+    // connection.
+    fn wait<H: Clock>(&mut self, rt: &H, start: Instant, most: Duration) -> io::Result<()> {
         let mut piece = [0u8; PIECE];
         for _ in 0..u64::MAX {
-            if self.ended {
-                return self.settle(rt);
+            if self.closed {
+                return Ok(());
             }
             let left = most.saturating_sub(start.elapsed(rt)?);
             self.stream
                 .set_read_timeout(Some(left.max(Duration::from_millis(1))))?;
             match self.stream.read(&mut piece) {
-                Ok(0) => self.ended = true,
+                Ok(0) => self.closed = true,
                 Ok(_) => {}
                 Err(error) => match error.kind() {
                     ErrorKind::WouldBlock | ErrorKind::Interrupted => {}
                     _ => return Err(error),
                 },
             }
-            if !self.ended && left.is_zero() {
+            if left.is_zero() {
                 return Ok(());
             }
         }
@@ -186,14 +274,20 @@ impl<S: Read + Write + OpenStream + Drop> Line<S> {
     }
 }
 
-// A write waits for the printer without limit, and reads the printer's data meanwhile.
+// A write waits for the printer without limit, and reads the printer's data meanwhile. It fails once the printer has closed its half.
 impl<S: Read + Write + OpenStream + Drop> Write for Line<S> {
     fn write(&mut self, buf: &[u8]) -> io::Result<usize> {
         for _ in 0..u64::MAX {
             self.hear()?;
+            if self.closed {
+                return Err(io::Error::from(ErrorKind::BrokenPipe));
+            }
             match self.stream.write(buf) {
                 Err(error) if error.kind() == ErrorKind::WouldBlock => {}
-                written => return written,
+                written => {
+                    self.count(&written);
+                    return written;
+                }
             }
         }
         Err(io::Error::from(ErrorKind::TimedOut))

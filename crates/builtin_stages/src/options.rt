@@ -9,6 +9,8 @@
 //! | `contimeout` | `appsocket` | the seconds to try to connect, up to 4,294,967,295; 0 for the limit of the system | 30 |
 //! | `endtimeout` | `appsocket` | the seconds to wait until the printer closes the connection, up to 4,294,967,295 | 90 |
 //!
+//! [`crate::connection_ends`] has the options `waiteof` and `afterlast` of `appsocket`.
+//!
 //! If an option is repeated, the last one counts. A value that is not a number in its range is replaced by the default. If the URI has more
 //! than 64 options, or one without a name, all have their defaults.
 ghost use Rattle.std.specs.Prelude.{◌≡◌, codes, unwrap_or};

@@ -10,10 +10,10 @@ ghost use Rattle.builtin_stages.specs.RequestFields.{request};
 ghost use Rattle.builtin_stages.specs.ToolArguments.{asked_of};
 
 use crate::backends::{device_line, meet, side_ask, side_end, spool_file};
-use crate::ends::{end_silently, report_end};
+use crate::ends::{end_silently, report_end, report_sending};
 use crate::fault::ToolFault;
 use crate::filters::run_filter;
-use crate::network::app_socket;
+use crate::network::{Sending, app_socket};
 use crate::results::Source;
 use crate::sources::DocumentFile;
 use crate::words::{Asked, Backend, Document, Filter, read_words};
@@ -111,7 +111,7 @@ fn run_backend<H: Files<File = File> + Env + Clock + Net + AllocGlobal, I: Sourc
         Backend::SideAsk => end_silently(side_ask(rt)),
         Backend::AppSocket => {
             let ended = send(rt, document, input);
-            report_end(errors, ended)
+            report_sending(rt.alloc(), errors, ended)
         }
     }
 }
@@ -135,14 +135,11 @@ fn send<H: Files<File = File> + Env + Clock + Net + AllocGlobal, I: Source>(
     rt: &H,
     document: Document<'_>,
     input: &I,
-) -> Result<u8, ToolFault>
-    ensures { IfOk result (λ status. status ≡ 0) }
-{
+) -> Result<Sending, ToolFault> {
     match document.file {
-        Some(name) => app_socket(rt, &DocumentFile { rt, name }, document.copies)?,
-        None => app_socket(rt, input, document.copies)?,
+        Some(name) => app_socket(rt, &DocumentFile { rt, name }, document.copies),
+        None => app_socket(rt, input, document.copies),
     }
-    Ok(0)
 }
 
 // Prints the backend's device line.
