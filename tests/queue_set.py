@@ -241,6 +241,7 @@ def invalid_arguments(folder):
         same(f"the end of {words}", (status, shown, errors.startswith("error: ")), (2, "", True))
     same("the file is unchanged", place.content() == image_of(), True)
     same("the names", names_in(place.root), [NAME])
+    same("valid arguments", administer("queue", "set", place.root, "lab", "--limit", "65535")[0], 0)
 
 
 # ---- the service

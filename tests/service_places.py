@@ -212,6 +212,8 @@ def wrong_numbers_are_refused(folder):
     for number in ("0", "1001", "-1", "x", ""):
         ended = subprocess.run(folder.command("--clients", number), capture_output=True, timeout=LONGEST, check=False)
         same(f"--clients {number!r}", ended.returncode, 2)
+    folder.start("--clients", "2")
+    until("a number in the range", lambda: is_served(folder))
 
 
 TESTS = [
