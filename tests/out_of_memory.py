@@ -60,6 +60,8 @@ PASSED_ON = {
     ("print_rounds", "end_stage"): 1,
     ("service_texts", "push_now"): 1,
     ("service_texts", "push_room"): 1,
+    ("queue_sayings", "push_head"): 1,
+    ("queue_sayings", "push_rules"): 1,
     ("service_texts", "push_by"): 1,
     ("service_texts", "push_counts"): 1,
     ("service_texts", "push_hold"): 1,
