@@ -62,6 +62,7 @@ PASSED_ON = {
     ("service_texts", "push_room"): 1,
     ("queue_sayings", "push_head"): 1,
     ("queue_sayings", "push_rules"): 1,
+    ("wait_causes", "push_cause"): 4,
     ("service_texts", "push_by"): 1,
     ("service_texts", "push_counts"): 1,
     ("service_texts", "push_hold"): 1,
