@@ -235,7 +235,7 @@ def log_of_stages(folder):
     folder.shut_down()
     log = folder.log()
     wanted = ["1 attempt 1 stage 1 slow: started", "1 attempt 1 stage 1 slow: ended"]
-    wanted += ["2 attempt 1 stage 1 loud: ended with status 1", "2 attempt 1 stage 1 loud: ERROR: no paper"]
+    wanted += ["2 attempt 1 stage 1 loud: ended with status 1, queue loud, user u, title t", "2 attempt 1 stage 1 loud: ERROR: no paper"]
     same("missing lines", [line for line in wanted if f"spool: job {line}\n" not in log], [])
     same("lines with another prefix", [line for line in log.splitlines() if not line.startswith("spool: ")], [])
     same("secrets in the log", [word for word in ("letter", "secret") if word in log], [])
@@ -264,7 +264,7 @@ def log_of_long_errors(folder):
     prefix = "spool: job 1 attempt 1 stage 1 complains: "
     text = "".join(f"ERROR: line {number}\n" for number in range(100, 200))
     lines = [line.removeprefix(prefix) for line in folder.log().splitlines() if line.startswith(prefix)]
-    same("the first job", lines, ["ended with status 1", *text[-400:].splitlines()])
+    same("the first job", lines, ["ended with status 1, queue q1, user u, title t", *text[-400:].splitlines()])
     same("the other one", [line for line in folder.log().splitlines() if "job 2 attempt" in line], ["spool: job 2 attempt 1 stage 1 complains: ended"])
 
 
@@ -363,7 +363,7 @@ def shutdown_with_an_end(folder):
     child = f"spool: job {job} attempt 1 stage 1 stuck: killed by a signal"
     events = [" on q by u: ", "queue q: "]
     lines = [line for line in folder.log().splitlines()[1:] if not any(part in line for part in events)]
-    same("the log", lines, ["spool: shutting down: 1 children running", f"{child}, no error message", child, "spool: stopped"])
+    same("the log", lines, ["spool: shutting down: 1 children running", f"{child}, no error message", f"{child}, queue q, user u, title t", "spool: stopped"])
     holds("its end is logged", "spool: job 1 on q by u: aborted (backend-failed)\n" in folder.log())
     folder.start()
     same("its state", Client(folder).state(job), "8 backend-failed")

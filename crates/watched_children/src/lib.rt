@@ -1,7 +1,8 @@
 //! Children whose starts and ends are logged.
 //!
-//! [`WatchedChildren`] wraps other children. It logs a line for each start and each end, and after an end with another status than 0 the
-//! last lines of the child's standard error, which are cleaned (`clean_texts`). Everything else it passes on.
+//! [`WatchedChildren`] wraps other children. It logs a line for each start and each end. The line of an end with another status than 0 has
+//! the queue, and the user and the title of the job; the last lines of the child's standard error follow. What children and users wrote is
+//! cleaned (`clean_texts`). Everything else it passes on.
 //!
 //! # Promises
 //!
@@ -13,7 +14,8 @@
 //!
 //! # Not proved
 //!
-//! - What is logged. If memory for the name of a child runs out, its lines say `a child`. If memory for a line of standard error runs out,
+//! - What is logged. If memory for the name of a child runs out, its lines say `a child`; if it runs out for the queue, the user and the
+//!   title, they are left out. If memory for a line of standard error runs out,
 //!   the line is left out. `tests/clean_output.py` shows what the log has of a hostile child.
 //! - That a ticket has the group of the inner ticket: a group has no contract. `one_of_several_children_is_ended` of `tests/service.py`
 //!   shows it.
