@@ -8,7 +8,7 @@ a function below; without one all are run. --list prints their names.
 | Test | Tests |
 |---|---|
 | played_* | a simulated service: each loss, each refusal, and each status of a submission |
-| submits_*, status_*, acts_* | each task with a running service |
+| submits_*, status_*, acts_* | each task with a running service; `acts_that_stop_the_paper` with a slow printer |
 | status_page_in_a_browser | the page, as Chromium reads it (Debian's package chromium) |
 | refuses_memory | each allocation of a submission is refused in turn: the status is correct |
 | kills | a service that is killed while documents are submitted: each is accepted once (60 of them, 1,000 with --long) |
@@ -22,6 +22,7 @@ import json
 import os
 import random
 import shutil
+import socket
 import subprocess
 import sys
 import threading
@@ -29,7 +30,7 @@ import time
 import unicodedata
 
 from front_parts import Front, Played, number_of, run_tests
-from service_parts import TYPE, Client, Folder, Skipped, holds, patient_client, same, until
+from service_parts import HERE, TYPE, Client, Folder, Skipped, holds, patient_client, same, until
 
 # ---- a simulated service
 
@@ -565,6 +566,76 @@ def acts_on_jobs(folder):
     same("purged", client.state(jobs[0]), "")
     holds("twice", "error" in front.fails("spool", "cancel", str(jobs[1]), str(jobs[2])))
     same("the other", client.state(jobs[2]).split()[0], "7")
+
+
+TOOLS = os.path.join(HERE, "..", "crates", "spool_tools", "out", "spool_tools")
+
+PAGE = 1 << 20
+
+
+class SlowPrinter:
+    """A printer on a port of the loopback address, which prints a page of 1 MiB every 0.3 seconds, and one document after another."""
+
+    def __init__(self):
+        self.listener = socket.socket()
+        self.listener.setsockopt(socket.SOL_SOCKET, socket.SO_RCVBUF, 65_536)
+        self.listener.bind(("127.0.0.1", 0))
+        self.listener.listen(4)
+        self.port = self.listener.getsockname()[1]
+        # The pages of each document so far.
+        self.pages = []
+        threading.Thread(target=self.serve, daemon=True).start()
+
+    def serve(self):
+        while True:
+            line, _ = self.listener.accept()
+            self.pages.append(0)
+            with line:
+                try:
+                    while self.read_page(line):
+                        self.pages[-1] += 1
+                        time.sleep(0.3)
+                except OSError:
+                    pass
+
+    def read_page(self, line):
+        left = PAGE
+        while left:
+            data = line.recv(min(left, 65_536))
+            if not data:
+                return False
+            left -= len(data)
+        return True
+
+
+def acts_that_stop_the_paper(folder):
+    """After a cancel the pages that the system has buffered come, and no others, and the next job starts. With --keep-printing all pages come."""
+    if not os.path.exists(TOOLS):
+        raise Skipped("the built spool_tools (`rt run` in crates/spool_tools)")
+    folder.lines.append(f"backend appsocket {os.path.abspath(TOOLS)} appsocket\n")
+    folder.write("programs", "".join(folder.lines))
+    folder.size = 268_435_456
+    client, front = office(folder)
+    printer = SlowPrinter()
+    same("queue", client.ask(f"queue net appsocket://127.0.0.1:{printer.port}/ application/octet-stream abort-job 0 0\n"), "ok")
+    with open(folder.at("long"), "wb") as file:
+        file.write(b"x" * 12 * PAGE)
+    folder.write("short", "x")
+    for words, stops in ((["spool", "cancel"], True), (["cancel"], True), (["lprm"], True), (["spool", "cancel", "--keep-printing"], False)):
+        before = len(printer.pages)
+        long, short = [number_of(front.says("spool", "submit", "net", folder.at(name))) for name in ("long", "short")]
+        until("the first page", lambda: len(printer.pages) > before and printer.pages[before] > 0)
+        time.sleep(1.2)
+        front.says(*words, str(long))
+        canceled = time.monotonic()
+        same("canceled", client.state(long).split()[0], "7")
+        until("the next job", lambda: client.fields(short)["attempts"] == "1", 60)
+        took = time.monotonic() - canceled
+        client.until_state(short, "9", 60)
+        pages = printer.pages[before]
+        print(f"  {' '.join(words)}: {pages} of 12 pages, and the next job after {took:.1f} s")
+        holds(f"{words}: {pages} of 12 pages", pages <= 8 if stops else pages == 12)
+        holds(f"{words}: the next job after {took} s", took < 3 or not stops)
 
 
 def acts_on_queues(folder):
