@@ -162,8 +162,8 @@ def one_queue(folder):
     same("when it has stopped", [line for line in lines if line.split()[0] in ("state", "stopped", "stopping", "waiting", "held", "printing")],
          ["state 5", "stopped yes", "stopping no", "waiting 3", "held 2"])
     told = [line for line in lines if line.split()[0] in ("reasons", "message", "attribute")]
-    same("what its backend told", sorted(told), sorted([
-        "reasons media-low,toner-low", 'message "half done"', 'attribute auth-info-required "none"', 'attribute marker-levels "5,80"']))
+    same("what lasts of what its backend told", sorted(told), sorted([
+        "reasons media-low", 'message ""', 'attribute auth-info-required "none"', 'attribute marker-levels "5,80"']))
     same("the incoming job", client.state(incoming)[0], "4")
     folder.kill()
     folder.start()
@@ -175,6 +175,107 @@ def one_queue(folder):
     # The command of the engine stays.
     folder.queue(client, "other")
     same("more words are the command", client.ask(f"queue other slow:/0 {TYPE} retry-job 0 0\n"), "error 2 QueueExists")
+
+
+# A filter that says something when it may, and a backend that prints when it may.
+SAYS = """#!/bin/sh
+while [ ! -e FOLDER/filter-$1 ]; do sleep 0.05; done
+echo 'STATE: +toner-empty-error,media-low-warning' >&2
+echo 'ATTR: marker-levels=5' >&2
+echo "INFO: job $1, $3" >&2
+cat "$6"
+"""
+PRINTS = '#!/bin/sh\nwhile [ ! -e FOLDER/backend-$1 ]; do sleep 0.05; done\ncat >/dev/null\n'
+
+
+def said(client, name="q"):
+    """The reasons and the message of a queue, and its line of `printers`, which has the same."""
+    fields = dict(line.split(" ", 1) for line in queue_fields(client, name) if line.split()[0] in ("reasons", "message"))
+    line = next(line for line in client.listing("printers\n") if line.split()[1] == name)
+    same("printers", line.split(" ", 8)[8], f"{fields['reasons']} {fields['message']}")
+    return fields["reasons"], fields["message"]
+
+
+def what_attempts_said(folder):
+    """A queue shows what the running attempt has said since a stage of it ended, and of attempts that have ended only what lasts. `queues` is
+    the command of the engine, and shows everything."""
+    folder.two_stages(0, SAYS)
+    folder.backend("prints", PRINTS)
+    folder.start()
+    client = Client(folder)
+    folder.queue(client, "q", scheme="prints", target="a/b")
+    watcher = Client(folder)
+    same("watch", watcher.ask("watch\n"), "ok")
+    same("before any job", said(client), ("none", '""'))
+    everything = "media-low-warning,toner-empty-error"
+    for job in (1, 2):
+        lasting = "none" if job == 1 else "media-low-warning"
+        same("submit", client.submit("q", title="its title", stages=2, name="f.x"), job)
+        client.until_state(job, "5")
+        same("in its first stage", said(client), (lasting, '""'))
+        folder.write(f"filter-{job}", "")
+        until("the second stage", lambda: client.fields(job)["stage"].startswith("2 "))
+        same("in its second stage", said(client), (everything, f'"job {job}, its title"'))
+        folder.write(f"backend-{job}", "")
+        client.until_state(job, "9")
+        same("after its end", said(client), ("media-low-warning", '""'))
+        same("the attribute", [line for line in queue_fields(client, "q") if line.startswith("attribute")], ['attribute marker-levels "5"'])
+        same("the command", client.listing("queues\n")[0].split(" ", 8)[8], f'{everything} "job {job}, its title"')
+    time.sleep(0.3)
+    told = [line.split(" ", 8)[8] for line in lines_so_far(watcher) if line.startswith("queue q ")]
+    same("the last notice", told[-1], 'media-low-warning ""')
+    holds(f"notices while it printed: {told}", f'{everything} "job 1, its title"' in told)
+
+
+def lines_so_far(client):
+    """The lines that a client has been sent."""
+    lines = []
+    client.say("now\n")
+    while not lines or not lines[-1].startswith("ok now"):
+        lines.append(client.reply())
+    return lines
+
+
+# ---- why a job waits
+
+def why(client, job):
+    return client.ask(f"why {job}\n").removeprefix("ok why ")
+
+
+def why_jobs_wait(folder):
+    """`why` has one cause for each job: first those of the job, then those of its queue, then those of the service."""
+    folder.backend("prints", PRINTS)
+    folder.backend("fails", "#!/bin/sh\nexit 1\n")
+    folder.start("--children", "1")
+    client = Client(folder)
+    for name in ("q", "other"):
+        folder.queue(client, name, scheme="prints")
+    folder.queue(client, "again", policy="retry-job", scheme="fails", interval=1000)
+    same("no job", client.ask("why 99\n"), "error job")
+    same("another line", client.ask("why 1 2\n"), "error syntax")
+    jobs = [client.submit("q") for _ in range(4)]
+    client.until_state(jobs[0], "5")
+    same("the one that prints", why(client, jobs[0]), "prints")
+    same("the others", [why(client, job) for job in jobs[1:]], [f"taken {jobs[0]} ahead {count}" for count in range(3)])
+    same("of a full service", why(client, client.submit("other")), "children")
+    same("hold", client.ask(f"hold {jobs[1]} indefinite\n"), "ok")
+    same("hold", client.ask(f"hold {jobs[2]} {LATER}\n"), "ok")
+    same("held", [why(client, job) for job in jobs[1:3]], ["held", f"held-until {LATER}"])
+    same("disable", client.ask("disable q\n"), "ok")
+    same("of a stopped queue", why(client, jobs[3]), "stopped")
+    incoming = client.create("q")
+    same("incoming", why(client, incoming), "arriving")
+    leaving = Client(folder)
+    left = leaving.create("q")
+    leaving.close()
+    until("its client has left", lambda: why(client, left) == "abandoned")
+    failed = client.submit("again")
+    for job in (jobs[0], jobs[0] + 4):
+        folder.write(f"backend-{job}", "")
+    until("the failed attempt", lambda: client.state(failed) == "3 retry-later")
+    same("retry", why(client, failed), f"retry {client.fields(failed)['not-before']}")
+    client.until_state(jobs[0], "9")
+    same("ended", why(client, jobs[0]), "ended")
 
 
 # ---- pieces
@@ -709,6 +810,8 @@ TESTS = [
     times_of_jobs,
     times_while_the_disk_is_not_written,
     one_queue,
+    what_attempts_said,
+    why_jobs_wait,
     jobs_by_pieces,
     pieces_of_many_jobs,
     tokens_of_jobs,

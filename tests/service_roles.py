@@ -2,7 +2,8 @@
 
 They need root: they add users and a group to the system, as service_proof.py does.
 """
-from service_parts import Client, holds, same
+from service_facts import PRINTS, SAYS
+from service_parts import Client, holds, same, until
 from service_proof import prove, with_people
 
 DENIED = "error denied"
@@ -87,6 +88,27 @@ def others_jobs_are_kept_from_users(folder, people):
 
 
 @with_people
+def messages_are_for_operators(folder, people):
+    """The message of a queue, which may quote the title of a job, is shown only to clients that see all titles: by each word that shows queues."""
+    folder.two_stages(0, SAYS)
+    folder.backend("prints", PRINTS)
+    operator = started(folder, people)
+    folder.queue(operator, "p", scheme="prints", target="a/b")
+    job = operator.submit("p", title="its title", stages=2, name="f.x")
+    folder.write(f"filter-{job}", "")
+    until("the second stage", lambda: operator.fields(job)["stage"].startswith("2 "))
+    for who, client, sees in (("the operator", operator, True), ("a user", proved(folder, people.users[0]), False), ("a stranger", Client(folder), False)):
+        for question in ("queues", "printers", "queue p"):
+            rows = client.listing(f"{question}\n")
+            same(f"{who}: {question}: the message", any("its title" in row for row in rows), sees)
+            same(f"{who}: {question}: the reasons", any("toner-empty-error" in row for row in rows), True)
+    folder.write(f"backend-{job}", "")
+    operator.until_state(job, "9")
+    same("the command, afterwards", "its title" in operator.listing("queues\n")[0], True)
+    same("for a stranger", "its title" in "".join(Client(folder).listing("queues\n")), False)
+
+
+@with_people
 def names_are_not_claimed(folder, people):
     """A user creates jobs under its own name alone. A stranger and an operator may name another."""
     first, second, _ = people.users
@@ -145,6 +167,7 @@ def titles_are_shown_to_owners(folder, people):
 
 
 TESTS = [
+    messages_are_for_operators,
     others_jobs_are_kept_from_users,
     names_are_not_claimed,
     only_operators_operate,

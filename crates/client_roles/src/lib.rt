@@ -10,7 +10,7 @@
 //! |---|---|---|---|
 //! | `create`, `createby` | yes | under its own name | yes |
 //! | `send`, `close`, `cancel`, `stop`, `hold`, `release`, `end`, `wait` | jobs that it created over its connection | also jobs of its name | yes |
-//! | `jobs`, `queues`, `job`, `queue`, `list`, `find`, `incoming`, `room`, `now`, `watch`, `i-am`, `made`, malformed lines | yes | yes | yes |
+//! | `jobs`, `queues`, `printers`, `job`, `queue`, `list`, `why`, `find`, `incoming`, `room`, `now`, `watch`, `i-am`, `made`, malformed lines | yes | yes | yes |
 //! | all others | no | no | yes |
 //!
 //! A stranger is a client that has proved nothing, unless each such client is trusted: then it is an operator. A job that does not exist may

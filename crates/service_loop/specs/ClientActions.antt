@@ -11,6 +11,7 @@ use Rattle.command_lines.specs.declared.reply.Answer.TheVariants.{Created}
 use Rattle.command_lines.specs.declared.reply.Answer.TheVariants as answers_of
 use Rattle.event_records.specs.NumberedChanges.{NumberedChanges}
 use Rattle.event_records.specs.declared.seen.JobTimes.{JobTimes}
+use Rattle.queue_sayings.specs.QueueSayings.{all_queues_shown}
 use Rattle.service_texts.specs.FoundTexts.{found_text}
 use Rattle.service_texts.specs.LeftJobs.{incoming_text}
 use Rattle.service_texts.specs.Listings.{listed_text}
@@ -21,7 +22,9 @@ use Rattle.service_texts.specs.Shown.{has_settled, shown_job, told_job}
 use Rattle.service_texts.specs.declared.left_jobs.LeftJob.{LeftJob}
 use Rattle.service_texts.specs.declared.tokens.Tokens.{Tokens}
 use Rattle.service_texts.specs.declared.own_words.OwnWord.{OwnWord}
-use Rattle.service_texts.specs.declared.own_words.OwnWord.TheVariants.{Job, Wait, End, Stop, Watch, WatchFrom, Shutdown, Challenge, Prove, Queue, List as Listing, Find, Incoming, Room, Now, CloseAs}
+use Rattle.service_texts.specs.declared.own_words.OwnWord.TheVariants.{Job, Wait, End, Stop, Watch, WatchFrom, Shutdown, Challenge, Prove, Queue, List as Listing, Find, Incoming, Room, Now, CloseAs, Printers, Why}
+use Rattle.wait_causes.specs.WaitCauses.{IsWhy}
+use Rattle.wait_causes.specs.declared.cause.ServiceFacts.{ServiceFacts}
 use Rattle.client_reader.specs.declared.ask.Ask.{Ask}
 use Rattle.client_reader.specs.declared.ask.Ask.TheVariants as asking
 use Rattle.client_standing.specs.ClientStanding.{ClientStanding, with_job, with_proof}
@@ -167,6 +170,8 @@ IsSaid c s (Find token) text = (tokens : Tokens) × (text ≡ found_text tokens 
 IsSaid c s Incoming text = (now : ℕ) × (left : List LeftJob) × (text ≡ incoming_text now s left)
 IsSaid c s Room text = (bytes : ℕ) × (text ≡ room_text bytes)
 IsSaid c s Now text = (now : Option ℕ) × (text ≡ now_text (moment_of now s))
+IsSaid c s Printers text = text ≡ all_queues_shown c s
+IsSaid c s (Why j) text = (facts : ServiceFacts) × IsWhy facts s j text
 IsSaid c s (Wait j) text = text ≡ []
 IsSaid c s (End j) text = (text ≡ codes "ok\n") ⊎ (text ≡ codes "error job\n")
 IsSaid c s Watch text = text ≡ codes "ok\n"

@@ -2,6 +2,7 @@
 ghost use Rattle.std.specs.Prelude.{◌≡◌, ◌≤◌, ◌++◌, ℕ, true, false, codes, length, List, Option, [], IfOk, IfSome, OnErr, OnOk, Some, map};
 ghost use Rattle.std.specs.FinMap as finite;
 ghost use Rattle.std.specs.Option.{option_map};
+ghost use Rattle.service_texts.specs.LeftJobs.{has_left};
 ghost use Rattle.service_texts.specs.SubmissionTokens.{entry_for};
 ghost use Rattle.service_loop.specs.KnownJobs.{HasRoom, entry_after, expected_token};
 ghost use Rattle.service_texts.specs.Notices.{change_text, noted_since, watch_text};
@@ -38,6 +39,7 @@ use spool_disk::Disk;
 use spool_engine::Engine;
 use spool_types::{Event, JobId, MediaType, Phase, QueueName};
 use std::alloc::{AllocError, Global};
+use wait_causes::ServiceFacts;
 
 /// An engine, the number of children that may run at once, those that must end, and the records of the events that the engine accepted.
 #[derive(Drop)]
@@ -279,6 +281,19 @@ impl<D: Disk, C: Children> Shared<D, C> {
         ensures { count_running self.now.engine.run_state.slots ≤ self.now.most → result ≡ count_running self.now.engine.run_state.slots }
     {
         self.most - self.engine.count_free(self.most)
+    }
+
+    /// What the service knows of a job beyond the table.
+    pub fn facts_of(&self, job: JobId) -> ServiceFacts
+        ensures left { result.left ≡ has_left self.now.known.left job }
+        ensures is_full { result.is_full ≡ self.now.full }
+    {
+        ServiceFacts {
+            left: self.known.left.has(job),
+            runs: self.engine.is_running(job),
+            has_place: self.running() < self.most,
+            is_full: self.full,
+        }
     }
 
     /// Whether no job is processing and no child runs.

@@ -5,11 +5,13 @@ ghost use Rattle.service_loop.specs.ShownAnswers.{answer_seen, shown_answer};
 use client_standing::Standing;
 use command_lines::{Answer, push_answer};
 use job_table::Table;
+use queue_sayings::push_shown_queues;
 use service_texts::push_shown_jobs;
 use spool_engine::append_answer;
 use std::alloc::AllocError;
 
-/// Appends the text of an answer over this table. Of others' jobs title and user are shown as empty texts, unless the client sees all.
+/// Appends the text of an answer over this table. Of others' jobs title and user, and of queues the message, are shown as empty texts, unless
+/// the client sees all.
 pub fn append_shown_answer(
     text: &mut Vec<u8>,
     table: &Table,
@@ -37,6 +39,10 @@ fn append_seen(
     match answer {
         Answer::Jobs(_) => {
             push_shown_jobs(text, table.jobs(), client, table.now())?;
+            push_answer(text, answer)
+        }
+        Answer::Queues(_) => {
+            push_shown_queues(text, table, client)?;
             push_answer(text, answer)
         }
         _ => append_answer(text, table, answer),

@@ -130,6 +130,16 @@ room_none [] = refl
 room_none (w ∷ []) = refl
 room_none (w ∷ v ∷ ws) = refl
 
+printers_none : IsNoName (codes "printers")
+printers_none [] = refl
+printers_none (w ∷ []) = refl
+printers_none (w ∷ v ∷ ws) = refl
+
+why_none : IsNoName (codes "why")
+why_none [] = refl
+why_none (w ∷ []) = refl
+why_none (w ∷ v ∷ ws) = refl
+
 now_none : IsNoName (codes "now")
 now_none [] = refl
 now_none (w ∷ []) = refl
@@ -187,7 +197,10 @@ module _ (by_word : (line : List ℕ) → words_of line ≡ after_front words_of
                 | inl p ↦ no_name _ _ p.0 refl refl room_none
                 | inr e8 ↦ elim (tested (first_word line) (codes "now") _ _ w e8) [
                   | inl p ↦ no_name _ _ p.0 refl refl now_none
-                  | inr e9 ↦ absurd (cc)
+                  | inr e9 ↦ elim (tested (first_word line) (codes "printers") _ _ w e9) [
+                    | inl p ↦ no_name _ _ p.0 refl refl printers_none
+                    | inr e10 ↦ absurd (cc)
+                  ]
                 ]
               ]
             ]
@@ -222,11 +235,14 @@ module _ (by_word : (line : List ℕ) → words_of line ≡ after_front words_of
         | inl p ↦ no_name _ _ p.0 refl refl end_none
         | inr e4 ↦ elim (tested (first_word line) (codes "stop") _ _ w e4) [
           | inl p ↦ no_name _ _ p.0 refl refl stop_none
-          | inr e5 ↦ elim (tested (first_word line) (codes "watch") _ _ w e5) [
-            | inl p ↦ no_name _ _ p.0 refl refl watch_none
-            | inr e6 ↦ elim (either_said (has_words (first_word line)) _ _ w e6) [
-              | inl e7 ↦ worded_none (words_of (after_word line)) refl e7
-              | inr e7 ↦ absurd (cc)
+          | inr e5 ↦ elim (tested (first_word line) (codes "why") _ _ w e5) [
+            | inl p ↦ no_name _ _ p.0 refl refl why_none
+            | inr e6 ↦ elim (tested (first_word line) (codes "watch") _ _ w e6) [
+              | inl p ↦ no_name _ _ p.0 refl refl watch_none
+              | inr e7 ↦ elim (either_said (has_words (first_word line)) _ _ w e7) [
+                | inl e8 ↦ worded_none (words_of (after_word line)) refl e8
+                | inr e8 ↦ absurd (cc)
+              ]
             ]
           ]
         ]

@@ -3,13 +3,14 @@ use Rattle.std.proofs.Common.{◌≡◌, ℕ, zero, suc, ◌+◌, ◌-◌, ◌<�
 use Rattle.std.proofs.lemmas.List.Sums.{sum_by-append}
 use Rattle.client_standing.specs.ClientStanding.{ClientStanding}
 use Rattle.job_table.specs.Attempts.{busy_of}
+use Rattle.queue_sayings.specs.QueueSayings.{has_spoken, shown_row}
 use Rattle.spool_types.specs.State.{State, job_at, queue_at}
 use Rattle.spool_types.specs.declared.rows.QueueRow.{QueueRow}
 use Rattle.service_texts.specs.QueueShown.{AreCounts, IsQueueShown, IsShownQueue, held_among, is_held, queue_fields}
 use Rattle.service_texts.specs.declared.queue_texts.QueueCounts.{QueueCounts}
 
 pub shown : (c : ClientStanding) (changed : Option ℕ) (s : State) (name : List ℕ) (q : QueueRow) (counts : QueueCounts) (text : List ℕ) →
-    queue_at s name ≡ Some q → AreCounts s name counts → text ≡ queue_fields c counts (busy_of s name) changed q → IsShownQueue c changed s name text
+    queue_at s name ≡ Some q → AreCounts s name counts → text ≡ queue_fields c counts (busy_of s name) changed (shown_row c (has_spoken s name) q) → IsShownQueue c changed s name text
 shown c changed s name q counts text is are e = subst (λ (o : Option QueueRow). IsQueueShown c changed s name o text) (sym is) (counts, are, e)
 
 -- ## Held jobs

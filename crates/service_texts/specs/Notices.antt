@@ -1,11 +1,10 @@
 -- The changes, for clients that watch.
-use Rattle.std.specs.Prelude.{ℕ, ◌+◌, Bool, true, false, cond, nat_eq, nat_le, List, [], ◌∷◌, ◌++◌, length, codes, Option, None, Some, is_some}
+use Rattle.std.specs.Prelude.{ℕ, ◌+◌, Bool, true, false, cond, nat_eq, nat_le, List, [], ◌∷◌, ◌++◌, length, codes, Option, None, Some}
 use Rattle.std.specs.Cmp.Lexicographic.{pointwise}
 use Rattle.std.specs.Fmt.{decimal}
 use Rattle.std.specs.List.{flat_map, list_any}
 use Rattle.client_standing.specs.ClientStanding.{ClientStanding}
-use Rattle.command_lines.specs.Replies.{queue_text}
-use Rattle.job_table.specs.Attempts.{busy_of}
+use Rattle.queue_sayings.specs.QueueSayings.{shown_queue_line}
 use Rattle.spool_types.specs.State.{State, Job, job_at, queue_at}
 use Rattle.spool_types.specs.declared.rows.QueueRow.{QueueRow}
 use Rattle.service_texts.specs.Shown.{shown_line}
@@ -65,15 +64,15 @@ abbrev pub job_news : ClientStanding → ℕ → ℕ → Option Job → List ℕ
 job_news c now job None = codes "gone job " ++ decimal job ++ codes "\n"
 job_news c now job (Some r) = shown_line c now r
 
-abbrev pub queue_news : Bool → List ℕ → Option QueueRow → List ℕ
-queue_news busy name None = codes "gone queue " ++ name ++ codes "\n"
-queue_news busy name (Some q) = queue_text busy q
+abbrev pub queue_news : ClientStanding → State → List ℕ → Option QueueRow → List ℕ
+queue_news c s name None = codes "gone queue " ++ name ++ codes "\n"
+queue_news c s name (Some q) = shown_queue_line c s q
 
 abbrev pub job_told : ClientStanding → State → ℕ → List ℕ
 job_told c s job = job_news c s.moment job (job_at s job)
 
-abbrev pub queue_told : State → List ℕ → List ℕ
-queue_told s name = queue_news (is_some (busy_of s name)) name (queue_at s name)
+abbrev pub queue_told : ClientStanding → State → List ℕ → List ℕ
+queue_told c s name = queue_news c s name (queue_at s name)
 
 abbrev pub missed_text : Bool → List ℕ
 missed_text missed = cond missed (codes "missed\n") []
@@ -84,7 +83,7 @@ change_text number = codes "change " ++ decimal number ++ codes "\n"
 
 -- A line for each job, and then for each queue, as they are now.
 abbrev pub told : ClientStanding → State → Noted → List ℕ
-told c s n = flat_map (job_told c s) n.jobs ++ flat_map (queue_told s) n.queues ++ missed_text n.missed
+told c s n = flat_map (job_told c s) n.jobs ++ flat_map (queue_told c s) n.queues ++ missed_text n.missed
 
 -- The reply to a client that asks what changed after this number.
 abbrev pub watch_text : ClientStanding → State → NumberedChanges → ℕ → List ℕ

@@ -6,6 +6,7 @@ use Rattle.std.specs.List.{count_by, flat_map}
 use Rattle.client_standing.specs.ClientStanding.{ClientStanding, shows_uri}
 use Rattle.command_lines.specs.Replies.{quoted, reasons_word}
 use Rattle.job_table.specs.Attempts.{busy_of}
+use Rattle.queue_sayings.specs.QueueSayings.{has_spoken, shown_row}
 use Rattle.queue_sched.specs.WaitingIndex.{InOrder, IsIndexOf}
 use Rattle.queue_sched.specs.declared.entry.Entry.{Entry}
 use Rattle.spool_types.specs.Phases.{hold_of, is_in_force, policy_word, printer_state}
@@ -108,7 +109,8 @@ queue_fields c counts printing changed q = queue_row c (is_some printing) q ++ q
 
 abbrev pub IsQueueShown : ClientStanding → Option ℕ → State → List ℕ → Option QueueRow → List ℕ → Type 0
 IsQueueShown c changed s name None text = text ≡ no_queue
-IsQueueShown c changed s name (Some q) text = (counts : QueueCounts) × AreCounts s name counts × (text ≡ queue_fields c counts (busy_of s name) changed q)
+IsQueueShown c changed s name (Some q) text =
+    (counts : QueueCounts) × AreCounts s name counts × (text ≡ queue_fields c counts (busy_of s name) changed (shown_row c (has_spoken s name) q))
 
 -- The reply to a client, about a queue that changed last at this moment.
 abbrev pub IsShownQueue : ClientStanding → Option ℕ → State → List ℕ → List ℕ → Type 0

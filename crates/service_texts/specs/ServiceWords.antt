@@ -9,7 +9,7 @@ use Rattle.command_lines.specs.CommandGrammar.{is_word, job_in, queue_in}
 use Rattle.service_texts.specs.Selections.{all_jobs, selection_in}
 use Rattle.service_texts.specs.SubmissionTokens.{is_token}
 use Rattle.service_texts.specs.declared.own_words.OwnWord.{OwnWord}
-use Rattle.service_texts.specs.declared.own_words.OwnWord.TheVariants.{Job, Wait, End, Stop, Watch, WatchFrom, Shutdown, Challenge, Prove, Queue, List as Listing, Find, Incoming, Room, Now, CloseAs}
+use Rattle.service_texts.specs.declared.own_words.OwnWord.TheVariants.{Job, Wait, End, Stop, Watch, WatchFrom, Shutdown, Challenge, Prove, Queue, List as Listing, Find, Incoming, Room, Now, CloseAs, Printers, Why}
 
 abbrev pub is_no_word : List ℕ → Bool
 is_no_word [] = true
@@ -31,7 +31,8 @@ alone name =
     (cond (is_word name (codes "incoming")) (Some Incoming)
     (cond (is_word name (codes "room")) (Some Room)
     (cond (is_word name (codes "now")) (Some Now)
-    None)))))))
+    (cond (is_word name (codes "printers")) (Some Printers)
+    None))))))))
 
 -- ## A word that one number follows
 
@@ -89,9 +90,10 @@ followed name rest =
     (cond (is_word name (codes "wait")) (option_map (λ job. Wait job) (lone_job rest))
     (cond (is_word name (codes "end")) (option_map (λ job. End job) (lone_job rest))
     (cond (is_word name (codes "stop")) (option_map (λ job. Stop job) (lone_job rest))
+    (cond (is_word name (codes "why")) (option_map (λ job. Why job) (lone_job rest))
     (cond (is_word name (codes "watch")) (option_map (λ number. WatchFrom number) (lone_number rest))
     (cond (has_words name) (option_and_then (with_words name) (words_of rest))
-    None)))))
+    None))))))
 
 abbrev pub said : List ℕ → List ℕ → Option OwnWord
 said name rest = cond (is_blank_line rest) (alone name) (followed name rest)

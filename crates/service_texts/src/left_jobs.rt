@@ -111,7 +111,7 @@ impl LeftJobs {
         oldest
     }
 
-    fn has(&self, job: JobId) -> bool
+    pub fn has(&self, job: JobId) -> bool
         ensures { result ≡ has_left self.now job }
     {
         self.jobs.iter().any(|left| left.job == job)

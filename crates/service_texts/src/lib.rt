@@ -12,6 +12,8 @@
 //! | `incoming` | a line `incoming N AGE` for each incoming job whose client has disconnected, then `ok K` |
 //! | `room` | `ok room BYTES`: the length of the greatest document that is accepted now, 0 if none is |
 //! | `now` | `ok now SECONDS`: the moment of the service |
+//! | `printers` | the queues as `queues` lists them, but only with what lasts of attempts that have ended, then `ok K` |
+//! | `why N` | `ok why` and why the job does not print; `error job` if it does not exist |
 //! | `close N NAME TYPE` | the reply to `close N NAME`; the job has this media type |
 //! | `watch` | from then on a line for each job and each queue that changes |
 //! | `watch N` | what changed after the change of this number, and from then on as `watch` |
@@ -22,7 +24,8 @@
 //! command `queue` has four words or more, and the command `close` two.
 //!
 //! A client that may not see a job is shown empty texts for its user, its title and its options (`client_standing`). It finds no job by a user
-//! that it does not see. The URI of a queue is shown to operators alone.
+//! that it does not see. The URI of a queue is shown to operators alone. What a queue shows of its attempts is decided by `queue_sayings`, and
+//! why a job does not print by `wait_causes`.
 //!
 //! # Promises
 //!

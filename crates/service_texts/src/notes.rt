@@ -5,9 +5,9 @@ ghost use Rattle.service_texts.specs.Notices.{nothing_noted, is_full, has_job, h
 
 use crate::job_texts::push_shown_line;
 use client_standing::Standing;
-use command_lines::push_queue;
 use event_records::{Changes, Subject};
 use job_table::Table;
+use queue_sayings::push_shown_queue;
 use spool_types::{JobId, QueueName};
 use std::alloc::{AllocError, Global};
 use std::io::Write;
@@ -140,7 +140,7 @@ impl Notes {
     {
         let mut lines = Vec::new(alloc);
         push_jobs(&mut lines, table, &self.jobs, client)?;
-        push_queues(&mut lines, table, &self.queues)?;
+        push_queues(&mut lines, table, &self.queues, client)?;
         if self.missed {
             lines.extend_from_slice(b"missed\n")?;
         }
@@ -184,21 +184,31 @@ fn push_job_news(
     push_shown_line(text, &row.job, client, &table.now())
 }
 
-fn push_queues(text: &mut Vec<u8>, table: &Table, names: &[QueueName]) -> Result<(), AllocError>
-    ensures { OnOk result (text.new.items ≡ text.old.items ++ flat_map (queue_told table.now.state) names.now) }
+fn push_queues(
+    text: &mut Vec<u8>,
+    table: &Table,
+    names: &[QueueName],
+    client: &Standing,
+) -> Result<(), AllocError>
+    ensures { OnOk result (text.new.items ≡ text.old.items ++ flat_map (queue_told client.now table.now.state) names.now) }
 {
     for name in names {
-        push_queue_news(text, table, name)?;
+        push_queue_news(text, table, name, client)?;
     }
     Ok(())
 }
 
-fn push_queue_news(text: &mut Vec<u8>, table: &Table, name: &QueueName) -> Result<(), AllocError>
-    ensures { OnOk result (text.new.items ≡ text.old.items ++ queue_told table.now.state name.now) }
+fn push_queue_news(
+    text: &mut Vec<u8>,
+    table: &Table,
+    name: &QueueName,
+    client: &Standing,
+) -> Result<(), AllocError>
+    ensures { OnOk result (text.new.items ≡ text.old.items ++ queue_told client.now table.now.state name.now) }
 {
     let Some(row) = table.queue(name) else {
         let name = name.as_str();
         return write!(text, "gone queue {name}\n").map_err(|_| AllocError);
     };
-    push_queue(text, row, table.processing(name).is_some())
+    push_shown_queue(text, table, row, client)
 }

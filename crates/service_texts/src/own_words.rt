@@ -50,6 +50,10 @@ pub enum OwnWord {
         name: FileName,
         media: MediaType,
     },
+    /// Show all queues.
+    Printers,
+    /// Show why this job does not print.
+    Why(JobId),
 }
 
 /// The request to the service on a line, if the line is one.
@@ -92,6 +96,9 @@ fn alone(name: &[u8]) -> Option<OwnWord>
     if name == b"now".as_slice() {
         return Some(OwnWord::Now);
     }
+    if name == b"printers".as_slice() {
+        return Some(OwnWord::Printers);
+    }
     None
 }
 
@@ -110,6 +117,9 @@ fn followed(alloc: Global, name: &[u8], rest: &[u8]) -> Result<Option<OwnWord>, 
     }
     if name == b"stop".as_slice() {
         return Ok(lone_job(rest).map(|job| OwnWord::Stop(job)));
+    }
+    if name == b"why".as_slice() {
+        return Ok(lone_job(rest).map(|job| OwnWord::Why(job)));
     }
     if name == b"watch".as_slice() {
         return Ok(lone_number(rest).map(|number| OwnWord::WatchFrom(number)));

@@ -2,15 +2,17 @@
 ghost use Rattle.std.specs.Prelude.{◌≡◌, ◌≤◌, ◌++◌, None, IfOk, OnOk, cond, map, take};
 ghost use Rattle.std.specs.FinMap as finite;
 ghost use Rattle.event_records.specs.SeenTimes.{queue_time};
+ghost use Rattle.queue_sayings.specs.QueueSayings.{shown_row};
 ghost use Rattle.queue_sched.specs.WaitingIndex.{IsIndexOf};
 ghost use Rattle.spool_types.specs.State.{job_at};
 ghost use Rattle.service_texts.specs.QueueShown.{AreCounts, IsShownQueue, answer_line, attribute_line, attribute_lines, changed_line, counts_lines, held_among, is_held, printing_line, queue_descriptions, queue_device, queue_fields, queue_policy, queue_progress, queue_reasons, queue_row, queue_state, searched_text, uri_line};
 
 use crate::job_texts::push_time_word;
 use client_standing::Standing;
-use command_lines::{push_quoted, push_reasons};
+use command_lines::push_quoted;
 use event_records::Seen;
 use job_table::Table;
+use queue_sayings::{has_spoken, push_shown_reasons, shown_message};
 use queue_sched::Index;
 use spool_types::{Attribute, JobId, Moment, QueueName, QueueRow};
 use std::alloc::{AllocError, Global};
@@ -44,11 +46,21 @@ pub fn shown_queue(
     };
     let counts = counts_of(table, name, index);
     let printing = table.processing(name);
-    let text = queue_fields(alloc, row, client, counts, printing, seen.queue(name))?;
+    let spoken = has_spoken(table, name);
+    let text = queue_fields(
+        alloc,
+        row,
+        client,
+        counts,
+        printing,
+        seen.queue(name),
+        spoken,
+    )?;
     Ok(text)
 }
 
-// The queue with these counts, the job that prints and the moment of its last change.
+// The queue with these counts, the job that prints and the moment of its last change. `spoken` is whether a stage of a running attempt has
+// ended.
 fn queue_fields(
     alloc: Global,
     row: &QueueRow,
@@ -56,11 +68,12 @@ fn queue_fields(
     counts: QueueCounts,
     printing: Option<JobId>,
     changed: Option<Moment>,
+    spoken: bool,
 ) -> Result<Vec<u8>, AllocError>
-    ensures { IfOk result (λ text. text.items ≡ queue_fields client.now counts printing changed row.now) }
+    ensures { IfOk result (λ text. text.items ≡ queue_fields client.now counts printing changed (shown_row client.now spoken row.now)) }
 {
     let mut text = Vec::new(alloc);
-    push_row(&mut text, row, client, printing.is_some())?;
+    push_row(&mut text, row, client, printing.is_some(), spoken)?;
     push_progress(&mut text, counts, printing, changed)?;
     text.extend_from_slice(b"ok 1\n")?;
     Ok(text)
@@ -116,14 +129,15 @@ fn push_row(
     row: &QueueRow,
     client: &Standing,
     busy: bool,
+    spoken: bool,
 ) -> Result<(), AllocError>
-    ensures { OnOk result (text.new.items ≡ text.old.items ++ queue_row client.now busy row.now) }
+    ensures { OnOk result (text.new.items ≡ text.old.items ++ queue_row client.now busy (shown_row client.now spoken row.now)) }
 {
     push_device(text, row, client)?;
     push_policy(text, row)?;
     push_descriptions(text, row)?;
     push_queue_state(text, row, busy)?;
-    push_reasons_and_message(text, row)?;
+    push_reasons_and_message(text, row, client, spoken)?;
     push_attributes(text, row.attributes.as_slice())
 }
 
@@ -191,13 +205,18 @@ fn push_answer_line(text: &mut Vec<u8>, name: &str, holds: bool) -> Result<(), A
     }
 }
 
-fn push_reasons_and_message(text: &mut Vec<u8>, row: &QueueRow) -> Result<(), AllocError>
-    ensures { OnOk result (text.new.items ≡ text.old.items ++ queue_reasons row.now) }
+fn push_reasons_and_message(
+    text: &mut Vec<u8>,
+    row: &QueueRow,
+    client: &Standing,
+    spoken: bool,
+) -> Result<(), AllocError>
+    ensures { OnOk result (text.new.items ≡ text.old.items ++ queue_reasons (shown_row client.now spoken row.now)) }
 {
     text.extend_from_slice(b"reasons ")?;
-    push_reasons(text, row.reasons.as_slice())?;
+    push_shown_reasons(text, row.reasons.as_slice(), spoken)?;
     text.extend_from_slice(b"\nmessage ")?;
-    push_quoted(text, row.message.as_str())?;
+    push_quoted(text, shown_message(client, row, spoken))?;
     text.extend_from_slice(b"\n")
 }
 

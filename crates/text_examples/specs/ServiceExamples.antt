@@ -8,6 +8,7 @@ use Rattle.event_records.specs.declared.seen.JobTimes.{JobTimes}
 use Rattle.spool_types.specs.State.{State, Job, nothing}
 use Rattle.spool_types.specs.declared.phase.Hold.TheVariants.{Free}
 use Rattle.spool_types.specs.declared.phase.Phase.TheVariants.{Incoming, Canceled}
+use Rattle.queue_sayings.specs.QueueSayings.{shown_reasons}
 use Rattle.service_texts.specs.LeftJobs.{incoming_text}
 use Rattle.service_texts.specs.Listings.{piece_line, piece_of}
 use Rattle.service_texts.specs.MeasuredTexts.{now_text, room_text}
@@ -17,18 +18,20 @@ use Rattle.service_texts.specs.ServiceWords.{own_word}
 use Rattle.service_texts.specs.Shown.{one_shown, shown_line}
 use Rattle.service_texts.specs.SubmissionTokens.{token_of}
 use Rattle.service_texts.specs.declared.own_words.OwnWord.TheVariants as words
+use Rattle.wait_causes.specs.WaitCauses.{why_line}
+use Rattle.wait_causes.specs.declared.cause.Cause.TheVariants as causes
 use Rattle.text_examples.specs.ReplyExamples.{busy, lab}
 use Rattle.text_examples.specs.Written.{text}
 
 -- ## Words
 
 abbrev pub LoneRows : Type 0
-LoneRows = map own_word (text "watch" ∷ text " shutdown " ∷ text "i-am" ∷ text "made" ∷ text "incoming" ∷ text "room" ∷ text "now" ∷ text "list" ∷ text "room 1" ∷ text "made 1" ∷ text "jobs" ∷ text "find" ∷ [])
-    ≡ Some words.Watch ∷ Some words.Shutdown ∷ Some words.Challenge ∷ Some words.Prove ∷ Some words.Incoming ∷ Some words.Room ∷ Some words.Now ∷ Some (words.List all_jobs) ∷ None ∷ None ∷ None ∷ None ∷ []
+LoneRows = map own_word (text "watch" ∷ text " shutdown " ∷ text "i-am" ∷ text "made" ∷ text "incoming" ∷ text "room" ∷ text "now" ∷ text "printers" ∷ text "list" ∷ text "room 1" ∷ text "made 1" ∷ text "jobs" ∷ text "find" ∷ [])
+    ≡ Some words.Watch ∷ Some words.Shutdown ∷ Some words.Challenge ∷ Some words.Prove ∷ Some words.Incoming ∷ Some words.Room ∷ Some words.Now ∷ Some words.Printers ∷ Some (words.List all_jobs) ∷ None ∷ None ∷ None ∷ None ∷ []
 
 abbrev pub NumberRows : Type 0
-NumberRows = map own_word (text "job 7" ∷ text "wait 7" ∷ text "end 7" ∷ text "stop 7" ∷ text "stop 7 8" ∷ text "watch 17" ∷ text "watch 9999999999999" ∷ text "watch 10000000000000" ∷ [])
-    ≡ Some (words.Job 7) ∷ Some (words.Wait 7) ∷ Some (words.End 7) ∷ Some (words.Stop 7) ∷ None ∷ Some (words.WatchFrom 17) ∷ Some (words.WatchFrom 9999999999999) ∷ None ∷ []
+NumberRows = map own_word (text "job 7" ∷ text "wait 7" ∷ text "end 7" ∷ text "stop 7" ∷ text "stop 7 8" ∷ text "why 7" ∷ text "why" ∷ text "watch 17" ∷ text "watch 9999999999999" ∷ text "watch 10000000000000" ∷ [])
+    ≡ Some (words.Job 7) ∷ Some (words.Wait 7) ∷ Some (words.End 7) ∷ Some (words.Stop 7) ∷ None ∷ Some (words.Why 7) ∷ None ∷ Some (words.WatchFrom 17) ∷ Some (words.WatchFrom 9999999999999) ∷ None ∷ []
 
 -- A queue of one word is no command, and neither is a close of three.
 abbrev pub NameRows : Type 0
@@ -87,6 +90,17 @@ QueueRows = queue_fields operator (record { waiting = 3; held = 1 }) (Some 7) (S
 abbrev pub OthersQueueRows : Type 0
 OthersQueueRows = queue_fields stranger (record { waiting = 1001; held = 0 }) None None lab
     ≡ text "queue lab|type application/x-prn|policy abort-job|interval 30|limit 5|info \"\"|location \"\"|accepting yes|state 3|stopped no|stopping no|reasons none|message \"\"|waiting 1001|held 0 of 1000|changed unknown|ok 1|"
+
+-- The effects of an attempt that has ended, and those of one that runs.
+abbrev pub SaidRows : Type 0
+SaidRows = map (λ spoken. shown_reasons spoken (codes "marker-supply-low-warning" ∷ codes "media-empty-error" ∷ codes "toner-empty-error" ∷ [])) (false ∷ true ∷ [])
+    ≡ (codes "marker-supply-low-warning" ∷ codes "media-empty-error" ∷ []) ∷ (codes "marker-supply-low-warning" ∷ codes "media-empty-error" ∷ codes "toner-empty-error" ∷ []) ∷ []
+
+-- ## Why a job waits
+
+abbrev pub WhyRows : Type 0
+WhyRows = why_line (causes.HeldUntil 17) 0 ∷ why_line (causes.Taken 7) 2 ∷ why_line causes.Next 0 ∷ []
+    ≡ text "ok why held-until 17|" ∷ text "ok why taken 7 ahead 2|" ∷ text "ok why next|" ∷ []
 
 -- ## Pieces
 

@@ -196,6 +196,8 @@ pub fn service_reply_examples()
     ensures line { service.LineRows }
     ensures queue { service.QueueRows }
     ensures others_queue { service.OthersQueueRows }
+    ensures said { service.SaidRows }
+    ensures why { service.WhyRows }
     ensures piece { service.PieceRows }
     ensures piece_line { service.PieceLineRows }
     ensures left { service.LeftRows }

@@ -133,6 +133,8 @@ impl<L: Connection> Client<L> {
             OwnWord::Incoming => self.list_left(shared)?,
             OwnWord::Room => self.show_room(shared)?,
             OwnWord::Now => self.show_now(shared)?,
+            OwnWord::Printers => self.show_queues(shared)?,
+            OwnWord::Why(job) => self.show_why(shared, job)?,
             OwnWord::Wait(job) => self.wait_for(shared, job, &turn.listening)?,
             OwnWord::Watch => self.watch(shared, &turn.listening)?,
             OwnWord::WatchFrom(number) => self.watch_after(shared, number, &turn.listening)?,

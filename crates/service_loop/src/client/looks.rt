@@ -7,6 +7,9 @@ ghost use Rattle.service_texts.specs.Listings.{listed_text};
 ghost use Rattle.service_texts.specs.MeasuredTexts.{now_text};
 ghost use Rattle.service_texts.specs.QueueShown.{IsShownQueue};
 ghost use Rattle.service_texts.specs.Shown.{shown_job};
+ghost use Rattle.queue_sayings.specs.QueueSayings.{all_queues_shown};
+ghost use Rattle.wait_causes.specs.WaitCauses.{IsWhy};
+ghost use Rattle.wait_causes.specs.declared.cause.ServiceFacts.{ServiceFacts as Facts};
 ghost use Rattle.service_loop.specs.ClientActions.{moment_of};
 ghost use Rattle.service_loop.specs.ClientSteps.{IsAdded, status_of};
 
@@ -14,10 +17,12 @@ use super::Client;
 use crate::connection::Connection;
 use crate::shared::Shared;
 use child_pipeline::Children;
+use queue_sayings::push_all_queues;
 use service_texts::{Selection, TokenText, listed_text, push_now, shown_job, shown_queue};
 use spool_disk::Disk;
 use spool_types::{JobId, QueueName};
 use std::alloc::AllocError;
+use wait_causes::why_text;
 
 impl<L: Connection> Client<L> {
     // Shows a job with all its fields and times, as it may see them.
@@ -49,6 +54,34 @@ impl<L: Connection> Client<L> {
         let alloc = *self.replies.allocator();
         let table = shared.engine.table();
         let text = shown_queue(alloc, table, &shared.records.seen, &self.standing, name)?;
+        self.add(&text)
+    }
+
+    // Shows all queues, as it may see them.
+    pub(super) fn show_queues<D: Disk, C: Children>(
+        &mut self,
+        shared: &Shared<D, C>,
+    ) -> Result<(), AllocError>
+        ensures shown { OnOk result (IsAdded self.old (all_queues_shown self.old.standing shared.now.engine.run_state.spool.state) self.new) }
+        ensures status { status_of self.new ≡ status_of self.old }
+        ensures kept { self.new ≡ record self.old { replies = self.new.replies } }
+    {
+        push_all_queues(&mut self.replies, shared.engine.table(), &self.standing)
+    }
+
+    // Shows why a job does not print.
+    pub(super) fn show_why<D: Disk, C: Children>(
+        &mut self,
+        shared: &Shared<D, C>,
+        job: JobId,
+    ) -> Result<(), AllocError>
+        ensures shown { OnOk result ((facts : Facts) × (text : List ℕ) × IsWhy facts shared.now.engine.run_state.spool.state job text × IsAdded self.old text self.new) }
+        ensures status { status_of self.new ≡ status_of self.old }
+        ensures kept { self.new ≡ record self.old { replies = self.new.replies } }
+    {
+        let alloc = *self.replies.allocator();
+        let facts = shared.facts_of(job);
+        let text = why_text(alloc, shared.engine.table(), job, facts)?;
         self.add(&text)
     }
 

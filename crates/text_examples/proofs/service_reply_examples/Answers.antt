@@ -39,6 +39,13 @@ pub returns-clause-others_queue : goal.returns-clause-others_queue
 unfolding digits
 returns-clause-others_queue c = refl
 
+pub returns-clause-said : goal.returns-clause-said
+returns-clause-said c = refl
+
+pub returns-clause-why : goal.returns-clause-why
+unfolding digits
+returns-clause-why c = refl
+
 pub returns-clause-piece : goal.returns-clause-piece
 unfolding digits
 returns-clause-piece c = refl

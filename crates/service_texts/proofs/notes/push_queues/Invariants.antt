@@ -5,4 +5,4 @@ use Rattle.service_texts.specs.Notices.{queue_told}
 use Rattle.service_texts.proofs.notes.push_queues.Given as goal
 
 abbrev pub invariant-loop-name : goal.invariant-loop-name
-invariant-loop-name l = l.text.items ≡ l.initial.text.items ++ flat_map (queue_told l.table.state) (take l.name-index l.names)
+invariant-loop-name l = l.text.items ≡ l.initial.text.items ++ flat_map (queue_told l.client l.table.state) (take l.name-index l.names)

@@ -1,6 +1,7 @@
 -- One action: the answer to the word, over the table.
 use Rattle.std.proofs.Common.{◌≡◌, ◌⊎◌, true, ℕ, List, Bor, refl, ap, sym, inl, inr, codes, subst}
 use Rattle.event_records.specs.SeenTimes.{job_times, queue_time}
+use Rattle.queue_sayings.specs.QueueSayings.{all_queues_shown}
 use Rattle.service_texts.specs.FoundTexts.{found_text}
 use Rattle.service_texts.specs.LeftJobs.{incoming_text}
 use Rattle.service_texts.specs.Listings.{listed_text}
@@ -74,6 +75,21 @@ returns-in_ok-show_now-in-Now-clause-done g c =
     let text = now_text (moment_of now s) in
     let said : IsSaid c.args.self.now.standing s c.args.word text = (rw c.in-Now.is (now, refl)) in
     answered_by_word _ _ _ _ _ c.args.word text c.requires.role said e.shown c.requires.waits (rw c.in-Now.is (sym e.status))
+
+pub returns-in_ok-show_queues-in-Printers-clause-done : goal.returns-in_ok-show_queues-in-Printers-clause-done
+returns-in_ok-show_queues-in-Printers-clause-done g c =
+    let e = c.in_ok-show_queues-in-Printers.ensures in
+    let s = c.args.shared.now.engine.run_state.spool.state in
+    let text = all_queues_shown c.args.self.now.standing s in
+    let said : IsSaid c.args.self.now.standing s c.args.word text = (rw c.in-Printers.is refl) in
+    answered_by_word _ _ _ _ _ c.args.word text c.requires.role said e.shown c.requires.waits (rw c.in-Printers.is (sym e.status))
+
+pub returns-in_ok-show_why-in-Why-clause-done : goal.returns-in_ok-show_why-in-Why-clause-done
+returns-in_ok-show_why-in-Why-clause-done g c =
+    let e = c.in_ok-show_why-in-Why.ensures in
+    let s = c.args.shared.now.engine.run_state.spool.state in
+    let said : IsSaid c.args.self.now.standing s c.args.word e.shown.1 = (rw c.in-Why.is (e.shown.0, e.shown.2)) in
+    answered_by_word _ _ _ _ _ c.args.word e.shown.1 c.requires.role said e.shown.3 c.requires.waits (rw c.in-Why.is (sym e.status))
 
 pub returns-in_ok-wait_for-in-Wait-clause-done : goal.returns-in_ok-wait_for-in-Wait-clause-done
 returns-in_ok-wait_for-in-Wait-clause-done g c = (rw c.in-Wait.is c.in_ok-wait_for-in-Wait.ensures.done)
