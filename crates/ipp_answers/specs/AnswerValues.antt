@@ -1,6 +1,6 @@
 -- The values of attributes (RFC 8011, 5.1). A text outside the limits of its syntax has no value, and neither has a number beyond an integer.
 use Rattle.std.specs.Prelude.{ℕ, pos, Bool, ◌&&◌, cond, nat_le, List, [], ◌∷◌, Option, None, Some}
-use Rattle.ipp_values.specs.Limits.{is_text}
+use Rattle.ipp_values.specs.TextLimits.{is_text}
 use Rattle.ipp_values.specs.declared.value.Value.{Value}
 use Rattle.ipp_values.specs.declared.value.Value.TheVariants.{Unknown, NoValue, Integer, DateTime, Enum, Resolution, RangeOfInteger, Text, Name, Keyword, Uri, Charset, NaturalLanguage, MimeMediaType}
 use Rattle.ipp_answers.specs.declared.timestamps.Timestamp.{Timestamp}

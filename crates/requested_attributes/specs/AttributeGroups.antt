@@ -2,7 +2,7 @@
 use Rattle.std.specs.Prelude.{ℕ, Bool, true, false, ◌||◌, ◌&&◌, not, cond, nat_eq, List, [], ◌∷◌, codes, filter, Option, None, Some}
 use Rattle.std.specs.Cmp.Lexicographic.{pointwise}
 use Rattle.std.specs.List.{list_any, filter_map}
-use Rattle.ipp_values.specs.Limits.{is_text}
+use Rattle.ipp_values.specs.TextLimits.{is_text}
 use Rattle.ipp_values.specs.declared.message.Attribute.{Attribute}
 use Rattle.ipp_values.specs.declared.value.Value.{Value}
 use Rattle.ipp_values.specs.declared.value.Value.TheVariants.{Keyword}
