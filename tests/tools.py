@@ -603,6 +603,13 @@ def early_close():
         check(f"nothing was sent {query}", printer.all(), [b""])
 
 
+def bytes_before_the_end(line):
+    """The number of bytes after which a line says that the printer ended the connection too early, or -1 if it says something else."""
+    ended = rb"ERROR: 127\.0\.0\.1:\d+ (?:reset the connection|closed the connection too early,) after (\d+) bytes\n"
+    found = re.fullmatch(ended, line)
+    return int(found[1]) if found else -1
+
+
 def resets(text, large):
     """A reset is noticed wherever it occurs: before the first byte is read, after some, after all."""
     for length in (500, 20_000):
@@ -617,9 +624,10 @@ def resets(text, large):
             ended = [sent(printer, text[:length]) for _ in range(TIMES)]
             statuses = [status for _, _, status in ended]
             check(f"{length} bytes that are reset {name}", statuses, [1] * TIMES)
-            lines = {b"ERROR: connection reset\n", told(printer, f"reset the connection after all {length} bytes"),
-                     told(printer, "reset the connection after 0 bytes"), told(printer, "closed the connection too early, after 0 bytes")}
-            check(f"its standard error, {name}", {out + errors for out, errors, _ in ended} - lines, set())
+            lines = {b"ERROR: connection reset\n", told(printer, f"reset the connection after all {length} bytes")}
+            said = {out + errors for out, errors, _ in ended} - lines
+            # The system may accept a part of the document before the reset arrives.
+            check(f"its standard error, {name}", {line for line in said if not 0 <= bytes_before_the_end(line) < length}, set())
             printer.all()
     for count in (1, 100_000):
         for query in ("", "?afterlast=done&waiteof=false", "?afterlast=retry"):
