@@ -1,5 +1,5 @@
 -- The contents of the lines of a text.
-use Rattle.std.specs.Prelude.{ℕ, Bool, false, not, cond, nat_eq, ◌==◌, List, [], ◌∷◌, length, codes, map, filter, Option, None, Some}
+use Rattle.std.specs.Prelude.{ℕ, Bool, true, false, not, cond, nat_eq, ◌==◌, List, [], ◌∷◌, length, codes, map, filter, Option, None, Some}
 use Rattle.std.specs.List.{slice_split, take_while}
 use Rattle.std.specs.Cmp.Lexicographic.{pointwise}
 use Rattle.line_words.specs.Blanks.{is_blank}
@@ -46,23 +46,23 @@ word_in [] = Some None
 word_in (word ∷ []) = some_word (text_in is_word word)
 word_in (word ∷ more ∷ others) = None
 
--- PATH [WORD].
-abbrev pub with_path : Option (List ℕ) → Option (Option (List ℕ)) → Option ListedProgram
-with_path (Some path) (Some word) = Some (record { path = path; word = word })
-with_path path word = None
+-- PATH [WORD], of a program that keeps the user of the spooler or not.
+abbrev pub with_path : Bool → Option (List ℕ) → Option (Option (List ℕ)) → Option ListedProgram
+with_path keeps_user (Some path) (Some word) = Some (record { path = path; word = word; keeps_user = keeps_user })
+with_path keeps_user path word = None
 
-abbrev pub program_in : List (List ℕ) → Option ListedProgram
-program_in [] = None
-program_in (path ∷ words) = with_path (text_in is_path path) (word_in words)
+abbrev pub program_in : Bool → List (List ℕ) → Option ListedProgram
+program_in keeps_user [] = None
+program_in keeps_user (path ∷ words) = with_path keeps_user (text_in is_path path) (word_in words)
 
 -- NAME PATH [WORD], with a name of this kind.
 abbrev pub with_name : {K : Type 0} → Option (List ℕ) → Option ListedProgram → Option (Listed K)
 with_name (Some name) (Some program) = Some (record { name = name; program = program })
 with_name name program = None
 
-abbrev pub listed_in : {K : Type 0} → (List ℕ → Bool) → List (List ℕ) → Option (Listed K)
-listed_in allowed [] = None
-listed_in allowed (name ∷ words) = with_name (text_in allowed name) (program_in words)
+abbrev pub listed_in : {K : Type 0} → Bool → (List ℕ → Bool) → List (List ℕ) → Option (Listed K)
+listed_in keeps_user allowed [] = None
+listed_in keeps_user allowed (name ∷ words) = with_name (text_in allowed name) (program_in keeps_user words)
 
 abbrev pub as_filter : Option (Listed FilterNameKind) → Said
 as_filter None = Unread
@@ -76,13 +76,14 @@ abbrev pub as_side : Option ListedProgram → Said
 as_side None = Unread
 as_side (Some program) = Side program
 
--- The contents of a line with these words.
+-- The contents of a line with these words. Only a backend of a line `root-backend` keeps the user of the spooler.
 abbrev pub said_by : List (List ℕ) → Said
 said_by [] = Nothing
 said_by (kind ∷ words) =
-    cond (same kind (codes "filter")) (as_filter (listed_in is_filter_name words))
-    (cond (same kind (codes "backend")) (as_backend (listed_in is_scheme words))
-    (cond (same kind (codes "side")) (as_side (program_in words)) Unread))
+    cond (same kind (codes "filter")) (as_filter (listed_in false is_filter_name words))
+    (cond (same kind (codes "backend")) (as_backend (listed_in false is_scheme words))
+    (cond (same kind (codes "root-backend")) (as_backend (listed_in true is_scheme words))
+    (cond (same kind (codes "side")) (as_side (program_in false words)) Unread)))
 
 -- The contents of the lines of a text, in order.
 abbrev pub said_in : List ℕ → List Said

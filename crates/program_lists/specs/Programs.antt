@@ -2,7 +2,7 @@
 use Rattle.std.specs.Prelude.{ℕ, Bool, true, false, ◌&&◌, not, nat_le, List, [], ◌∷◌, ◌++◌, length, Option, None, Some, is_none, refl}
 use Rattle.std.specs.List.{list_all, list_any, flat_map, find}
 use Rattle.std.specs.Option.{option_map}
-use Rattle.std.specs.Coded.{Coded, code_by, coded×, coded_list, coded_option, coded_ℕ}
+use Rattle.std.specs.Coded.{Coded, code_by, coded×, coded_bool, coded_list, coded_option, coded_ℕ}
 use Rattle.program_lists.specs.ProgramLines.{same, said_in}
 use Rattle.spool_types.specs.declared.kinds.FilterNameKind.{FilterNameKind}
 use Rattle.program_lists.specs.declared.kinds.BackendNameKind.{BackendNameKind}
@@ -100,8 +100,8 @@ with_said programs said = programs
 
 abbrev pub program_code : Coded ListedProgram
 program_code =
-    code_by (List ℕ × Option (List ℕ)) (coded× (coded_list coded_ℕ) (coded_option (coded_list coded_ℕ))) (λ p. (p.path, p.word))
-    (λ p. record { path = p.0; word = p.1 }) (λ _. refl)
+    code_by (List ℕ × (Option (List ℕ) × Bool)) (coded× (coded_list coded_ℕ) (coded× (coded_option (coded_list coded_ℕ)) coded_bool))
+    (λ p. (p.path, (p.word, p.keeps_user))) (λ p. record { path = p.0; word = p.1.0; keeps_user = p.1.1 }) (λ _. refl)
 
 abbrev pub listed_code : {K : Type 0} → Coded (Listed K)
 listed_code = code_by (List ℕ × ListedProgram) (coded× (coded_list coded_ℕ) program_code) (λ l. (l.name, l.program)) (λ p. record { name = p.0; program = p.1 }) (λ _. refl)

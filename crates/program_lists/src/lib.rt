@@ -9,6 +9,8 @@
 //! - `filter NAME PATH [WORD]`: NAME is the name of a filter, 1 to 127 letters, digits, `-`, `_` and `.`.
 //! - `backend NAME PATH [WORD]`: NAME is the scheme of a device's URI, as the parser of the URL Standard returns it: a lower-case letter,
 //!   and then lower-case letters, digits, `+`, `-` and `.`.
+//! - `root-backend NAME PATH [WORD]`: a backend that runs as the user of the spooler, even if the other children have users of their own.
+//!   This is a kind of line, because a word after PATH is an argument.
 //! - `side PATH [WORD]`: the program that ends a session of the side channel.
 //!
 //! PATH is the path of the program. It begins with `/` and contains neither a blank nor `=`, so that `env` does not take it for a

@@ -11,6 +11,8 @@ const FILTER: &[u8] = b"filter";
 
 const BACKEND: &[u8] = b"backend";
 
+const ROOT_BACKEND: &[u8] = b"root-backend";
+
 const SIDE: &[u8] = b"side";
 
 /// A program: its path, and the word that precedes the words of a job, if any.
@@ -18,6 +20,8 @@ const SIDE: &[u8] = b"side";
 pub struct ListedProgram {
     pub path: ProgramPath,
     pub word: Option<ProgramWord>,
+    /// Whether it runs as the user of the spooler, even if the other children have users of their own.
+    pub keeps_user: bool,
 }
 
 /// A program and its name, a text of the kind `K`.
@@ -54,11 +58,13 @@ pub fn read_line(alloc: Global, line: &[u8]) -> Result<Said, AllocError>
         return Ok(Said::Nothing);
     };
     if *first == FILTER {
-        Ok(as_filter(read_listed(alloc, rest)?))
+        Ok(as_filter(read_listed(alloc, rest, false)?))
     } else if *first == BACKEND {
-        Ok(as_backend(read_listed(alloc, rest)?))
+        Ok(as_backend(read_listed(alloc, rest, false)?))
+    } else if *first == ROOT_BACKEND {
+        Ok(as_backend(read_listed(alloc, rest, true)?))
     } else if *first == SIDE {
-        Ok(as_side(read_program(alloc, rest)?))
+        Ok(as_side(read_program(alloc, rest, false)?))
     } else {
         Ok(Said::Unread)
     }
@@ -81,8 +87,12 @@ fn begins_remark(word: &[u8]) -> bool
 }
 
 // Reads NAME PATH [WORD]. Returns `None` if the words do not have this form.
-fn read_listed<K: TextKind>(alloc: Global, words: &[&[u8]]) -> Result<Option<Listed<K>>, AllocError>
-    ensures { IfOk result (λ listed. listed ≡ listed_in K.allowed (map (λ word. word.now) words.now)) }
+fn read_listed<K: TextKind>(
+    alloc: Global,
+    words: &[&[u8]],
+    keeps_user: bool,
+) -> Result<Option<Listed<K>>, AllocError>
+    ensures { IfOk result (λ listed. listed ≡ listed_in keeps_user K.allowed (map (λ word. word.now) words.now)) }
 {
     let Some((name, rest)) = words.split_first() else {
         return Ok(None);
@@ -90,15 +100,19 @@ fn read_listed<K: TextKind>(alloc: Global, words: &[&[u8]]) -> Result<Option<Lis
     let Some(name) = Text::from_word(alloc, name)? else {
         return Ok(None);
     };
-    let Some(program) = read_program(alloc, rest)? else {
+    let Some(program) = read_program(alloc, rest, keeps_user)? else {
         return Ok(None);
     };
     Ok(Some(Listed { name, program }))
 }
 
 // Reads PATH [WORD]. Returns `None` if the words do not have this form.
-fn read_program(alloc: Global, words: &[&[u8]]) -> Result<Option<ListedProgram>, AllocError>
-    ensures { IfOk result (λ program. program ≡ program_in (map (λ word. word.now) words.now)) }
+fn read_program(
+    alloc: Global,
+    words: &[&[u8]],
+    keeps_user: bool,
+) -> Result<Option<ListedProgram>, AllocError>
+    ensures { IfOk result (λ program. program ≡ program_in keeps_user (map (λ word. word.now) words.now)) }
 {
     let Some((path, rest)) = words.split_first() else {
         return Ok(None);
@@ -109,7 +123,11 @@ fn read_program(alloc: Global, words: &[&[u8]]) -> Result<Option<ListedProgram>,
     let Some(word) = read_word(alloc, rest)? else {
         return Ok(None);
     };
-    Ok(Some(ListedProgram { path, word }))
+    Ok(Some(ListedProgram {
+        path,
+        word,
+        keeps_user,
+    }))
 }
 
 // Reads [WORD]. Returns `None` if the words do not have this form.

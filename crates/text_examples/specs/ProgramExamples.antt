@@ -9,10 +9,14 @@ use Rattle.text_examples.specs.Written.{text}
 
 -- A program with or without a first word, and the same under a name.
 abbrev pub bare : String → ListedProgram
-bare path = record { path = text path; word = None }
+bare path = record { path = text path; word = None; keeps_user = false }
 
 abbrev pub worded : String → String → ListedProgram
-worded path word = record { path = text path; word = Some (text word) }
+worded path word = record { path = text path; word = Some (text word); keeps_user = false }
+
+-- The same program, which keeps the user of the spooler.
+abbrev pub kept : ListedProgram → ListedProgram
+kept program = record program { keeps_user = true }
 
 abbrev pub named : {K : Type 0} → String → ListedProgram → Listed K
 named name program = record { name = text name; program = program }
@@ -54,6 +58,7 @@ abbrev pub BackendRows : Type 0
 BackendRows = AreRead (
     ("backend b /b|backend a /a x|", backends (("b", bare "/b") ∷ ("a", worded "/a" "x") ∷ []))
     ∷ ("backend ipp+usb.1-x /b", backends (("ipp+usb.1-x", bare "/b") ∷ []))
+    ∷ ("root-backend lpd /l|backend b /b root|root-backend c /c root", backends (("lpd", kept (bare "/l")) ∷ ("b", worded "/b" "root") ∷ ("c", kept (worded "/c" "root")) ∷ []))
     ∷ [])
 
 -- A name may occur in each kind.
@@ -69,13 +74,14 @@ UnreadRows = AreRefused (
     "$|" ∷ "filter f /f$|filter f$ /g"
     ∷ "filter" ∷ "filter f" ∷ "filter f f" ∷ "filter f /a=b" ∷ "filter f /f w x" ∷ "filter f # /f" ∷ "filter f+ /f" ∷ "Filter f /f"
     ∷ "backend 1b /b" ∷ "backend B /b" ∷ "backend b: /b"
+    ∷ "root-backend lpd" ∷ "root-backend lpd /l w x" ∷ "root-filter f /f" ∷ "Root-backend lpd /l"
     ∷ "side" ∷ "side s" ∷ "side /s w x"
     ∷ "filter f /f|frobnicate" ∷ "fil#ter f /f"
     ∷ [])
 
 -- A second line for the same name, or a second `side` line.
 abbrev pub TwiceRows : Type 0
-TwiceRows = AreRefused ("side /s|side /s" ∷ "filter f /f|filter f /f" ∷ "backend b /f||backend b /g w" ∷ [])
+TwiceRows = AreRefused ("side /s|side /s" ∷ "filter f /f|filter f /f" ∷ "backend b /f||backend b /g w" ∷ "backend b /b|root-backend b /b" ∷ [])
 
 -- The path of the program with this name.
 abbrev pub path_named : {K : Type 0} → List (Listed K) → String → Option (List ℕ)

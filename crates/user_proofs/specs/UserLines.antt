@@ -4,6 +4,7 @@ use Rattle.std.specs.List.{list_any, slice_split}
 use Rattle.std.specs.Cmp.Lexicographic.{pointwise}
 use Rattle.line_words.specs.DecimalNumbers.{decimal}
 use Rattle.spool_types.specs.Values.{is_user_name, text_in}
+use Rattle.user_proofs.specs.declared.lines.UserNumbers.{UserNumbers}
 
 -- ## Numbers
 
@@ -50,6 +51,22 @@ group_by asked fields = None
 
 abbrev pub group_in : List ℕ → List ℕ → Option ℕ
 group_in asked line = group_by asked (fields_of line)
+
+-- Both numbers, if both words are numbers.
+abbrev pub numbers_if : Option ℕ → Option ℕ → Option UserNumbers
+numbers_if (Some uid) (Some gid) = Some (record { uid = uid; gid = gid })
+numbers_if uid gid = None
+
+abbrev pub numbers_of : List ℕ → List ℕ → Option UserNumbers
+numbers_of id group = numbers_if (id_in id) (id_in group)
+
+-- The numbers in a line of passwd(5), if it is the line of the user with this name or number.
+abbrev pub numbers_by : List ℕ → List (List ℕ) → Option UserNumbers
+numbers_by asked (name ∷ password ∷ id ∷ group ∷ comment ∷ home ∷ shell ∷ []) = cond (is_word name asked || is_word id asked) (numbers_of id group) None
+numbers_by asked fields = None
+
+abbrev pub numbers_in : List ℕ → List ℕ → Option UserNumbers
+numbers_in asked line = numbers_by asked (fields_of line)
 
 -- ## The output of `id -G`
 

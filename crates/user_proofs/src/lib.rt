@@ -18,7 +18,8 @@
 //!   [`is_of_service`] returns true exactly for a folder of the service, as the folder of proofs must be (`value`).
 //! - [`user_in`] returns the name in a line of passwd(5) exactly if the line has seven fields and is that of the requested user, and the
 //!   name is a valid one of a job's user (`value`). [`group_in`] returns the number in a line of group(5) exactly if the line has four
-//!   fields and is that of the requested group (`value`).
+//!   fields and is that of the requested group (`value`). [`numbers_in`] returns the numbers in a line of passwd(5) exactly if the line
+//!   has seven fields and is that of the requested user, by its name or number (`value`).
 //! - [`is_operator`] returns true exactly for `root`, for the user of the service, and for a member of the group of operators, by the
 //!   output of `id -G`. [`is_always_operator`] returns true for the first two. [`usual_operators`] returns the group of the socket exactly
 //!   if its permissions let the group connect.
@@ -48,5 +49,5 @@ mod operators;
 pub use challenges::challenge_of;
 pub use folders::{Found, FoundKind, is_of_service, judged};
 pub use known::{Identity, KnownUser, KnownUsers};
-pub use lines::{group_in, user_in};
+pub use lines::{UserNumbers, group_in, numbers_in, user_in};
 pub use operators::{is_always_operator, is_operator, usual_operators};

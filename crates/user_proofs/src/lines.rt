@@ -1,10 +1,17 @@
 //! The lines of passwd(5) and group(5), and the groups of a user.
 ghost use Rattle.std.specs.Prelude.{◌≡◌, IfOk, map};
-ghost use Rattle.user_proofs.specs.UserLines.{fields_of, group_by, group_in, id_in, is_colon, is_gap, is_id, is_member, is_word, user_by, user_if, user_in};
+ghost use Rattle.user_proofs.specs.UserLines.{fields_of, group_by, group_in, id_in, is_colon, is_gap, is_id, is_member, is_word, numbers_by, numbers_in, numbers_of, user_by, user_if, user_in};
 
 use line_words::decimal;
 use spool_types::UserName;
 use std::alloc::{AllocError, Global};
+
+/// The numbers of a user and of its group.
+#[derive(Clone, Copy)]
+pub struct UserNumbers {
+    pub uid: u32,
+    pub gid: u32,
+}
 
 /// Returns the name in a line of passwd(5), if the line is that of the user with this number. `getent passwd UID` prints such a line.
 pub fn user_in(alloc: Global, line: &[u8], uid: u32) -> Result<Option<UserName>, AllocError>
@@ -21,6 +28,15 @@ pub fn group_in(alloc: Global, line: &[u8], group: &str) -> Result<Option<u32>, 
 {
     let fields = fields_of(alloc, line)?;
     Ok(group_by(&fields, group.as_bytes()))
+}
+
+/// Returns the numbers in a line of passwd(5), if the line is that of the user with this name or number. `getent passwd USER` prints such
+/// a line.
+pub fn numbers_in(alloc: Global, line: &[u8], user: &str) -> Result<Option<UserNumbers>, AllocError>
+    ensures value { IfOk result (λ numbers. numbers ≡ numbers_in user.now line.now) }
+{
+    let fields = fields_of(alloc, line)?;
+    Ok(numbers_by(&fields, user.as_bytes()))
 }
 
 /// Returns whether `id -G USER` has printed this group.
@@ -68,6 +84,27 @@ fn group_by(fields: &[&[u8]], group: &[u8]) -> Option<u32>
     } else {
         None
     }
+}
+
+fn numbers_by(fields: &[&[u8]], user: &[u8]) -> Option<UserNumbers>
+    ensures { result ≡ numbers_by user.now (map (λ field. field.now) fields.now) }
+{
+    let [name, _, id, group, _, _, _] = fields else {
+        return None;
+    };
+    if is_word(name, user) || is_word(id, user) {
+        numbers_of(id, group)
+    } else {
+        None
+    }
+}
+
+fn numbers_of(id: &[u8], group: &[u8]) -> Option<UserNumbers>
+    ensures { result ≡ numbers_of id.now group.now }
+{
+    let uid = id_in(id)?;
+    let gid = id_in(group)?;
+    Some(UserNumbers { uid, gid })
 }
 
 fn is_word(word: &[u8], other: &[u8]) -> bool
