@@ -43,4 +43,5 @@ pub use fault::OptionFault;
 pub use files::ChildFile;
 pub use options::Options;
 pub use place::Place;
+pub use reading::is_option_name;
 pub use variables::environment;

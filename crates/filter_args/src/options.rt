@@ -1,9 +1,10 @@
 //! The options of a job.
-ghost use Rattle.std.specs.Prelude.{◌≡◌, List, None, Ok, IfOk, OnOk, IsErrOf};
+ghost use Rattle.std.specs.Prelude.{◌≡◌, [], true, List, None, Ok, IfOk, OnOk, OnErr, IsErrOf};
 ghost use Rattle.std.specs.Option.{option_map};
 ghost use Rattle.std.specs.Result.{IsOk, result_err};
 ghost use Rattle.std.specs.String.{string_bytes};
-ghost use Rattle.filter_args.specs.Pairs.{Pair, value_of};
+ghost use Rattle.std.specs.Cow.{cow_str_bytes};
+ghost use Rattle.filter_args.specs.Pairs.{Pair, is_option_name, put, value_of};
 ghost use Rattle.filter_args.specs.OptionTexts.{reading, with_word};
 ghost use Rattle.filter_args.specs.Printing.{printed};
 ghost use Rattle.filter_args.specs.OptionFields.{Gives, pairs_of};
@@ -35,6 +36,15 @@ impl<'a> Model for Options<'a> {
 }
 
 impl<'a> Options<'a> {
+    /// Returns no options. It allocates nothing.
+    pub fn empty(alloc: Global) -> Options<'a>
+        ensures value { result ≡ [] }
+    {
+        Options {
+            pairs: IndexMap::new(alloc),
+        }
+    }
+
     /// Reads a text of options, from left to right. An error of the text takes precedence over out of memory.
     pub fn parse(alloc: Global, text: &'a str) -> Result<Options<'a>, OptionFault>
         ensures value { Gives result (λ options. options) (reading text.now) }
@@ -51,6 +61,16 @@ impl<'a> Options<'a> {
             rest = behind;
         }
         Ok(Options { pairs })
+    }
+
+    /// Gives a name a value. A name that is present keeps its position. An error changes nothing.
+    pub fn insert(&mut self, name: &'a str, value: CowStr<'a, Global>) -> Result<(), AllocError>
+        requires { is_option_name name.now ≡ true }
+        ensures value { OnOk result (self.new ≡ put self.old (name.now, cow_str_bytes value.entry)) }
+        ensures err { OnErr result (self.new ≡ self.old) }
+    {
+        self.pairs.insert(name, value)?;
+        Ok(())
     }
 
     /// Returns the options as one text, with one blank between them and a backslash before each blank, quote and backslash of a value,

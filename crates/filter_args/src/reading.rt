@@ -44,7 +44,7 @@ pub(crate) fn pair_fault(word: &str) -> Option<OptionFault>
 fn name_fault(name: &str) -> Option<OptionFault>
     ensures { result ≡ cond (is_option_name name.now) None (Some OptionFault.BadName) }
 {
-    if is_name(name) {
+    if is_option_name(name) {
         None
     } else {
         Some(OptionFault::BadName)
@@ -96,8 +96,9 @@ pub(crate) fn read_pair<'a>(
     }
 }
 
-fn is_name(text: &str) -> bool
-    ensures { result ≡ is_option_name text.now }
+/// Returns whether a text is the name of an option.
+pub fn is_option_name(text: &str) -> bool
+    ensures value { result ≡ is_option_name text.now }
 {
     1 <= text.len() && has_only_name_bytes(text)
 }
