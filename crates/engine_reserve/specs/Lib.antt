@@ -1,0 +1,2 @@
+pub mod CommandRoom
+pub mod ReservedRuns
