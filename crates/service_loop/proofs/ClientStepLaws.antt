@@ -28,7 +28,8 @@ use Rattle.client_roles.specs.RoleTable.{is_allowed}
 use Rattle.service_rules.specs.Listeners.{may_listen}
 use Rattle.service_rules.specs.declared.listening.Listening.{Listening}
 use Rattle.spool_engine.specs.AnswerTexts.{answer_text}
-use Rattle.service_loop.specs.TakenRoom.{full_text, is_reserved}
+use Rattle.engine_reserve.specs.CommandRoom.{full_text}
+use Rattle.service_loop.specs.TakenRoom.{is_reserved}
 use Rattle.service_loop.specs.ClientActions.{Action, answers, ticks, applies, says, offers, proves, denies, reserves, turns_away, ends, ClientStatus, IsMeant, IsSaid, IsEndReported, IsDone, AreActions, after_action, standing_after, standing_after_all, status_after, with_answer, begins_to_listen, asks_by, asks_in, text_by, texts_in, proofs_by, proofs_in, applied_text}
 use Rattle.service_loop.specs.ConnectionViews.{ConnectionView, IsProofStep, ProofStep, AddsProofs, named, examined}
 use Rattle.service_loop.specs.ProofTexts.{busy_text, denied_text, offer_text, proof_text}

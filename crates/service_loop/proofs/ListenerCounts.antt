@@ -2,7 +2,6 @@
 use Rattle.std.proofs.Common.{◌≡◌, ◌⊎◌, inl, inr, ℕ, zero, suc, ◌+◌, ◌-◌, ◌<◌, ◌≤◌, Bool, true, false, ◌&&◌, ◌||◌, nat_lt, is_some, Option, None, Some, refl, ap, subst, add-one, arith}
 use Rattle.slab.specs.Slab.{Slab, Updates, get}
 use Rattle.std.proofs.lemmas.Bool.Decides.{nat_tests}
-use Rattle.service_loop.specs.AdmissionViews.{is_listener}
 use Rattle.service_loop.specs.ClientListening.{BeginsAtMost, is_listened, is_listened_by, listeners_below, listeners_like, one_if}
 use Rattle.client_standing.specs.ClientStanding.{ClientStanding}
 use Rattle.service_rules.specs.Listeners.{has_share_left, may_listen, most_listeners}

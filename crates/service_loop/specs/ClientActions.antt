@@ -42,7 +42,8 @@ use Rattle.service_rules.specs.Listeners.{may_listen}
 use Rattle.service_rules.specs.declared.listening.Listening.{Listening}
 use Rattle.service_loop.specs.ProofTexts.{busy_text, denied_text, offer_text, proof_text}
 use Rattle.service_loop.specs.ShownAnswers.{shown_answer}
-use Rattle.service_loop.specs.TakenRoom.{full_text, is_reserved}
+use Rattle.engine_reserve.specs.CommandRoom.{full_text}
+use Rattle.service_loop.specs.TakenRoom.{is_reserved}
 
 pub data Action (D : Type 0) : Type 0 where
   -- A command, answered by the engine. The text shows the answer to the client.

@@ -1,5 +1,5 @@
 -- The stages whose end may lead to a retry after an interval. The interval counts from the table's moment.
-use Rattle.std.specs.Prelude.{ℕ, Bool, true, false, ◌&&◌, nat_le, nat_lt, is_some, List, Option, None, Some}
+use Rattle.std.specs.Prelude.{ℕ, Bool, false, ◌&&◌, nat_le, nat_lt, is_some, List, Option, None, Some}
 use Rattle.std.specs.FinMap as finite
 use Rattle.std.specs.List.{list_any}
 use Rattle.job_table.specs.Attempts.{busy_of, next_of}

@@ -1,5 +1,5 @@
 -- The calls of the service to its engine, each on the run state that the previous one left.
-use Rattle.std.specs.Prelude.{◌≡◌, ℕ, List, [], ◌∷◌, ◌++◌, map, Some}
+use Rattle.std.specs.Prelude.{◌≡◌, ℕ, List, [], ◌∷◌, ◌++◌, map, Option, None, Some}
 use Rattle.std.specs.FinMap as finite
 use Rattle.spool_types.specs.declared.event.Event.{Event}
 use Rattle.spool_types.specs.declared.event.Event.TheVariants.{Purge}
@@ -15,9 +15,10 @@ use Rattle.command_lines.specs.declared.command.Command.TheVariants.{Apply}
 use Rattle.child_pipeline.specs.ChildTraces.{ChildTrace}
 use Rattle.child_pipeline.specs.declared.order.Placed.{Placed}
 use Rattle.print_rounds.specs.StageHistory.{keys_in}
-use Rattle.spool_engine.specs.EngineCalls.{Call, AreCalls, last_by}
+use Rattle.print_rounds.specs.declared.start_room.TickLimits.{TickLimits}
+use Rattle.spool_engine.specs.EngineCalls.{Call, AreCalls, last_by, round_call, run_call, tick_call}
 use Rattle.spool_engine.specs.EventSteps.{setting}
-use Rattle.spool_engine.specs.EngineRuns.{Engine, TakesStep, CommandStep}
+use Rattle.spool_engine.specs.EngineRuns.{Engine, TakesStep, CommandStep, HasNoRounds, commands_in}
 
 -- An engine changed by calls alone, and kept its rules and its place.
 pub record GoesByCalls {D : Type 0} (device : DiskView D) (old new : Engine D) : Type 0 where
@@ -26,6 +27,33 @@ pub record GoesByCalls {D : Type 0} (device : DiskView D) (old new : Engine D) :
   pub calls : List (Call D)
   pub are : AreCalls (setting device old.mime old.place) old.run_state calls
   pub last : last_by old.run_state calls ≡ new.run_state
+
+-- ## The limit of running children
+
+-- The limits of a tick with this limit of running children.
+abbrev pub HasLimit : ℕ → Option TickLimits → Type 0
+HasLimit most None = ⊥
+HasLimit most (Some limits) = limits.most ≡ most
+
+-- Children are started only in ticks with this limit.
+abbrev pub IsWithin : {D : Type 0} → ℕ → Call D → Type 0
+IsWithin most (round_call r) = ⊥
+IsWithin most (tick_call t) = HasLimit most t.limits
+IsWithin most (run_call turns) = HasNoRounds (commands_in turns)
+
+abbrev pub AreWithin : {D : Type 0} → ℕ → List (Call D) → Type 0
+AreWithin most [] = Unit {0}
+AreWithin most (c ∷ cs) = IsWithin most c × AreWithin most cs
+
+-- An engine changed by ticks with this limit and by commands that run no round, and the limit is as it was.
+pub record GoesWithin {D : Type 0} (device : DiskView D) (most : ℕ) (old : Engine D) (left : ℕ) (new : Engine D) : Type 0 where
+  pub mime : new.mime ≡ old.mime
+  pub place : new.place ≡ old.place
+  pub calls : List (Call D)
+  pub are : AreCalls (setting device old.mime old.place) old.run_state calls
+  pub last : last_by old.run_state calls ≡ new.run_state
+  pub within : AreWithin most calls
+  pub same : left ≡ most
 
 -- ## Commands of maintenance
 

@@ -6,7 +6,7 @@ ghost use Rattle.client_reader.specs.AwaitedRequests.{is_in_send};
 ghost use Rattle.service_rules.specs.Bounds.{most_unread};
 ghost use Rattle.service_rules.specs.Listeners.{may_listen};
 ghost use Rattle.service_loop.specs.ClientListening.{BeginsAtMost, IsHeard};
-ghost use Rattle.service_loop.specs.ServiceCalls.{GoesByCalls};
+ghost use Rattle.service_loop.specs.ServiceCalls.{GoesWithin};
 ghost use Rattle.service_loop.specs.AdmissionViews.{is_listener, listens, unread, watches};
 ghost use Rattle.service_loop.specs.ClientActions.{Action};
 ghost use Rattle.service_loop.specs.Progress.{EndsTurn, HasLeft, HasRead, IsAtRest, IsBacklogged, IsCut, IsGiven, IsMarked, IsReadAs, IsUnheard, as_given, as_read, as_served, as_told, heard_after, misses, news_for, signed, text_for};
@@ -235,7 +235,7 @@ impl<L: Connection> Client<L> {
 
         // What its connection takes was written. Unless there is more to do at once, nothing can be done for it now.
         ensures ends { EndsTurn L.view shared.new.engine.run_state.spool.state self.old result self.new }
-        ensures calls { GoesByCalls D.device shared.old.engine shared.new.engine }
+        ensures calls { GoesWithin D.device shared.old.most shared.old.engine shared.new.most shared.new.engine }
     {
         let mut turn = Turn::new(listening);
         match self.try_serve(shared, now, &mut turn) {
@@ -262,7 +262,7 @@ impl<L: Connection> Client<L> {
         ensures leaves { IfOk result (λ there. there ≡ false → HasLeft L.view self.new) }
         ensures marked { IsMarked L.view self.old → IsMarked L.view self.new }
         ensures disconnect { turn.new.disconnect ≡ turn.old.disconnect }
-        ensures calls { GoesByCalls D.device shared.old.engine shared.new.engine }
+        ensures calls { GoesWithin D.device shared.old.most shared.old.engine shared.new.most shared.new.engine }
     {
         if !self.give(now) {
             return Ok(false);
@@ -316,7 +316,7 @@ impl<L: Connection> Client<L> {
         ensures leaves { IfOk result (λ there. there ≡ false → IsCut L.view self.new) }
         ensures marked { IsMarked L.view self.old → IsMarked L.view self.new }
         ensures disconnect { turn.new.disconnect ≡ turn.old.disconnect }
-        ensures calls { GoesByCalls D.device shared.old.engine shared.new.engine }
+        ensures calls { GoesWithin D.device shared.old.most shared.old.engine shared.new.most shared.new.engine }
     {
         turn.more = true;
         let mut served = 0;
@@ -354,7 +354,7 @@ impl<L: Connection> Client<L> {
         ensures listens { OnOk result (BeginsAtMost (may_listen turn.old.listening) self.old self.new) }
         ensures heard { IfOk result (λ step. IsHeard self.old now step self.new) }
         ensures turn { turn.new ≡ as_served turn.old turn.new }
-        ensures calls { GoesByCalls D.device shared.old.engine shared.new.engine }
+        ensures calls { GoesWithin D.device shared.old.most shared.old.engine shared.new.most shared.new.engine }
     {
         if !self.has_reported_end(shared)? {
             return Ok(Step::Rests);

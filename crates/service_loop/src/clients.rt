@@ -5,7 +5,7 @@ ghost use Rattle.service_rules.specs.ClientAdmission.{IsAdmission};
 ghost use Rattle.service_rules.specs.Listeners.{most_listeners};
 ghost use Rattle.service_loop.specs.ClientListening.{listeners_below};
 ghost use Rattle.slab.specs.Slab.{get, slab_len};
-ghost use Rattle.service_loop.specs.ServiceCalls.{GoesByCalls};
+ghost use Rattle.service_loop.specs.ServiceCalls.{GoesWithin};
 ghost use Rattle.service_loop.specs.AdmissionViews.{heard_of, is_watched};
 ghost use Rattle.service_loop.specs.ClientSlots.{HadOwnTurn, HasNoneNow, HasTurn, HaveTurns, IsEntered, IsLetIn, IsSlotSignaled, IsSlotNotified, KeepsOthers};
 ghost use Rattle.service_loop.specs.Progress.{IsGiven, news_for};
@@ -209,7 +209,7 @@ impl<L: Connection> Clients<L> {
     pub fn serve<D: Disk, C: Children>(&mut self, shared: &mut Shared<D, C>, now: u64) -> Turns
         // The slots had their turns in order, each on the engine that the previous one left.
         ensures turns { HaveTurns D.device L.view shared.old.engine self.old.slots MOST_CLIENTS shared.new.engine self.new.slots }
-        ensures calls { GoesByCalls D.device shared.old.engine shared.new.engine }
+        ensures calls { GoesWithin D.device shared.old.most shared.old.engine shared.new.most shared.new.engine }
         // Each client had its own turn, and nothing else changed it.
         ensures own { (key : ℕ) → key < MOST_CLIENTS → HadOwnTurn D.device L.view (get self.old.slots key) (get self.new.slots key) }
         ensures others { (key : ℕ) → MOST_CLIENTS ≤ key → get self.new.slots key ≡ get self.old.slots key }
@@ -248,6 +248,7 @@ impl<L: Connection> Clients<L> {
         requires key { key < MOST_CLIENTS }
         requires counted { self.old.listeners ≡ listeners_below self.old.slots most_clients }
         ensures turn { HasTurn D.device L.view shared.old.engine self.old.slots key result shared.new.engine self.new.slots }
+        ensures calls { GoesWithin D.device shared.old.most shared.old.engine shared.new.most shared.new.engine }
         ensures counted { self.new.listeners ≡ listeners_below self.new.slots most_clients }
         ensures few { self.old.listeners ≤ most_listeners self.old.places → self.new.listeners ≤ most_listeners self.old.places }
         ensures places { self.new.places ≡ self.old.places }

@@ -11,13 +11,14 @@ ghost use Rattle.spool_types.specs.declared.rows.QueueRow.{QueueRow};
 ghost use Rattle.spool_disk.specs.Disk.{LeavesOnly};
 ghost use Rattle.queue_sched.specs.Next.{is_eligible};
 ghost use Rattle.job_table.specs.Step.{step};
+ghost use Rattle.print_rounds.specs.RoundTicks.{count_running};
 ghost use Rattle.job_table.specs.TableCalls.{AreOnce};
 ghost use Rattle.spool_engine.specs.EngineCalls.{IsAlongCalls};
 ghost use Rattle.spool_engine.specs.EventSteps.{IsKept};
 ghost use Rattle.spool_engine.specs.EngineRuns.{Engine};
 ghost use Rattle.client_reader.specs.Asks.{asks_of};
 ghost use Rattle.client_reader.specs.ReaderCalls.{AreFirstOf};
-ghost use Rattle.service_loop.specs.ServiceCalls.{GoesByCalls, ServiceLife, IsServiceHistory, keys_ordered};
+ghost use Rattle.service_loop.specs.ServiceCalls.{GoesByCalls, GoesWithin, ServiceLife, IsServiceHistory, keys_ordered};
 ghost use Rattle.client_standing.specs.ClientStanding.{first_standing};
 ghost use Rattle.service_loop.specs.ConnectionViews.{ProofStep};
 ghost use Rattle.service_loop.specs.ClientActions.{asks_in, proofs_in, standing_after_all, texts_in};
@@ -96,6 +97,13 @@ pub fn services_order_no_stage_twice<D: Disk>()
 {
     no_stage_is_ordered_twice::<D>();
 }
+
+/// *The limit of children*, through the service: if no more children run than the service's limit, no more run after any of its calls. `calls`
+/// of [`crate::Service::serve`] shows that a service's engine changes by such calls, and each moment of a service is the end of some.
+pub fn services_keep_their_limit<D: Disk>()
+    ensures { (most left : ℕ) (old new : Engine D) → GoesWithin D.device most old left new →
+        count_running old.run_state.slots ≤ most → count_running new.run_state.slots ≤ left }
+{}
 
 /// *A crash*, through the service: from any moment on, as long as the engine changes by calls, a crash leaves the table of that moment or
 /// the table after a prefix of the events since then.

@@ -69,6 +69,8 @@
 //!   the same `Place` of the children (`calls`, `GoesByCalls`). The calls are a list, not a life of an engine, so each law of calls holds
 //!   for the service. The list does not say why a call was made: the client steps say so for clients, and `HasAnswered` for maintenance.
 //!   `serve` fails with `Disk` only if the disk has failed (`disk`).
+//! - **The limit of children.** Children are started only in ticks, each with the limit that [`Service::new`] was given, and no turn changes
+//!   it (`calls`, `GoesWithin`). [`services_keep_their_limit`]: so no more children run than the limit after any of these calls.
 //! - [`services_order_no_stage_twice`]: over any number of services, each made on the state that the previous one left plus perhaps further
 //!   events, no stage of an attempt is ordered twice, if the children report their orders. A life of a service may have no call, if its
 //!   first wait fails; as a life of an engine it has a run of no commands.
@@ -134,8 +136,7 @@
 //!   next notice (`told` of `Clients::notify`, `text_for`, `misses`). A client that said `watch N` is first sent what changed after change N
 //!   (`Shared::push_changes_since`, `watch_text`), and each notice with the number of the last change. A change of the turn of its request may
 //!   be sent in both.
-//! - **Running children.** The service asks its engine which children run, and in which process group. Each tick has the limit of running
-//!   children that [`Service::new`] was given (`tick` and `most` of `Shared::tick`), so no more run after it (`most` of `IsTicked`).
+//! - **Running children.** The service asks its engine which children run, and in which process group.
 //! - **Due times.** `Maintenance::look` takes the earliest moment that changes something about a job from the table (`due`, `next_due` of
 //!   `job_table`). [`nothing_is_due_before`]: before it the clock changes no row, starts no job and changes no shown state, so an idle
 //!   service sends no clock. A due time is sent to the engine as a Clock command, and the engine answers it (`said` and `found` of
@@ -223,7 +224,8 @@ pub use connection::Connection;
 pub use fault::ServiceFault;
 pub use laws::{
     clients_leave_for_a_cause, clients_of_a_service_stay_apart, clients_of_the_loop_stay_apart,
-    crashes_lose_no_call, nothing_is_due_before, services_order_no_stage_twice,
+    crashes_lose_no_call, nothing_is_due_before, services_keep_their_limit,
+    services_order_no_stage_twice,
 };
 pub use listener::{AcceptOutcome, Listener, Readiness};
 pub use service::{Keeping, Limits, Service};

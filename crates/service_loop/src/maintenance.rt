@@ -11,7 +11,8 @@ ghost use Rattle.service_texts.specs.LeftJobs.{oldest_of, still_incoming};
 ghost use Rattle.service_loop.specs.AbandonedJobs.{abandoned_in};
 ghost use Rattle.service_loop.specs.RetryClocks.{may_retry};
 ghost use Rattle.service_rules.specs.Purges.{above, purge_count, purged, swept_to};
-ghost use Rattle.service_loop.specs.ServiceCalls.{GoesByCalls, HasAnswered, HasAnsweredAll, purges};
+ghost use Rattle.spool_engine.specs.EngineRuns.{is_round};
+ghost use Rattle.service_loop.specs.ServiceCalls.{GoesWithin, HasAnswered, HasAnsweredAll, purges};
 ghost use Rattle.job_table.specs.DueTimes.{ended_numbers, next_due};
 ghost use Rattle.service_loop.specs.Due.{AreListed, clocks_found, clocks_of};
 ghost use Rattle.service_loop.specs.ServiceTurns.{HasNoneToPurge, IsTimely};
@@ -111,7 +112,7 @@ impl Maintenance {
         // Afterwards no due time is left unsent. If it returns false, no command was sent.
         ensures timely { OnOk result (IsTimely self.new shared.new.engine.run_state.spool.state (Some millis)) }
         ensures silent { result ≡ Ok false → shared.new.engine ≡ shared.old.engine }
-        ensures calls { GoesByCalls D.device shared.old.engine shared.new.engine }
+        ensures calls { GoesWithin D.device shared.old.most shared.old.engine shared.new.most shared.new.engine }
     {
         let Some(system) = Moment::new(millis / SECOND) else {
             return Ok(false);
@@ -139,7 +140,7 @@ impl Maintenance {
         ensures idle { may_retry shared.old.engine.run_state.spool.state ≡ false → (shared.new ≡ shared.old) × (self.new ≡ self.old) }
         ensures silent { result ≡ Ok false → shared.new.engine ≡ shared.old.engine }
         ensures kept { self.new ≡ record self.old { told = self.new.told } }
-        ensures calls { GoesByCalls D.device shared.old.engine shared.new.engine }
+        ensures calls { GoesWithin D.device shared.old.most shared.old.engine shared.new.most shared.new.engine }
     {
         let Some(system) = Moment::new(millis / SECOND) else {
             return Ok(false);
@@ -163,6 +164,7 @@ impl Maintenance {
         ensures idle { shared.old.active ≡ false → (shared.new ≡ shared.old) × (self.new ≡ self.old) }
         ensures told { self.new.told ≡ self.old.told }
         ensures engine { shared.new.engine ≡ shared.old.engine }
+        ensures most { shared.new.most ≡ shared.old.most }
     {
         if shared.active && self.looked != Some(system) {
             shared.active = false;
@@ -239,7 +241,7 @@ impl Maintenance {
             self.old.ended - length (purged (purge_count self.old.ended self.old.keep) self.old.listed.items)) }
         ensures kept { self.new ≡ record self.old { ended = self.new.ended; listed = self.new.listed } }
         ensures purged { OnOk result (HasAnsweredAll D.device shared.old.engine (purges (purged (purge_count self.old.ended self.old.keep) self.old.listed.items)) shared.new.engine) }
-        ensures calls { GoesByCalls D.device shared.old.engine shared.new.engine }
+        ensures calls { GoesWithin D.device shared.old.most shared.old.engine shared.new.most shared.new.engine }
     {
         let count = purge_count(self.ended, self.keep);
         if count == 0 || self.listed.is_empty() {
@@ -279,7 +281,7 @@ impl Maintenance {
             self.new.check ≡ next_check self.old.limit now (oldest_of (still_incoming shared.old.engine.run_state.spool.state shared.old.known.left)) }
         ensures silent { result ≡ Ok None → shared.new.engine ≡ shared.old.engine }
         ensures kept { self.new ≡ record self.old { check = self.new.check } }
-        ensures calls { GoesByCalls D.device shared.old.engine shared.new.engine }
+        ensures calls { GoesWithin D.device shared.old.most shared.old.engine shared.new.most shared.new.engine }
     {
         if now < self.check {
             return Ok(None);
@@ -320,7 +322,7 @@ impl Maintenance {
         ensures left { IfOk result (λ made. self.new ≡ record self.old { left = cond made (Some shared.new.engine.run_state.spool.room) self.old.left }) }
         ensures err { OnErr result (self.new ≡ self.old) }
         ensures answered { OnOk result (HasAnswered D.device shared.old.engine Command.Checkpoint shared.new.engine) }
-        ensures calls { GoesByCalls D.device shared.old.engine shared.new.engine }
+        ensures calls { GoesWithin D.device shared.old.most shared.old.engine shared.new.most shared.new.engine }
     {
         shared.full = false;
         let answer = shared.execute(Command::Checkpoint)?;
@@ -353,8 +355,9 @@ fn is_done(answer: &Answer) -> bool {
 
 // Sends the engine a command.
 fn say<D: Disk, C: Children>(shared: &mut Shared<D, C>, command: Command) -> Result<(), AllocError>
+    requires { is_round command ≡ false }
     ensures answered { OnOk result (HasAnswered D.device shared.old.engine command shared.new.engine) }
-    ensures calls { GoesByCalls D.device shared.old.engine shared.new.engine }
+    ensures calls { GoesWithin D.device shared.old.most shared.old.engine shared.new.most shared.new.engine }
 {
     shared.execute(command)?;
     Ok(())

@@ -6,7 +6,7 @@ ghost use Rattle.service_rules.specs.Bounds.{millisecond, most_clients};
 ghost use Rattle.print_rounds.specs.RoundTicks.{count_running};
 ghost use Rattle.service_rules.specs.ChildPolling.{earlier, next_look};
 ghost use Rattle.service_loop.specs.LoopWaits.{IsEndedBy, check_bound, clock_bound, lasted_after, loop_wait};
-ghost use Rattle.service_loop.specs.ServiceCalls.{GoesByCalls};
+ghost use Rattle.service_loop.specs.ServiceCalls.{GoesWithin};
 ghost use Rattle.service_loop.specs.SlotHistories.{GoesByEvents};
 ghost use Rattle.service_loop.specs.ServiceTurns.{AreAtRest, HasNoneToPurge, HasTicked, HasTriedAtMost, HasTurned, IsTimely, KeepsTime, has_moved, has_new_client_waiting};
 
@@ -125,7 +125,7 @@ impl<'a, L: Log, D: Disk + Drop, C: Children + Drop, R: Listener> Service<'a, L,
         signals: &mut S,
     ) -> Result<(), ServiceFault>
         // However it ends, its engine changed by calls alone.
-        ensures calls { GoesByCalls D.device self.old.shared.engine self.new.shared.engine }
+        ensures calls { GoesWithin D.device self.old.shared.most self.old.shared.engine self.new.shared.most self.new.shared.engine }
         // A client was sent the texts of its own turns and changes alone, and left its slot for one of the listed causes alone. No request
         // was served that the roles do not allow to its client.
         ensures history { GoesByEvents D.device R.Stream.view self.old.shared.engine self.old.clients.slots self.new.shared.engine self.new.clients.slots }
@@ -147,7 +147,7 @@ impl<'a, L: Log, D: Disk + Drop, C: Children + Drop, R: Listener> Service<'a, L,
         times: &mut T,
         signals: &mut S,
     ) -> Result<bool, ServiceFault>
-        ensures calls { GoesByCalls D.device self.old.shared.engine self.new.shared.engine }
+        ensures calls { GoesWithin D.device self.old.shared.most self.old.shared.engine self.new.shared.most self.new.shared.engine }
         ensures history { GoesByEvents D.device R.Stream.view self.old.shared.engine self.old.clients.slots self.new.shared.engine self.new.clients.slots }
         ensures turned { OnOk result (HasTurned D.device self.old.shared.engine self.new.maintenance (T.told times.new) self.new.more self.new.shared.engine) }
         // Unless there is more to do at once, nothing is left undone, so no client waits for the next wait to end.
@@ -188,7 +188,7 @@ impl<'a, L: Log, D: Disk + Drop, C: Children + Drop, R: Listener> Service<'a, L,
 
     // Gives each client a turn, and handles the results.
     fn serve_clients<S: Signals>(&mut self, signals: &mut S, now: u64) -> Turns
-        ensures calls { GoesByCalls D.device self.old.shared.engine self.new.shared.engine }
+        ensures calls { GoesWithin D.device self.old.shared.most self.old.shared.engine self.new.shared.most self.new.shared.engine }
         ensures history { GoesByEvents D.device R.Stream.view self.old.shared.engine self.old.clients.slots self.new.shared.engine self.new.clients.slots }
         ensures rests { result.more ≡ false → AreAtRest self.new.clients.slots }
     {
@@ -201,6 +201,7 @@ impl<'a, L: Log, D: Disk + Drop, C: Children + Drop, R: Listener> Service<'a, L,
     // Waits until something is ready, and notes it.
     fn wait<T: Times>(&mut self, listener: &mut R, times: &mut T) -> Result<(), ServiceFault>
         ensures engine { self.new.shared.engine ≡ self.old.shared.engine }
+        ensures most { self.new.shared.most ≡ self.old.shared.most }
         ensures history { GoesByEvents D.device R.Stream.view self.old.shared.engine self.old.clients.slots self.new.shared.engine self.new.clients.slots }
         ensures fault { OnErr result (result ≡ Err ServiceFault.Socket) }
     {
@@ -227,6 +228,7 @@ impl<'a, L: Log, D: Disk + Drop, C: Children + Drop, R: Listener> Service<'a, L,
     // Notes the readiness that the wait has found.
     fn note_readiness(&mut self, listener: &mut R)
         ensures engine { self.new.shared.engine ≡ self.old.shared.engine }
+        ensures most { self.new.shared.most ≡ self.old.shared.most }
         ensures history { GoesByEvents D.device R.Stream.view self.old.shared.engine self.old.clients.slots self.new.shared.engine self.new.clients.slots }
     {
         for _ in 0..u32::MAX {
@@ -240,6 +242,7 @@ impl<'a, L: Log, D: Disk + Drop, C: Children + Drop, R: Listener> Service<'a, L,
     // Notes that a new client may be connecting, or that a client's connection is ready.
     fn note_ready(&mut self, readiness: Readiness)
         ensures engine { self.new.shared.engine ≡ self.old.shared.engine }
+        ensures most { self.new.shared.most ≡ self.old.shared.most }
         ensures history { GoesByEvents D.device R.Stream.view self.old.shared.engine self.old.clients.slots self.new.shared.engine self.new.clients.slots }
     {
         match readiness {
@@ -297,6 +300,7 @@ impl<'a, L: Log, D: Disk + Drop, C: Children + Drop, R: Listener> Service<'a, L,
     // Accepts new clients.
     fn let_in(&mut self, listener: &mut R, now: u64) -> Result<(), AllocError>
         ensures engine { self.new.shared.engine ≡ self.old.shared.engine }
+        ensures most { self.new.shared.most ≡ self.old.shared.most }
         ensures history { GoesByEvents D.device R.Stream.view self.old.shared.engine self.old.clients.slots self.new.shared.engine self.new.clients.slots }
     {
         if !self.has_new_client || self.ends.is_some() {
@@ -313,6 +317,7 @@ impl<'a, L: Log, D: Disk + Drop, C: Children + Drop, R: Listener> Service<'a, L,
     // Accepts a new client. Returns whether one was there and could be accepted.
     fn let_one_in(&mut self, listener: &mut R, now: u64) -> Result<bool, AllocError>
         ensures engine { self.new.shared.engine ≡ self.old.shared.engine }
+        ensures most { self.new.shared.most ≡ self.old.shared.most }
         ensures history { GoesByEvents D.device R.Stream.view self.old.shared.engine self.old.clients.slots self.new.shared.engine self.new.clients.slots }
     {
         match listener.accept() {
@@ -355,6 +360,7 @@ impl<'a, L: Log, D: Disk + Drop, C: Children + Drop, R: Listener> Service<'a, L,
     // Handles the result of the clients' turns: logs starved clients, notes a request to end, and whether a client watches.
     fn handle_turns(&mut self, turns: Turns, now: u64)
         ensures engine { self.new.shared.engine ≡ self.old.shared.engine }
+        ensures most { self.new.shared.most ≡ self.old.shared.most }
         ensures clients { self.new.clients ≡ self.old.clients }
     {
         self.log_starved(turns.starved);
@@ -375,7 +381,7 @@ impl<'a, L: Log, D: Disk + Drop, C: Children + Drop, R: Listener> Service<'a, L,
     // One tick, and when a child was started in it. Clients have a turn after each tick. Returns whether a stage was started or finished.
     // After a request to end no job is started, and processing jobs continue.
     fn tick<T: Times>(&mut self, times: &mut T) -> bool
-        ensures calls { GoesByCalls D.device self.old.shared.engine self.new.shared.engine }
+        ensures calls { GoesWithin D.device self.old.shared.most self.old.shared.engine self.new.shared.most self.new.shared.engine }
         ensures ticked { HasTicked D.device self.old.shared.engine result self.new.shared.engine }
         ensures kept { self.new ≡ record self.old { shared = self.new.shared; begun = self.new.begun; lasted = self.new.lasted } }
     {
@@ -412,7 +418,7 @@ impl<'a, L: Log, D: Disk + Drop, C: Children + Drop, R: Listener> Service<'a, L,
     // Sends the engine the system's time before a tick that may see the end of a stage which is retried after an interval. Returns whether it
     // did.
     fn refresh_time<T: Times>(&mut self, times: &mut T) -> Result<bool, AllocError>
-        ensures calls { GoesByCalls D.device self.old.shared.engine self.new.shared.engine }
+        ensures calls { GoesWithin D.device self.old.shared.most self.old.shared.engine self.new.shared.most self.new.shared.engine }
         ensures kept { self.new ≡ record self.old { shared = self.new.shared; maintenance = self.new.maintenance } }
     {
         match times.system(self.shared.engine.table().now()) {
@@ -432,7 +438,7 @@ impl<'a, L: Log, D: Disk + Drop, C: Children + Drop, R: Listener> Service<'a, L,
     // Sends the time, purges, and makes a checkpoint, each if it is due. Returns whether it did one of these, so that there may be more to
     // do: a Clock may end a job that a client waits for, or let a job start, and so may a checkpoint that made room.
     fn maintain<T: Times>(&mut self, times: &mut T) -> Result<bool, AllocError>
-        ensures calls { GoesByCalls D.device self.old.shared.engine self.new.shared.engine }
+        ensures calls { GoesWithin D.device self.old.shared.most self.old.shared.engine self.new.shared.most self.new.shared.engine }
         ensures time { OnOk result (KeepsTime D.device self.old.shared.engine self.new.maintenance (T.told times.new) self.new.shared.engine) }
         ensures idle { result ≡ Ok false → HasNoneToPurge self.new.maintenance × HasTriedAtMost D.device self.old.shared.engine self.new.shared.engine }
         ensures kept { self.new ≡ record self.old { shared = self.new.shared; maintenance = self.new.maintenance } }
@@ -448,7 +454,7 @@ impl<'a, L: Log, D: Disk + Drop, C: Children + Drop, R: Listener> Service<'a, L,
 
     // Cancels an incoming job that its client has abandoned, if there is one. Returns whether it did.
     fn cancel_abandoned<T: Times>(&mut self, times: &mut T) -> Result<bool, AllocError>
-        ensures calls { GoesByCalls D.device self.old.shared.engine self.new.shared.engine }
+        ensures calls { GoesWithin D.device self.old.shared.most self.old.shared.engine self.new.shared.most self.new.shared.engine }
         ensures silent { result ≡ Ok false → self.new.shared.engine ≡ self.old.shared.engine }
         ensures kept { self.new ≡ record self.old { shared = self.new.shared; maintenance = record self.old.maintenance { check = self.new.maintenance.check } } }
     {
@@ -462,7 +468,7 @@ impl<'a, L: Log, D: Disk + Drop, C: Children + Drop, R: Listener> Service<'a, L,
 
     // Sends the engine the service's time, if a clock can be read and something is due. Returns whether it did.
     fn announce_time<T: Times>(&mut self, times: &mut T) -> Result<bool, AllocError>
-        ensures calls { GoesByCalls D.device self.old.shared.engine self.new.shared.engine }
+        ensures calls { GoesWithin D.device self.old.shared.most self.old.shared.engine self.new.shared.most self.new.shared.engine }
         ensures timely { OnOk result (IfSome (T.told times.new) (λ last. IsTimely self.new.maintenance self.new.shared.engine.run_state.spool.state last)) }
         ensures silent { result ≡ Ok false → self.new.shared.engine ≡ self.old.shared.engine }
         ensures kept { self.new ≡ record self.old { shared = self.new.shared; maintenance = self.new.maintenance } }
@@ -475,7 +481,7 @@ impl<'a, L: Log, D: Disk + Drop, C: Children + Drop, R: Listener> Service<'a, L,
 
     // Makes a checkpoint if one is wanted. Returns whether it was made.
     fn make_checkpoint<T: Times>(&mut self, times: &mut T) -> Result<bool, AllocError>
-        ensures calls { GoesByCalls D.device self.old.shared.engine self.new.shared.engine }
+        ensures calls { GoesWithin D.device self.old.shared.most self.old.shared.engine self.new.shared.most self.new.shared.engine }
         ensures told { T.told times.new ≡ T.told times.old }
         ensures tried { result ≡ Ok false → HasTriedAtMost D.device self.old.shared.engine self.new.shared.engine }
         ensures maintenance { self.new.maintenance ≡ record self.old.maintenance { left = self.new.maintenance.left; last = self.new.maintenance.last } }
@@ -500,6 +506,7 @@ impl<'a, L: Log, D: Disk + Drop, C: Children + Drop, R: Listener> Service<'a, L,
     // Writes the lines about the events of the turn to the log.
     fn log_events(&mut self)
         ensures engine { self.new.shared.engine ≡ self.old.shared.engine }
+        ensures most { self.new.shared.most ≡ self.old.shared.most }
         ensures kept { self.new ≡ record self.old { shared = self.new.shared } }
     {
         let left_out = self.shared.records.left_out;
@@ -516,6 +523,7 @@ impl<'a, L: Log, D: Disk + Drop, C: Children + Drop, R: Listener> Service<'a, L,
     // Notes the moment of the turn, for the times of the jobs and queues that change in it.
     fn note_moment<T: Times>(&mut self, times: &mut T)
         ensures engine { self.new.shared.engine ≡ self.old.shared.engine }
+        ensures most { self.new.shared.most ≡ self.old.shared.most }
         ensures kept { self.new ≡ record self.old { shared = self.new.shared } }
     {
         self.shared.records.now = match times.system(self.shared.engine.table().now()) {
@@ -527,6 +535,7 @@ impl<'a, L: Log, D: Disk + Drop, C: Children + Drop, R: Listener> Service<'a, L,
     // Sends the watching clients what changed.
     fn notify_changes(&mut self) -> Result<(), AllocError>
         ensures engine { self.new.shared.engine ≡ self.old.shared.engine }
+        ensures most { self.new.shared.most ≡ self.old.shared.most }
         ensures history { GoesByEvents D.device R.Stream.view self.old.shared.engine self.old.clients.slots self.new.shared.engine self.new.clients.slots }
         ensures still { OnOk result (self.new.more ≡ false → (self.old.more ≡ false) × (self.new.clients ≡ self.old.clients)) }
         ensures kept { self.new ≡ record self.old { shared = self.new.shared; clients = self.new.clients; more = self.new.more } }

@@ -19,10 +19,10 @@ ghost use Rattle.spool_types.specs.declared.event.Event.{Event};
 ghost use Rattle.spool_types.specs.declared.event.Reply.TheVariants.{Done};
 ghost use Rattle.service_loop.specs.RecordedEvents.{HasRecordedAll, HasRecordedCommand, happened_deed};
 ghost use Rattle.service_loop.specs.RetryClocks.{is_row_in_last_stage, may_end, may_retry};
-ghost use Rattle.service_loop.specs.ServiceCalls.{GoesByCalls};
+ghost use Rattle.service_loop.specs.ServiceCalls.{GoesWithin};
 ghost use Rattle.spool_engine.specs.EventSteps.{setting};
 ghost use Rattle.spool_engine.specs.AnswerTexts.{answer_text};
-ghost use Rattle.spool_engine.specs.EngineRuns.{CommandStep, TakesStep};
+ghost use Rattle.spool_engine.specs.EngineRuns.{CommandStep, TakesStep, is_round};
 ghost use Rattle.spool_engine.specs.EngineTicks.{IsTicked};
 
 use crate::endings::Endings;
@@ -99,8 +99,9 @@ impl<D: Disk, C: Children> Shared<D, C> {
         }
     }
 
-    /// Executes a command, and returns the answer. Its events are recorded if they were accepted.
+    /// Executes a command that runs no round, and returns the answer. Its events are recorded if they were accepted.
     pub fn execute(&mut self, command: Command) -> Result<Answer, AllocError>
+        requires { is_round command ≡ false }
         ensures executed { IfOk result (λ answer. (t : CommandStep D) × TakesStep (setting D.device self.old.engine.mime self.old.engine.place)
             self.old.engine.run_state command t self.new.engine.run_state × (answer_text self.new.engine.run_state.spool.state answer ≡ t.text)) }
         // Exactly the accepted events are recorded. If memory runs out, nothing was done.
@@ -108,7 +109,7 @@ impl<D: Disk, C: Children> Shared<D, C> {
         ensures known { IfOk result (λ answer. (token : List ℕ) → entry_for self.new.known.tokens token
             ≡ entry_after self.new.engine.run_state.spool.state (expected_token self.old.engine.run_state.spool.state command) answer token (entry_for self.old.known.tokens token)) }
         ensures err { OnErr result ((self.new.engine ≡ self.old.engine) × (self.new.records ≡ self.old.records)) }
-        ensures calls { GoesByCalls D.device self.old.engine self.new.engine }
+        ensures calls { GoesWithin D.device self.old.most self.old.engine self.new.most self.new.engine }
     {
         self.active = true;
         let expected = expect(self.alloc, self.engine.table(), &command)?;
@@ -128,7 +129,7 @@ impl<D: Disk, C: Children> Shared<D, C> {
     pub fn stop(&mut self, job: JobId) -> Result<Answer, AllocError>
         ensures executed { IfOk result (λ answer. (t : CommandStep D) × TakesStep (setting D.device self.old.engine.mime self.old.engine.place)
             self.old.engine.run_state (Command.Apply (Event.Cancel job)) t self.new.engine.run_state × (answer_text self.new.engine.run_state.spool.state answer ≡ t.text)) }
-        ensures calls { GoesByCalls D.device self.old.engine self.new.engine }
+        ensures calls { GoesWithin D.device self.old.most self.old.engine self.new.most self.new.engine }
     {
         // A child that runs for a job that cannot be canceled, because it was canceled before, must end too.
         self.endings.ask(&self.engine, job)?;
@@ -141,7 +142,7 @@ impl<D: Disk, C: Children> Shared<D, C> {
             self.old.engine.run_state (Command.Apply (Event.Close (closing_as self.old.engine.mime self.old.engine.run_state.spool.state job media))) t self.new.engine.run_state
             × (answer : AnswerOf) × (answer_text self.new.engine.run_state.spool.state answer ≡ t.text)
             × (answer_text self.new.engine.run_state.spool.state given ≡ closed_answer (closing_as self.old.engine.mime self.old.engine.run_state.spool.state job media) self.new.engine.run_state.spool.state answer)) }
-        ensures calls { GoesByCalls D.device self.old.engine self.new.engine }
+        ensures calls { GoesWithin D.device self.old.most self.old.engine self.new.most self.new.engine }
     {
         let (closing, closed) = self.engine.closing_as(job, media)?;
         let answer = self.execute(Command::Apply(Event::Close(closing)))?;
@@ -156,7 +157,7 @@ impl<D: Disk, C: Children> Shared<D, C> {
         ensures recorded { (events : List Event) × (limits : Option LimitsOf) × IsTickThat (λ es. es ≡ events) D.device self.old.engine.place limits self.old.engine.run_state self.old.engine.run_state.spool.dead self.new.engine.run_state result
             × HasRecordedAll self.new.engine.run_state.spool.state self.old.records (map happened_deed (happenings_of events)) self.new.records }
         ensures most { self.new.most ≡ self.old.most }
-        ensures calls { GoesByCalls D.device self.old.engine self.new.engine }
+        ensures calls { GoesWithin D.device self.old.most self.old.engine self.new.most self.new.engine }
     {
         let limits = TickLimits {
             most: self.most,
@@ -365,9 +366,10 @@ fn settle_token(
 
 // Executes a command of an engine.
 fn execute<D: Disk, C: Children>(engine: &mut Engine<D, C>, command: Command) -> Answer
+    requires { is_round command ≡ false }
     ensures executed { (t : CommandStep D) × TakesStep (setting D.device engine.old.mime engine.old.place)
         engine.old.run_state command t engine.new.run_state × (answer_text engine.new.run_state.spool.state result ≡ t.text) }
-    ensures calls { GoesByCalls D.device engine.old engine.new }
+    ensures calls { (most : ℕ) → GoesWithin D.device most engine.old most engine.new }
 {
     engine.execute(command)
 }

@@ -4,12 +4,13 @@ ghost use Rattle.client_roles.specs.RoleTable.{is_allowed};
 ghost use Rattle.client_standing.specs.ClientStanding.{with_proof};
 ghost use Rattle.client_standing.specs.declared.caller.Proved.{Proved};
 ghost use Rattle.spool_engine.specs.AnswerTexts.{answer_text};
-ghost use Rattle.service_loop.specs.ServiceCalls.{GoesByCalls};
+ghost use Rattle.service_loop.specs.ServiceCalls.{GoesWithin};
 ghost use Rattle.service_loop.specs.ClientActions.{with_answer};
 ghost use Rattle.service_loop.specs.ConnectionViews.{examined, named};
 ghost use Rattle.service_loop.specs.ProofTexts.{offer_text, proof_text};
 ghost use Rattle.service_loop.specs.ShownAnswers.{shown_answer};
-ghost use Rattle.service_loop.specs.TakenRoom.{full_text, is_reserved};
+ghost use Rattle.engine_reserve.specs.CommandRoom.{full_text};
+ghost use Rattle.service_loop.specs.TakenRoom.{is_reserved};
 ghost use Rattle.service_rules.specs.Listeners.{may_listen};
 ghost use Rattle.service_loop.specs.AdmissionViews.{is_listener};
 ghost use Rattle.service_loop.specs.ClientListening.{BeginsAtMost, wait_for};
@@ -59,7 +60,7 @@ impl<L: Connection> Client<L> {
         // A request that would take room from the reserve is answered with `error full`, and nothing is done.
         ensures reserved { is_allowed self.old.standing shared.old.engine.run_state.spool.state ask ≡ true → is_reserved shared.old.area shared.old.engine.run_state ask ≡ true →
             (shared.new ≡ record shared.old { full = true }) × OnOk result (IsAdded self.old full_text self.new) }
-        ensures calls { GoesByCalls D.device shared.old.engine shared.new.engine }
+        ensures calls { GoesWithin D.device shared.old.most shared.old.engine shared.new.most shared.new.engine }
     {
         turn.served = true;
         if !is_allowed(&self.standing, shared.engine.table(), &ask) {
@@ -91,7 +92,7 @@ impl<L: Connection> Client<L> {
         ensures done { OnOk result (IsAnswered D.device L.view shared.old.engine self.old (Ask.Command command) shared.new.engine self.new) }
         ensures marked { IsMarked L.view self.old → IsMarked L.view self.new }
         ensures kept { self.new ≡ record self.old { replies = self.new.replies; standing = self.new.standing } }
-        ensures calls { GoesByCalls D.device shared.old.engine shared.new.engine }
+        ensures calls { GoesWithin D.device shared.old.most shared.old.engine shared.new.most shared.new.engine }
     {
         match command {
             Command::Round | Command::Drain(_) => {
@@ -123,7 +124,7 @@ impl<L: Connection> Client<L> {
         ensures watches { OnOk result (self.new.watches ≡ (self.old.watches || (is_watch word && (is_listener self.old || may_listen turn.old.listening)))) }
         ensures waits { OnOk result (self.new.waits ≡ wait_for word (is_listener self.old || may_listen turn.old.listening)) }
         ensures turn { turn.new ≡ record turn.old { shutdown = turn.old.shutdown || is_shutdown word } }
-        ensures calls { GoesByCalls D.device shared.old.engine shared.new.engine }
+        ensures calls { GoesWithin D.device shared.old.most shared.old.engine shared.new.most shared.new.engine }
     {
         match word {
             OwnWord::Job(job) => self.show_job(shared, job)?,

@@ -6,7 +6,7 @@ ghost use Rattle.event_records.specs.NumberedChanges.{NumberedChanges};
 ghost use Rattle.service_texts.specs.MeasuredTexts.{room_text};
 ghost use Rattle.service_texts.specs.Notices.{watch_text};
 ghost use Rattle.service_texts.specs.declared.own_words.OwnWord.{OwnWord};
-ghost use Rattle.service_loop.specs.ServiceCalls.{GoesByCalls};
+ghost use Rattle.service_loop.specs.ServiceCalls.{GoesWithin};
 ghost use Rattle.service_loop.specs.Progress.{IsMarked};
 ghost use Rattle.service_loop.specs.ClientSteps.{IsAdded, IsAnswered, status_of};
 ghost use Rattle.service_loop.specs.TakenRoom.{room_for};
@@ -33,7 +33,7 @@ impl<L: Connection> Client<L> {
         ensures done { OnOk result (IsAnswered D.device L.view shared.old.engine self.old (Ask.Own (OwnWord.Stop job)) shared.new.engine self.new) }
         ensures marked { IsMarked L.view self.old → IsMarked L.view self.new }
         ensures kept { self.new ≡ record self.old { replies = self.new.replies } }
-        ensures calls { GoesByCalls D.device shared.old.engine shared.new.engine }
+        ensures calls { GoesWithin D.device shared.old.most shared.old.engine shared.new.most shared.new.engine }
     {
         let answer = shared.stop(job)?;
         self.add_answer(shared.engine.table(), &answer)?;
@@ -53,7 +53,7 @@ impl<L: Connection> Client<L> {
         ensures done { OnOk result (IsAnswered D.device L.view shared.old.engine self.old (Ask.Own (OwnWord.CloseAs job name media)) shared.new.engine self.new) }
         ensures marked { IsMarked L.view self.old → IsMarked L.view self.new }
         ensures kept { self.new ≡ record self.old { replies = self.new.replies } }
-        ensures calls { GoesByCalls D.device shared.old.engine shared.new.engine }
+        ensures calls { GoesWithin D.device shared.old.most shared.old.engine shared.new.most shared.new.engine }
     {
         drop(name);
         let answer = shared.close_as(job, media)?;
@@ -73,7 +73,7 @@ impl<L: Connection> Client<L> {
         ensures marked { IsMarked L.view self.old → IsMarked L.view self.new }
         ensures kept { self.new ≡ record self.old { replies = self.new.replies } }
         ensures engine { shared.new ≡ record shared.old { full = shared.new.full } }
-        ensures calls { GoesByCalls D.device shared.old.engine shared.new.engine }
+        ensures calls { GoesWithin D.device shared.old.most shared.old.engine shared.new.most shared.new.engine }
     {
         let bytes = shared.room_for_document();
         shared.full = shared.full | (bytes < LONGEST_DOCUMENT);

@@ -17,3 +17,6 @@ returns-in_ok-note_created-in_default-clause-done g c =
     answered_by_turn _ _ _ _ _ _ _ c.args.command t c.in_ok-answer-in_default.answer kept.calls.mime kept.calls.place
     (is_no_round c.args.command c.in_default.not-Round c.in_default.not-Drain) c.requires.role takes same
     (rw (sym c.table-in_default.ensures) added.added) added.status c.requires.waits c.in_ok-note_created-in_default.ensures.ok c.in_ok-note_created-in_default.ensures.kept
+
+pub execute-requires : goal.execute-requires
+execute-requires g c = is_no_round c.args.command c.in_default.not-Round c.in_default.not-Drain

@@ -1,14 +1,14 @@
 -- The actions so far, and then those of one step.
 use Rattle.std.proofs.Common.{◌∙◌, ap, refl, inl, arith}
 use Rattle.service_loop.specs.declared.client.Turn.{Turn}
-use Rattle.service_loop.proofs.CallLaws.{calls_then, no_calls}
+use Rattle.service_loop.proofs.CallLaws.{within_none, within_then}
 use Rattle.service_loop.proofs.ClientStepLaws.{goes_none, step_none, stepped_then}
 use Rattle.service_loop.proofs.ListenerCounts.{listens_then}
 use Rattle.service_loop.proofs.client.Client.serve_some.Goals as goal
 use Rattle.service_loop.proofs.client.Client.serve_some.Goals.{in-Served, in-Goes}
 
 pub loop-init : goal.loop-init
-loop-init g c = record { counted = omega arith; calls = no_calls _ _; stepped = step_none _ _ _ _ _ (goes_none _ _) refl; marked = λ marked. marked; is_backlogged = c.requires; more = refl; disconnect = refl; listening = refl; listens = λ is. inl is }
+loop-init g c = record { counted = omega arith; calls = within_none _ _ _; stepped = step_none _ _ _ _ _ (goes_none _ _) refl; marked = λ marked. marked; is_backlogged = c.requires; more = refl; disconnect = refl; listening = refl; listens = λ is. inl is }
 
 pub returns-in-Lost-clause-client_step : goal.returns-in-Lost-clause-client_step
 returns-in-Lost-clause-client_step g c = stepped_then _ _ _ _ _ _ _ _ c.loop.invariant.stepped c.in_ok-step.ensures.client_step
@@ -16,7 +16,7 @@ returns-in-Lost-clause-client_step g c = stepped_then _ _ _ _ _ _ _ _ c.loop.inv
 pub loop-preserved : goal.loop-preserved
 loop-preserved g c = record {
   counted = elim c.match-branch-2.branch [ in-Served w ↦ omega arith | in-Goes w ↦ omega arith ];
-  calls = calls_then _ _ _ _ c.loop.invariant.calls c.in_ok-step.ensures.calls;
+  calls = within_then _ _ _ _ _ _ _ c.loop.invariant.calls c.in_ok-step.ensures.calls;
   stepped = stepped_then _ _ _ _ _ _ _ _ c.loop.invariant.stepped c.in_ok-step.ensures.client_step;
   marked = λ marked. c.in_ok-step.ensures.marked (c.loop.invariant.marked marked);
   is_backlogged = ap (λ (t : Turn). t.is_backlogged) c.in_ok-step.ensures.turn ∙ c.loop.invariant.is_backlogged;
@@ -45,10 +45,10 @@ pub returns-in-Rests-clause-client_step : goal.returns-in-Rests-clause-client_st
 returns-in-Rests-clause-client_step g c = stepped_then _ _ _ _ _ _ _ _ c.loop.invariant.stepped c.in_ok-step.ensures.client_step
 
 pub returns-in_err-step-clause-calls : goal.returns-in_err-step-clause-calls
-returns-in_err-step-clause-calls g c = calls_then _ _ _ _ c.loop.invariant.calls c.step.ensures.calls
+returns-in_err-step-clause-calls g c = within_then _ _ _ _ _ _ _ c.loop.invariant.calls c.step.ensures.calls
 
 pub returns-in-Lost-clause-calls : goal.returns-in-Lost-clause-calls
-returns-in-Lost-clause-calls g c = calls_then _ _ _ _ c.loop.invariant.calls c.step.ensures.calls
+returns-in-Lost-clause-calls g c = within_then _ _ _ _ _ _ _ c.loop.invariant.calls c.step.ensures.calls
 
 pub returns-in-Rests-clause-calls : goal.returns-in-Rests-clause-calls
-returns-in-Rests-clause-calls g c = calls_then _ _ _ _ c.loop.invariant.calls c.step.ensures.calls
+returns-in-Rests-clause-calls g c = within_then _ _ _ _ _ _ _ c.loop.invariant.calls c.step.ensures.calls

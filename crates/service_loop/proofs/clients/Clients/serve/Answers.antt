@@ -6,7 +6,7 @@ use Rattle.service_loop.specs.ClientSlots.{HasNoneNow, leaves_more}
 use Rattle.service_loop.specs.Progress.{IsGiven}
 use Rattle.service_loop.specs.ClientSteps.{is_starved}
 use Rattle.service_loop.specs.declared.clients.Turns.{Turns}
-use Rattle.service_loop.proofs.CallLaws.{by_turns}
+use Rattle.service_loop.proofs.CallLaws.{within_none, within_then}
 use Rattle.service_loop.proofs.PlaceLaws.{each_more, each_of_all, each_own, given_there, none_yet, one_more, rest_turns, rests_there, untouched}
 use Rattle.service_loop.proofs.clients.Clients.serve.Goals as goal
 use Rattle.service_loop.proofs.clients.Clients.serve.Goals.{in-Some, in_default}
@@ -15,6 +15,7 @@ pub loop-key-init : goal.loop-key-init
 loop-key-init g c = record {
   starved = omega arith;
   turns = none_yet _ _ _ _;
+  calls = within_none _ _ _;
   given = λ key lt. absurd (omega arith);
   counted = c.count_listeners-self.ensures;
   few = λ few. subst (λ (n : ℕ). n ≤ most_listeners c.args.self.now.places) (sym c.count_listeners-self.ensures) few;
@@ -44,6 +45,7 @@ loop-key-preserved g c =
         | in_default w ↦ rw w.turns-is (omega arith)
       ];
       turns = one_more _ _ _ _ _ _ _ c.serve_at.result _ _ so_far.turns turn;
+      calls = within_then _ _ _ _ _ _ _ so_far.calls c.serve_at.ensures.calls;
       given = each_more IsGiven c.loop-key.self.slots c.serve_at.new.self.slots c.loop-key.key turn.others so_far.given (given_there g.D.Disk.device g.L.Connection.view _ _ c.serve_at.result _ _ turn.own);
       counted = c.serve_at.ensures.counted;
       few = λ few. kept_few c.loop-key.self.listeners c.serve_at.new.self.listeners c.loop-key.self.places c.args.self.now.places so_far.places c.serve_at.ensures.few (so_far.few few);
@@ -68,7 +70,7 @@ returns-clause-turns g c =
     (λ key from to. untouched g.D.Disk.device g.L.Connection.view _ _ end _ _ c.loop-key.invariant.turns key from ∙ none key from to) c.loop-key.invariant.turns
 
 pub returns-clause-calls : goal.returns-clause-calls
-returns-clause-calls g c = by_turns g.D.Disk.device g.L.Connection.view _ _ _ _ _ c.loop-key.invariant.turns
+returns-clause-calls g c = c.loop-key.invariant.calls
 
 pub returns-clause-own : goal.returns-clause-own
 returns-clause-own g c = each_own _ _ _ _ 1000 _ _ (returns-clause-turns g c)

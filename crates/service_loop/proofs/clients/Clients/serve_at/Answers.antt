@@ -5,6 +5,7 @@ use Rattle.service_loop.specs.AdmissionViews.{is_listener}
 use Rattle.service_loop.specs.ClientListening.{is_listened, one_if}
 use Rattle.service_loop.proofs.ListenerCounts.{counted_then, few_then, itself_counted, not_starved}
 use Rattle.service_loop.proofs.PlaceLaws.{had_turn, has_gone, has_stayed, updates_then, written}
+use Rattle.service_loop.proofs.CallLaws.{goes_of}
 use Rattle.service_loop.proofs.clients.Clients.serve_at.Goals as goal
 
 pub overflow_sub-others : goal.overflow_sub-others
@@ -19,7 +20,7 @@ pub returns-then-is_some-clause-turn : goal.returns-then-is_some-clause-turn
 returns-then-is_some-clause-turn g c =
     let turn = c.serve-turn in
     let there = sym c.in_ok-client-2.ensures.value in
-    had_turn _ _ _ _ _ c.in_ok-client-2.client.now turn.new.self turn.result _ _ there turn.ensures.calls turn.ensures.client_step turn.ensures.ends
+    had_turn _ _ _ _ _ c.in_ok-client-2.client.now turn.new.self turn.result _ _ there (goes_of _ _ _ _ _ turn.ensures.calls) turn.ensures.client_step turn.ensures.ends
     (has_gone _ _ _ c.in_ok-client-2.client.now turn.new.self turn.result.disconnect there (sym c.is_some.ensures ∙ c.if-is_some.true) c.try_remove.ensures.updates)
 
 pub returns-then-is_some-clause-counted : goal.returns-then-is_some-clause-counted
@@ -36,7 +37,7 @@ pub returns-then-is_listener-clause-turn : goal.returns-then-is_listener-clause-
 returns-then-is_listener-clause-turn g c =
     let turn = c.serve-turn in
     let there = sym c.in_ok-client-2.ensures.value in
-    had_turn _ _ _ _ _ c.in_ok-client-2.client.now turn.new.self turn.result _ _ there turn.ensures.calls turn.ensures.client_step turn.ensures.ends
+    had_turn _ _ _ _ _ c.in_ok-client-2.client.now turn.new.self turn.result _ _ there (goes_of _ _ _ _ _ turn.ensures.calls) turn.ensures.client_step turn.ensures.ends
     (has_stayed _ _ c.in_ok-client-2.client.now turn.new.self turn.result.disconnect there (sym c.is_some.ensures ∙ c.if-is_some.false))
 
 pub returns-then-is_listener-clause-counted : goal.returns-then-is_listener-clause-counted
@@ -54,7 +55,7 @@ pub returns-else-is_listener-clause-turn : goal.returns-else-is_listener-clause-
 returns-else-is_listener-clause-turn g c =
     let turn = c.serve-turn in
     let there = sym c.in_ok-client-2.ensures.value in
-    had_turn _ _ _ _ _ c.in_ok-client-2.client.now turn.new.self turn.result _ _ there turn.ensures.calls turn.ensures.client_step turn.ensures.ends
+    had_turn _ _ _ _ _ c.in_ok-client-2.client.now turn.new.self turn.result _ _ there (goes_of _ _ _ _ _ turn.ensures.calls) turn.ensures.client_step turn.ensures.ends
     (has_stayed _ _ c.in_ok-client-2.client.now turn.new.self turn.result.disconnect there (sym c.is_some.ensures ∙ c.if-is_some.false))
 
 pub returns-else-is_listener-clause-counted : goal.returns-else-is_listener-clause-counted

@@ -3,19 +3,19 @@ use Rattle.std.proofs.Common.{ap, nat_lt, rules, ◌∙◌}
 use Rattle.std.proofs.lemmas.Fn.{filter_same}
 use Rattle.service_rules.specs.declared.purges.Candidate.{Candidate}
 use Rattle.service_rules.specs.Purges.{above, swept_to}
-use Rattle.service_loop.proofs.CallLaws.{calls_then, purged_next}
+use Rattle.service_loop.proofs.CallLaws.{purged_next, within_then}
 use Rattle.service_loop.proofs.TurnLaws.{counts_next}
 use Rattle.service_loop.proofs.maintenance.Maintenance.purge.Goals as goal
 
 pub loop-job-preserved : goal.loop-job-preserved
 loop-job-preserved g c = record {
-  calls = calls_then g.D.Disk.device _ _ _ c.loop-job.invariant.calls c.say.ensures.calls;
+  calls = within_then g.D.Disk.device _ _ _ _ _ _ c.loop-job.invariant.calls c.say.ensures.calls;
   rest = λ e others. c.loop-job.invariant.rest e (purged_next g.D.Disk.device _ _ e c.loop-job.job-iterator c.in-Some.job _ c.in-Some.ensures.steps c.in_ok-say.ensures.answered others);
   counted = counts_next c.loop-job.ended _ _ c.loop-job.job-iterator _ c.in-Some.job c.saturating_sub-ended.ensures c.in-Some.ensures.steps c.loop-job.invariant.counted;
 }
 
 pub returns-in_err-say-clause-calls : goal.returns-in_err-say-clause-calls
-returns-in_err-say-clause-calls g c = calls_then g.D.Disk.device _ _ _ c.loop-job.invariant.calls c.say.ensures.calls
+returns-in_err-say-clause-calls g c = within_then g.D.Disk.device _ _ _ _ _ _ c.loop-job.invariant.calls c.say.ensures.calls
 
 pub returns-clause-crossed : goal.returns-clause-crossed
 returns-clause-crossed g c =

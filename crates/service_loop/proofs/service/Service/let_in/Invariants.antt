@@ -6,5 +6,6 @@ use Rattle.service_loop.proofs.service.Service.let_in.Given as goal
 abbrev pub invariant-loop : goal.invariant-loop
 invariant-loop g l = record {
   engine : l.self.shared.engine ≡ l.fn.self.shared.engine;
+  most : l.self.shared.most ≡ l.fn.self.shared.most;
   history : GoesByEvents g.D.Disk.device g.R.Stream.Connection.view l.fn.self.shared.engine l.fn.self.clients.slots l.self.shared.engine l.self.clients.slots;
 }

@@ -20,3 +20,6 @@ returns-clause-recorded g c =
       subst (λ (d : Option Deed). HasRecordedAll after old (accepted_deeds d due answer) new) (c.in_ok-expected.ensures.deed ∙ ap (λ (t : State). command_deed t c.args.command) c.table.ensures)
           (subst (λ (t : State). HasRecordedAll t old (accepted_deeds c.in_ok-expected.expected.deed due answer) new) c.table-3.ensures c.record_command.ensures),
     )
+
+pub returns-clause-calls : goal.returns-clause-calls
+returns-clause-calls g c = c.execute-answer.ensures.calls c.args.self.now.most
