@@ -12,7 +12,7 @@ one, or of one of these files; without one all are run. --list prints their name
 | service_watches.py | what watching clients are sent, numbered changes, `stop`, `close` with a type, and lines of the log |
 | service_clients.py | clients that stall, flood, never read, are too many, and are cut off at each byte |
 | service_places.py | how many clients have places, which keep theirs, and how many wait or watch |
-| service_children.py | children that are slow, hang and are ended, how many run at once, and a full folder |
+| service_children.py | children that are slow, hang and are ended, how many run at once, their side channels, and a full folder |
 | service_printing.py | whole documents, the same results of children as in the shell, and the children that are ended |
 | service_roles.py | each row of the table of roles, by users of the system |
 | service_users.py | clients of several users: the requests that each is denied, and the fields that are hidden from it |
@@ -30,7 +30,8 @@ one, or of one of these files; without one all are run. --list prints their name
 The backends are small programs of sh in a fresh folder for each test. Some tests take long, and are shorter unless --long is given, or
 SERVICE_LONG is set: with it the service is killed 1,000 times, prints 10,000 jobs, and has 2,000 files of power cuts. That takes an hour or
 more, and otherwise about twelve minutes. Tests that need root, strace, gcc or the built spool_shell are skipped if that is missing,
-and reported as `left out`. Times are printed, and only service_times.py checks some, as ratios to those of a C program.
+and reported as `left out`. Times are printed. service_times.py checks some as ratios to those of a C program, and service_children.py
+those of the side channel as ratios to those of the shell.
 
 The last line is `N of N`, with the number left out, and status 0; or the number that failed, with status 1. The folder of a test that
 failed is kept then, and its path is printed.

@@ -3,8 +3,9 @@ import os
 import subprocess
 import time
 
+import cuts
 import traces
-from service_parts import Client, Skipped, holds, kill_children, listings, print_times, same, timed, until
+from service_parts import Client, Skipped, TYPE, holds, kill_children, listings, print_times, same, timed, until
 
 # A backend that writes its process number and hangs, with a child of its own.
 HANGS = """#!/bin/sh
@@ -220,6 +221,110 @@ def a_child_that_asks_while_it_runs(folder):
     print(f"  ten questions of a child were answered, and its job printed, in {time.time() - began:.2f} s")
 
 
+# A backend that sends three requests of 65,535 bytes, each after the answer to the one before, then thirty of one byte, and writes how
+# long each kind took.
+ASKS_MUCH = """#!/usr/bin/python3 -ES
+import os, socket, time
+line = socket.socket(socket.AF_UNIX, socket.SOCK_STREAM)
+line.settimeout(60)
+line.connect(os.environ["SPOOL_SIDE"])
+def ask(times, length, status):
+    began = time.monotonic()
+    for _ in range(times):
+        line.sendall(b"\\5\\0" + length.to_bytes(2, "big") + bytes(length))
+        answer = b""
+        while len(answer) < 4 or len(answer) < 4 + int.from_bytes(answer[2:4], "big"):
+            piece = line.recv(4096)
+            if not piece:
+                raise SystemExit(1)
+            answer += piece
+        if answer[0] != 5 or answer[1] != status:
+            raise SystemExit(1)
+    return time.monotonic() - began
+took = f"{ask(3, 65_535, 6)} {ask(30, 1, 1)}"
+with open("FOLDER/took", "w") as file:
+    file.write(took)
+"""
+
+# How many times as long as in the shell long and short requests may take, and the least time that counts for the shell, in seconds.
+MOST_TIMES = (10, 10)
+LEAST_TIME = 0.02
+
+
+def took(folder):
+    """How long the long and the short requests took."""
+    times = [float(word) for word in folder.read("took").split()]
+    os.remove(folder.at("took"))
+    return times
+
+
+def requests_as_quick_as_in_the_shell(folder):
+    """Requests on the side channel, long ones and short ones, take the service little longer than the shell."""
+    if not os.path.exists(cuts.BUILT):
+        raise Skipped("the built spool_shell (`rt run` in crates/spool_shell)")
+    with_side_channels(folder)
+    folder.backend("asks", ASKS_MUCH)
+    words = [*folder.before, cuts.BUILT, "--root", folder.at("spool"), "--size", str(folder.size), "--programs", folder.at("programs")]
+    script = f'queue q asks:/ {TYPE} abort-job\ncreate q ann "" 1 50 ""\nclose 1 f\ndrain 2\njobs\n'
+    ran = subprocess.run(words, input=script, capture_output=True, text=True, timeout=120)
+    holds(f"the job of the shell: {ran.stdout}", ran.returncode == 0 and "job 1 q 9 " in ran.stdout)
+    by_shell = took(folder)
+    for name in os.listdir(folder.at("spool")):
+        os.remove(folder.at("spool", name))
+    folder.start("--children", "1")
+    client = Client(folder)
+    folder.queue(client, "q", "", "abort-job", scheme="asks")
+    # A client that waits sends nothing, so that no turn of the service is due to it.
+    client.connection.settimeout(300)
+    same("the job of the service", client.ask(f"wait {client.submit('q')}\n").split()[3], "9")
+    by_service = took(folder)
+    for kind, ours, theirs, most in zip(("long", "short"), by_service, by_shell, MOST_TIMES):
+        print(f"  {kind} requests: the service {1_000 * ours:.1f} ms, the shell {1_000 * theirs:.1f} ms")
+        holds(f"{kind} requests take the service at most {most} times as long", ours <= most * max(theirs, LEAST_TIME))
+
+
+# A backend that sends long requests as fast as it can, from three connections, until a file exists.
+FLOODS = """#!/usr/bin/python3 -ES
+import os, select, socket, time
+lines = [socket.socket(socket.AF_UNIX, socket.SOCK_STREAM) for _ in range(3)]
+for line in lines:
+    line.connect(os.environ["SPOOL_SIDE"])
+    line.setblocking(False)
+request, sent, count = b"\\5\\0\\xff\\xff" + bytes(65_535), [0] * len(lines), 0
+while not os.path.exists("FOLDER/enough"):
+    readable, writable, _ = select.select(lines, lines, [], 1)
+    for line in readable:
+        count += len(line.recv(65_536)) // 4
+    for line in writable:
+        at = lines.index(line)
+        sent[at] += line.send(request[sent[at] % len(request):])
+with open("FOLDER/flooded", "w") as file:
+    file.write(str(count))
+"""
+
+
+def a_child_that_floods_its_side_channel(folder):
+    """It delays no client: a turn serves the side channels for about a millisecond, whatever arrives."""
+    with_side_channels(folder)
+    folder.backend("floods", FLOODS)
+    folder.start()
+    client = Client(folder)
+    folder.queue(client, "q", "", "abort-job", scheme="floods")
+    job = client.submit("q")
+    client.until_state(job, "5")
+    time.sleep(0.5)
+    began, times = time.time(), sorted(listings(client, 100))
+    same("it still floods", client.state(job)[0], "5")
+    folder.write("enough", "")
+    client.until_state(job, "9")
+    print_times("listings meanwhile", times)
+    print(f"  {int(folder.read('flooded'))} requests of 65,535 bytes were answered in {time.time() - began:.1f} s")
+    # A service that serves a channel as long as something arrives does not answer before the flood ends.
+    holds("half of the listings take less than 50 ms", times[50] < 0.05)
+    holds("all listings take less than 0.5 s", times[-1] < 0.5)
+    holds("some requests were answered", 0 < int(folder.read("flooded")))
+
+
 def few_descriptors(folder):
     """If the system has few descriptors for the service, fewer children run at once, and no job loses an attempt."""
     folder.limit_descriptors(64)
@@ -322,6 +427,8 @@ TESTS = [
     a_child_that_ignores_its_end,
     a_child_with_a_side_channel,
     a_child_that_asks_while_it_runs,
+    requests_as_quick_as_in_the_shell,
+    a_child_that_floods_its_side_channel,
     few_descriptors,
     processes_that_are_refused,
     a_full_folder,

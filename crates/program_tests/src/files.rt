@@ -41,6 +41,7 @@ fn told(rt: HostRuntime, named: Named) -> Result<Vec<u8>, Fail> {
         convs,
         programs,
         size: 4_096,
+        reserve: false,
         devices: false,
     };
     let errors = Kept {

@@ -31,7 +31,15 @@ fn end_after(alloc: Global, calls: u64, told: &mut Vec<u8>) -> Result<&'static s
     let place = place_in(alloc, "", false)?;
     let rules = no_rules(alloc)?;
     let children = (NoChildren, place);
-    match serve(alloc, disk, children, rules, &mut SCRIPT.as_bytes(), told) {
+    match serve(
+        alloc,
+        disk,
+        children,
+        rules,
+        false,
+        &mut SCRIPT.as_bytes(),
+        told,
+    ) {
         Ok(()) => Ok("served\n"),
         Err(ShellFault::Disk(_)) => Ok("disk\n"),
         Err(_) => Ok("other\n"),
@@ -100,6 +108,7 @@ const NOTHING: ShellWords<'static> = ShellWords {
     convs: None,
     programs: None,
     size: 4_096,
+    reserve: false,
     devices: false,
 };
 

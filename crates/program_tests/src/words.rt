@@ -13,6 +13,7 @@ const NOTHING: ShellWords<'static> = ShellWords {
     convs: None,
     programs: None,
     size: 4_194_304,
+    reserve: false,
     devices: false,
 };
 
@@ -22,6 +23,7 @@ fn ask_the_same(a: &ShellWords<'_>, b: &ShellWords<'_>) -> bool {
         && a.convs == b.convs
         && a.programs == b.programs
         && a.size == b.size
+        && a.reserve == b.reserve
         && a.devices == b.devices
 }
 
@@ -47,13 +49,15 @@ const ALL: ShellWords<'static> = ShellWords {
     convs: Some("a.convs"),
     programs: Some("a.programs"),
     size: 4_096,
+    reserve: true,
     devices: true,
 };
 
-const ALL_GIVEN: [&str; 9] = [
+const ALL_GIVEN: [&str; 10] = [
     "--convs",
     "a.convs",
     "--devices",
+    "--reserve",
     "--size",
     "4096",
     "--root=/var/spool",

@@ -4,3 +4,4 @@ pub mod Refusals
 mod PrintLaws
 pub mod LeftoverLaws
 pub mod SessionLaws
+pub mod UserFaults

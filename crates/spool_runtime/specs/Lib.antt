@@ -1,5 +1,6 @@
 pub mod Begun
 pub mod ChildFiles
+pub mod ChildUsers
 pub mod DeviceLines
 pub mod ProgramEnding
 pub mod ProgramFaults
@@ -12,4 +13,5 @@ pub mod Serving
 pub mod ClientSessions
 pub mod Shortage
 pub mod SideDevice
+pub mod UserChecks
 pub mod ProgramArguments

@@ -48,9 +48,9 @@ spool_app name =
     with_rule (with_rule (with_rule (with_rule (with_rule (versioned_app name) (text_option (codes "root"))) (text_option (codes "types")))
     (text_option (codes "convs"))) (text_option (codes "programs"))) (option_of (codes "size") sizes)
 
--- `spool_shell`, with these options and `[--devices]`.
+-- `spool_shell`, with these options and `[--reserve] [--devices]`.
 abbrev pub shell_app : App
-shell_app = with_rule (spool_app (codes "spool_shell")) (flag_of (codes "devices"))
+shell_app = with_rule (with_rule (spool_app (codes "spool_shell")) (flag_of (codes "reserve"))) (flag_of (codes "devices"))
 
 -- ---- what clap finds in the arguments, which begin with the program's name
 
@@ -87,6 +87,10 @@ abbrev pub is_told : Option Text → Truth
 is_told None = false
 is_told (Some text) = bytes_eq text (codes "true")
 
+-- Whether the flag `--reserve` is given.
+abbrev pub reserve_of : List Row → Truth
+reserve_of found = is_told (one_of (codes "reserve") found)
+
 -- Whether the flag `--devices` is given.
 abbrev pub devices_of : List Row → Truth
 devices_of found = is_told (one_of (codes "devices") found)
@@ -105,6 +109,9 @@ programs_in words = programs_of (matches_of shell_app words)
 
 abbrev pub size_in : List Text → ℕ
 size_in words = size_of (matches_of shell_app words)
+
+abbrev pub reserve_in : List Text → Truth
+reserve_in words = reserve_of (matches_of shell_app words)
 
 abbrev pub devices_in : List Text → Truth
 devices_in words = devices_of (matches_of shell_app words)

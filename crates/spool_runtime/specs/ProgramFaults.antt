@@ -12,7 +12,7 @@ use Rattle.std.specs.declared.io.ErrorKind.TheVariants.{FilesystemLoop, IsADirec
 use Rattle.spool_runtime.specs.declared.fault.DiskCause.{DiskCause}
 use Rattle.spool_runtime.specs.declared.fault.DiskCause.TheVariants.{Absent, Failed, NoFile, NoRoom, NotAllowed, Owned, OwnerUnknown, ReadOnly}
 use Rattle.spool_runtime.specs.declared.fault.ShellFault.{ShellFault}
-use Rattle.spool_runtime.specs.declared.fault.ShellFault.TheVariants.{Damaged, Disk, File, Memory, NotASpool, Read, Write}
+use Rattle.spool_runtime.specs.declared.fault.ShellFault.TheVariants.{Damaged, Disk, File, Memory, NotASpool, Read, Users, Write}
 
 -- The disk was not opened as a spool.
 abbrev pub of_opening : OpenFault → ShellFault
@@ -60,6 +60,11 @@ abbrev pub IsOfFolder : ShellFault → Type 0
 IsOfFolder (Disk cause) = ⊤
 IsOfFolder Memory = ⊤
 IsOfFolder _ = ⊥
+
+-- The children cannot run as the users of the arguments, the folder cannot be used, or memory ran out.
+abbrev pub IsOfUsers : ShellFault → Type 0
+IsOfUsers Users = ⊤
+IsOfUsers fault = IsOfFolder fault
 
 -- The file of this name cannot be read, and the fault names it, or memory ran out.
 abbrev pub IsOfFile : Option (List ℕ) → ShellFault → Type 0

@@ -1,5 +1,5 @@
 -- How a spool is opened and served.
-use Rattle.std.specs.Prelude.{◌≡◌, ◌⊎◌, ℕ, List, Bool, false, Option, Some, Result, Err, codes}
+use Rattle.std.specs.Prelude.{◌≡◌, ◌⊎◌, ℕ, ◌/◌, List, Bool, true, false, Option, None, Some, Result, Err, codes}
 use Rattle.std.specs.FinMap as finite
 use Rattle.std.specs.String.{string_bytes}
 use Rattle.child_pipeline.specs.ChildTraces.{ChildTrace}
@@ -11,10 +11,11 @@ use Rattle.spool_disk.specs.Disk.{DiskView}
 use Rattle.spool_core.specs.Image.{IsFaultOf, IsReopenedFrom}
 use Rattle.spool_core.specs.OpenSpools.{OpenSpool}
 use Rattle.spool_core.specs.declared.OpenFault.{OpenFault}
-use Rattle.spool_engine.specs.EventSteps.{setting}
+use Rattle.spool_engine.specs.EventSteps.{Setting, setting}
 use Rattle.spool_engine.specs.Mime.{Mime}
 use Rattle.spool_engine.specs.EngineRuns.{Engine, IsRun, CommandStep}
 use Rattle.spool_engine.specs.declared.fault.RunFault.{RunFault}
+use Rattle.engine_reserve.specs.ReservedRuns.{IsReservedRun}
 use Rattle.spool_runtime.specs.ProgramEnding.{ending_of}
 use Rattle.spool_runtime.specs.ProgramFaults.{IsOfFolder, of_opening}
 use Rattle.spool_runtime.specs.declared.fault.ShellFault.{ShellFault}
@@ -62,15 +63,25 @@ pub record IsUnread {D : Type 0} (device : DiskView D) (disk : D) (told : ShellF
 
 -- ---- serving the disk
 
+-- The size of an area of a disk of this size, if the run keeps the reserve.
+abbrev pub reserved_area : Bool → ℕ → Option ℕ
+reserved_area true size = Some (size / 2)
+reserved_area false size = None
+
+-- A run of the engine, or one that keeps the reserve of areas of this size.
+abbrev pub IsRunWith : {D : Type 0} → Setting D → Option ℕ → Option (List ℕ) → RunState D → List ℕ → List (CommandStep D) → RunState D → Result (Unit {0}) RunFault → Option (List ℕ) → Option (List ℕ) → Type 0
+IsRunWith v None known s text turns s' ran old new = IsRun v known s text turns s' ran old new
+IsRunWith v (Some area) known s text turns s' ran old new = IsReservedRun v area known s text turns s' ran old new
+
 -- A run over the opened disk ended with this result.
-pub record HasRun {D : Type 0} (device : DiskView D) (mime : Mime) (place : Place) (told : Option ChildTrace) (disk : D) (known : Option (List ℕ)) (result : Result (Unit {0}) ShellFault) (old new : Option (List ℕ)) : Type 0 where
+pub record HasRun {D : Type 0} (device : DiskView D) (mime : Mime) (place : Place) (told : Option ChildTrace) (reserve : Bool) (disk : D) (known : Option (List ℕ)) (result : Result (Unit {0}) ShellFault) (old new : Option (List ℕ)) : Type 0 where
   pub engine : Engine D
   pub after : RunState D
   pub text : List ℕ
   pub turns : List (CommandStep D)
   pub ran : Result (Unit {0}) RunFault
   pub opened : IsOpened device mime place told disk engine
-  pub run : IsRun (setting device mime place) known engine.run_state text turns after ran old new
+  pub run : IsRunWith (setting device mime place) (reserved_area reserve (device.size disk)) known engine.run_state text turns after ran old new
   pub ends : result ≡ ending_of ran after.spool.dead
 
 -- The disk was not opened, and nothing was read or written.

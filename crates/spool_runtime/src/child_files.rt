@@ -1,9 +1,10 @@
 //! The files of a child, in the spool's folder.
 ghost use Rattle.std.specs.Prelude.{◌≡◌, IfOk};
 ghost use Rattle.std.specs.String.{string_bytes};
-ghost use Rattle.spool_runtime.specs.ChildFiles.{ReadsUpTo, file_of, wants_room};
+ghost use Rattle.spool_runtime.specs.ChildFiles.{ReadsUpTo, file_of, folder_of, wants_room};
 ghost use Rattle.filter_args.specs.declared.files.ChildFile.TheVariants as files;
 
+use crate::child_users::run_folder;
 use crate::device::new_file;
 use child_pipeline::Order;
 use filter_args::{ChildFile, Place};
@@ -25,6 +26,8 @@ pub(crate) struct ChildPaths {
     pub errors: String,
     /// The socket of its side channel.
     pub side: String,
+    /// Its own folder, if it has a user.
+    pub folder: String,
 }
 
 impl ChildPaths {
@@ -34,16 +37,18 @@ impl ChildPaths {
         ensures output { IfOk result (λ paths. string_bytes paths.output ≡ file_of files.Output (string_bytes place.now.root) order.now) }
         ensures errors { IfOk result (λ paths. string_bytes paths.errors ≡ file_of files.Errors (string_bytes place.now.root) order.now) }
         ensures side { IfOk result (λ paths. string_bytes paths.side ≡ file_of files.Side (string_bytes place.now.root) order.now) }
+        ensures folder { IfOk result (λ paths. string_bytes paths.folder ≡ folder_of (string_bytes place.now.root) order.now) }
     {
         Ok(ChildPaths {
             input: path_of(alloc, ChildFile::Input, place, order)?,
             output: path_of(alloc, ChildFile::Output, place, order)?,
             errors: path_of(alloc, ChildFile::Errors, place, order)?,
             side: path_of(alloc, ChildFile::Side, place, order)?,
+            folder: folder_path(alloc, place, order)?,
         })
     }
 
-    /// Removes the files that exist and, with `side`, the socket. Errors are ignored.
+    /// Removes the files that exist and, with `side`, the socket, but not the folder. Errors are ignored.
     pub fn remove<R: Files>(&self, rt: &R, side: bool) {
         for path in [&self.input, &self.output, &self.errors] {
             let _ = fs::remove_file(rt, path.as_str());
@@ -64,6 +69,15 @@ fn path_of(
 {
     let stage = order.stage.get() as u8;
     file.path(alloc, place, order.job, order.attempt.get(), stage)
+}
+
+// Returns the path of the child's own folder.
+fn folder_path(alloc: Global, place: &Place, order: &Order) -> Result<String, AllocError>
+    ensures { IfOk result (λ path. string_bytes path ≡ folder_of (string_bytes place.now.root) order.now) }
+{
+    let (root, run) = (place.root.as_str(), run_folder());
+    let (job, attempt, stage) = (order.job.get(), order.attempt.get(), order.stage.get());
+    format!(in alloc; "{root}/{run}/{job}-{attempt}-{stage}")
 }
 
 /// Makes a file that only its owner may read. If the name is taken, it first removes the file that a crash left there,

@@ -96,6 +96,15 @@ impl<'a> SpoolFolder<'a> {
         self.disk(rt, file)
     }
 
+    /// Returns the size of the spool's file, in bytes.
+    pub fn disk_size<R: Files<File = File> + AllocGlobal>(&self, rt: &R) -> Result<u64, ShellFault>
+        ensures { IfErr result IsOfFolder }
+    {
+        let path = self.path.join(rt.alloc(), NAME)?;
+        let named = fs::metadata(rt, path.as_path())?;
+        Ok(named.len())
+    }
+
     /// Makes a file of `size` zeros that will replace the spool's file, with the same owner and mode. It has the name
     /// of an unfinished file until [`replace_device`](SpoolFolder::replace_device) renames it. An unfinished file of an
     /// earlier attempt is removed first. Fails with `NoFile` if the spool's file is not a regular file or has another

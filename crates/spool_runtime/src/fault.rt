@@ -41,6 +41,9 @@ pub enum ShellFault {
     /// There are programs to run, but SIGCHLD is ignored, so their ends cannot be known.
     #[error("sigchld-ignored")]
     Ignored,
+    /// The children cannot run as the users of the arguments.
+    #[error("children-user")]
+    Users,
 }
 
 /// Why the spool's disk, its file or its folder cannot be used.

@@ -9,6 +9,9 @@
 //! of that name replaces them. With a side channel there is also the socket `side-J-A-S`. While a child is finished or
 //! polled, the side channels of all running children are served ([`crate::sessions`]).
 //!
+//! With users for the children, each child but those of `root-backend` lines gets one of them and a folder of its own
+//! ([`crate::child_users`]).
+//!
 //! The program is looked up and checked before anything is made. A file that may be executed but not read is left to
 //! the system. The program that ends side channels is checked only when the spooler starts ([`crate::fitness`]). If it
 //! fails, the script of the child ends all the same.
@@ -19,8 +22,9 @@
 //!
 //! `start` returns while the child runs, so the children of a round run at the same time.
 //!
-//! `has_ended` does not wait. It asks the system once, and answers the requests that have arrived on the side channels.
-//! If the system cannot say whether the child has ended, the child counts as ended, and `finish` reports it.
+//! `has_ended` does not wait for the child. It asks the system once, and gives the side channels a turn of about a
+//! millisecond at most. If the system cannot say whether the child has ended, the child counts as ended, and `finish`
+//! reports it.
 //!
 //! # Shortages
 //!
@@ -50,11 +54,12 @@
 //!
 //! Each error is logged in a line with its cause. So is the end of a child that failed without a message
 //! ([`crate::reasons`]).
-ghost use Rattle.std.specs.Prelude.{◌≡◌, ◌≤◌, ◌+◌, ◌-◌, ◌/◌, min, None, IfOk, IfSome, IsErr, IsOkAnd, IsSomeAnd, is_some, string_bytes};
+ghost use Rattle.std.specs.Prelude.{◌≡◌, ◌≤◌, ◌+◌, ◌-◌, ◌/◌, [], map, min, None, IfOk, IfSome, IsErr, IsOkAnd, IsSomeAnd, is_some, string_bytes};
 ghost use Rattle.std.specs.Option.{option_map};
 ghost use Rattle.spool_types.specs.Limits.{longest_document};
 ghost use Rattle.child_pipeline.specs.Finishes.{most_errors};
 ghost use Rattle.spool_runtime.specs.ChildFiles.{ReadsUpTo};
+ghost use Rattle.spool_runtime.specs.ChildUsers.{HasUsualLimits, run_user_of, users_for};
 ghost use Rattle.spool_runtime.specs.Serving.{IsPlace};
 ghost use Rattle.std.specs.IoError.{error_kind, raw_os_error};
 ghost use Rattle.std.specs.Time.{instant_nanos};
@@ -62,6 +67,10 @@ ghost use Rattle.spool_runtime.specs.Launching.{TellsEnd, TellsNoEnd, device_for
 
 use crate::child_files::{
     ChildPaths, has_room, make_file, make_file_of, output_to_hand, probe_path, read_at_most,
+};
+use crate::child_users::{
+    ChildSettings, ChildUser, RunUser, TakenUser, give, give_document, make_folder, script_input,
+    take_user,
 };
 use crate::reasons::{Reason, StageRun, reason_of};
 use crate::script::Call;
@@ -82,7 +91,7 @@ use std::net::Net;
 use std::os::unix::process::ExitStatusExt;
 use std::process::{Child, ExitStatus, OpenProcess, Processes, Stdio};
 use std::time::{Clock, Duration, Instant};
-use std::{io, thread};
+use std::{fs, io, thread};
 
 // The number of bytes of standard output that are read. One more than a document may have is enough to know that the
 // output is too long.
@@ -100,10 +109,6 @@ const LONGEST_TIME: u128 = 60_000;
 // The standard input of a first stage.
 const NOTHING: &str = "/dev/null";
 
-/// The size limit of a file that a child writes, in blocks of 512 bytes: 1 GiB, which Ghostscript's temporary files
-/// stay within.
-pub const MOST_BLOCKS: u32 = 2_097_152;
-
 /// Runs the programs of a list, with their files in the folder of a place. Logs failures.
 #[derive(Drop)]
 pub struct Launcher<'a, L, R> {
@@ -113,8 +118,8 @@ pub struct Launcher<'a, L, R> {
     pub place: Place,
     /// The programs that it can run, and the program that ends side channels.
     pub list: ProgramList,
-    /// The size limit of a file that a child writes, in blocks of 512 bytes.
-    pub most_blocks: u32,
+    /// The users of its children, and their limits.
+    pub settings: ChildSettings,
     patience: Patience,
     room: FolderRoom,
     descriptors: Descriptors,
@@ -141,6 +146,8 @@ pub struct RunningChild<P: OpenProcess + Drop> {
 struct BegunChild<P: OpenProcess + Drop> {
     child: Child<P>,
     paths: ChildPaths,
+    // Whether it has a folder of its own.
+    has_folder: bool,
     output: File,
     errors: File,
 }
@@ -149,7 +156,7 @@ struct BegunChild<P: OpenProcess + Drop> {
 type Launched<P> = (BegunChild<P>, Option<SideLine>);
 
 /// Returns a launcher for the children of a folder's spool, and their place. There is a side channel if the list has a
-/// program that ends it.
+/// program that ends it. The children have no users and the default limits.
 pub fn launcher_in<'a, L: Log, R: Files<File = File> + Net + Processes + Clock + AllocGlobal>(
     log: &'a L,
     rt: &'a R,
@@ -159,7 +166,8 @@ pub fn launcher_in<'a, L: Log, R: Files<File = File> + Net + Processes + Clock +
     ensures place { IfOk result (λ made. IsPlace dir.entry.now (is_some list.side) made.1) }
     ensures launcher { IfOk result (λ made. IsPlace dir.entry.now (is_some list.side) made.0.place) }
     ensures list { IfOk result (λ made. made.0.list ≡ list) }
-    ensures limit { IfOk result (λ made. made.0.most_blocks ≡ 2097152) }
+    ensures users { IfOk result (λ made. made.0.settings.users.items ≡ []) }
+    ensures limits { IfOk result (λ made. HasUsualLimits made.0.settings.limits) }
 {
     let alloc = rt.alloc();
     let side = list.side().is_some();
@@ -169,18 +177,19 @@ pub fn launcher_in<'a, L: Log, R: Files<File = File> + Net + Processes + Clock +
 }
 
 impl<'a, L: Log, R: Files<File = File> + Net + Processes + Clock + AllocGlobal> Launcher<'a, L, R> {
-    /// Returns a launcher for the children of this place, with the default limit of their files.
+    /// Returns a launcher for the children of this place, without users and with the default limits.
     pub fn new(log: &'a L, rt: &'a R, place: Place, list: ProgramList) -> Launcher<'a, L, R>
         ensures place { result.place ≡ place }
         ensures list { result.list ≡ list }
-        ensures limit { result.most_blocks ≡ 2097152 }
+        ensures users { result.settings.users.items ≡ [] }
+        ensures limits { HasUsualLimits result.settings.limits }
     {
         Launcher {
             log,
             rt,
             place,
             list,
-            most_blocks: MOST_BLOCKS,
+            settings: ChildSettings::usual(rt.alloc()),
             patience: Patience::new(),
             room: FolderRoom::new(),
             descriptors: Descriptors::new(),
@@ -188,6 +197,17 @@ impl<'a, L: Log, R: Files<File = File> + Net + Processes + Clock + AllocGlobal> 
             served: None,
             blind: false,
         }
+    }
+
+    /// Returns the launcher with these users and limits for its children.
+    pub fn with_settings(self, settings: ChildSettings) -> Launcher<'a, L, R>
+        ensures settings { result.settings ≡ settings }
+        ensures place { result.place ≡ self.entry.place }
+        ensures list { result.list ≡ self.entry.list }
+    {
+        let mut launcher = self;
+        launcher.settings = settings;
+        launcher
     }
 
     // Returns the program that an order names, if the list has it.
@@ -246,66 +266,134 @@ impl<'a, L: Log, R: Files<File = File> + Net + Processes + Clock + AllocGlobal> 
         self.run(program, paths, order)
     }
 
-    // Makes the files of a child and starts it. Removes the files if that fails.
+    // Returns the users that a program may run as.
+    fn users_for(&self, program: &ListedProgram) -> &[ChildUser]
+        ensures { result.now ≡ users_for self.now.settings.users.items program.now }
+    {
+        if program.keeps_user {
+            &[]
+        } else {
+            &self.settings.users
+        }
+    }
+
+    // Takes a user for a child, makes its files and starts it. Removes the files if that fails.
     fn run(
         &self,
         program: &ListedProgram,
         paths: ChildPaths,
         order: &Order,
     ) -> Result<Launched<R::Started>, Reason> {
-        match self.try_run(program, &paths, order) {
+        let root = self.place.root.as_str();
+        let taken = match take_user(self.rt, root, self.users_for(program)) {
+            Ok(taken) => taken,
+            Err(error) => return Err(refusal_of(&error)),
+        };
+        match self.try_run(program, &paths, &taken, order) {
             Ok((child, output, errors, side)) => {
                 let begun = BegunChild {
                     child,
                     paths,
+                    has_folder: taken.is_some(),
                     output,
                     errors,
                 };
                 Ok((begun, side))
             }
             Err(error) => {
-                paths.remove(self.rt, self.list.side().is_some());
+                self.remove_files(&paths, taken.is_some());
                 Err(refusal_of(&error))
             }
         }
+    }
+
+    // Removes the files of a child, and its folder if it has one. Returns whether the folder is gone.
+    fn remove_files(&self, paths: &ChildPaths, has_folder: bool) -> bool {
+        paths.remove(self.rt, self.list.side().is_some());
+        !has_folder || fs::remove_dir(self.rt, paths.folder.as_str()).is_ok()
     }
 
     fn try_run(
         &self,
         program: &ListedProgram,
         paths: &ChildPaths,
+        taken: &Option<TakenUser>,
         order: &Order,
     ) -> io::Result<(Child<R::Started>, File, File, Option<SideLine>)> {
-        let input = self.make_input(paths, &order.input)?;
+        let user = run_user(taken);
+        let input = self.make_input(paths, &order.input, user)?;
         let output = make_file(self.rt, paths.output.as_str())?;
         let errors = make_file(self.rt, paths.errors.as_str())?;
         let handed = output_to_hand(self.rt, paths.output.as_str())?;
         let side = self.bind_side(paths, order)?;
-        let call = Call {
-            input,
-            paths,
-            side: self.list.side(),
-            most_blocks: self.most_blocks,
-            environment: order.environment.as_slice(),
-            program,
-            words: order.words.as_slice(),
-        };
-        let mut command = call.command(self.rt.alloc())?;
-        command.stdin(Stdio::null());
+        self.make_place(paths, user)?;
+        let mut command = self
+            .call(input, paths, user, program, order)
+            .command(self.rt.alloc())?;
+        command.stdin(script_input(taken)?);
         command.stdout(Stdio::from(handed));
         command.stderr(Stdio::null());
         let child = command.spawn(self.rt)?;
         Ok((child, output, errors, side))
     }
 
-    // Makes the input file of a child, and returns the name of its standard input.
-    fn make_input<'p>(&self, paths: &'p ChildPaths, input: &Input) -> io::Result<&'p str>
+    // Returns the parameters of the script for an order.
+    fn call<'c>(
+        &'c self,
+        input: &'c str,
+        paths: &'c ChildPaths,
+        user: Option<RunUser>,
+        program: &'c ListedProgram,
+        order: &'c Order,
+    ) -> Call<'c>
+        ensures input { (result.input.now ≡ input.now) × (result.paths.now ≡ paths.now) }
+        ensures side { option_map (λ program. program.now) result.side ≡ self.now.list.side }
+        ensures limits { result.limits ≡ self.now.settings.limits }
+        ensures user { result.user ≡ user }
+        ensures program { result.program.now ≡ program.now }
+        ensures order { (map string_bytes result.environment.now ≡ order.now.environment) × (map string_bytes result.words.now ≡ order.now.words) }
+    {
+        Call {
+            input,
+            paths,
+            side: self.list.side(),
+            limits: self.settings.limits,
+            user,
+            environment: order.environment.as_slice(),
+            program,
+            words: order.words.as_slice(),
+        }
+    }
+
+    // Makes the folder of a child with a user, and gives it the socket of its side channel.
+    fn make_place(&self, paths: &ChildPaths, user: Option<RunUser>) -> io::Result<()> {
+        let Some(run) = user else {
+            return Ok(());
+        };
+        make_folder(self.rt, paths.folder.as_str(), run.user)?;
+        if self.list.side().is_some() {
+            give(self.rt, paths.side.as_str(), run.user)?;
+        }
+        Ok(())
+    }
+
+    // Makes the input file of a child, and returns the name of its standard input. A document, which the child opens by
+    // its name, belongs to the child's user.
+    fn make_input<'p>(
+        &self,
+        paths: &'p ChildPaths,
+        input: &Input,
+        user: Option<RunUser>,
+    ) -> io::Result<&'p str>
         ensures { IfOk result (λ name. name.now ≡ input_name (string_bytes paths.now.input) input.now) }
     {
         let path = paths.input.as_str();
         match input {
             Input::Document(content) => {
                 make_file_of(self.rt, path, content.as_slice())?;
+                if let Some(run) = user {
+                    give_document(self.rt, path, run.user)?;
+                }
                 Ok(NOTHING)
             }
             Input::Bytes(content) => {
@@ -422,12 +510,11 @@ impl<'a, L: Log, R: Files<File = File> + Net + Processes + Clock + AllocGlobal> 
         }
     }
 
-    // Answers the requests that have arrived on all side channels, unless that was done within this millisecond.
+    // Answers the requests that have arrived on all side channels, unless the last turn ended within this millisecond.
     // Returns whether there were any.
     fn serve_sides(&mut self) -> bool {
-        let alloc = self.rt.alloc();
         let Ok(now) = Instant::now(self.rt) else {
-            return self.sides.serve(alloc, 0);
+            return self.sides.serve(self.rt, 0);
         };
         let since = match self.served {
             Some(last) => millis_between(last, now),
@@ -436,8 +523,9 @@ impl<'a, L: Log, R: Files<File = File> + Net + Processes + Clock + AllocGlobal> 
         if since == 0 {
             return false;
         }
-        self.served = Some(now);
-        self.sides.serve(alloc, since)
+        let heard = self.sides.serve(self.rt, since);
+        self.served = Some(Instant::now(self.rt).unwrap_or(now));
+        heard
     }
 
     // Serves all side channels until this child has ended or none is open. Then closes the side channel of this child.
@@ -458,6 +546,7 @@ impl<'a, L: Log, R: Files<File = File> + Net + Processes + Clock + AllocGlobal> 
         let BegunChild {
             child,
             paths,
+            has_folder,
             output,
             errors,
         } = begun;
@@ -472,7 +561,9 @@ impl<'a, L: Log, R: Files<File = File> + Net + Processes + Clock + AllocGlobal> 
             output: has_room(&output),
             errors: has_room(&errors),
         };
-        paths.remove(self.rt, self.list.side().is_some());
+        if !self.remove_files(&paths, has_folder) {
+            run.log_reason(self.log, Reason::LeftFolder);
+        }
         match finish {
             Ok(finish) => self.whole(run, finish, room),
             Err(_) if unknown => Err(Reason::NoEnd),
@@ -491,6 +582,15 @@ impl<'a, L: Log, R: Files<File = File> + Net + Processes + Clock + AllocGlobal> 
         }
         run.log_reason(self.log, Reason::NoRoom);
         Ok(finish)
+    }
+}
+
+fn run_user(taken: &Option<TakenUser>) -> Option<RunUser>
+    ensures { result ≡ option_map run_user_of taken.now }
+{
+    match taken {
+        Some(user) => Some(user.run_user()),
+        None => None,
     }
 }
 

@@ -97,9 +97,9 @@ fn runs<R: Files<File = File> + AllocGlobal>(
     Ok(is_locked(rt, path.as_str()))
 }
 
-// Returns whether another process holds the lock of this file. Anything but a regular file, such as a link or a pipe,
-// is not opened.
-fn is_locked<R: Files<File = File>>(rt: &R, path: &str) -> bool {
+/// Returns whether another process holds the lock of this file. Anything but a regular file, such as a link or a pipe,
+/// is not opened.
+pub(crate) fn is_locked<R: Files<File = File>>(rt: &R, path: &str) -> bool {
     match fs::symlink_metadata(rt, path) {
         Ok(found) if found.is_file() => {}
         _ => return false,

@@ -6,7 +6,7 @@
 //! launcher of its children and their place ([`launcher_in`]), opens an engine with them over the folder's disk
 //! ([`open_folder_engine`]), and reports its end ([`report_end`]). The programs share the options in [`options`].
 //!
-//! Arguments: `[--root DIR] [--types FILE] [--convs FILE] [--programs FILE] [--size BYTES] [--devices] [--version]`
+//! Arguments: `[--root DIR] [--types FILE] [--convs FILE] [--programs FILE] [--size BYTES] [--reserve] [--devices] [--version]`
 //! ([`read_words`]). With `--root` the spool is the file `DIR/spool.disk` ([`device`]), and otherwise a disk in memory
 //! ([`memory_device`]). The files specify the types of documents, the filters that convert them, and the paths of
 //! filters and backends ([`files`]). The stages of jobs run as child processes ([`launcher`]). Without a folder none
@@ -16,7 +16,7 @@
 //! # Promises
 //!
 //! - [`read_words`] returns what clap's definition of a simple command finds in the arguments, or the defaults (`root`,
-//!   `types`, `convs`, `programs`, `size`, `devices`), each within its limits (`short_root`, `size_in_range`). It
+//!   `types`, `convs`, `programs`, `size`, `reserve`, `devices`), each within its limits (`short_root`, `size_in_range`). It
 //!   refuses the arguments exactly if clap finds an error or the root is too long (`taken`). A root that is too long is
 //!   an invalid value (`mistake`).
 //! - [`parse`] returns what clap finds in the arguments of any simple command (`found`, `taken`), and each value passes
@@ -30,22 +30,28 @@
 //!   and its bytes have this fault if the fault is one of bytes (`IsUnread`).
 //! - [`open_folder_engine`] does the same over a folder's disk, which promises nothing about its bytes (`IsSetUp`). It
 //!   fails only for a fault of the folder, of its file, or of the file's contents (`IsOfOpening`).
-//! - [`serve`] opens the spool so, and ends as the engine's run does (`HasRun`). Ok means that all commands were served
-//!   and the disk has not failed. A run whose disk failed answers all commands and ends with `disk`. If the disk cannot
-//!   be opened, nothing is read or written (`IsUnopened`).
+//! - [`serve`] opens the spool so, and ends as the engine's run does (`HasRun`), or as one that keeps the reserve
+//!   (`serve_text` of `engine_reserve`). Ok means that all commands were served and the disk has not failed. A run whose
+//!   disk failed answers all commands and ends with `disk`. If the disk cannot be opened, nothing is read or written
+//!   (`IsUnopened`).
 //! - [`memory_device`] is a spool with an empty table, of exactly the requested number of bytes.
 //! - [`place_in`] is the place of the children: the folder, the locale `C`, the search path `/usr/bin:/bin`, and
 //!   whether there is a side channel (`IsPlace`). With [`launcher_in`] there is one exactly if the list has a program
 //!   that ends it (`place`).
 //! - [`script::Call::command`] is `/bin/sh` without environment variables, with exactly the fixed script, the child's
-//!   files, the side channel, the limit, the variables, the program and its arguments, in this order (`arguments_of`).
-//!   So nothing of a job is ever part of the script's text. The files are those of the order (`file_of`,
-//!   `ChildPaths::of`).
+//!   files, the side channel, the user, the limits, the variables, the program and its arguments, in this order
+//!   (`arguments_of`). So nothing of a job is ever part of the script's text. The files and the folder are those of the
+//!   order (`file_of`, `folder_of`, `ChildPaths::of`). The settings of the launcher and the order are passed on unchanged
+//!   (`Launcher::call`).
+//! - A program of a `root-backend` line has no user, and any other program may have each of the users (`users_for`).
+//!   [`child_users::take_user`] returns none only if there are no users, an own user that is not the last, or the last
+//!   one, shared (`IsUserOf`). [`prepare_users`] accepts neither root nor the user of the service (`fault_by`), and fails
+//!   only for a user, the folder or memory (`fault`). Its command for a user is exact (`user_command_words`).
 //! - [`Launcher`] looks up exactly the program that an order names (`program_for`) and refuses any other order
 //!   (`unlisted`). It passes a document only by its name (`input_name`). It reports exactly the end in a child's
 //!   status, and no other (`TellsEnd`, `TellsNoEnd`). `finish_of` returns this end with the bytes that were read of the
-//!   two output files, and `read_at_most` reads the number of bytes that it may (`ReadsUpTo`). A new launcher has the
-//!   default size limit for files (`limit`).
+//!   two output files, and `read_at_most` reads the number of bytes that it may (`ReadsUpTo`). A new launcher has no
+//!   users and the default limits (`users`, `limits`).
 //! - The decisions about a failed start, a program's first bytes, output that may be cut off, and the reason of a
 //!   failure are exactly as defined (`refusal_of`, `shortage_of`, `wants_room`, `begins_right` of `program_fitness`,
 //!   `may_be_cut`, `bad_end`, `says_why`, `check_status`). `child_of` returns the child that the name of a left-over
@@ -71,6 +77,8 @@
 //!   started, and that the script, the files and the sockets work.
 //! - The output of a real backend, and that an answer on a side channel reaches the client's socket.
 //! - That the launcher moves `first` on, and when it has room for fewer than four starts.
+//! - That a lock keeps a user for one child, what the script does, and that the system separates users.
+//!   `tests/hostile.py`
 //! - How long a poll and a start take. A poll asks the system once (`a_look_waits_for_nobody` of `program_tests`). The
 //!   starts of a round try again for two seconds in all. A start of a tick does not wait.
 //! - That [`NamedDisk`] reads and writes its bytes: a body that does nothing meets its clauses. `tests/children.py`
@@ -100,6 +108,7 @@
 //!   them, or the disk failed. If it fails during the run, this is reported at the end of input. A second line gives
 //!   the cause ([`DiskCause`]). A device that failed while it was served has the cause `failed`.
 //! - `sigchld-ignored`: a file of programs is named, but the ends of children cannot be known ([`begun`]).
+//! - `children-user`: the children cannot run as the users that they should have ([`user_checks`]).
 //! - `memory`: memory ran out. Everything that was acknowledged before stays.
 //! - `socket`: the socket of a service cannot be made or waited on.
 //! - `read`, `write`: standard input or standard output failed.
@@ -118,6 +127,7 @@
 
 mod begun;
 mod child_files;
+mod child_users;
 mod device;
 mod device_lines;
 mod devices;
@@ -138,17 +148,19 @@ mod sessions;
 mod shell;
 mod shortage;
 mod side_device;
+mod user_checks;
 mod warnings;
 mod words;
 
 pub use begun::check_child_ends;
+pub use child_users::{ChildLimits, ChildSettings, ChildUser};
 pub use device::{SpoolFolder, new_file, remove_if_there};
 pub use devices::{ChildDiscovery, Discovery, print_devices};
 pub use ends::{given_words, no_words, report_end, report_words_fault};
 pub use fault::{DiskCause, ShellFault};
 pub use files::read_rules;
 pub use fitness::log_programs;
-pub use launcher::{Launcher, MOST_BLOCKS, RunningChild, launcher_in};
+pub use launcher::{Launcher, RunningChild, launcher_in};
 pub use named_disk::NamedDisk;
 pub use options::{
     DEFAULT_SIZE, GREATEST_SIZE, LEAST_SIZE, LONGEST_ROOT, WordsFault, flag_given, flag_option,
@@ -158,5 +170,6 @@ pub use options::{
 pub use running::{open_folder_engine, run};
 pub use serving::{memory_device, open_engine, place_in, serve};
 pub use shell::{push_number, script_shell};
+pub use user_checks::prepare_users;
 pub use warnings::LogLines;
 pub use words::{ShellWords, read_words};

@@ -35,6 +35,8 @@ pub(crate) enum Reason {
     Cut,
     #[error("no space left in the folder when it ended")]
     NoRoom,
+    #[error("its folder cannot be removed")]
+    LeftFolder,
     #[error("output exceeds {0} bytes")]
     LongOutput(usize),
     #[error("ended with status {0}, no error message")]

@@ -11,7 +11,9 @@ use crate::fitness::log_programs;
 use crate::launcher::launcher_in;
 use crate::leftovers::clear_leftovers;
 use crate::named_disk::NamedDisk;
-use crate::serving::{ending, memory_device, open_engine, place_in, serve};
+use crate::serving::{
+    ending, memory_device, open_engine, place_in, reserved_area, run_with, serve,
+};
 use crate::words::ShellWords;
 use child_pipeline::{Children, NoChildren};
 use filter_args::Place;
@@ -50,22 +52,23 @@ where
     }
     let rules = (types, convs);
     match words.root {
-        Some(dir) => serve_folder(logged, rt, dir, words.size, programs, rules, reader, writer),
-        None => serve_memory(rt.alloc(), words.size, rules, reader, writer),
+        Some(dir) => serve_folder(logged, rt, dir, words, programs, rules, reader, writer),
+        None => serve_memory(rt.alloc(), words, rules, reader, writer),
     }
 }
 
 // Serves the commands over a new spool in memory, which starts no children.
 fn serve_memory<R: Read, W: Write>(
     alloc: Global,
-    size: u64,
+    words: ShellWords<'_>,
     rules: (Types, Convs),
     reader: &mut R,
     writer: &mut W,
 ) -> Result<(), ShellFault> {
-    let disk = memory_device(alloc, size)?;
+    let disk = memory_device(alloc, words.size)?;
     let place = place_in(alloc, "", false)?;
-    serve(alloc, disk, (NoChildren, place), rules, reader, writer)
+    let children = (NoChildren, place);
+    serve(alloc, disk, children, rules, words.reserve, reader, writer)
 }
 
 // Serves the commands over the spool of a folder, with the programs of the list as children.
@@ -73,7 +76,7 @@ fn serve_folder<L, H, R: Read, W: Write>(
     log: &L,
     rt: &H,
     dir: &str,
-    size: u64,
+    words: ShellWords<'_>,
     programs: ProgramList,
     rules: (Types, Convs),
     reader: &mut R,
@@ -85,7 +88,7 @@ where
 {
     log_programs(log, rt, &programs);
     let children = launcher_in(log, rt, dir, programs)?;
-    serve_children(log, rt, dir, size, children, rules, reader, writer)
+    serve_children(log, rt, dir, words, children, rules, reader, writer)
 }
 
 // Serves the commands with these children.
@@ -93,7 +96,7 @@ fn serve_children<L, H, C, R: Read, W: Write>(
     log: &L,
     rt: &H,
     dir: &str,
-    size: u64,
+    words: ShellWords<'_>,
     children: (C, Place),
     rules: (Types, Convs),
     reader: &mut R,
@@ -104,8 +107,9 @@ where
     H: Files<File = File> + Clock + Clone + Drop + AllocGlobal,
     C: Children + Drop,
 {
-    let (folder, mut engine) = open_folder_engine(log, rt, dir, size, children, rules)?;
-    let ran = engine.run(reader, writer);
+    let (folder, mut engine) = open_folder_engine(log, rt, dir, words.size, children, rules)?;
+    let reserved = reserved_area(words.reserve, folder.disk_size(rt)?);
+    let ran = run_with(rt.alloc(), &mut engine, reserved, reader, writer);
     let served = ending(ran, engine.met_fault());
     // The program owns the folder until all commands are served.
     drop(folder);

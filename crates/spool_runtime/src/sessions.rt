@@ -3,15 +3,21 @@
 //!
 //! # How they are served
 //!
-//! Nothing here waits. A poll accepts the clients that have connected, and answers the bytes that have arrived from
-//! each. While a child is finished, the launcher polls the channels of all running children again and again. So a child
+//! No client is waited for. A poll accepts the clients that have connected, and answers at most 512 bytes that have
+//! arrived from each. A turn ([`SideLines::serve`]) polls all channels, and those on which something arrived again, until
+//! nothing has arrived for three polls, 50 µs apart. It polls at most 512 times in a row and for at most a millisecond
+//! ([`goes_on`]), whatever the children send. So a long request, or several requests each after the answer to the one
+//! before, take one turn, and a child that floods its channel takes a millisecond of it.
+//!
+//! While a child is finished, the launcher gives the channels of all running children a turn again and again. So a child
 //! gets its answers whatever other children do, and a child that keeps a silent connection gets those of its other
 //! connections. However the bytes of a client are split, the bytes written for them are the answers of its session
 //! (`AnswersPiece`).
 //!
-//! The standard library has no call that waits for several descriptors. So the channels are polled 1 ms after something
-//! arrived, and otherwise at growing intervals of at most 16 ms. A check whether a child has ended polls them too, at
-//! most once a millisecond. The clock measures how long a client has left its answers.
+//! The standard library has no call that waits for several descriptors. So the channels have a turn 1 ms after something
+//! arrived, and otherwise at growing intervals of at most 16 ms. A check whether a child has ended gives them one too,
+//! not earlier than a millisecond after the end of the last one, so a service spends at most half of its time on them.
+//! The clock measures how long a client has left its answers.
 //!
 //! # How they end
 //!
@@ -23,7 +29,7 @@
 //! A client that disconnects, even within a packet, or that leaves its answers unread for two seconds loses its
 //! session, and nothing else. A child has at most eight clients at once. Others wait until one of these has
 //! disconnected. After 256 clients the socket is closed, so further clients are refused.
-ghost use Rattle.std.specs.Prelude.{◌≡◌, ◌<◌, IfOk, OnOk, drop};
+ghost use Rattle.std.specs.Prelude.{◌≡◌, ◌<◌, ◌↔◌, IsTrue, IfOk, OnOk, drop};
 ghost use Rattle.std.specs.Vec.{vec_capacity, vec_len};
 ghost use Rattle.spool_runtime.specs.ClientSessions.{AnswersPiece};
 
@@ -37,7 +43,8 @@ use std::net::Net;
 use std::os::unix::fs::PermissionsExt;
 use std::os::unix::net::{UnixListener, UnixStream};
 use std::path::Path;
-use std::{fs, io};
+use std::time::{Clock, Duration, Instant};
+use std::{fs, io, thread};
 
 // How many clients of a child are answered in all, and how many at once.
 const MOST_CLIENTS: u32 = 256;
@@ -46,6 +53,17 @@ const MOST_AT_ONCE: usize = 8;
 
 // The number of bytes read from a client at once.
 const PIECE: usize = 512;
+
+// How often the channels are polled in a turn after its first poll, for how many microseconds, and after how many polls
+// on which nothing has arrived the turn ends.
+const MOST_POLLS: u32 = 512;
+
+const LONGEST_TURN: u128 = 1_000;
+
+const MOST_QUIET: u32 = 3;
+
+// The pause after a poll on which nothing has arrived, in microseconds.
+const NAP: u64 = 50;
 
 // How long a client may leave its answers unread, in milliseconds. The system stores more than a hundred answers for
 // it.
@@ -67,6 +85,8 @@ pub(crate) struct SideLine {
     clients: Vec<SideClient>,
     // The number of clients that may still connect.
     left: u32,
+    // Whether something has arrived in this turn.
+    busy: bool,
 }
 
 // A client, and the answers that it has not taken yet.
@@ -122,11 +142,51 @@ impl SideLines {
         self.lines.retain(|line| line.job != job);
     }
 
-    /// Polls each channel, `since` milliseconds after the last poll. Returns whether something has arrived.
-    pub fn serve(&mut self, alloc: Global, since: u64) -> bool {
+    /// Gives the channels a turn, `since` milliseconds after the last one. Returns whether something has arrived.
+    pub fn serve<R: Clock + AllocGlobal>(&mut self, rt: &R, since: u64) -> bool {
+        if !self.poll(rt.alloc(), since) {
+            return false;
+        }
+        if let Ok(start) = Instant::now(rt) {
+            self.poll_more(rt, start);
+        }
+        true
+    }
+
+    // Polls the channels on which something has arrived, as long as the turn that began at `start` goes on.
+    fn poll_more<R: Clock + AllocGlobal>(&mut self, rt: &R, start: Instant) {
+        let mut quiet = 0;
+        for polls in 0..=MOST_POLLS {
+            let Ok(passed) = start.elapsed(rt) else {
+                return;
+            };
+            if !goes_on(polls, passed.as_micros(), quiet) {
+                return;
+            }
+            if self.poll_busy(rt.alloc()) {
+                quiet = 0;
+            } else {
+                quiet += 1;
+                thread::sleep(rt, Duration::from_micros(NAP));
+            }
+        }
+    }
+
+    // Polls each channel, as the first poll of a turn. Returns whether something has arrived.
+    fn poll(&mut self, alloc: Global, since: u64) -> bool {
         let mut heard = false;
         for line in &mut self.lines {
-            if line.serve(alloc, since) {
+            line.busy = line.serve(alloc, since);
+            heard = heard || line.busy;
+        }
+        heard
+    }
+
+    // Polls the channels on which something has arrived in this turn. Returns whether something has arrived now.
+    fn poll_busy(&mut self, alloc: Global) -> bool {
+        let mut heard = false;
+        for line in &mut self.lines {
+            if line.busy && line.serve(alloc, 0) {
                 heard = true;
             }
         }
@@ -155,6 +215,7 @@ impl SideLine {
             listener: Some(listener),
             clients: Vec::new(rt.alloc()),
             left: MOST_CLIENTS,
+            busy: false,
         })
     }
 
@@ -212,6 +273,14 @@ impl SideLine {
         }
         heard != Heard::Nothing
     }
+}
+
+// Returns whether a turn goes on after this number of polls and this time in microseconds, if nothing has arrived in the
+// last `quiet` polls.
+fn goes_on(polls: u32, passed: u128, quiet: u32) -> bool
+    ensures { IsTrue result ↔ ((polls < 512) × (passed < 1000) × (quiet < 3)) }
+{
+    polls < MOST_POLLS && passed < LONGEST_TURN && quiet < MOST_QUIET
 }
 
 // Returns a client that has connected.

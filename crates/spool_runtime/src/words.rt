@@ -3,7 +3,7 @@ ghost use Rattle.std.specs.Prelude.{◌≡◌, ◌<◌, ◌≤◌, ◌↔◌, If
 ghost use Rattle.std.specs.Option.{option_map};
 ghost use Rattle.clap.specs.Words.{app_of};
 ghost use Rattle.spool_runtime.specs.ProgramArguments.{AreFaultless, AreTaken, IsMistake, RefusesOnly, convs_in, devices_in, programs_in};
-ghost use Rattle.spool_runtime.specs.ProgramArguments.{root_in, shell_app, size_in, types_in};
+ghost use Rattle.spool_runtime.specs.ProgramArguments.{reserve_in, root_in, shell_app, size_in, types_in};
 
 use crate::options::{
     DEFAULT_SIZE, LONGEST_ROOT, WordsFault, flag_given, flag_option, long_root, number_given,
@@ -26,6 +26,8 @@ pub struct ShellWords<'a> {
     pub programs: Option<&'a str>,
     /// The length of a new spool, in bytes.
     pub size: u64,
+    /// Whether commands that would take room from the reserve of the journal are refused.
+    pub reserve: bool,
     /// Whether to list the devices of the backends instead of serving commands.
     pub devices: bool,
 }
@@ -41,6 +43,7 @@ pub fn read_words<'a, S: AsStr>(alloc: Global, words: &'a [S]) -> Result<ShellWo
     ensures programs { IfOk result (λ found.
         option_map (λ file. file.now) found.programs ≡ programs_in (map S.text words.entry.now)) }
     ensures size { IfOk result (λ found. found.size ≡ size_in (map S.text words.entry.now)) }
+    ensures reserve { IfOk result (λ found. found.reserve ≡ reserve_in (map S.text words.entry.now)) }
     ensures devices { IfOk result (λ found. found.devices ≡ devices_in (map S.text words.entry.now)) }
     ensures short_root { IfOk result (λ found. IfSome found.root (λ dir. length dir.now ≤ 64)) }
     ensures size_in_range { IfOk result (λ found. (4096 ≤ found.size) × (found.size ≤ 1073741824)) }
@@ -62,12 +65,14 @@ pub fn read_words<'a, S: AsStr>(alloc: Global, words: &'a [S]) -> Result<ShellWo
     let types = matches.get_str("types");
     let convs = matches.get_str("convs");
     let programs = matches.get_str("programs");
+    let reserve = flag_given(&matches, "reserve");
     Ok(ShellWords {
         root,
         types,
         convs,
         programs,
         size: number_given(&matches, "size", DEFAULT_SIZE),
+        reserve,
         devices: flag_given(&matches, "devices"),
     })
 }
@@ -82,11 +87,17 @@ fn shell_command<'a>(alloc: Global) -> Result<Command<'a>, AllocError>
         "Reads print spooler commands from standard input and writes the replies to standard output",
         "Keep the spool in the file DIR/spool.disk [default: in memory]",
     )?;
-    command.arg(flag_option(
-        alloc,
-        "devices",
-        "List the devices that the backends find, and exit",
-    ))
+    command
+        .arg(flag_option(
+            alloc,
+            "reserve",
+            "Answer create, send and close with `error full` if they would take room from the reserve",
+        ))?
+        .arg(flag_option(
+            alloc,
+            "devices",
+            "List the devices that the backends find, and exit",
+        ))
 }
 
 // Returns whether the folder's name is too long.

@@ -1,3 +1,4 @@
+pub mod ChildArguments
 pub mod ServiceArguments
 pub mod Kills
 pub mod Lookups

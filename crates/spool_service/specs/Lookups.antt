@@ -11,9 +11,17 @@ use Rattle.std.specs.Fmt.{decimal}
 abbrev pub limit_words : List (List ℕ)
 limit_words = codes "-s" ∷ codes "KILL" ∷ codes "2" ∷ []
 
+-- `getent passwd`
+abbrev pub passwd_words : List (List ℕ)
+passwd_words = limit_words ++ codes "/usr/bin/getent" ∷ [] ++ codes "passwd" ∷ []
+
 -- `getent passwd UID`
 abbrev pub user_words : ℕ → List (List ℕ)
-user_words uid = limit_words ++ codes "/usr/bin/getent" ∷ [] ++ codes "passwd" ∷ [] ++ decimal uid ∷ []
+user_words uid = passwd_words ++ decimal uid ∷ []
+
+-- `getent passwd -- USER`. A name that begins with a dash is no option.
+abbrev pub numbers_words : List ℕ → List (List ℕ)
+numbers_words user = passwd_words ++ codes "--" ∷ [] ++ user ∷ []
 
 -- `getent group GROUP`
 abbrev pub group_words : List ℕ → List (List ℕ)

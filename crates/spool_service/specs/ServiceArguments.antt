@@ -1,5 +1,5 @@
 -- The meaning of the arguments, as clap reads them.
-use Rattle.std.specs.Prelude.{◌≡◌, ◌≤◌, ◌==◌, ◌||◌, ℕ, nat_eq, List, Option, None, Some, IfSome, IsSome, IsSomeAnd, codes, cond, if◌then◌else◌, length}
+use Rattle.std.specs.Prelude.{◌≡◌, ◌≤◌, ◌==◌, ◌||◌, ℕ, nat_eq, List, Option, None, Some, IfSome, IsSome, IsSomeAnd, IsTrue, codes, cond, if◌then◌else◌, length}
 use Rattle.std.specs.Cmp.Lexicographic.{pointwise}
 use Rattle.std.specs.Option.{SomeIff, option_map}
 use Rattle.std.specs.Str.Parse.{IsNumeral, digits_value, without_leading_plus}
@@ -10,6 +10,7 @@ use Rattle.client_standing.specs.declared.rules.Trust.TheVariants as trusted
 use Rattle.clap.specs.Words.{App, Row, Text, first_of, matches_of, one_of, with_rule}
 use Rattle.clap.specs.declared.parser.matches.ArgMatches.{ArgMatches}
 use Rattle.spool_runtime.specs.ProgramArguments.{AreFaultlessFor, HasFlag, HasNumberIn, flag_of, is_told, number_or, option_in, size_of, spool_app, text_option}
+use Rattle.spool_service.specs.ChildArguments.{AreInChildRange, HasChildNumbers, IsAskedOfChildren, children_fit, with_children}
 use Rattle.spool_service.specs.declared.words.ServiceWords.{ServiceWords}
 
 -- ---- the command
@@ -33,7 +34,7 @@ with_bounds app =
 -- The options of a spool, these, and `[--quiet] [--verbose]`.
 abbrev pub service_app : App
 service_app =
-    with_rule (with_rule (with_bounds (with_roles (with_socket (spool_app (codes "spool_service"))))) (flag_of (codes "quiet"))) (flag_of (codes "verbose"))
+    with_rule (with_rule (with_children (with_bounds (with_roles (with_socket (spool_app (codes "spool_service")))))) (flag_of (codes "quiet"))) (flag_of (codes "verbose"))
 
 -- ---- the meaning of the values
 
@@ -86,6 +87,7 @@ pub record IsAsked (found : List Row) (words : ServiceWords) : Type 0 where
   pub children : words.children ≡ number_or 32 (one_of (codes "children") found)
   pub clients : words.clients ≡ number_or 256 (one_of (codes "clients") found)
   pub incoming : words.incoming ≡ number_or 900 (one_of (codes "incoming") found)
+  pub child : IsAskedOfChildren found words.child
   pub level : words.level ≡ level_of found
 
 -- The values are within their limits.
@@ -98,16 +100,23 @@ pub record AreInRange (words : ServiceWords) : Type 0 where
   pub children : (1 ≤ words.children) × (words.children ≤ 1000)
   pub clients : (1 ≤ words.clients) × (words.clients ≤ 1000)
   pub incoming : (1 ≤ words.incoming) × (words.incoming ≤ 86400)
+  pub child : AreInChildRange words.child
 
 -- `all` or `none`.
 abbrev pub IsTrust : Text → Type 0
 IsTrust text = IsSome (trust_in text)
 
--- DIR is given and has at most 64 bytes, and MODE and TRUST are valid, if they are given.
+-- The values about children fit together and to DIR.
+abbrev pub ChildrenFit : List Row → Type 0
+ChildrenFit found =
+    IfSome (first_of (codes "root") found)
+    (λ dir. IsTrue (children_fit (first_of (codes "children-user") found) (number_or 0 (one_of (codes "child-processes") found)) dir))
+
+-- DIR is given and has at most 64 bytes, MODE and TRUST are valid, if they are given, and the values about children fit.
 abbrev pub Fit : List Row → Type 0
 Fit found =
     IsSomeAnd (first_of (codes "root") found) (λ dir. length dir ≤ 64) × IfSome (first_of (codes "mode") found) IsMode
-    × IfSome (first_of (codes "trust") found) IsTrust
+    × IfSome (first_of (codes "trust") found) IsTrust × ChildrenFit found
 
 -- Clap finds no error in the arguments.
 abbrev pub AreFaultless : List Text → Type 0
@@ -127,6 +136,7 @@ pub record HasNumbers (m : ArgMatches) : Type 0 where
   pub children : HasNumberIn 1 1000 (codes "children") m
   pub clients : HasNumberIn 1 1000 (codes "clients") m
   pub incoming : HasNumberIn 1 86400 (codes "incoming") m
+  pub child : HasChildNumbers m
 
 -- The flags found are flags.
 pub record HasFlags (m : ArgMatches) : Type 0 where

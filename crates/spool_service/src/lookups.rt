@@ -2,7 +2,7 @@
 //! kills them after two seconds.
 ghost use Rattle.std.specs.Prelude.{◌≡◌, ℕ, ◌++◌, ◌∷◌, List, [], None, true, codes, IfOk, OnOk};
 ghost use Rattle.std.specs.Process.{SameEnv, clears_env, command_args, command_program, command_var};
-ghost use Rattle.spool_service.specs.Lookups.{group_words, groups_words, limit_words, user_words, value_of, without_value};
+ghost use Rattle.spool_service.specs.Lookups.{group_words, groups_words, limit_words, numbers_words, passwd_words, user_words, value_of, without_value};
 
 use spool_runtime::push_number;
 use spool_types::UserName;
@@ -10,7 +10,7 @@ use std::alloc::{AllocError, Global};
 use std::io;
 use std::io::{ErrorKind, Read};
 use std::process::{Child, ChildStdout, Command, Stdio};
-use user_proofs::{group_in, user_in};
+use user_proofs::{UserNumbers, group_in, numbers_in, user_in};
 
 const TIMEOUT: &str = "/usr/bin/timeout";
 
@@ -25,6 +25,14 @@ const MOST_OUTPUT: usize = 65_536;
 pub fn user_of(rt: &HostRuntime, uid: u32) -> Result<Option<UserName>, AllocError> {
     match output_of(rt, user_command(rt.alloc(), uid)?)? {
         Some(line) => user_in(rt.alloc(), &line, uid),
+        None => Ok(None),
+    }
+}
+
+/// Returns the numbers of the user with this name or number, and of its group.
+pub fn numbers_of(rt: &HostRuntime, user: &str) -> Result<Option<UserNumbers>, AllocError> {
+    match output_of(rt, numbers_command(rt.alloc(), user)?)? {
+        Some(line) => numbers_in(rt.alloc(), &line, user),
         None => Ok(None),
     }
 }
@@ -108,10 +116,34 @@ fn user_command(alloc: Global, uid: u32) -> Result<Command, AllocError>
     ensures cleared { IfOk result (λ command. clears_env command ≡ true) }
     ensures variables { IfOk result (λ command. (name : List ℕ) → command_var command name ≡ None) }
 {
+    let mut command = passwd(alloc)?;
+    push_number(alloc, &mut command, uid)?;
+    Ok(command)
+}
+
+// Returns `getent passwd -- USER`.
+fn numbers_command(alloc: Global, user: &str) -> Result<Command, AllocError>
+    ensures program { IfOk result (λ command. command_program command ≡ codes "/usr/bin/timeout") }
+    ensures arguments { IfOk result (λ command. command_args command ≡ numbers_words user.now) }
+    ensures cleared { IfOk result (λ command. clears_env command ≡ true) }
+    ensures variables { IfOk result (λ command. (name : List ℕ) → command_var command name ≡ None) }
+{
+    let mut command = passwd(alloc)?;
+    push_word(&mut command, "--")?;
+    push_word(&mut command, user)?;
+    Ok(command)
+}
+
+// Returns `getent passwd`.
+fn passwd(alloc: Global) -> Result<Command, AllocError>
+    ensures program { IfOk result (λ command. command_program command ≡ codes "/usr/bin/timeout") }
+    ensures arguments { IfOk result (λ command. command_args command ≡ passwd_words) }
+    ensures cleared { IfOk result (λ command. clears_env command ≡ true) }
+    ensures variables { IfOk result (λ command. (name : List ℕ) → command_var command name ≡ None) }
+{
     let mut command = limited(alloc)?;
     push_word(&mut command, GETENT)?;
     push_word(&mut command, "passwd")?;
-    push_number(alloc, &mut command, uid)?;
     Ok(command)
 }
 

@@ -2,7 +2,8 @@
 //!
 //! Arguments: `--root DIR [--listen SOCKET] [--mode MODE] [--trust TRUST] [--show-all] [--operators GROUP] [--operators-socket SOCKET]
 //! [--proofs FOLDER] [--types FILE] [--convs FILE] [--programs FILE] [--size BYTES] [--keep N] [--room PERCENT] [--children N] [--clients N]
-//! [--incoming SECONDS] [--quiet] [--verbose]`, or `--help` or `--version` ([`words`]).
+//! [--incoming SECONDS] [--children-user USERS] [--child-memory MIB] [--child-processes N] [--child-file-size MIB] [--child-open-files N]
+//! [--quiet] [--verbose]`, or `--help` or `--version` ([`words`]).
 //!
 //! # Parts
 //!
@@ -10,6 +11,8 @@
 //!
 //! - [`words`]: the arguments. The program requires `--root`, not clap, because `spool_shell` shares the option. MODE is read as Rust reads
 //!   octal digits, so it may begin with a plus sign.
+//! - [`child_words`]: the arguments about children. [`child_users`]: the users of their names, by [`lookups`]. `spool_runtime` tries the users
+//!   and starts children as them.
 //! - [`start`]: opens the empty device in place of missing standard streams, takes the folder's locks, then opens the spool, and creates
 //!   the sockets last. So a `spool.sock` that exists then was left by a killed service.
 //! - [`names`]: removes a socket that no program serves, so that its name is free. Any other holder of the name is an error.
@@ -28,15 +31,18 @@
 //!
 //! - `read_words` returns what clap finds in the arguments, and the default of each missing option (`asked`, `IsMode`), within their limits
 //!   (`in_range`). It refuses the arguments exactly if clap finds an error, DIR is missing or too long, MODE is not an octal number up to
-//!   777, or TRUST is neither `all` nor `none` (`taken`); the last four end with status 2 (`mistake`).
+//!   777, TRUST is neither `all` nor `none`, or the values about children do not fit (`taken`); all but the first end with status 2
+//!   (`mistake`). With users of children DIR must be absolute, and without them there is no limit of processes (`children_fit`).
+//! - The limits of a child are those of the arguments in their units, and 0 is no limit (`child_limits`). The users and the limits are passed
+//!   on unchanged (`settings_of`).
 //! - Without TRUST, each client is trusted exactly if the mode is 0600 or 0660 (`SaysTrust`).
 //! - The socket is SOCKET, or `spool.sock` in DIR (`socket_name`), the folder of proofs is FOLDER, or `proof` in DIR (`proofs_name`), and
 //!   the disk is `spool.disk` in DIR (`disk_name`). The operators' socket has the permissions 0660 if it has the group of the arguments,
 //!   and otherwise 0600 (`operators_mode`). Before the first checkpoint PERCENT refers to half of the disk (`keeping_of`).
 //! - A connection has the rules of its listener, and whether it came by the operators' socket (`has_socket`, for each accept). A proof
 //!   makes an operator of a client of that socket, or of an operator (`proved_by`).
-//! - The programs that look up users are run by timeout(1), without variables, with exactly the arguments of `user_words`, `groups_words`
-//!   and `group_words`. So no name is an option or part of a script.
+//! - The programs that look up users are run by timeout(1), without variables, with exactly the arguments of `user_words`, `numbers_words`,
+//!   `groups_words` and `group_words`. So no name is an option or part of a script.
 //! - `SocketListener::wait` reports the readiness of each event that the system found (`push_readiness`, `readiness_of`). An accept reports
 //!   a client, none, or a failure (`accept_outcome_of`).
 //! - The clock of the loop never goes back (`never_back` of `SystemTimes::micros`). The time of the service is read by `service_rules` from
@@ -62,6 +68,8 @@
 //! command or reply, the client is disconnected.
 #![tactic(auto)]
 
+mod child_users;
+mod child_words;
 mod clocks;
 mod kills;
 mod listening;

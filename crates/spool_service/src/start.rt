@@ -1,7 +1,11 @@
 //! Starts the service: takes the folder's locks, opens the spool, and then creates the sockets.
 ghost use Rattle.std.specs.Prelude.{◌≡◌, IfOk, string_bytes};
+ghost use Rattle.spool_service.specs.ChildArguments.{child_limits};
+ghost use Rattle.spool_service.specs.ServiceArguments.{AreInRange};
 ghost use Rattle.spool_service.specs.Start.{disk_of, keeping_of, told_of};
 
+use crate::child_users::users_named;
+use crate::child_words::child_limits;
 use crate::clocks::SystemTimes;
 use crate::kills::Kills;
 use crate::listening::{open_listener, remove_sockets, socket_name};
@@ -16,8 +20,8 @@ use service_loop::{Keeping, Limits, Service, ServiceFault, Times};
 use spool_disk::Disk;
 use spool_engine::Engine;
 use spool_runtime::{
-    DiskCause, ShellFault, check_child_ends, launcher_in, log_programs, open_folder_engine,
-    read_rules,
+    ChildSettings, ChildUser, DiskCause, ShellFault, check_child_ends, launcher_in, log_programs,
+    open_folder_engine, prepare_users, read_rules,
 };
 use std::alloc::{AllocError, Global};
 use std::fs::{File, Files, OpenOptions};
@@ -41,6 +45,7 @@ struct Streams {
 pub fn run<L>(logged: &L, rt: &HostRuntime, words: ServiceWords<'_>) -> Result<(), ShellFault>
 where
     L: Files<File = File> + AllocGlobal + Log,
+    requires { AreInRange words }
 {
     let streams = occupy_streams(rt)?;
     if words.programs.is_some() {
@@ -48,13 +53,31 @@ where
     }
     let (types, convs, programs) = read_rules(logged, words.types, words.convs, words.programs)?;
     log_programs(logged, rt, &programs);
+    let users = users_named(logged, rt, words.child.users)?;
     let (launcher, place) = launcher_in(logged, rt, words.root, programs)?;
+    let settings = settings_of(&words, &users)?;
+    let launcher = launcher.with_settings(settings);
     let children = WatchedChildren::new(logged, rt.alloc(), launcher);
     let rules = (types, convs);
-    let served = serve_children(logged, rt, &words, (children, place), rules);
+    let served = serve_children(logged, rt, &words, &users, (children, place), rules);
     // They are open until the files of the spool are closed.
     drop(streams);
     served
+}
+
+// Returns the users and the limits of children.
+fn settings_of(
+    words: &ServiceWords<'_>,
+    users: &Vec<ChildUser>,
+) -> Result<ChildSettings, AllocError>
+    requires { AreInRange words.now }
+    ensures users { IfOk result (λ settings. settings.users.items ≡ users.now.items) }
+    ensures limits { IfOk result (λ settings. settings.limits ≡ child_limits words.now.child) }
+{
+    Ok(ChildSettings {
+        users: users.clone()?,
+        limits: child_limits(words.child),
+    })
 }
 
 // Opens the empty device for each standard stream, before any other file. The system gives out the lowest number that is free. So if the
@@ -79,6 +102,7 @@ fn serve_children<L, C>(
     logged: &L,
     rt: &HostRuntime,
     words: &ServiceWords<'_>,
+    users: &[ChildUser],
     children: (C, Place),
     rules: (Types, Convs),
 ) -> Result<(), ShellFault>
@@ -87,7 +111,13 @@ where
     C: Children + Drop,
 {
     let (folder, engine) = open_folder_engine(logged, rt, words.root, words.size, children, rules)?;
-    let served = serve_engine(logged, rt, words, engine);
+    let served = match prepare_users(logged, rt, words.root, users) {
+        Ok(()) => serve_engine(logged, rt, words, engine),
+        Err(fault) => {
+            drop(engine);
+            Err(fault)
+        }
+    };
     // The program owns the folder until the service has ended.
     drop(folder);
     served

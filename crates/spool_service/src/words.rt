@@ -6,6 +6,7 @@ ghost use Rattle.spool_runtime.specs.ProgramArguments.{IsMistake, RefusesOnly};
 ghost use Rattle.spool_service.specs.ServiceArguments.{AreFaultless, AreInRange, AreTaken, Fit, HasFlags, HasNumbers, IsAsked, IsMode, SaysMode, SaysTrust, level_of, octal_of, trust_in, usual_trust};
 ghost use Rattle.spool_service.specs.ServiceArguments.{service_app, with_bounds, with_roles, with_socket};
 
+use crate::child_words::{ChildWords, child_mistake, child_options, child_words};
 use clap::{ArgMatches, Command};
 use client_standing::Trust;
 use log::Level;
@@ -61,6 +62,8 @@ pub struct ServiceWords<'a> {
     pub clients: usize,
     /// How long an incoming job stays whose client has disconnected, in seconds.
     pub incoming: u64,
+    /// The users and the limits of children.
+    pub child: ChildWords<'a>,
     /// The highest level of the lines to log.
     pub level: Level,
 }
@@ -110,6 +113,10 @@ fn words_in<'a>(
     let Some(trust) = trust_of(matches.get_str("trust"), mode) else {
         return Err(mistake(command, "TRUST is neither all nor none"));
     };
+    let child = child_words(matches);
+    if let Some(text) = child_mistake(child, root) {
+        return Err(mistake(command, text));
+    }
     Ok(ServiceWords {
         root,
         listen: matches.get_str("listen"),
@@ -128,6 +135,7 @@ fn words_in<'a>(
         children: number_given(matches, "children", MOST_CHILDREN as u64) as usize,
         clients: number_given(matches, "clients", USUAL_CLIENTS as u64) as usize,
         incoming: number_given(matches, "incoming", INCOMING_SECONDS),
+        child,
         level: level_given(matches),
     })
 }
@@ -213,6 +221,7 @@ fn service_command<'a>(alloc: Global) -> Result<Command<'a>, AllocError>
     let command = socket_options(alloc, command)?;
     let command = role_options(alloc, command)?;
     let command = bound_options(alloc, command)?;
+    let command = child_options(alloc, command)?;
     command
         .arg(flag_option(alloc, "quiet", "Log errors only"))?
         .arg(flag_option(

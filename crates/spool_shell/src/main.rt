@@ -1,6 +1,6 @@
 //! `spool_shell`: serves the commands on standard input, and writes the replies on standard output.
 //!
-//! Arguments: `[--root DIR] [--types FILE] [--convs FILE] [--programs FILE] [--size BYTES] [--devices]`, or `--help` or `--version`.
+//! Arguments: `[--root DIR] [--types FILE] [--convs FILE] [--programs FILE] [--size BYTES] [--reserve] [--devices]`, or `--help` or `--version`.
 //!
 //! # Promises
 //!

@@ -28,6 +28,11 @@ number_given-requires g c =
     let m = c.in-Ok-parse.matches in
     wider m (codes "size") 4096 1073741824 0 18446744073709551615 (lit≤ tt) (lit≤ tt) (has_size c.in-Ok.command m c.in-Ok.ensures c.in-Ok-parse.ensures.pass)
 
+pub flag_given-reserve-requires : goal.flag_given-reserve-requires
+flag_given-reserve-requires g c =
+    let m = c.in-Ok-parse.matches in
+    has_flag shell_app m (codes "reserve") (subst (λ (a : App). PassParsers a m) c.in-Ok.ensures c.in-Ok-parse.ensures.pass) (λ none. cc) (refl, refl)
+
 pub flag_given-requires : goal.flag_given-requires
 flag_given-requires g c =
     let m = c.in-Ok-parse.matches in
@@ -57,6 +62,11 @@ pub returns-clause-size : goal.returns-clause-size
 returns-clause-size g c =
     one_found (number_or 4194304) shell_app (app_of c.in-Ok.command) (map g.S.AsStr.text c.args.words.now) (found_of c.in-Ok-parse.matches) (codes "size")
     c.number_given.result c.number_given.ensures.number c.in-Ok-parse.ensures.found c.in-Ok.ensures
+
+pub returns-clause-reserve : goal.returns-clause-reserve
+returns-clause-reserve g c =
+    one_found is_told shell_app (app_of c.in-Ok.command) (map g.S.AsStr.text c.args.words.now) (found_of c.in-Ok-parse.matches) (codes "reserve")
+    c.flag_given-reserve.result c.flag_given-reserve.ensures c.in-Ok-parse.ensures.found c.in-Ok.ensures
 
 pub returns-clause-devices : goal.returns-clause-devices
 returns-clause-devices g c =

@@ -4,4 +4,4 @@ use Rattle.spool_service.proofs.lookups.user_command.Goals as goal
 
 pub returns-clause-variables : goal.returns-clause-variables
 returns-clause-variables c name =
-    c.in_ok-push_number.ensures.env.1 name ∙ c.in_ok-push_word-2.ensures.env.1 name ∙ c.in_ok-push_word.ensures.env.1 name ∙ c.in_ok-command.ensures.variables name
+    c.in_ok-push_number.ensures.env.1 name ∙ c.in_ok-command.ensures.variables name

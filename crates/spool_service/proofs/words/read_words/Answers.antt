@@ -6,9 +6,18 @@ use Rattle.spool_runtime.specs.ProgramArguments.{AreFaultlessFor, IsMistake, Pas
 use Rattle.spool_runtime.specs.declared.options.WordsFault.{WordsFault}
 use Rattle.spool_runtime.specs.declared.options.WordsFault.TheVariants.{Refused, Memory}
 use Rattle.spool_runtime.proofs.Accepted.{has_flag, has_number}
+use Rattle.spool_service.specs.ChildArguments.{HasChildNumbers}
 use Rattle.spool_service.specs.ServiceArguments.{AreFaultless, AreTaken, Fit, HasFlags, HasNumbers, IsAsked, service_app}
 use Rattle.spool_service.specs.declared.words.ServiceWords.{ServiceWords}
 use Rattle.spool_service.proofs.words.read_words.Goals as goal
+
+has_child_numbers : (m : ArgMatches) → PassParsers service_app m → HasChildNumbers m
+has_child_numbers m pass = record {
+  memory = has_number service_app m (codes "child-memory") 0 1048576 pass (λ none. cc) (refl, refl);
+  processes = has_number service_app m (codes "child-processes") 0 100000 pass (λ none. cc) (refl, refl);
+  file_size = has_number service_app m (codes "child-file-size") 1 1048576 pass (λ none. cc) (refl, refl);
+  open_files = has_number service_app m (codes "child-open-files") 0 1048576 pass (λ none. cc) (refl, refl);
+}
 
 has_numbers : (m : ArgMatches) → PassParsers service_app m → HasNumbers m
 has_numbers m pass = record {
@@ -18,6 +27,7 @@ has_numbers m pass = record {
   children = has_number service_app m (codes "children") 1 1000 pass (λ none. cc) (refl, refl);
   clients = has_number service_app m (codes "clients") 1 1000 pass (λ none. cc) (refl, refl);
   incoming = has_number service_app m (codes "incoming") 1 86400 pass (λ none. cc) (refl, refl);
+  child = has_child_numbers m pass;
 }
 
 has_flags : (m : ArgMatches) → PassParsers service_app m → HasFlags m

@@ -1,5 +1,5 @@
 -- The values found are returned.
-use Rattle.std.proofs.Common.{rules, ◌≡◌, ◌∙◌, ◌<◌, ◌≤◌, ℕ, Option, Some, None, length, refl, ap, sym, subst, arith, codes}
+use Rattle.std.proofs.Common.{rules, ◌≡◌, ◌∙◌, ◌<◌, ◌≤◌, ℕ, Option, Some, None, is_none, true, false, IsTrue, length, refl, ap, sym, subst, arith, codes}
 use Rattle.std.specs.Prelude.{IfSome, IsSome, IsSomeAnd}
 use Rattle.std.specs.Borrow.{Bor}
 use Rattle.std.specs.Option.{option_map}
@@ -9,6 +9,7 @@ use Rattle.clap.proofs.WalkLemmas.{first_value-rows}
 use Rattle.spool_runtime.specs.ProgramArguments.{number_or}
 use Rattle.spool_runtime.proofs.Refusals.{refuses}
 use Rattle.client_standing.specs.declared.rules.Trust.{Trust}
+use Rattle.spool_service.specs.ChildArguments.{children_fit}
 use Rattle.spool_service.specs.ServiceArguments.{Fit, IsMode, IsTrust, SaysMode, SaysTrust, usual_trust}
 use Rattle.spool_service.proofs.words.words_in.Goals as goal
 
@@ -60,6 +61,23 @@ is_trust : (given : Option Text) (mode : ℕ) (trust : Trust) → SaysTrust give
 is_trust None mode trust says = tt
 is_trust (Some text) mode trust says = subst IsSome says refl
 
+-- The values about children fit exactly if there is no mistake.
+children_fit_so : (row : Option Text) (dir : Text) (given users : Option Text) (limit processes : ℕ) (mistake : Option (Bor Text)) → row ≡ Some dir → given ≡ users
+    → limit ≡ processes → is_none mistake ≡ children_fit given limit dir → mistake ≡ None → IfSome row (λ d. IsTrue (children_fit users processes d))
+children_fit_so row dir given users limit processes mistake is same equal told none =
+    let fit : children_fit given limit dir ≡ true = sym told ∙ ap is_none none in
+    subst (λ (o : Option Text). IfSome o (λ d. IsTrue (children_fit users processes d))) (sym is)
+    (subst (λ (n : ℕ). IsTrue (children_fit users n dir)) equal (subst (λ (o : Option Text). IsTrue (children_fit o limit dir)) same fit))
+
+children_unfit : (row : Option Text) (dir : Text) (given users : Option Text) (limit processes : ℕ) (mistake : Option (Bor Text)) (text : Bor Text) → row ≡ Some dir → given ≡ users
+    → limit ≡ processes → is_none mistake ≡ children_fit given limit dir → mistake ≡ Some text → IfSome row (λ d. IsTrue (children_fit users processes d)) → ⊥
+children_unfit row dir given users limit processes mistake text is same equal told some fits =
+    let here : IsTrue (children_fit users processes dir) = subst (λ (o : Option Text). IfSome o (λ d. IsTrue (children_fit users processes d))) is fits in
+    let fit : children_fit given limit dir ≡ true =
+    subst (λ (n : ℕ). IsTrue (children_fit given n dir)) (sym equal) (subst (λ (o : Option Text). IsTrue (children_fit o processes dir)) (sym same) here) in
+    let bad : false ≡ true = ap is_none (sym some) ∙ (told ∙ fit) in
+    cc
+
 pub returns-in_default-clause-fit : goal.returns-in_default-clause-fit
 returns-in_default-clause-fit c =
     let f = found_of c.args.matches.now in
@@ -85,6 +103,15 @@ returns-in_default-trust_of-clause-fit c =
     refuses (Fit (rows_of f)) c.mistake-in_default-trust_of.result
     (λ fit. no_trust (option_map (λ s. s.now) c.get_str-3.result) c.in-Some-mode_of.mode c.trust_of.result c.trust_of.ensures c.in_default-trust_of.is
     (subst (λ (o : Option Text). IfSome o IsTrust) (first_is f (codes "trust") c.get_str-3.result c.get_str-3.ensures) fit.2))
+
+pub returns-in-Some-child_mistake-clause-fit : goal.returns-in-Some-child_mistake-clause-fit
+returns-in-Some-child_mistake-clause-fit c =
+    let f = found_of c.args.matches.now in
+    refuses (Fit (rows_of f)) c.mistake-in-Some-child_mistake.result
+    (λ fit. children_unfit (first_of (codes "root") (rows_of f)) c.in-Some.root.now _ (first_of (codes "children-user") (rows_of f)) _
+    (number_or 0 (one_of (codes "child-processes") (rows_of f))) c.child_mistake.result c.in-Some-child_mistake.text
+    (first_is f (codes "root") c.get_str.result c.get_str.ensures ∙ ap (option_map (λ s. s.now)) c.in-Some.is) c.child_words-child.ensures.asked.users
+    c.child_words-child.ensures.asked.processes c.child_mistake.ensures c.in-Some-child_mistake.is fit.3)
 
 pub returns-clause-asked : goal.returns-clause-asked
 returns-clause-asked c =
@@ -114,6 +141,7 @@ returns-clause-asked c =
       children = c.number_given-4.ensures.number;
       clients = c.number_given-5.ensures.number;
       incoming = c.number_given-6.ensures.number;
+      child = c.child_words-child.ensures.asked;
       level = c.level_given.ensures;
     }
 
@@ -131,6 +159,7 @@ returns-clause-in_range c =
       children = c.number_given-4.ensures.in_range 1 1000 c.requires.numbers.children (omega arith) (omega arith);
       clients = c.number_given-5.ensures.in_range 1 1000 c.requires.numbers.clients (omega arith) (omega arith);
       incoming = c.number_given-6.ensures.in_range 1 86400 c.requires.numbers.incoming (omega arith) (omega arith);
+      child = c.child_words-child.ensures.in_range;
     }
 
 pub returns-clause-fit : goal.returns-clause-fit
@@ -146,4 +175,8 @@ returns-clause-fit c =
           (is_mode (option_map (λ s. s.now) c.get_str-2.result) c.in-Some-mode_of.mode says),
       subst (λ (o : Option Text). IfSome o IsTrust) (sym (first_is f (codes "trust") c.get_str-3.result c.get_str-3.ensures))
           (is_trust (option_map (λ s. s.now) c.get_str-3.result) c.in-Some-mode_of.mode c.in-Some-trust_of.trust trusts),
+      children_fit_so (first_of (codes "root") (rows_of f)) c.in-Some.root.now _ (first_of (codes "children-user") (rows_of f)) _
+          (number_or 0 (one_of (codes "child-processes") (rows_of f))) c.child_mistake.result
+          (first_is f (codes "root") c.get_str.result c.get_str.ensures ∙ ap (option_map (λ s. s.now)) c.in-Some.is) c.child_words-child.ensures.asked.users
+          c.child_words-child.ensures.asked.processes c.child_mistake.ensures c.in_default-child_mistake.is,
     )

@@ -1,0 +1,26 @@
+-- The test of the users that children run as.
+use Rattle.std.specs.Prelude.{ℕ, ℤ, pos, ◌==◌, List, [], ◌∷◌, codes, cond, Option, None, Some}
+use Rattle.std.specs.Fmt.{decimal}
+use Rattle.spool_runtime.specs.ChildScript.{own_word}
+use Rattle.spool_runtime.specs.declared.child_users.RunUser.{RunUser}
+use Rattle.spool_runtime.specs.declared.user_checks.UserFault.{UserFault}
+use Rattle.spool_runtime.specs.declared.user_checks.UserFault.TheVariants.{NoWay, Refused, Root, Service}
+
+-- No child runs as root or as the user of the service.
+abbrev pub fault_by : ℕ → ℕ → Option UserFault
+fault_by uid service = cond (uid == 0) (Some Root) (cond (uid == service) (Some Service) None)
+
+-- The test ends with 0 if the user can search the folder, and with 3 if not. With any other status it was not run.
+abbrev pub fault_of_status : ℕ → Option UserFault
+fault_of_status status = cond (status == 0) None (cond (status == 3) (Some NoWay) (Some Refused))
+
+abbrev pub fault_of_code : Option ℤ → Option UserFault
+fault_of_code (Some (pos status)) = fault_of_status status
+fault_of_code code = Some Refused
+
+-- The arguments of timeout(1), which runs a script as a user by setpriv(1), with no right that the user does not have.
+abbrev pub user_command_words : RunUser → List ℕ → List ℕ → List (List ℕ)
+user_command_words run script path =
+    codes "-s" ∷ codes "KILL" ∷ codes "10" ∷ codes "/usr/bin/setpriv" ∷ codes "--reuid" ∷ decimal run.user.uid ∷ codes "--regid" ∷ decimal run.user.gid
+    ∷ codes "--clear-groups" ∷ codes "--no-new-privs" ∷ codes "--inh-caps=-all" ∷ codes "--ambient-caps=-all" ∷ codes "--bounding-set=-all"
+    ∷ codes "/bin/sh" ∷ codes "-c" ∷ script ∷ codes "sh" ∷ own_word run.is_own ∷ path ∷ []
