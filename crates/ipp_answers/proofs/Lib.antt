@@ -1,2 +1,3 @@
 pub mod PagedJobs
 pub mod SelectedRows
+pub mod Years

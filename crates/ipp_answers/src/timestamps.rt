@@ -1,5 +1,5 @@
 //! Moments with their dates.
-ghost use Rattle.std.specs.Prelude.{◌≡◌, ◌<◌, ◌≤◌, ◌/◌, ◌%◌, IsNone, IfSome, pos, ◌≤ℤ◌};
+ghost use Rattle.std.specs.Prelude.{◌≡◌, ◌≤◌, ◌/◌, ◌%◌, ◌↔◌, IsNone, IfSome, pos, ◌≤ℤ◌};
 ghost use Rattle.jiff_core.specs.Date.{epoch_day};
 ghost use Rattle.jiff_core.specs.Time.{time_seconds};
 ghost use Rattle.ipp_answers.specs.Timestamps.{IsDateOf, ShowsDay, ShowsTime};
@@ -24,20 +24,28 @@ pub struct Timestamp {
 impl Timestamp {
     /// Returns the moment that is this many seconds after the beginning of 1970. There is none after the year 9999.
     pub fn of_seconds(seconds: u64) -> Option<Timestamp>
-        ensures late { 253_402_300_800 ≤ seconds → IsNone result }
+        ensures late { IsNone result ↔ (253_402_300_800 ≤ seconds) }
         ensures value { IfSome result (λ timestamp. timestamp.seconds ≡ seconds) }
     {
         if seconds >= END {
             return None;
         }
-        let Ok(day) = Date::from_unix_epoch_day((seconds / SECONDS_OF_A_DAY) as i64) else {
-            return None;
-        };
-        if day.year < 0 {
-            return None;
-        }
+        let day = day_of(seconds / SECONDS_OF_A_DAY);
         let time = Time::from_second((seconds % SECONDS_OF_A_DAY) as u32, 0);
         Some(with_date(seconds, day, time))
+    }
+}
+
+// Returns the date that is this many days after the beginning of 1970.
+#[tactic(auto, using(crate::proofs::Years::no_year_before))]
+fn day_of(days: u64) -> Date
+    requires { days ≤ 2_932_896 }
+    ensures year { pos 0 ≤ℤ result.year }
+    ensures day { epoch_day result ≡ pos days }
+{
+    match Date::from_unix_epoch_day(days as i64) {
+        Ok(day) => day,
+        Err(_) => unreachable!(),
     }
 }
 

@@ -6,3 +6,8 @@ pub mod Loops
 pub mod Added
 pub mod Utf8
 pub mod DecodeLaws
+pub mod Growth
+pub mod Samples
+pub mod LackingSteps
+pub mod CompletedFields
+pub mod CompletedMessages

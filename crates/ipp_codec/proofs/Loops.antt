@@ -42,7 +42,7 @@ failed front d here total e so_far = sym so_far ∙ ap (before front) e
 
 -- ---- values
 
-pub values_next : (most i : ℕ) (place next : Place) (v : Value) (rest after : List ℕ) → i < most → follows rest ≡ Ok true → additional_at place rest ≡ Ok ((next, v), after) → values_at (most - i) place rest ≡ (values_at (most - (i + 1)) next after >>= λ vs. Ok (v ∷ vs.0, vs.1))
+pub values_next : (most i : ℕ) (place next : Place) (v : Value) (rest after : List ℕ) → i < most → follows place rest ≡ Ok true → additional_at place rest ≡ Ok ((next, v), after) → values_at (most - i) place rest ≡ (values_at (most - (i + 1)) next after >>= λ vs. Ok (v ∷ vs.0, vs.1))
 unfolding values_at
 values_next most i place next v rest after lt more read =
     let n = most - (i + 1) in
@@ -51,7 +51,7 @@ values_next most i place next v rest after lt more read =
     ∙ ap (λ r. r >>= λ more. cond more (additional_at place rest >>= λ v. values_at n v.0.0 v.1 >>= λ vs. Ok (v.0.1 ∷ vs.0, vs.1)) (checked Collection (is_outside place) ([], rest))) more
     ∙ ap (λ r. r >>= λ v. values_at n v.0.0 v.1 >>= λ vs. Ok (v.0.1 ∷ vs.0, vs.1)) read
 
-pub values_end : (most i : ℕ) (place : Place) (rest : List ℕ) → i < most → follows rest ≡ Ok false → values_at (most - i) place rest ≡ checked Collection (is_outside place) ([], rest)
+pub values_end : (most i : ℕ) (place : Place) (rest : List ℕ) → i < most → follows place rest ≡ Ok false → values_at (most - i) place rest ≡ checked Collection (is_outside place) ([], rest)
 unfolding values_at
 values_end most i place rest lt more =
     let n = most - (i + 1) in
@@ -59,7 +59,7 @@ values_end most i place rest lt more =
     ap (λ m. values_at m place rest) k
     ∙ ap (λ r. r >>= λ more. cond more (additional_at place rest >>= λ v. values_at n v.0.0 v.1 >>= λ vs. Ok (v.0.1 ∷ vs.0, vs.1)) (checked Collection (is_outside place) ([], rest))) more
 
-pub values_stop : (most i : ℕ) (place : Place) (rest : List ℕ) (d : DecodeFault) → i < most → follows rest ≡ Err d → values_at (most - i) place rest ≡ Err d
+pub values_stop : (most i : ℕ) (place : Place) (rest : List ℕ) (d : DecodeFault) → i < most → follows place rest ≡ Err d → values_at (most - i) place rest ≡ Err d
 unfolding values_at
 values_stop most i place rest d lt more =
     let n = most - (i + 1) in
@@ -67,7 +67,7 @@ values_stop most i place rest d lt more =
     ap (λ m. values_at m place rest) k
     ∙ ap (λ r. r >>= λ more. cond more (additional_at place rest >>= λ v. values_at n v.0.0 v.1 >>= λ vs. Ok (v.0.1 ∷ vs.0, vs.1)) (checked Collection (is_outside place) ([], rest))) more
 
-pub values_fail : (most i : ℕ) (place : Place) (rest : List ℕ) (d : DecodeFault) → i < most → follows rest ≡ Ok true → additional_at place rest ≡ Err d → values_at (most - i) place rest ≡ Err d
+pub values_fail : (most i : ℕ) (place : Place) (rest : List ℕ) (d : DecodeFault) → i < most → follows place rest ≡ Ok true → additional_at place rest ≡ Err d → values_at (most - i) place rest ≡ Err d
 unfolding values_at
 values_fail most i place rest d lt more read =
     let n = most - (i + 1) in

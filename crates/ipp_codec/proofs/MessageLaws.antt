@@ -3,7 +3,7 @@ use Rattle.std.proofs.Common.{◌≡◌, ℕ, ℤ, zero, suc, ◌^◌, ◌<◌, 
 use Rattle.std.specs.Prelude.{find, nat_le}
 use Rattle.std.specs.Int.{w8, w16, w32, to_be_bytes, cast_signed, cast_unsigned}
 use Rattle.std.specs.List.{flat_map, AllByRecursion}
-use Rattle.std.proofs.lemmas.Bool.{eqb-true, lt-ltb, le-ltb, leb-true}
+use Rattle.std.proofs.lemmas.Bool.{eq-eqb, eqb-true, lt-ltb, le-ltb, leb-true}
 use Rattle.std.proofs.lemmas.List.{length-append}
 use Rattle.ipp_values.specs.declared.tags.GroupTag.{GroupTag}
 use Rattle.ipp_values.specs.declared.tags.GroupTag.TheVariants as group
@@ -20,22 +20,22 @@ use Rattle.ipp_codec.specs.declared.place.Place.{Place}
 use Rattle.ipp_codec.specs.declared.place.Place.TheVariants.{Outside, Begun, Named, Filled}
 use Rattle.ipp_codec.specs.Collections.{after_tag, is_outside, place_after}
 use Rattle.ipp_codec.specs.Octets.{counted, integer_octets, octets_of, IsText, IsValue}
-use Rattle.ipp_codec.specs.Reading.{additional_at, attribute_at, attributes_at, checked, follows, group_at, group_or, groups_at, message_at, name_at, no_name_at, number_at, part_at, tag_at, text_of, value_at, values_at}
+use Rattle.ipp_codec.specs.Reading.{additional_at, attribute_at, attributes_at, checked, follows, group_at, group_or, groups_at, message_at, name_at, name_begins, no_name_at, number_at, part_at, tag_at, text_of, value_at, value_tag_of, values_at}
 use Rattle.ipp_codec.specs.MessageSpelling.{attribute_spelling, group_spelling, message_spelling, value_spelling, values_spelling, IsAttribute, IsGroup, IsMessage}
 use Rattle.ipp_codec.specs.ReadSteps.{Field, ◌>>=◌}
 use Rattle.ipp_codec.proofs.Fields.{IsBytes, bind_ok, done, ok_is, ok_as, Takes, ◌⨾◌, Reads, got, again-step, part_takes, part_again, reads_16, reads_32, reads_octet, checked_ok, checked_again}
-use Rattle.ipp_codec.proofs.TextLaws.{IsTag, tag_small, reads_tag, text_takes, text_again, text_length, text_some, signed_takes, signed_again, unsigned_small}
+use Rattle.ipp_codec.proofs.TextLaws.{IsTag, tag_again, tag_small, reads_tag, text_takes, text_again, text_length, text_some, signed_takes, signed_again, unsigned_small}
 use Rattle.ipp_codec.proofs.ValueLaws.{reads_value, value_tag}
 
 -- ---- what the last steps make
 
-abbrev made_of : List ℕ → Value → List Value × List ℕ → Field Attribute
+abbrev pub made_of : List ℕ → Value → List Value × List ℕ → Field Attribute
 made_of name v vs = Ok (record { name = name; values = v ∷ vs.0 }, vs.1)
 
-abbrev group_made : GroupTag → List Attribute × List ℕ → Field Group
+abbrev pub group_made : GroupTag → List Attribute × List ℕ → Field Group
 group_made tag list = Ok (record { tag = tag; attributes = list.0 }, list.1)
 
-abbrev message_made : ℕ → ℕ → ℕ → ℤ → List Group × List ℕ → Field Message
+abbrev pub message_made : ℕ → ℕ → ℕ → ℤ → List Group × List ℕ → Field Message
 message_made major minor code request_id groups = Ok (record { version = record { major = major; minor = minor }; code = code; request_id = request_id; groups = groups.0 }, groups.1)
 
 -- ---- names
@@ -58,13 +58,14 @@ zero_again rest =
 none_again : (n : ℕ) (rest : List ℕ) → n ≡ 0 → no_name_at (counted [] ++ rest) ≡ Ok (n, rest)
 none_again n rest h = zero_again rest ∙ ap (λ k. Ok (k, rest)) (sym h)
 
-reads_none : Reads no_name_at (λ n. counted []) (λ n. n ≡ 0)
+pub reads_none : Reads no_name_at (λ n. counted []) (λ n. n ≡ 0)
 reads_none = record { takes = none_takes; again = none_again }
 
 name_takes : (bytes name rest : List ℕ) → IsBytes bytes → name_at bytes ≡ Ok (name, rest) → Takes bytes (counted name) rest × IsText 1 255 127 name
 unfolding name_at
 name_takes bytes name rest fits e =
-    let n = got (number_at NeedMore w16) (to_be_bytes w16) (λ n. n < 2 ^ 16) (reads_16 NeedMore) bytes (λ n. checked Name (nat_le 1 n.0 && nat_le n.0 255) n.0 >>= λ long. part_at NeedMore long n.1 >>= λ part. text_of 1 255 127 part.0 >>= λ name. Ok (name, part.1)) (name, rest) fits e in
+    let g = bind_ok (checked {A = ℕ} Name (name_begins bytes) 0) (λ begun. number_at NeedMore w16 bytes >>= λ n. checked Name (nat_le 1 n.0 && nat_le n.0 255) n.0 >>= λ long. part_at NeedMore long n.1 >>= λ part. text_of 1 255 127 part.0 >>= λ name. Ok (name, part.1)) (name, rest) e in
+    let n = got (number_at NeedMore w16) (to_be_bytes w16) (λ n. n < 2 ^ 16) (reads_16 NeedMore) bytes (λ n. checked Name (nat_le 1 n.0 && nat_le n.0 255) n.0 >>= λ long. part_at NeedMore long n.1 >>= λ part. text_of 1 255 127 part.0 >>= λ name. Ok (name, part.1)) (name, rest) fits g.then in
     let c = bind_ok (checked Name (nat_le 1 n.value && nat_le n.value 255) n.value) (λ long. part_at NeedMore long n.rest >>= λ part. text_of 1 255 127 part.0 >>= λ name. Ok (name, part.1)) (name, rest) n.then in
     let k = checked_ok Name (nat_le 1 n.value && nat_le n.value 255) n.value c.value c.was in
     let s = bind_ok (part_at NeedMore c.value n.rest) (λ part. text_of 1 255 127 part.0 >>= λ name. Ok (name, part.1)) (name, rest) c.then in
@@ -82,31 +83,42 @@ and_true a b p q = ap (λ c. c && b) p ∙ q
 name_short : (name : List ℕ) → IsText 1 255 127 name → length name < 2 ^ 16
 name_short name h = omega (arith, leb-true (length name) 255 (text_length 1 255 127 name h))
 
+begins_zero : (n : ℕ) (rest : List ℕ) → n ≤ 255 → name_begins (to_be_bytes w16 n ++ rest) ≡ true
+begins_zero n rest short = eq-eqb _ _ (omega (arith, short))
+
+name_few : (name : List ℕ) → IsText 1 255 127 name → length name ≤ 255
+name_few name h = leb-true (length name) 255 (text_length 1 255 127 name h)
+
 name_again : (name rest : List ℕ) → IsText 1 255 127 name → name_at (counted name ++ rest) ≡ Ok (name, rest)
 unfolding name_at
 name_again name rest h =
     let n = length name in
-    again-step (number_at NeedMore w16) (to_be_bytes w16) (λ n. n < 2 ^ 16) (reads_16 NeedMore) n name rest (λ n. checked Name (nat_le 1 n.0 && nat_le n.0 255) n.0 >>= λ long. part_at NeedMore long n.1 >>= λ part. text_of 1 255 127 part.0 >>= λ name. Ok (name, part.1)) (Ok (name, rest)) (name_short name h)
+    ap (λ r. r >>= λ begun. number_at NeedMore w16 (counted name ++ rest) >>= λ n. checked Name (nat_le 1 n.0 && nat_le n.0 255) n.0 >>= λ long. part_at NeedMore long n.1 >>= λ part. text_of 1 255 127 part.0 >>= λ name. Ok (name, part.1)) (checked_again {A = ℕ} Name (name_begins (counted name ++ rest)) 0 (begins_zero n (name ++ rest) (name_few name h)))
+    ∙ again-step (number_at NeedMore w16) (to_be_bytes w16) (λ n. n < 2 ^ 16) (reads_16 NeedMore) n name rest (λ n. checked Name (nat_le 1 n.0 && nat_le n.0 255) n.0 >>= λ long. part_at NeedMore long n.1 >>= λ part. text_of 1 255 127 part.0 >>= λ name. Ok (name, part.1)) (Ok (name, rest)) (name_short name h)
     (ap (λ r. r >>= λ long. part_at NeedMore long (name ++ rest) >>= λ part. text_of 1 255 127 part.0 >>= λ name. Ok (name, part.1)) (checked_again Name (nat_le 1 n && nat_le n 255) n (and_true (nat_le 1 n) (nat_le n 255) (text_some 1 255 127 name h) (text_length 1 255 127 name h)))
     ∙ ap (λ r. r >>= λ part. text_of 1 255 127 part.0 >>= λ name. Ok (name, part.1)) (part_again NeedMore name rest n refl)
     ∙ ap (λ r. r >>= λ name. Ok (name, rest)) (text_again 1 255 127 name h))
 
-reads_name : Reads name_at counted (IsText 1 255 127)
+pub reads_name : Reads name_at counted (IsText 1 255 127)
 reads_name = record { takes = name_takes; again = name_again }
 
 -- ---- whether a value follows
 
-follows_again : (tag length_of : ℕ) (rest : List ℕ) → 16 ≤ tag → tag < 256 → length_of < 2 ^ 16 → follows ((tag ∷ []) ++ (to_be_bytes w16 length_of ++ rest)) ≡ Ok (eqb length_of 0)
+follows_again : (place next : Place) (tag : ValueTag) (length_of : ℕ) (rest : List ℕ) → IsTag tag → after_tag place tag ≡ done next → length_of ≤ 255 → follows place ((tag_number tag ∷ []) ++ (to_be_bytes w16 length_of ++ rest)) ≡ Ok (eqb length_of 0)
 unfolding follows
-follows_again tag length_of rest great small short =
-    ap (λ r. r >>= λ t. cond (ltb t.0 16) (Ok false) (number_at NeedMore w16 t.1 >>= λ n. Ok (eqb n.0 0))) ((reads_octet NeedMore).again tag (to_be_bytes w16 length_of ++ rest) small)
-    ∙ ap (λ b. cond b (Ok false) (number_at NeedMore w16 (to_be_bytes w16 length_of ++ rest) >>= λ n. Ok (eqb n.0 0))) (le-ltb tag 16 great)
-    ∙ ap (λ r. r >>= λ n. Ok (eqb n.0 0)) ((reads_16 NeedMore).again length_of rest short)
+follows_again place next tag length_of rest h fits short =
+    let small = tag_small tag h in
+    let number = tag_number tag in
+    let tail : List ℕ = to_be_bytes w16 length_of ++ rest in
+    ap (λ r. r >>= λ t. cond (ltb t.0 16) (Ok false) (value_tag_of t.0 >>= λ kind. after_tag place kind >>= λ next. checked {A = ℕ} Name (name_begins t.1) 0 >>= λ begun. number_at NeedMore w16 t.1 >>= λ n. Ok (eqb n.0 0))) ((reads_octet NeedMore).again number tail small.1)
+    ∙ ap (λ b. cond b (Ok false) (value_tag_of number >>= λ kind. after_tag place kind >>= λ next. checked {A = ℕ} Name (name_begins tail) 0 >>= λ begun. number_at NeedMore w16 tail >>= λ n. Ok (eqb n.0 0))) (le-ltb number 16 small.0)
+    ∙ ap (λ r. r >>= λ kind. after_tag place kind >>= λ next. checked {A = ℕ} Name (name_begins tail) 0 >>= λ begun. number_at NeedMore w16 tail >>= λ n. Ok (eqb n.0 0)) (tag_again tag h)
+    ∙ ap (λ r. r >>= λ next. checked {A = ℕ} Name (name_begins tail) 0 >>= λ begun. number_at NeedMore w16 tail >>= λ n. Ok (eqb n.0 0)) fits
+    ∙ ap (λ r. r >>= λ begun. number_at NeedMore w16 tail >>= λ n. Ok (eqb n.0 0)) (checked_again {A = ℕ} Name (name_begins tail) 0 (begins_zero length_of rest short))
+    ∙ ap (λ r. r >>= λ n. Ok (eqb n.0 0)) ((reads_16 NeedMore).again length_of rest (omega (arith, short)))
 
-follows_value : (v : Value) (rest : List ℕ) → IsValue v → follows (value_spelling [] v ++ rest) ≡ Ok true
-follows_value v rest h =
-    let small = tag_small (tag_of v) (value_tag v h) in
-    follows_again (tag_number (tag_of v)) 0 (counted (octets_of v) ++ rest) small.0 small.1 (omega arith)
+follows_value : (place next : Place) (v : Value) (rest : List ℕ) → IsValue v → after_tag place (tag_of v) ≡ done next → follows place (value_spelling [] v ++ rest) ≡ Ok true
+follows_value place next v rest h fits = follows_again place next (tag_of v) 0 (counted (octets_of v) ++ rest) (value_tag v h) fits (omega arith)
 
 some_eqb : (n : ℕ) → nat_le 1 n ≡ true → eqb n 0 ≡ false
 some_eqb n h =
@@ -115,10 +127,9 @@ some_eqb n h =
       | false ↦ λ is. refl
     ]) refl
 
-follows_named : (v : Value) (name rest : List ℕ) → IsValue v → IsText 1 255 127 name → follows (value_spelling name v ++ rest) ≡ Ok false
-follows_named v name rest h t =
-    let small = tag_small (tag_of v) (value_tag v h) in
-    follows_again (tag_number (tag_of v)) (length name) ((name ++ counted (octets_of v)) ++ rest) small.0 small.1 (name_short name t)
+follows_named : (place next : Place) (v : Value) (name rest : List ℕ) → IsValue v → after_tag place (tag_of v) ≡ done next → IsText 1 255 127 name → follows place (value_spelling name v ++ rest) ≡ Ok false
+follows_named place next v name rest h fits t =
+    follows_again place next (tag_of v) (length name) ((name ++ counted (octets_of v)) ++ rest) (value_tag v h) fits (name_few name t)
     ∙ ap (λ b. Ok b) (some_eqb (length name) (text_some 1 255 127 name t))
 
 -- What begins with a delimiter.
@@ -126,21 +137,21 @@ pub record Delimits (tag : ℕ) (octets rest : List ℕ) : Type 0 where
   pub is : octets ≡ (tag ∷ []) ++ rest
   pub low : tag < 16
 
-follows_delimiter : (tag : ℕ) (octets rest : List ℕ) → Delimits tag octets rest → follows octets ≡ Ok false
+follows_delimiter : (place : Place) (tag : ℕ) (octets rest : List ℕ) → Delimits tag octets rest → follows place octets ≡ Ok false
 unfolding follows
-follows_delimiter tag octets rest d =
+follows_delimiter place tag octets rest d =
     let low = d.low in
-    let go : List ℕ → Result Bool DecodeFault = λ (o : List ℕ). number_at NeedMore w8 o >>= λ t. cond (ltb t.0 16) (Ok false) (number_at NeedMore w16 t.1 >>= λ n. Ok (eqb n.0 0)) in
+    let go : List ℕ → Result Bool DecodeFault = λ (o : List ℕ). number_at NeedMore w8 o >>= λ t. cond (ltb t.0 16) (Ok false) (value_tag_of t.0 >>= λ kind. after_tag place kind >>= λ next. checked {A = ℕ} Name (name_begins t.1) 0 >>= λ begun. number_at NeedMore w16 t.1 >>= λ n. Ok (eqb n.0 0)) in
     ap go d.is
-    ∙ ap (λ r. r >>= λ t. cond (ltb t.0 16) (Ok false) (number_at NeedMore w16 t.1 >>= λ n. Ok (eqb n.0 0))) ((reads_octet NeedMore).again tag rest (omega (arith, low)))
-    ∙ ap (λ b. cond b (Ok false) (number_at NeedMore w16 rest >>= λ n. Ok (eqb n.0 0))) (lt-ltb tag 16 low)
+    ∙ ap (λ r. r >>= λ t. cond (ltb t.0 16) (Ok false) (value_tag_of t.0 >>= λ kind. after_tag place kind >>= λ next. checked {A = ℕ} Name (name_begins t.1) 0 >>= λ begun. number_at NeedMore w16 t.1 >>= λ n. Ok (eqb n.0 0))) ((reads_octet NeedMore).again tag rest (omega (arith, low)))
+    ∙ ap (λ b. cond b (Ok false) (value_tag_of tag >>= λ kind. after_tag place kind >>= λ next. checked {A = ℕ} Name (name_begins rest) 0 >>= λ begun. number_at NeedMore w16 rest >>= λ n. Ok (eqb n.0 0))) (lt-ltb tag 16 low)
 
 -- ---- an additional value
 
 abbrev pub IsNext : Place → Place × Value → Type 0
 IsNext place x = IsValue x.1 × (after_tag place (tag_of x.1) ≡ done x.0)
 
-additional_takes : (place : Place) (bytes : List ℕ) (x : Place × Value) (rest : List ℕ) → IsBytes bytes → additional_at place bytes ≡ Ok (x, rest) → Takes bytes (value_spelling [] x.1) rest × IsNext place x
+pub additional_takes : (place : Place) (bytes : List ℕ) (x : Place × Value) (rest : List ℕ) → IsBytes bytes → additional_at place bytes ≡ Ok (x, rest) → Takes bytes (value_spelling [] x.1) rest × IsNext place x
 unfolding additional_at
 additional_takes place bytes x rest fits e =
     let t = got tag_at (λ tag. tag_number tag ∷ []) IsTag reads_tag bytes (λ tag. no_name_at tag.1 >>= λ name. after_tag place tag.0 >>= λ next. value_at tag.0 name.1 >>= λ v. Ok ((next, v.0), v.1)) (x, rest) fits e in
@@ -161,7 +172,7 @@ additional_again place (next, v) rest h =
     ∙ ap (λ r. r >>= λ next. value_at tag (counted (octets_of v) ++ rest) >>= λ v. Ok ((next, v.0), v.1)) h.1
     ∙ ap (λ r. r >>= λ v. Ok ((next, v.0), v.1)) ((reads_value tag (value_tag v h.0)).again v rest (h.0, refl))
 
-reads_additional : (place : Place) → Reads (additional_at place) (λ x. value_spelling [] x.1) (IsNext place)
+pub reads_additional : (place : Place) → Reads (additional_at place) (λ x. value_spelling [] x.1) (IsNext place)
 reads_additional place = record { takes = additional_takes place; again = additional_again place }
 
 -- ---- additional values
@@ -178,10 +189,10 @@ outside_is (Named d) h = absurd cc
 outside_is (Filled d) h = absurd cc
 
 -- The parts of `values_at`.
-abbrev end_of : Place → List ℕ → Field (List Value)
+abbrev pub end_of : Place → List ℕ → Field (List Value)
 end_of place octets = checked Collection (is_outside place) ([], octets)
 
-abbrev more_of : ℕ → Place → List ℕ → Field (List Value)
+abbrev pub more_of : ℕ → Place → List ℕ → Field (List Value)
 more_of n place octets = additional_at place octets >>= λ v. values_at n v.0.0 v.1 >>= λ vs. Ok (v.0.1 ∷ vs.0, vs.1)
 
 end_takes : (place : Place) (bytes : List ℕ) (vs : List Value) (rest : List ℕ) → IsBytes bytes → end_of place bytes ≡ Ok (vs, rest) → AreRead place bytes vs rest
@@ -203,17 +214,17 @@ values_takes : (n : ℕ) (place : Place) (bytes : List ℕ) (vs : List Value) (r
 unfolding values_at
 values_takes zero place bytes vs rest fits e = absurd cc
 values_takes (suc n) place bytes vs rest fits e =
-    let m = bind_ok (follows bytes) (λ more. cond more (more_of n place bytes) (end_of place bytes)) (vs, rest) e in
+    let m = bind_ok (follows place bytes) (λ more. cond more (more_of n place bytes) (end_of place bytes)) (vs, rest) e in
     (elim m.value as (λ more. cond more (more_of n place bytes) (end_of place bytes) ≡ Ok (vs, rest) → AreRead place bytes vs rest) [
       | true ↦ λ same. more_takes n place bytes vs rest fits (λ next left others end f g. values_takes n next left others end f g) same
       | false ↦ λ same. end_takes place bytes vs rest fits same
     ]) m.then
 
-values_again : (n : ℕ) (place : Place) (vs : List Value) (rest : List ℕ) → length (flat_map (value_spelling []) vs) < n → follows rest ≡ Ok false → AllByRecursion IsValue vs → place_after place vs ≡ done Outside → values_at n place (flat_map (value_spelling []) vs ++ rest) ≡ Ok (vs, rest)
+values_again : (n : ℕ) (place : Place) (vs : List Value) (rest : List ℕ) → length (flat_map (value_spelling []) vs) < n → follows Outside rest ≡ Ok false → AllByRecursion IsValue vs → place_after place vs ≡ done Outside → values_at n place (flat_map (value_spelling []) vs ++ rest) ≡ Ok (vs, rest)
 unfolding values_at
 values_again zero place vs rest small stop legal placed = absurd (omega (arith, small))
 values_again (suc n) place [] rest small stop legal placed =
-    ap (λ r. r >>= λ more. cond more (more_of n place rest) (end_of place rest)) stop
+    ap (λ r. r >>= λ more. cond more (more_of n place rest) (end_of place rest)) (ap (λ (p : Place). follows p rest) (ok_is place Outside placed) ∙ stop)
     ∙ checked_again {A = List Value × List ℕ} Collection (is_outside place) ([], rest) (ap is_outside (ok_is place Outside placed))
 values_again (suc n) place (v ∷ vs) rest small stop legal placed =
     let s = bind_ok (after_tag place (tag_of v)) (λ next. place_after next vs) Outside placed in
@@ -221,19 +232,19 @@ values_again (suc n) place (v ∷ vs) rest small stop legal placed =
     let tail = value_spelling [] v ++ (more ++ rest) in
     let fewer : length more < n = omega (arith, small, length-append (value_spelling [] v) more) in
     ap (values_at (suc n) place) (append_assoc (value_spelling [] v) more rest)
-    ∙ ap (λ r. r >>= λ more. cond more (more_of n place tail) (end_of place tail)) (follows_value v (more ++ rest) legal.0)
+    ∙ ap (λ r. r >>= λ more. cond more (more_of n place tail) (end_of place tail)) (follows_value place s.value v (more ++ rest) legal.0 s.was)
     ∙ ap (λ r. r >>= λ v. values_at n v.0.0 v.1 >>= λ vs. Ok (v.0.1 ∷ vs.0, vs.1)) ((reads_additional place).again (s.value, v) (more ++ rest) (legal.0, s.was))
     ∙ ap (λ r. r >>= λ vs. Ok (v ∷ vs.0, vs.1)) (values_again n s.value vs rest fewer stop legal.1 s.then)
 
 -- ---- an attribute
 
-attribute_takes : (most : ℕ) (bytes : List ℕ) (a : Attribute) (rest : List ℕ) → IsBytes bytes → attribute_at most bytes ≡ Ok (a, rest) → Takes bytes (attribute_spelling a) rest × IsAttribute a
+pub attribute_takes : (most : ℕ) (bytes : List ℕ) (a : Attribute) (rest : List ℕ) → IsBytes bytes → attribute_at most bytes ≡ Ok (a, rest) → Takes bytes (attribute_spelling a) rest × IsAttribute a
 unfolding attribute_at
 attribute_takes most bytes a rest fits e =
-    let t = got tag_at (λ tag. tag_number tag ∷ []) IsTag reads_tag bytes (λ tag. name_at tag.1 >>= λ name. after_tag Outside tag.0 >>= λ next. value_at tag.0 name.1 >>= λ v. values_at most next v.1 >>= λ vs. made_of name.0 v.0 vs) (a, rest) fits e in
-    let n = got name_at counted (IsText 1 255 127) reads_name t.rest (λ name. after_tag Outside t.value >>= λ next. value_at t.value name.1 >>= λ v. values_at most next v.1 >>= λ vs. made_of name.0 v.0 vs) (a, rest) t.taken.rest_fits t.then in
-    let p = bind_ok (after_tag Outside t.value) (λ next. value_at t.value n.rest >>= λ v. values_at most next v.1 >>= λ vs. made_of n.value v.0 vs) (a, rest) n.then in
-    let v = got (value_at t.value) (λ v. counted (octets_of v)) (λ v. IsValue v × (tag_of v ≡ t.value)) (reads_value t.value t.legal) n.rest (λ v. values_at most p.value v.1 >>= λ vs. made_of n.value v.0 vs) (a, rest) n.taken.rest_fits p.then in
+    let t = got tag_at (λ tag. tag_number tag ∷ []) IsTag reads_tag bytes (λ tag. after_tag Outside tag.0 >>= λ next. name_at tag.1 >>= λ name. value_at tag.0 name.1 >>= λ v. values_at most next v.1 >>= λ vs. made_of name.0 v.0 vs) (a, rest) fits e in
+    let p = bind_ok (after_tag Outside t.value) (λ next. name_at t.rest >>= λ name. value_at t.value name.1 >>= λ v. values_at most next v.1 >>= λ vs. made_of name.0 v.0 vs) (a, rest) t.then in
+    let n = got name_at counted (IsText 1 255 127) reads_name t.rest (λ name. value_at t.value name.1 >>= λ v. values_at most p.value v.1 >>= λ vs. made_of name.0 v.0 vs) (a, rest) t.taken.rest_fits p.then in
+    let v = got (value_at t.value) (λ v. counted (octets_of v)) (λ v. IsValue v × (tag_of v ≡ t.value)) (reads_value t.value t.legal) n.rest (λ v. values_at most p.value v.1 >>= λ vs. made_of n.value v.0 vs) (a, rest) n.taken.rest_fits n.then in
     let b = bind_ok (values_at most p.value v.rest) (λ vs. made_of n.value v.value vs) (a, rest) v.then in
     let o = values_takes most p.value v.rest b.value.0 b.value.1 v.taken.rest_fits b.was in
     let first : Takes bytes (((tag_number t.value ∷ []) ++ counted n.value) ++ counted (octets_of v.value)) v.rest = (t.taken ⨾ n.taken) ⨾ v.taken in
@@ -247,7 +258,7 @@ attribute_takes most bytes a rest fits e =
 regroup : (a b c d : List ℕ) → ((a ++ b) ++ c) ++ d ≡ a ++ (b ++ (c ++ d))
 regroup a b c d = append_assoc (a ++ b) c d ∙ append_assoc a b (c ++ d)
 
-named_again : (most : ℕ) (name : List ℕ) (v : Value) (vs : List Value) (rest : List ℕ) → length (flat_map (value_spelling []) vs) < most → follows rest ≡ Ok false → IsText 1 255 127 name → IsValue v → AllByRecursion IsValue vs → place_after Outside (v ∷ vs) ≡ done Outside
+named_again : (most : ℕ) (name : List ℕ) (v : Value) (vs : List Value) (rest : List ℕ) → length (flat_map (value_spelling []) vs) < most → follows Outside rest ≡ Ok false → IsText 1 255 127 name → IsValue v → AllByRecursion IsValue vs → place_after Outside (v ∷ vs) ≡ done Outside
     → attribute_at most ((value_spelling name v ++ flat_map (value_spelling []) vs) ++ rest) ≡ Ok (record { name = name; values = v ∷ vs }, rest)
 unfolding attribute_at
 named_again most name v vs rest small stop named legal others placed =
@@ -256,19 +267,19 @@ named_again most name v vs rest small stop named legal others placed =
     let more = flat_map (value_spelling []) vs in
     let s = bind_ok (after_tag Outside tag) (λ next. place_after next vs) Outside placed in
     ap (λ (l : List ℕ). attribute_at most ((tag_number tag ∷ to_be_bytes w16 (length name)) ++ l)) (regroup name o more rest)
-    ∙ ap (λ r. r >>= λ tag. name_at tag.1 >>= λ name. after_tag Outside tag.0 >>= λ next. value_at tag.0 name.1 >>= λ v. values_at most next v.1 >>= λ vs. made_of name.0 v.0 vs) (reads_tag.again tag (counted name ++ (o ++ (more ++ rest))) (value_tag v legal))
-    ∙ ap (λ r. r >>= λ name. after_tag Outside tag >>= λ next. value_at tag name.1 >>= λ v. values_at most next v.1 >>= λ vs. made_of name.0 v.0 vs) (reads_name.again name (o ++ (more ++ rest)) named)
-    ∙ ap (λ r. r >>= λ next. value_at tag (o ++ (more ++ rest)) >>= λ v. values_at most next v.1 >>= λ vs. made_of name v.0 vs) s.was
+    ∙ ap (λ r. r >>= λ tag. after_tag Outside tag.0 >>= λ next. name_at tag.1 >>= λ name. value_at tag.0 name.1 >>= λ v. values_at most next v.1 >>= λ vs. made_of name.0 v.0 vs) (reads_tag.again tag (counted name ++ (o ++ (more ++ rest))) (value_tag v legal))
+    ∙ ap (λ r. r >>= λ next. name_at (counted name ++ (o ++ (more ++ rest))) >>= λ name. value_at tag name.1 >>= λ v. values_at most next v.1 >>= λ vs. made_of name.0 v.0 vs) s.was
+    ∙ ap (λ r. r >>= λ name. value_at tag name.1 >>= λ v. values_at most s.value v.1 >>= λ vs. made_of name.0 v.0 vs) (reads_name.again name (o ++ (more ++ rest)) named)
     ∙ ap (λ r. r >>= λ v. values_at most s.value v.1 >>= λ vs. made_of name v.0 vs) ((reads_value tag (value_tag v legal)).again v (more ++ rest) (legal, refl))
     ∙ ap (λ r. r >>= λ vs. made_of name v vs) (values_again most s.value vs rest small stop others s.then)
 
-listed_again : (most : ℕ) (name : List ℕ) (vs : List Value) (rest : List ℕ) → length (values_spelling name vs) ≤ most → follows rest ≡ Ok false → IsAttribute (record { name = name; values = vs }) → attribute_at most (values_spelling name vs ++ rest) ≡ Ok (record { name = name; values = vs }, rest)
+listed_again : (most : ℕ) (name : List ℕ) (vs : List Value) (rest : List ℕ) → length (values_spelling name vs) ≤ most → follows Outside rest ≡ Ok false → IsAttribute (record { name = name; values = vs }) → attribute_at most (values_spelling name vs ++ rest) ≡ Ok (record { name = name; values = vs }, rest)
 listed_again most name [] rest small stop h = absurd (h.some refl)
 listed_again most name (v ∷ vs) rest small stop h =
     let fewer : length (flat_map (value_spelling []) vs) < most = omega (arith, small, length-append (value_spelling name v) (flat_map (value_spelling []) vs)) in
     named_again most name v vs rest fewer stop h.name h.values.0 h.values.1 h.whole
 
-attribute_again : (most : ℕ) (a : Attribute) (rest : List ℕ) → length (attribute_spelling a) ≤ most → follows rest ≡ Ok false → IsAttribute a → attribute_at most (attribute_spelling a ++ rest) ≡ Ok (a, rest)
+attribute_again : (most : ℕ) (a : Attribute) (rest : List ℕ) → length (attribute_spelling a) ≤ most → follows Outside rest ≡ Ok false → IsAttribute a → attribute_at most (attribute_spelling a ++ rest) ≡ Ok (a, rest)
 attribute_again most a rest small stop h = listed_again most a.name a.values rest small stop h
 
 -- ---- the attributes of a group
@@ -278,10 +289,10 @@ pub record AreAttributes (bytes : List ℕ) (list : List Attribute) (rest : List
   pub legal : AllByRecursion IsAttribute list
 
 -- The parts of `attributes_at`.
-abbrev stop_of : List ℕ → Field (List Attribute)
+abbrev pub stop_of : List ℕ → Field (List Attribute)
 stop_of octets = Ok ([], octets)
 
-abbrev others_of : ℕ → ℕ → List ℕ → Field (List Attribute)
+abbrev pub others_of : ℕ → ℕ → List ℕ → Field (List Attribute)
 others_of most n octets = attribute_at most octets >>= λ a. attributes_at most n a.1 >>= λ others. Ok (a.0 ∷ others.0, others.1)
 
 attributes_takes : (most n : ℕ) (bytes : List ℕ) (list : List Attribute) (rest : List ℕ) → IsBytes bytes → attributes_at most n bytes ≡ Ok (list, rest) → AreAttributes bytes list rest
@@ -301,16 +312,17 @@ attributes_takes most (suc n) bytes list rest fits e =
     ]) m.then
 
 -- No value follows the values of an attribute: another attribute does, or a delimiter.
-then_stops : (name : List ℕ) (vs : List Value) (rest : List ℕ) → IsAttribute (record { name = name; values = vs }) → follows (values_spelling name vs ++ rest) ≡ Ok false
+then_stops : (name : List ℕ) (vs : List Value) (rest : List ℕ) → IsAttribute (record { name = name; values = vs }) → follows Outside (values_spelling name vs ++ rest) ≡ Ok false
 then_stops name [] rest h = absurd (h.some refl)
 then_stops name (v ∷ vs) rest h =
     let more = flat_map (value_spelling []) vs in
-    ap follows (append_assoc (value_spelling name v) more rest) ∙ follows_named v name (more ++ rest) h.values.0 h.name
+    let s = bind_ok (after_tag Outside (tag_of v)) (λ next. place_after next vs) Outside h.whole in
+    ap (follows Outside) (append_assoc (value_spelling name v) more rest) ∙ follows_named Outside s.value v name (more ++ rest) h.values.0 s.was h.name
 
-stops : (list : List Attribute) (tag : ℕ) (octets rest : List ℕ) → Delimits tag octets rest → AllByRecursion IsAttribute list → follows (flat_map attribute_spelling list ++ octets) ≡ Ok false
-stops [] tag octets rest d h = follows_delimiter tag octets rest d
+stops : (list : List Attribute) (tag : ℕ) (octets rest : List ℕ) → Delimits tag octets rest → AllByRecursion IsAttribute list → follows Outside (flat_map attribute_spelling list ++ octets) ≡ Ok false
+stops [] tag octets rest d h = follows_delimiter Outside tag octets rest d
 stops (a ∷ list) tag octets rest d h =
-    ap follows (append_assoc (attribute_spelling a) (flat_map attribute_spelling list) octets) ∙ then_stops a.name a.values (flat_map attribute_spelling list ++ octets) h.0
+    ap (follows Outside) (append_assoc (attribute_spelling a) (flat_map attribute_spelling list) octets) ∙ then_stops a.name a.values (flat_map attribute_spelling list ++ octets) h.0
 
 -- An attribute begins with the tag of its first value.
 pub record Begins (octets : List ℕ) : Type 0 where
@@ -326,7 +338,7 @@ begins name (v ∷ vs) rest h =
     let small = tag_small (tag_of v) (value_tag v h.values.0) in
     record { tag = tag_number (tag_of v); rest = ((counted name ++ counted (octets_of v)) ++ flat_map (value_spelling []) vs) ++ rest; is = refl; great = small.0; small = small.1 }
 
-one_more : (name : List ℕ) (vs : List Value) → IsAttribute (record { name = name; values = vs }) → 0 < length (values_spelling name vs)
+pub one_more : (name : List ℕ) (vs : List Value) → IsAttribute (record { name = name; values = vs }) → 0 < length (values_spelling name vs)
 one_more name [] h = absurd (h.some refl)
 one_more name (v ∷ vs) h = omega arith
 
@@ -364,7 +376,7 @@ group_found number (t ∷ tags) tag e =
       | false ↦ λ is same. group_found number tags tag same
     ]) refl e
 
-group_or_takes : (number : ℕ) (o : Option GroupTag) (tag : GroupTag) → group_of number ≡ o → group_or o ≡ Ok tag → group_number tag ≡ number
+pub group_or_takes : (number : ℕ) (o : Option GroupTag) (tag : GroupTag) → group_of number ≡ o → group_or o ≡ Ok tag → group_number tag ≡ number
 group_or_takes number None tag is e = absurd cc
 group_or_takes number (Some t) tag is e = let eq : t ≡ tag = cc in group_found number group_tags tag (is ∙ ap Some eq)
 
@@ -394,7 +406,7 @@ pub record AreGroups (bytes : List ℕ) (list : List Group) (rest : List ℕ) : 
   pub taken : Takes bytes (flat_map group_spelling list ++ 3 ∷ []) rest
   pub legal : AllByRecursion IsGroup list
 
-group_takes : (most number : ℕ) (bytes : List ℕ) (g : Group) (rest : List ℕ) → IsBytes bytes → group_at most number bytes ≡ Ok (g, rest) → (group_number g.tag ≡ number) × Takes bytes (flat_map attribute_spelling g.attributes) rest × IsGroup g
+pub group_takes : (most number : ℕ) (bytes : List ℕ) (g : Group) (rest : List ℕ) → IsBytes bytes → group_at most number bytes ≡ Ok (g, rest) → (group_number g.tag ≡ number) × Takes bytes (flat_map attribute_spelling g.attributes) rest × IsGroup g
 group_takes most number bytes g rest fits e =
     let t = bind_ok (group_or (group_of number)) (λ tag. attributes_at most most bytes >>= λ list. group_made tag list) (g, rest) e in
     let b = bind_ok (attributes_at most most bytes) (λ list. group_made t.value list) (g, rest) t.then in
@@ -403,10 +415,10 @@ group_takes most number bytes g rest fits e =
     ok_as (λ (x : Group × List ℕ). (group_number x.0.tag ≡ number) × Takes bytes (flat_map attribute_spelling x.0.attributes) x.1 × IsGroup x.0) (made, b.value.1) (g, rest) b.then (group_or_takes number (group_of number) t.value refl t.was, o.taken, o.legal)
 
 -- The parts of `groups_at`.
-abbrev last_of : List ℕ → Field (List Group)
+abbrev pub last_of : List ℕ → Field (List Group)
 last_of octets = Ok ([], octets)
 
-abbrev more_groups_of : ℕ → ℕ → ℕ → List ℕ → Field (List Group)
+abbrev pub more_groups_of : ℕ → ℕ → ℕ → List ℕ → Field (List Group)
 more_groups_of most n number octets = group_at most number octets >>= λ g. groups_at most n g.1 >>= λ gs. Ok (g.0 ∷ gs.0, gs.1)
 
 groups_takes : (most n : ℕ) (bytes : List ℕ) (list : List Group) (rest : List ℕ) → IsBytes bytes → groups_at most n bytes ≡ Ok (list, rest) → AreGroups bytes list rest

@@ -41,7 +41,7 @@ or_takes : (n : ℕ) (o : Option ValueTag) (tag : ValueTag) → assigned_tag n �
 or_takes n None tag is e = absurd cc
 or_takes n (Some t) tag is e = let eq : t ≡ tag = cc in assigned_takes n tag (is ∙ ap Some eq)
 
-tag_takes : (n : ℕ) (tag : ValueTag) → n < 256 → value_tag_of n ≡ Ok tag → (tag_number tag ≡ n) × IsTag tag
+pub tag_takes : (n : ℕ) (tag : ValueTag) → n < 256 → value_tag_of n ≡ Ok tag → (tag_number tag ≡ n) × IsTag tag
 unfolding value_tag_of
 tag_takes n tag small e =
     (elim (is_opaque n) as (λ b. is_opaque n ≡ b → tag_or (cond b (Some (tags.Opaque n)) (assigned_tag n)) ≡ Ok tag → (tag_number tag ≡ n) × IsTag tag) [
@@ -49,7 +49,7 @@ tag_takes n tag small e =
       | false ↦ λ is same. or_takes n (assigned_tag n) tag refl same
     ]) refl e
 
-tag_again : (tag : ValueTag) → IsTag tag → value_tag_of (tag_number tag) ≡ Ok tag
+pub tag_again : (tag : ValueTag) → IsTag tag → value_tag_of (tag_number tag) ≡ Ok tag
 unfolding value_tag_of
 tag_again tags.Unsupported h = refl
 tag_again tags.Unknown h = refl
@@ -130,7 +130,7 @@ reads_tag = record { takes = tag_at_takes; again = tag_at_again }
 
 -- ---- character strings
 
-and_parts : (a b : Bool) → (a && b) ≡ true → (a ≡ true) × (b ≡ true)
+pub and_parts : (a b : Bool) → (a && b) ≡ true → (a ≡ true) × (b ≡ true)
 and_parts true b h = (refl, h)
 and_parts false b h = absurd cc
 

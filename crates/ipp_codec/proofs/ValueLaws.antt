@@ -1,8 +1,8 @@
 -- The octets of a value that is read are those of the value, and the octets of a value are read as this value.
-use Rattle.std.proofs.Common.{◌≡◌, ℕ, ◌+◌, ◌^◌, ◌<◌, ◌≤◌, true, false, cond, eqb, List, [], ◌∷◌, ◌++◌, length, get_or, Result, Ok, Err, refl, sym, ap, subst, ◌∙◌, arith}
+use Rattle.std.proofs.Common.{◌≡◌, ℕ, ◌+◌, ◌*◌, ◌^◌, ◌<◌, ◌≤◌, ◌||◌, true, false, cond, eqb, List, [], ◌∷◌, ◌++◌, length, get_or, Result, Ok, Err, refl, sym, ap, subst, ◌∙◌, arith}
 use Rattle.std.specs.Prelude.{nat_le}
 use Rattle.std.specs.Int.{w16, to_be_bytes}
-use Rattle.std.proofs.lemmas.Bool.{eqb-true, leb-true, le-leb}
+use Rattle.std.proofs.lemmas.Bool.{and_from, eqb-true, eqb-false, leb-true, le-leb}
 use Rattle.std.proofs.lemmas.List.{length-append, append-nil}
 use Rattle.ipp_values.specs.declared.tags.ValueTag.{ValueTag}
 use Rattle.ipp_values.specs.declared.tags.ValueTag.TheVariants as tags
@@ -11,11 +11,11 @@ use Rattle.ipp_values.specs.declared.value.Value.TheVariants as value
 use Rattle.ipp_values.specs.ValueTexts.{tag_of}
 use Rattle.ipp_codec.specs.declared.fault.DecodeFault.{DecodeFault}
 use Rattle.ipp_codec.specs.declared.fault.DecodeFault.TheVariants.{NeedMore, Length, Boolean}
-use Rattle.ipp_codec.specs.Octets.{counted, integer_octets, is_length, octets_of, IsDate, IsText, IsValue}
-use Rattle.ipp_codec.specs.Reading.{boolean_of, checked, counted_at, date_of, integer_of, localized_of, number_at, part_at, range_of, resolution_of, text_of, value_at, value_of}
+use Rattle.ipp_codec.specs.Octets.{counted, integer_octets, is_length, may_begin, octets_of, IsDate, IsText, IsValue}
+use Rattle.ipp_codec.specs.Reading.{boolean_of, checked, counted_at, date_of, first_passes, integer_of, localized_of, number_at, part_at, range_of, resolution_of, text_of, value_at, value_of}
 use Rattle.ipp_codec.specs.ReadSteps.{◌>>=◌}
 use Rattle.ipp_codec.proofs.Fields.{IsBytes, IsBytes-take, IsBytes-drop, bind_ok, done, ok_as, Takes, ◌⨾◌, Reads, got, again-step, part_takes, part_again, wide16, reads_16, checked_ok, checked_again}
-use Rattle.ipp_codec.proofs.TextLaws.{IsTag, text_takes, text_again, text_length, integer_takes, integer_again}
+use Rattle.ipp_codec.proofs.TextLaws.{IsTag, and_parts, text_takes, text_again, text_length, text_some, integer_takes, integer_again}
 
 -- ---- numbers of a value
 
@@ -148,6 +148,12 @@ localized_length most total language text room h k =
     let d : length (counted text) ≡ 2 + length text = length-append (to_be_bytes w16 (length text)) text in
     le-leb _ _ (omega (arith, a, b, c, d, room, length-append (counted language) (counted text)))
 
+localized_least : (language text : List ℕ) → nat_le 4 (length (counted language ++ counted text)) ≡ true
+localized_least language text =
+    let c : length (counted language) ≡ 2 + length language = length-append (to_be_bytes w16 (length language)) language in
+    let d : length (counted text) ≡ 2 + length text = length-append (to_be_bytes w16 (length text)) text in
+    le-leb _ _ (omega (arith, c, d, length-append (counted language) (counted text)))
+
 -- ---- every tag
 
 pub value_takes : (tag : ValueTag) (octets : List ℕ) (v : Value) → IsTag tag → IsBytes octets → is_length tag (length octets) ≡ true → value_of tag octets ≡ Ok v → IsRead tag octets v
@@ -223,22 +229,22 @@ value_length (value.DateTime x) h = refl
 value_length (value.Resolution x) h = refl
 value_length (value.RangeOfInteger x) h = refl
 value_length value.BeginCollection h = refl
-value_length (value.TextWithLanguage v) h = localized_length 1023 1090 v.language v.text (omega arith) h.0 h.1
-value_length (value.NameWithLanguage v) h = localized_length 255 322 v.language v.name (omega arith) h.0 h.1
+value_length (value.TextWithLanguage v) h = and_from _ _ (localized_least v.language v.text) (localized_length 1023 1090 v.language v.text (omega arith) h.0 h.1)
+value_length (value.NameWithLanguage v) h = and_from _ _ (localized_least v.language v.name) (localized_length 255 322 v.language v.name (omega arith) h.0 h.1)
 value_length value.EndCollection h = refl
 value_length (value.Text t) h = text_length 0 1023 255 t h
 value_length (value.Name t) h = text_length 0 255 255 t h
-value_length (value.Keyword t) h = text_length 1 255 127 t h
+value_length (value.Keyword t) h = and_from _ _ (text_some 1 255 127 t h) (text_length 1 255 127 t h)
 value_length (value.Uri t) h = text_length 0 1023 127 t h
 value_length (value.UriScheme t) h = text_length 0 63 127 t h
 value_length (value.Charset t) h = text_length 0 63 127 t h
 value_length (value.NaturalLanguage t) h = text_length 0 63 127 t h
 value_length (value.MimeMediaType t) h = text_length 0 255 127 t h
-value_length (value.MemberName t) h = text_length 1 255 127 t h
+value_length (value.MemberName t) h = and_from _ _ (text_some 1 255 127 t h) (text_length 1 255 127 t h)
 value_length (value.Opaque v) h = le-leb _ _ h.2
 
 -- No value has more octets than its length can say.
-long_is : (tag : ValueTag) (n : ℕ) → is_length tag n ≡ true → n ≤ 32767
+pub long_is : (tag : ValueTag) (n : ℕ) → is_length tag n ≡ true → n ≤ 32767
 long_is tags.Unsupported n h = omega (arith, eqb-true n 0 h)
 long_is tags.Unknown n h = omega (arith, eqb-true n 0 h)
 long_is tags.NoValue n h = omega (arith, eqb-true n 0 h)
@@ -250,19 +256,57 @@ long_is tags.DateTime n h = omega (arith, eqb-true n 11 h)
 long_is tags.Resolution n h = omega (arith, eqb-true n 9 h)
 long_is tags.RangeOfInteger n h = omega (arith, eqb-true n 8 h)
 long_is tags.BeginCollection n h = omega (arith, eqb-true n 0 h)
-long_is tags.TextWithLanguage n h = omega (arith, leb-true n 1090 h)
-long_is tags.NameWithLanguage n h = omega (arith, leb-true n 322 h)
+long_is tags.TextWithLanguage n h = omega (arith, leb-true n 1090 (and_parts _ _ h).1)
+long_is tags.NameWithLanguage n h = omega (arith, leb-true n 322 (and_parts _ _ h).1)
 long_is tags.EndCollection n h = omega (arith, eqb-true n 0 h)
 long_is tags.Text n h = omega (arith, leb-true n 1023 h)
 long_is tags.Name n h = omega (arith, leb-true n 255 h)
-long_is tags.Keyword n h = omega (arith, leb-true n 255 h)
+long_is tags.Keyword n h = omega (arith, leb-true n 255 (and_parts _ _ h).1)
 long_is tags.Uri n h = omega (arith, leb-true n 1023 h)
 long_is tags.UriScheme n h = omega (arith, leb-true n 63 h)
 long_is tags.Charset n h = omega (arith, leb-true n 63 h)
 long_is tags.NaturalLanguage n h = omega (arith, leb-true n 63 h)
 long_is tags.MimeMediaType n h = omega (arith, leb-true n 255 h)
-long_is tags.MemberName n h = omega (arith, leb-true n 255 h)
+long_is tags.MemberName n h = omega (arith, leb-true n 255 (and_parts _ _ h).1)
 long_is (tags.Opaque t) n h = omega (arith, leb-true n 32767 h)
+
+-- A length of two octets that are not both 0 may be less, as long as its first octet is not 0.
+pub length_down : (tag : ValueTag) (n m : ℕ) → is_length tag n ≡ true → 256 ≤ m → m ≤ n → is_length tag m ≡ true
+length_down tags.Unsupported n m h great le = absurd (omega (arith, eqb-true n 0 h, great, le))
+length_down tags.Unknown n m h great le = absurd (omega (arith, eqb-true n 0 h, great, le))
+length_down tags.NoValue n m h great le = absurd (omega (arith, eqb-true n 0 h, great, le))
+length_down tags.Integer n m h great le = absurd (omega (arith, eqb-true n 4 h, great, le))
+length_down tags.Boolean n m h great le = absurd (omega (arith, eqb-true n 1 h, great, le))
+length_down tags.Enum n m h great le = absurd (omega (arith, eqb-true n 4 h, great, le))
+length_down tags.OctetString n m h great le = le-leb m 1023 (omega (arith, leb-true n 1023 h, le))
+length_down tags.DateTime n m h great le = absurd (omega (arith, eqb-true n 11 h, great, le))
+length_down tags.Resolution n m h great le = absurd (omega (arith, eqb-true n 9 h, great, le))
+length_down tags.RangeOfInteger n m h great le = absurd (omega (arith, eqb-true n 8 h, great, le))
+length_down tags.BeginCollection n m h great le = absurd (omega (arith, eqb-true n 0 h, great, le))
+length_down tags.TextWithLanguage n m h great le = and_from (nat_le 4 m) (nat_le m 1090) (le-leb 4 m (omega (arith, great))) (le-leb m 1090 (omega (arith, leb-true n 1090 (and_parts (nat_le 4 n) (nat_le n 1090) h).1, le)))
+length_down tags.NameWithLanguage n m h great le = and_from (nat_le 4 m) (nat_le m 322) (le-leb 4 m (omega (arith, great))) (le-leb m 322 (omega (arith, leb-true n 322 (and_parts (nat_le 4 n) (nat_le n 322) h).1, le)))
+length_down tags.EndCollection n m h great le = absurd (omega (arith, eqb-true n 0 h, great, le))
+length_down tags.Text n m h great le = le-leb m 1023 (omega (arith, leb-true n 1023 h, le))
+length_down tags.Name n m h great le = absurd (omega (arith, leb-true n 255 h, great, le))
+length_down tags.Keyword n m h great le = absurd (omega (arith, leb-true n 255 (and_parts (nat_le 1 n) (nat_le n 255) h).1, great, le))
+length_down tags.Uri n m h great le = le-leb m 1023 (omega (arith, leb-true n 1023 h, le))
+length_down tags.UriScheme n m h great le = absurd (omega (arith, leb-true n 63 h, great, le))
+length_down tags.Charset n m h great le = absurd (omega (arith, leb-true n 63 h, great, le))
+length_down tags.NaturalLanguage n m h great le = absurd (omega (arith, leb-true n 63 h, great, le))
+length_down tags.MimeMediaType n m h great le = absurd (omega (arith, leb-true n 255 h, great, le))
+length_down tags.MemberName n m h great le = absurd (omega (arith, leb-true n 255 (and_parts (nat_le 1 n) (nat_le n 255) h).1, great, le))
+length_down (tags.Opaque t) n m h great le = le-leb m 32767 (omega (arith, leb-true n 32767 h, le))
+
+-- The first octet of a length.
+begins : (tag : ValueTag) (n high : ℕ) → is_length tag n ≡ true → high * 256 ≤ n → may_begin tag high ≡ true
+begins tag n high h le =
+    (elim (eqb high 0) as (λ b. eqb high 0 ≡ b → (b || is_length tag (high * 256)) ≡ true) [
+      | true ↦ λ is. refl
+      | false ↦ λ is. let some = eqb-false high 0 is in length_down tag n (high * 256) h (omega (arith, some)) le
+    ]) refl
+
+length_begins : (tag : ValueTag) (n : ℕ) (rest : List ℕ) → is_length tag n ≡ true → first_passes (may_begin tag) (to_be_bytes w16 n ++ rest) ≡ true
+length_begins tag n rest h = begins tag n _ h (omega arith)
 
 pub value_short : (v : Value) → IsValue v → length (octets_of v) < 2 ^ 16
 value_short v h = omega (arith, long_is (tag_of v) (length (octets_of v)) (value_length v h))
@@ -298,7 +342,8 @@ value_tag (value.Opaque v) h = (h.0, h.1)
 at_takes : (tag : ValueTag) → IsTag tag → (bytes : List ℕ) (v : Value) (rest : List ℕ) → IsBytes bytes → value_at tag bytes ≡ Ok (v, rest) → Takes bytes (counted (octets_of v)) rest × (IsValue v × (tag_of v ≡ tag))
 unfolding value_at
 at_takes tag ok bytes v rest fits e =
-    let n = got (number_at NeedMore w16) (to_be_bytes w16) (λ n. n < 2 ^ 16) (reads_16 NeedMore) bytes (λ n. checked Length (is_length tag n.0) n.0 >>= λ long. part_at NeedMore long n.1 >>= λ part. value_of tag part.0 >>= λ v. Ok (v, part.1)) (v, rest) fits e in
+    let g = bind_ok (checked {A = ℕ} Length (first_passes (may_begin tag) bytes) 0) (λ begun. number_at NeedMore w16 bytes >>= λ n. checked Length (is_length tag n.0) n.0 >>= λ long. part_at NeedMore long n.1 >>= λ part. value_of tag part.0 >>= λ v. Ok (v, part.1)) (v, rest) e in
+    let n = got (number_at NeedMore w16) (to_be_bytes w16) (λ n. n < 2 ^ 16) (reads_16 NeedMore) bytes (λ n. checked Length (is_length tag n.0) n.0 >>= λ long. part_at NeedMore long n.1 >>= λ part. value_of tag part.0 >>= λ v. Ok (v, part.1)) (v, rest) fits g.then in
     let c = bind_ok (checked Length (is_length tag n.value) n.value) (λ long. part_at NeedMore long n.rest >>= λ part. value_of tag part.0 >>= λ v. Ok (v, part.1)) (v, rest) n.then in
     let k = checked_ok Length (is_length tag n.value) n.value c.value c.was in
     let s = bind_ok (part_at NeedMore c.value n.rest) (λ part. value_of tag part.0 >>= λ v. Ok (v, part.1)) (v, rest) c.then in
@@ -318,7 +363,8 @@ unfolding value_at
 own_again v rest h =
     let tag = tag_of v in
     let o = octets_of v in
-    again-step (number_at NeedMore w16) (to_be_bytes w16) (λ n. n < 2 ^ 16) (reads_16 NeedMore) (length o) o rest (λ n. checked Length (is_length tag n.0) n.0 >>= λ long. part_at NeedMore long n.1 >>= λ part. value_of tag part.0 >>= λ v. Ok (v, part.1)) (Ok (v, rest)) (value_short v h)
+    ap (λ r. r >>= λ begun. number_at NeedMore w16 (counted o ++ rest) >>= λ n. checked Length (is_length tag n.0) n.0 >>= λ long. part_at NeedMore long n.1 >>= λ part. value_of tag part.0 >>= λ v. Ok (v, part.1)) (checked_again {A = ℕ} Length (first_passes (may_begin tag) (counted o ++ rest)) 0 (length_begins tag (length o) (o ++ rest) (value_length v h)))
+    ∙ again-step (number_at NeedMore w16) (to_be_bytes w16) (λ n. n < 2 ^ 16) (reads_16 NeedMore) (length o) o rest (λ n. checked Length (is_length tag n.0) n.0 >>= λ long. part_at NeedMore long n.1 >>= λ part. value_of tag part.0 >>= λ v. Ok (v, part.1)) (Ok (v, rest)) (value_short v h)
     (ap (λ r. r >>= λ long. part_at NeedMore long (o ++ rest) >>= λ part. value_of tag part.0 >>= λ v. Ok (v, part.1)) (checked_again Length (is_length tag (length o)) (length o) (value_length v h))
     ∙ ap (λ r. r >>= λ part. value_of tag part.0 >>= λ v. Ok (v, part.1)) (part_again NeedMore o rest (length o) refl)
     ∙ ap (λ r. r >>= λ v. Ok (v, rest)) (value_again v h))

@@ -3,3 +3,4 @@ pub mod Collections
 pub mod Octets
 pub mod MessageSpelling
 pub mod Reading
+pub mod Unfinished

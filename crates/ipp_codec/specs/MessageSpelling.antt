@@ -1,7 +1,7 @@
 -- The spelling of a message (RFC 8010, 3.1): its header, its groups, and the end of the attributes.
-use Rattle.std.specs.Prelude.{◌≡◌, ◌≢◌, ℕ, ◌<◌, ◌^◌, ◌++◌, ◌∷◌, [], List, FitsSigned}
+use Rattle.std.specs.Prelude.{◌≡◌, ◌≢◌, ℕ, ◌<◌, ◌^◌, ◌++◌, ◌∷◌, [], List, length, FitsSigned}
 use Rattle.std.specs.Int.{w16, w32, to_be_bytes}
-use Rattle.std.specs.List.{flat_map, AllByRecursion}
+use Rattle.std.specs.List.{flat_map, sum_by, AllByRecursion}
 use Rattle.ipp_values.specs.declared.value.Value.{Value}
 use Rattle.ipp_values.specs.declared.message.Attribute.{Attribute}
 use Rattle.ipp_values.specs.declared.message.Group.{Group}
@@ -54,6 +54,16 @@ pub record IsHeader (m : Message) : Type 0 where
 pub record IsMessage (m : Message) : Type 0 where
   pub header : IsHeader m
   pub groups : AllByRecursion IsGroup m.groups
+
+-- How many values and marks of collections a message has.
+abbrev pub values_of : Attribute → ℕ
+values_of a = length a.values
+
+abbrev pub values_in : Group → ℕ
+values_in g = sum_by values_of g.attributes
+
+abbrev pub value_count : Message → ℕ
+value_count m = sum_by values_in m.groups
 
 -- The octets spell the message.
 pub record Spells (m : Message) (octets : List ℕ) : Type 0 where

@@ -1,5 +1,5 @@
 -- The octets of values, and their limits (RFC 8010, 3.5.2 and 3.9; RFC 8011, 5.1).
-use Rattle.std.specs.Prelude.{◌≡◌, ℕ, ℤ, ◌<◌, ◌≤◌, ◌^◌, List, [], ◌∷◌, ◌++◌, length, Bool, true, ◌==◌, nat_le, if◌then◌else◌, FitsSigned}
+use Rattle.std.specs.Prelude.{◌≡◌, ℕ, ℤ, ◌<◌, ◌≤◌, ◌^◌, List, [], ◌∷◌, ◌++◌, length, ◌*◌, Bool, true, ◌==◌, ◌&&◌, ◌||◌, nat_le, if◌then◌else◌, FitsSigned}
 use Rattle.std.specs.Int.{w16, w32, to_be_bytes, cast_unsigned}
 use Rattle.std.specs.Str.{is_utf8}
 use Rattle.ipp_values.specs.declared.tags.ValueTag.{ValueTag}
@@ -67,19 +67,23 @@ is_length tags.DateTime n = n == 11
 is_length tags.Resolution n = n == 9
 is_length tags.RangeOfInteger n = n == 8
 is_length tags.BeginCollection n = n == 0
-is_length tags.TextWithLanguage n = nat_le n 1090
-is_length tags.NameWithLanguage n = nat_le n 322
+is_length tags.TextWithLanguage n = nat_le 4 n && nat_le n 1090
+is_length tags.NameWithLanguage n = nat_le 4 n && nat_le n 322
 is_length tags.EndCollection n = n == 0
 is_length tags.Text n = nat_le n 1023
 is_length tags.Name n = nat_le n 255
-is_length tags.Keyword n = nat_le n 255
+is_length tags.Keyword n = nat_le 1 n && nat_le n 255
 is_length tags.Uri n = nat_le n 1023
 is_length tags.UriScheme n = nat_le n 63
 is_length tags.Charset n = nat_le n 63
 is_length tags.NaturalLanguage n = nat_le n 63
 is_length tags.MimeMediaType n = nat_le n 255
-is_length tags.MemberName n = nat_le n 255
+is_length tags.MemberName n = nat_le 1 n && nat_le n 255
 is_length (tags.Opaque _) n = nat_le n 32767
+
+-- The first octet of a length that a value of the tag may have.
+abbrev pub may_begin : ValueTag → ℕ → Bool
+may_begin tag high = high == 0 || is_length tag (high * 256)
 
 -- A character string of UTF-8 within its limits.
 abbrev pub IsText : ℕ → ℕ → ℕ → List ℕ → Type 0

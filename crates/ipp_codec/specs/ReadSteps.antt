@@ -32,3 +32,15 @@ Gives view (Err e) reading = Fails e reading
 -- Items that were read before, followed by those that are read.
 abbrev pub before : {A : Type 0} → List A → Field (List A) → Field (List A)
 before front read = read >>= λ x. Ok (front ++ x.0, x.1)
+
+-- The fault is that of `reading` too, unless octets or memory were lacking.
+abbrev pub Lasts : {Y : Type 0} → DecodeFault → Result Y DecodeFault → Type 0
+Lasts NeedMore reading = Unit {0}
+Lasts TooLarge reading = reading ≡ Err TooLarge
+Lasts Delimiter reading = reading ≡ Err Delimiter
+Lasts Name reading = reading ≡ Err Name
+Lasts Length reading = reading ≡ Err Length
+Lasts Text reading = reading ≡ Err Text
+Lasts Boolean reading = reading ≡ Err Boolean
+Lasts Collection reading = reading ≡ Err Collection
+Lasts Memory reading = Unit {0}

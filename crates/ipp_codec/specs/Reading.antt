@@ -20,7 +20,8 @@ use Rattle.ipp_codec.specs.declared.fault.DecodeFault.TheVariants.{NeedMore, Too
 use Rattle.ipp_codec.specs.declared.place.Place.{Place}
 use Rattle.ipp_codec.specs.declared.place.Place.TheVariants.{Outside}
 use Rattle.ipp_codec.specs.Collections.{after_tag, is_outside}
-use Rattle.ipp_codec.specs.Octets.{is_length}
+use Rattle.ipp_codec.specs.MessageSpelling.{value_count}
+use Rattle.ipp_codec.specs.Octets.{is_length, may_begin}
 use Rattle.ipp_codec.specs.ReadSteps.{Field, ◌>>=◌}
 
 -- The value if it passes a test, otherwise the fault.
@@ -147,29 +148,44 @@ tag_at octets = do
   tag ← value_tag_of n.0
   Ok (tag, n.1)
 
--- value-length and value. The length is examined before the octets have arrived.
+-- Whether the first of the octets passes a test, if there is one.
+abbrev pub first_passes : (ℕ → Bool) → List ℕ → Bool
+first_passes test [] = true
+first_passes test (octet ∷ octets) = test octet
+
+-- value-length and value. Each octet of the length is examined before the next one has arrived.
 unfoldable pub value_at : ValueTag → List ℕ → Field Value
 value_at tag octets = do
+  begun ← checked {A = ℕ} Length (first_passes (may_begin tag) octets) 0
   n ← number_at NeedMore w16 octets
   long ← checked Length (is_length tag n.0) n.0
   part ← part_at NeedMore long n.1
   v ← value_of tag part.0
   Ok (v, part.1)
 
+-- A name has at most 255 octets, so the first octet of its length is 0.
+abbrev pub name_begins : List ℕ → Bool
+name_begins octets = first_passes (λ high. high == 0) octets
+
 -- name-length and name of an attribute.
 unfoldable pub name_at : List ℕ → Field (List ℕ)
 name_at octets = do
+  begun ← checked {A = ℕ} Name (name_begins octets) 0
   n ← number_at NeedMore w16 octets
   long ← checked Name (nat_le 1 n.0 && nat_le n.0 255) n.0
   part ← part_at NeedMore long n.1
   name ← text_of 1 255 127 part.0
   Ok (name, part.1)
 
--- Whether an additional value follows: a value tag and a name of length 0.
-unfoldable pub follows : List ℕ → Result Bool DecodeFault
-follows octets = do
+-- Whether an additional value follows: a value tag and a name of length 0. A value with a name, which begins another attribute, is
+-- examined here too: its tag may be at this place, or values have not ended here.
+unfoldable pub follows : Place → List ℕ → Result Bool DecodeFault
+follows place octets = do
   tag ← number_at NeedMore w8 octets
   if nat_lt tag.0 16 then Ok false else (do
+    kind ← value_tag_of tag.0
+    next ← after_tag place kind
+    begun ← checked {A = ℕ} Name (name_begins tag.1) 0
     n ← number_at NeedMore w16 tag.1
     Ok (n.0 == 0))
 
@@ -192,7 +208,7 @@ additional_at place octets = do
 unfoldable pub values_at : ℕ → Place → List ℕ → Field (List Value)
 values_at zero place octets = Err TooLarge
 values_at (suc n) place octets = do
-  more ← follows octets
+  more ← follows place octets
   if more then (do
     v ← additional_at place octets
     vs ← values_at n v.0.0 v.1
@@ -201,8 +217,8 @@ values_at (suc n) place octets = do
 unfoldable pub attribute_at : ℕ → List ℕ → Field Attribute
 attribute_at most octets = do
   tag ← tag_at octets
-  name ← name_at tag.1
   next ← after_tag Outside tag.0
+  name ← name_at tag.1
   v ← value_at tag.0 name.1
   vs ← values_at most next v.1
   Ok (record { name = name.0; values = v.0 ∷ vs.0 }, vs.1)
@@ -264,8 +280,9 @@ limited is_long (Err fault) = Err (at_limit is_long fault)
 abbrev pub window : List ℕ → List ℕ
 window octets = take 65536 octets
 
--- The message, and how many octets it has. The octets after them are the document.
+-- The message, and how many octets it has. The octets after them are the document. Values are counted at the end.
 unfoldable pub reading : List ℕ → Result (Message × ℕ) DecodeFault
 reading octets = do
   m ← limited (nat_le 65536 (length octets)) (message_at (length (window octets)) (window octets))
+  few ← checked {A = ℕ} TooLarge (nat_le (value_count m.0) 4096) 0
   Ok (m.0, length (window octets) - length m.1)

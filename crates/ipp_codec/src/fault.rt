@@ -5,9 +5,9 @@ use std::alloc::AllocError;
 /// The first fault of the octets, from left to right.
 #[derive(Clone, Copy, Debug, PartialEq, Eq)]
 pub enum DecodeFault {
-    /// The octets end within the message.
+    /// The octets end within a message, which more octets can complete.
     NeedMore,
-    /// The message has more than 65,536 octets, or more than 8 collections in one another.
+    /// The message has more than 65,536 octets, more than 4,096 values, or more than 8 collections in one another.
     TooLarge,
     /// A tag that no document assigns to a group, or a value where a group begins.
     Delimiter,

@@ -1,10 +1,12 @@
 //! Reading messages.
-ghost use Rattle.std.specs.Prelude.{◌≡◌, ◌≤◌, ◌-◌, ◌++◌, ◌∷◌, [], ℕ, Ok, IfOk, length, nat_le, take};
+ghost use Rattle.std.specs.Prelude.{◌≡◌, ◌≤◌, ◌-◌, ◌++◌, ◌∷◌, [], ℕ, List, Ok, IfErr, IfOk, IsErrOf, length, nat_le, take};
 ghost use Rattle.ipp_values.specs.declared.message.Message.{Message as MessageValue};
-ghost use Rattle.ipp_codec.specs.Reading.{additional_at, at_limit, attribute_at, attributes_at, follows, group_at, groups_at, message_at, name_at, reading, values_at};
-ghost use Rattle.ipp_codec.specs.MessageSpelling.{Spells};
-ghost use Rattle.ipp_codec.specs.ReadSteps.{Gives, before};
+ghost use Rattle.ipp_codec.specs.Reading.{additional_at, at_limit, attribute_at, attributes_at, follows, group_at, groups_at, message_at, name_at, name_begins, reading, values_at};
+ghost use Rattle.ipp_codec.specs.MessageSpelling.{value_count, Spells};
+ghost use Rattle.ipp_codec.specs.ReadSteps.{Gives, Lasts, before};
+ghost use Rattle.ipp_codec.specs.Unfinished.{CanComplete};
 
+use crate::counts::has_few_values;
 use crate::fault::DecodeFault;
 use crate::place::Place;
 use crate::values::{part_at, text_of, u8_at, u16_at, u32_at, value_at, value_tag_of};
@@ -20,11 +22,24 @@ const END_OF_ATTRIBUTES: u8 = 3;
 /// The first value tag. Those below are delimiters (RFC 8010, 3.5).
 const FIRST_VALUE_TAG: u8 = 16;
 
+/// Returns whether the first octet of the length of a name, if it has arrived, is 0.
+fn name_begins(octets: &[u8]) -> bool
+    ensures { result ≡ name_begins octets.now }
+{
+    match octets {
+        [high, ..] => *high == 0,
+        [] => true,
+    }
+}
+
 /// Returns the name of an attribute after its length.
 #[tactic(auto, unfolding(crate::specs::Reading::name_at, crate::specs::Reading::checked))]
 fn name_at(alloc: Global, octets: &[u8]) -> Result<(AttributeName, &[u8]), DecodeFault>
     ensures { Gives (λ x. (x.0, x.1.now)) result (name_at octets.now) }
 {
+    if !name_begins(octets) {
+        return Err(DecodeFault::Name);
+    }
     let (length, rest) = u16_at(octets)?;
     if length < 1 || 255 < length {
         return Err(DecodeFault::Name);
@@ -34,14 +49,19 @@ fn name_at(alloc: Global, octets: &[u8]) -> Result<(AttributeName, &[u8]), Decod
     Ok((name, rest))
 }
 
-/// Returns whether an additional value follows.
-#[tactic(auto, unfolding(crate::specs::Reading::follows))]
-fn follows(octets: &[u8]) -> Result<bool, DecodeFault>
-    ensures { Gives (λ b. b) result (follows octets.now) }
+/// Returns whether an additional value follows at this place.
+#[tactic(auto, unfolding(crate::specs::Reading::follows, crate::specs::Reading::checked))]
+fn follows(place: Place, octets: &[u8]) -> Result<bool, DecodeFault>
+    ensures { Gives (λ b. b) result (follows place octets.now) }
 {
     let (number, rest) = u8_at(octets)?;
     if number < FIRST_VALUE_TAG {
         return Ok(false);
+    }
+    let tag = value_tag_of(number)?;
+    place.after(&tag)?;
+    if !name_begins(rest) {
+        return Err(DecodeFault::Name);
     }
     let (length, _) = u16_at(rest)?;
     Ok(length == 0)
@@ -80,7 +100,7 @@ fn values_at<'a>(
     let mut place = start;
     let mut rest = octets;
     for _ in 0..most {
-        let more = follows(rest)?;
+        let more = follows(place, rest)?;
         if !more {
             if place.is_outside() {
                 return Ok(rest);
@@ -105,8 +125,8 @@ fn attribute_at(
 {
     let (number, rest) = u8_at(octets)?;
     let tag = value_tag_of(number)?;
-    let (name, rest) = name_at(alloc, rest)?;
     let next = Place::Outside.after(&tag)?;
+    let (name, rest) = name_at(alloc, rest)?;
     let (value, rest) = value_at(alloc, &tag, rest)?;
     let mut values = Items::one(alloc, value)?;
     let rest = values_at(alloc, most, next, &mut values, rest)?;
@@ -246,7 +266,14 @@ fn read_message(alloc: Global, octets: &[u8]) -> Result<(Message, usize), Decode
     let window = window_of(octets);
     let long = is_long(octets);
     match message_at(alloc, window.len(), window) {
-        Ok((message, rest)) => Ok((message, count_taken(window, rest))),
+        Ok((message, rest)) => {
+            if has_few_values(&message) {
+                Ok((message, count_taken(window, rest)))
+            } else {
+                drop(message);
+                Err(DecodeFault::TooLarge)
+            }
+        }
         Err(fault) => Err(at_limit(long, fault)),
     }
 }
@@ -260,9 +287,16 @@ pub fn decode(alloc: Global, octets: &[u8]) -> Result<(Message, usize), DecodeFa
     // A message that is returned is spelled by its octets.
     ensures sound { IfOk result (λ x. Spells x.0 (take x.1 octets.now)) }
     ensures short { IfOk result (λ x. (x.1 ≤ 65536) × (x.1 ≤ length octets.now)) }
+    ensures few { IfOk result (λ x. value_count x.0 ≤ 4096) }
 
-    // A message whose spelling is within the limit is read from it, unless memory runs out.
-    ensures complete { (m : MessageValue) (n : ℕ) → n ≤ 65536 → n ≤ length octets.now → Spells m (take n octets.now) → Gives (λ x. x) result (Ok (m, n)) }
+    // A message within the limits is read from its spelling, unless memory runs out.
+    ensures complete { (m : MessageValue) (n : ℕ) → n ≤ 65536 → n ≤ length octets.now → value_count m ≤ 4096 → Spells m (take n octets.now) → Gives (λ x. x) result (Ok (m, n)) }
+
+    // A fault remains the fault whatever octets follow, unless octets or memory were lacking.
+    ensures lasting { IfErr result (λ fault. (more : List ℕ) → Lasts fault (reading (octets.now ++ more))) }
+
+    // More octets can complete a message, if those of a last name or value that has not arrived whole are not counted.
+    ensures unfinished { IsErrOf result DecodeFault.NeedMore → CanComplete octets.now }
 
     // Which fault it is.
     ensures exact { Gives (λ x. x) result (reading octets.now) }

@@ -1,7 +1,7 @@
 //! Reading the octets of values.
 ghost use Rattle.std.specs.Prelude.{◌≡◌, ◌≤◌, IsTrue, IfOk, Ok, length};
-ghost use Rattle.ipp_codec.specs.Octets.{is_length};
-ghost use Rattle.ipp_codec.specs.Reading.{boolean_of, counted_at, date_of, integer_of, localized_of, number_at, part_at, range_of, resolution_of, text_of, value_at, value_of, value_tag_of};
+ghost use Rattle.ipp_codec.specs.Octets.{is_length, may_begin};
+ghost use Rattle.ipp_codec.specs.Reading.{boolean_of, counted_at, date_of, first_passes, integer_of, localized_of, number_at, part_at, range_of, resolution_of, text_of, value_at, value_of, value_tag_of};
 ghost use Rattle.ipp_codec.specs.ReadSteps.{Gives};
 ghost use Rattle.std.specs.Int.{w8, w16, w32};
 ghost use Rattle.ipp_codec.specs.declared.fault.DecodeFault.TheVariants.{NeedMore};
@@ -251,23 +251,40 @@ fn is_length(tag: &ValueTag, length: usize) -> bool
         ValueTag::Resolution => length == 9,
         ValueTag::RangeOfInteger => length == 8,
         ValueTag::BeginCollection => length == 0,
-        ValueTag::TextWithLanguage => length <= 1_090,
-        ValueTag::NameWithLanguage => length <= 322,
+        ValueTag::TextWithLanguage => 4 <= length && length <= 1_090,
+        ValueTag::NameWithLanguage => 4 <= length && length <= 322,
         ValueTag::EndCollection => length == 0,
         ValueTag::Text => length <= 1_023,
         ValueTag::Name => length <= 255,
-        ValueTag::Keyword => length <= 255,
+        ValueTag::Keyword => 1 <= length && length <= 255,
         ValueTag::Uri => length <= 1_023,
         ValueTag::UriScheme => length <= 63,
         ValueTag::Charset => length <= 63,
         ValueTag::NaturalLanguage => length <= 63,
         ValueTag::MimeMediaType => length <= 255,
-        ValueTag::MemberName => length <= 255,
+        ValueTag::MemberName => 1 <= length && length <= 255,
         ValueTag::Opaque(_) => length <= 32_767,
     }
 }
 
-/// Returns the value after its length. The length is examined before the octets have arrived.
+/// Returns whether the length of a value with this tag may begin with this octet.
+fn may_begin(tag: &ValueTag, high: u8) -> bool
+    ensures { result ≡ may_begin tag.now high }
+{
+    high == 0 || is_length(tag, high as usize * 256)
+}
+
+/// Returns whether the first octet of a length, if it has arrived, is one of a length of the tag.
+fn length_begins(tag: &ValueTag, octets: &[u8]) -> bool
+    ensures { result ≡ first_passes (may_begin tag.now) octets.now }
+{
+    match octets {
+        [high, ..] => may_begin(tag, *high),
+        [] => true,
+    }
+}
+
+/// Returns the value after its length. Each octet of the length is examined before the next one has arrived.
 #[tactic(auto, unfolding(crate::specs::Reading::value_at, crate::specs::Reading::checked))]
 pub(crate) fn value_at<'a>(
     alloc: Global,
@@ -276,6 +293,9 @@ pub(crate) fn value_at<'a>(
 ) -> Result<(Value, &'a [u8]), DecodeFault>
     ensures { Gives (λ x. (x.0, x.1.now)) result (value_at tag.now octets.now) }
 {
+    if !length_begins(tag, octets) {
+        return Err(DecodeFault::Length);
+    }
     let (length, rest) = u16_at(octets)?;
     let length = length as usize;
     if !is_length(tag, length) {

@@ -1,2 +1,3 @@
 pub mod ClientMessages
 pub mod RequestExamples
+pub mod ExchangeExamples

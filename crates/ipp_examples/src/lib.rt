@@ -2,18 +2,26 @@
 //!
 //! Each function does nothing. Each of its clauses is a table of examples in `specs/`, and the check computes the definitions on each row.
 //! `ClientMessages` has messages of lp(1), lpstat(1), cancel(1), cupsdisable(8) and ipptool(1) of CUPS 2.4.2, as they were sent: each
-//! operation occurs. The requests and statuses are written from RFC 8011.
+//! operation occurs. `ExchangeExamples` has the octets of some messages, also of answers. The requests and statuses are written from
+//! RFC 8011.
 //!
 //! # Promises
 //!
-//! A fact is about the definition `request_of`. That the code does the same is promised by `Request::of` of `ipp_requests`.
+//! A fact is about the definition `request_of` or `message_spelling`. That the code does the same is promised by `Request::of` of
+//! `ipp_requests`, and by `decode` and `encode` of `ipp_codec`.
 //!
 //! # Errors
 //!
 //! None: nothing here is ever called.
 #![tactic(auto)]
 
+ghost use Rattle.ipp_examples.specs.ExchangeExamples.{ExchangeRows};
 ghost use Rattle.ipp_examples.specs.RequestExamples as requests;
+
+/// The octets of messages as they were sent, and their meaning.
+pub fn octet_examples()
+    ensures { ExchangeRows }
+{}
 
 /// The requests of CUPS's commands.
 pub fn command_examples()

@@ -17,7 +17,7 @@ returns-in_err-more c =
     let total = before c.args.values.now (values_at c.args.most c.args.start c.args.octets.now) in
     let here = values_at (c.args.most - c.loop.counter) c.loop.place c.loop.rest.now in
     let p = err_from_is_err_and c.from_residual.result c.from_residual.ensures.1 in
-    rw (p.1, p.2) (carried c.in_err-more.field-0.0 (follows c.loop.rest.now) total (λ d is. failed c.loop.values d here total (values_stop c.args.most c.loop.counter c.loop.place c.loop.rest.now d c.loop-test.true is) c.loop.invariant) c.in_err-more.ensures)
+    rw (p.1, p.2) (carried c.in_err-more.field-0.0 (follows c.loop.place c.loop.rest.now) total (λ d is. failed c.loop.values d here total (values_stop c.args.most c.loop.counter c.loop.place c.loop.rest.now d c.loop-test.true is) c.loop.invariant) c.in_err-more.ensures)
 
 pub returns-then-is_outside : goal.returns-then-is_outside
 returns-then-is_outside c =

@@ -1,0 +1,83 @@
+#!/usr/bin/env python3
+"""Measures the decoding and encoding of an answer with 200 attributes: ipp_codec.py [PROGRAM]
+
+It runs crates/ipp_codec_tests/out/ipp_codec_tests (built by `rt run` in that crate) or PROGRAM on an answer to Get-Printer-Attributes with
+200 attributes: those that cupsd(8) answered, in `data` of that crate, and some of them again under other names. It prints how many such
+answers are decoded and encoded a second of processor time, and the octets. The time of a run with one call is subtracted.
+
+The aim is 100,000 a second. Decoding misses it by far, and encoding by half: the answer has 1,227 values, and `decode` examines each of its
+819 names and texts and copies it to memory of its own. Times depend on the machine. No test checks them.
+"""
+import os
+import resource
+import subprocess
+import sys
+
+here = os.path.dirname(os.path.abspath(__file__))
+CRATE = os.path.join(here, "..", "crates", "ipp_codec_tests")
+PROGRAM = os.path.join(CRATE, "out", "ipp_codec_tests")
+
+ATTRIBUTES = 200
+CALLS = 20_000
+
+
+def field(octets, at):
+    """Where the field that begins with a length at this place ends."""
+    return at + 2 + int.from_bytes(octets[at : at + 2], "big")
+
+
+def message(octets):
+    """The header, and the attributes of each group after the group's tag."""
+    at, groups = 8, []
+    while octets[at] != 3:
+        if octets[at] < 16:
+            groups.append((octets[at : at + 1], []))
+            at += 1
+            continue
+        start = at
+        at = field(octets, field(octets, at + 1))
+        if octets[start + 1 : start + 3] == b"\0\0":
+            groups[-1][1][-1] += octets[start:at]
+        else:
+            groups[-1][1].append(octets[start:at])
+    return octets[:8], groups
+
+
+def renamed(attribute, number):
+    """The attribute under a name with the same length."""
+    end = field(attribute, 1)
+    return attribute[:3] + (b"%03d" % number + attribute[6:end]) + attribute[end:]
+
+
+def answer():
+    with open(os.path.join(CRATE, "data", "printer_attributes"), "rb") as file:
+        header, groups = message(file.read())
+    last = groups[-1][1]
+    lacking = ATTRIBUTES - sum(len(attributes) for _, attributes in groups)
+    last += [renamed(attribute, number) for number, attribute in enumerate(last[:lacking])]
+    return header + b"".join(tag + b"".join(attributes) for tag, attributes in groups) + b"\3"
+
+
+def seconds(program, mode, calls, octets):
+    """The shortest processor time of three runs."""
+    times = []
+    for _ in range(3):
+        before = resource.getrusage(resource.RUSAGE_CHILDREN)
+        subprocess.run([program, mode, str(calls)], input=octets, check=True)
+        after = resource.getrusage(resource.RUSAGE_CHILDREN)
+        times.append(after.ru_utime - before.ru_utime + after.ru_stime - before.ru_stime)
+    return min(times)
+
+
+def main():
+    program = sys.argv[1] if sys.argv[1:] else PROGRAM
+    octets = answer()
+    print(f"an answer of {ATTRIBUTES} attributes, {len(octets)} octets")
+    for mode in ("decode", "encode"):
+        took = seconds(program, mode, CALLS, octets) - seconds(program, mode, 1, octets)
+        rate = CALLS / took
+        print(f"{mode}: {rate:,.0f} a second, {rate * len(octets) / 1e6:,.0f} MB a second")
+
+
+if __name__ == "__main__":
+    main()

@@ -1,0 +1,248 @@
+#!/usr/bin/env python3
+"""Compares crates/ipp_codec with a model of RFC 8010: ipp_codec.py [--write | COUNT]
+
+`crates/ipp_codec_tests` has messages that clients and cupsd(8) sent, in `stdin` and, an answer of 133 attributes, in `data`. The program of that crate cuts each of them after every octet,
+and changes single octets. The model in this script says how many of the octets are a message, how many need more octets, and how many have
+a fault. It is written from the RFC and from the promises of the crate, and is no copy of its code. This script compares the lines of the
+program with those of the model, and then runs the program on at least COUNT damaged messages (1,000,000 by default) for at most ten
+minutes: each run must end with status 0, and each message must be counted.
+
+`rt run` in crates/ipp_codec_tests builds the program. With --write the script writes `stdout` of that crate from the model, and runs
+nothing.
+
+The last line is `N lines, 0 differ, M damaged messages`, with status 0, or the number that differ, with status 1.
+"""
+import os
+import subprocess
+import sys
+import time
+
+CRATE = os.path.join(os.path.dirname(os.path.realpath(__file__)), "..", "crates", "ipp_codec_tests")
+PROGRAM = os.path.join(CRATE, "out", "ipp_codec_tests")
+SECONDS = 600
+
+LONGEST, MOST_VALUES, DEEPEST = 65_536, 4_096, 8
+GROUPS = {0x01, 0x02, 0x04, 0x05, 0x06, 0x07, 0x08, 0x09, 0x0A}
+BEGIN, END, MEMBER = 0x34, 0x37, 0x4A
+EMPTY = range(0, 1)
+
+# The lengths of the values of a tag (RFC 8010, 3.9; RFC 8011, 5.1). Each other tag has any octets.
+LENGTHS = {
+    0x10: EMPTY, 0x12: EMPTY, 0x13: EMPTY, 0x21: range(4, 5), 0x22: range(1, 2), 0x23: range(4, 5), 0x30: range(1_024),
+    0x31: range(11, 12), 0x32: range(9, 10), 0x33: range(8, 9), BEGIN: EMPTY, 0x35: range(4, 1_091), 0x36: range(4, 323), END: EMPTY,
+    0x41: range(1_024), 0x42: range(256), 0x44: range(1, 256), 0x45: range(1_024), 0x46: range(64), 0x47: range(64), 0x48: range(64),
+    0x49: range(256), MEMBER: range(1, 256),
+}
+ASCII = {0x44, 0x45, 0x46, 0x47, 0x48, 0x49, MEMBER}
+UTF_8 = {0x41, 0x42}
+
+
+class Fault(Exception):
+    """No octets after these make them a message."""
+
+
+class Lacking(Exception):
+    """The octets end within a message."""
+
+
+class Octets:
+    def __init__(self, octets):
+        self.octets = octets
+        self.at = 0
+
+    def take(self, count):
+        if len(self.octets) - self.at < count:
+            raise Lacking
+        self.at += count
+        return self.octets[self.at - count : self.at]
+
+    def number(self, lengths):
+        """A length of two octets. Each octet is examined as it arrives."""
+        high = self.take(1)[0]
+        if high not in range(lengths[0] // 256, lengths[-1] // 256 + 1):
+            raise Fault
+        length = high * 256 + self.take(1)[0]
+        if length not in lengths:
+            raise Fault
+        return length
+
+
+def text(octets, is_ascii):
+    try:
+        octets.decode("ascii" if is_ascii else "utf-8")
+    except UnicodeDecodeError:
+        raise Fault from None
+
+
+def localized(octets, most):
+    """A natural language and a text, each after its length."""
+    first = int.from_bytes(octets[:2], "big")
+    second = int.from_bytes(octets[2 + first : 4 + first], "big")
+    if len(octets) != 4 + first + second or first > 63 or second > most:
+        raise Fault
+    text(octets[2 : 2 + first], True)
+    text(octets[4 + first :], False)
+
+
+def value(tag, octets):
+    data = octets.take(octets.number(LENGTHS.get(tag, range(32_768))))
+    if tag in ASCII or tag in UTF_8:
+        text(data, tag in ASCII)
+    elif tag == 0x22 and data[0] > 1:
+        raise Fault
+    elif tag == 0x35:
+        localized(data, 1_023)
+    elif tag == 0x36:
+        localized(data, 255)
+
+
+class Collections:
+    """The collections that have begun in an attribute. Each awaits a member, a value of one, or any of both."""
+
+    def __init__(self, before=None):
+        self.awaits = list(before.awaits) if before else []
+
+    def add(self, tag):
+        inner = self.awaits[-1] if self.awaits else None
+        if tag == MEMBER:
+            if inner not in ("member", "any"):
+                raise Fault
+            self.awaits[-1] = "value"
+            return
+        if tag == END:
+            if inner not in ("member", "any"):
+                raise Fault
+            self.awaits.pop()
+        elif inner == "member":
+            raise Fault
+        if tag == BEGIN:
+            if len(self.awaits) == DEEPEST:
+                raise Fault
+            self.awaits.append("member")
+        elif self.awaits:
+            self.awaits[-1] = "any"
+
+
+def message(octets):
+    """The number of octets of the message at the front."""
+    octets.take(8)
+    is_group, collections, values = False, None, 0
+    while True:
+        tag = octets.take(1)[0]
+        if tag < 0x10:
+            if collections is not None and collections.awaits:
+                raise Fault
+            if tag == 3:
+                if values > MOST_VALUES:
+                    raise Fault
+                return octets.at
+            if tag not in GROUPS:
+                raise Fault
+            is_group, collections = True, None
+            continue
+        if not is_group:
+            raise Fault
+        after = Collections(collections)
+        after.add(tag)
+        length = octets.number(range(256))
+        if length == 0 and collections is None:
+            raise Fault
+        if length > 0:
+            if collections is not None and collections.awaits:
+                raise Fault
+            text(octets.take(length), True)
+        collections = after
+        value(tag, octets)
+        values += 1
+
+
+def kind(octets):
+    """0 for a message, 1 if the octets end within one, 2 for a fault."""
+    try:
+        message(Octets(octets[:LONGEST]))
+        return 0
+    except Lacking:
+        return 1 if len(octets) < LONGEST else 2
+    except Fault:
+        return 2
+
+
+def counts(all_octets):
+    found = [0, 0, 0]
+    for octets in all_octets:
+        found[kind(octets)] += 1
+    return "%d %d %d" % tuple(found)
+
+
+def damaged(octets, count, seed):
+    """Copies with one changed octet."""
+    state = seed
+    for _ in range(count):
+        state = (state * 6_364_136_223_846_793_005 + 1_442_695_040_888_963_407) % 2**64
+        copy = bytearray(octets)
+        place = (state >> 33) % len(octets)
+        copy[place] = (copy[place] + 1 + (state >> 57)) % 256
+        yield bytes(copy)
+
+
+def messages(octets):
+    while octets:
+        length = message(Octets(octets))
+        yield octets[:length]
+        octets = octets[length:]
+
+
+def lines(octets, count, seed):
+    """The lines that the program must print."""
+    for one in messages(octets):
+        cuts = counts(one[:end] for end in range(len(one)))
+        yield f"{len(one)} true cuts {cuts} damaged {counts(damaged(one, count, seed))}"
+
+
+def contents(*path):
+    with open(os.path.join(CRATE, *path), "rb") as file:
+        return file.read()
+
+
+def run(octets, count, seed):
+    words = [PROGRAM, "exchanges", str(count), str(seed)]
+    done = subprocess.run(words, input=octets, stdout=subprocess.PIPE, check=True, timeout=SECONDS)
+    return done.stdout.decode().splitlines()
+
+
+def storm(octets, least):
+    """Damages messages until there are this many, or the time is over. Returns their number."""
+    end = time.monotonic() + SECONDS
+    total, seed = 0, 1
+    while total < least and time.monotonic() < end:
+        seed += 1
+        for line in run(octets, 1_000, seed):
+            total += sum(int(word) for word in line.split()[-3:])
+    return total
+
+
+def main():
+    octets = contents("stdin")
+    with open(os.path.join(CRATE, "args")) as file:
+        _, count, seed = file.read().split()
+    wanted = list(lines(octets, int(count), int(seed)))
+    if sys.argv[1:] == ["--write"]:
+        with open(os.path.join(CRATE, "stdout"), "w") as file:
+            file.writelines(line + "\n" for line in wanted)
+        return
+    found = run(octets, int(count), int(seed))
+    answer = contents("data", "printer_attributes")
+    wanted += lines(answer, int(count), int(seed))
+    found += run(answer, int(count), int(seed))
+    differing = abs(len(wanted) - len(found))
+    for model, program in zip(wanted, found):
+        if model != program:
+            differing += 1
+            print(f"the model: {model}\nthe program: {program}")
+    total = storm(octets, int(sys.argv[1]) if sys.argv[1:] else 1_000_000)
+    print(f"{len(wanted)} lines, {differing} differ, {total} damaged messages")
+    sys.exit(1 if differing else 0)
+
+
+if __name__ == "__main__":
+    main()
