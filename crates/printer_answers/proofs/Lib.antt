@@ -1,0 +1,4 @@
+pub mod SelectedRows
+pub mod Chains
+pub mod Pauses
+pub mod TwoAdded

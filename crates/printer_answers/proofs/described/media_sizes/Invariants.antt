@@ -1,0 +1,8 @@
+-- The sizes so far.
+use Rattle.std.proofs.Common.{◌≡◌, take}
+use Rattle.std.specs.List.{flat_map}
+use Rattle.printer_answers.specs.PrinterMedia.{media_size}
+use Rattle.printer_answers.proofs.described.media_sizes.Given as goal
+
+abbrev pub invariant-loop-size : goal.invariant-loop-size
+invariant-loop-size l = l.values ≡ flat_map media_size (take l.size-index l.media)
