@@ -199,6 +199,38 @@ def played_now(folder):
     same("moments", (sent, errors), ({"hold": 5000000060, "createby": 5000000090}, ""))
 
 
+def played_time_of_day(folder):
+    """A time of day is the next one by the time of the service, in UTC. 5000000000 is 08:53:20."""
+    for told, wanted in (("08:53:21", 5000000001), ("8:53:20", 5000000000), ("08:53", 5000000000 - 20 + 86_400), ("00:00", 5000000000 + 54_400)):
+        steps = [("now\n", "ok now 5000000000\n"), ('create "q" ', "ok job 5\n"), ("send 5 3", "ok bytes 3\n"), ("hold 5 ", "ok\n"), ("close 5 ", CLOSED)]
+        service = Played(folder, [steps])
+        folder.write("doc", "abc")
+        Front(folder).says("lp", "-d", "q", "-H", told, folder.at("doc"))
+        service.end()
+        same(told, [line for line in service.heard if line.startswith("hold")], [f"hold 5 {wanted}"])
+
+
+def played_removed_while_waiting(folder):
+    """A job that was canceled and removed while the program waited for it was not completed."""
+    for reply, status in (("error job\n", 5), (shown(3, "7 canceled", "a/b"), 5), (shown(3, "9 job-completed-successfully", "a/b"), 0)):
+        service = Played(folder, [SENDS + [("close 5 ", CLOSED), ("job 5", reply)]])
+        folder.write("doc", "abc")
+        same(f"the status after {reply!r}", Front(folder).run("spool", "submit", "q", folder.at("doc"), "--wait").returncode, status)
+        service.end()
+
+
+def played_tokens_differ(folder):
+    """No two submissions have the same token."""
+    tokens = set()
+    for _ in range(40):
+        service = Played(folder, [SENDS + [("close 5 ", CLOSED)]])
+        folder.write("doc", "abc")
+        Front(folder).says("spool", "submit", "q", folder.at("doc"))
+        service.end()
+        tokens |= {line.split("submission=")[1].split('"')[0] for line in service.heard if line.startswith("create")}
+    same("tokens", (len(tokens), {len(token) for token in tokens}), (40, {32}))
+
+
 def played_now_apart(folder):
     """A moment of the system's clock is shifted if the service's time is another one, in either direction."""
     for apart, side in ((1_000_000, "service's time"), (-1_000_000, "system's clock")):
@@ -388,7 +420,7 @@ def submits_and_loses_the_service(folder):
     folder.kill()
     output = child.communicate(timeout=20)[1].decode()
     same(f"status, with the output {output!r}", child.returncode, 3)
-    holds(f"printed {output!r}", "cannot determine the outcome of job 1: cannot reach the service" in output)
+    holds(f"printed {output!r}", "cannot determine the outcome of job 1: cannot connect to" in output)
 
 
 def submits_and_is_refused(folder):
@@ -433,6 +465,7 @@ def status_and_json(folder):
     holds("a table", 'a "b" \\c' in front.says("spool", "status"))
     holds("another queue", 'a "b"' not in front.says("spool", "status", "-q", "other"))
     holds("the job", "q" in front.says("spool", "status", str(job)))
+    holds("why it waits", "\nwhy       its document is being sent\n" in front.says("spool", "status", str(job)))
     holds("no job", "no such job" in front.fails("spool", "status", "77"))
     holds("queues", "q" in front.says("spool", "queues"))
     holds("devices", "spool_shell --devices" in front.fails("spool", "devices"))
@@ -450,7 +483,7 @@ def status_check(folder):
     output = front.says("spool", "check", status=1).splitlines()[1:]
     same("check", output, ["queue b is stopped", "queue d cannot print: no chain of filters converts to c/d", "queue q rejects jobs"])
     missing = front.fails("spool", "check", environment={"SPOOL_CONVS": folder.at("missing")})
-    same("the error", missing, f"spool: cannot read {folder.at('missing')}\n")
+    same("the error", missing, f"spool: cannot read {folder.at('missing')}: No such file or directory\n")
 
 
 def status_check_of_programs(folder):
@@ -476,6 +509,40 @@ def status_check_of_programs(folder):
     folder.write("unread", "filter\n")
     missing = front.fails("spool", "check", environment={"SPOOL_PROGRAMS": folder.at("unread")})
     same("the error", missing, f"spool: {folder.at('unread')} is invalid\n")
+
+
+def status_of_faults(folder):
+    """Each fault says what failed, on which file or queue, the system's reason, and what to do."""
+    client, front = office(folder)
+    same("disable", client.ask("disable q\n"), "ok")
+    folder.write("empty", "")
+    left = folder.at("left")
+    with socket.socket(socket.AF_UNIX) as server:
+        server.bind(left)
+    hint = "(is cegmandi running? systemctl status cegmandi)"
+    nowhere, gone = folder.at("nowhere"), folder.at("gone", "file")
+    none = {"SPOOL_SOCKET": nowhere, "SPOOL_PATIENCE": "0"}
+    table = [
+        (["spool", "status"], none, f"cannot connect to {nowhere}: No such file or directory {hint}"),
+        (["spool", "queues"], {**none, "SPOOL_SOCKET": left}, f"cannot connect to {left}: Connection refused {hint}"),
+        (["spool", "release", "7"], none, f"cannot connect to {nowhere}: No such file or directory {hint}"),
+        (["lpstat", "-p"], none, f"cannot connect to {nowhere}: No such file or directory {hint}"),
+        (["lpstat", "-t"], none, "no service is running"),
+        (["spool", "submit", "q", gone], {}, f"cannot open {gone}: No such file or directory"),
+        (["spool", "page", gone], {}, f"cannot write {gone}: No such file or directory"),
+        (["spool", "check"], {"SPOOL_PROGRAMS": gone}, f"cannot read {gone}: No such file or directory"),
+        (["lp", folder.at("empty")], {}, f"{folder.at('empty')} is empty, so nothing is printed"),
+        (["lp"], {}, "standard input is empty, so nothing is printed"),
+        (["lpstat", "-p", "q,none"], {}, "no such queue in the list: q,none"),
+        (["lpstat", "-c", "all"], {}, "no such class: all"),
+        (["lpoptions", "-d", "none"], {}, "no such queue: none"),
+        (["lpoptions", "-d", "q"], {}, "HOME is not set, so no default queue can be stored"),
+        (["cancel", "q"], {}, "no job waits or prints in queue q"),
+        (["cancel", "-a", "none"], {}, "no such queue"),
+    ]
+    for words, environment, text in table:
+        same(f"{words}", front.fails(*words, environment=environment), f"spool: {text}\n")
+    same("no service", front.says("lpstat", "-r", environment={"SPOOL_SOCKET": nowhere}), "scheduler is not running\n")
 
 
 def status_of_two_services(folder):
@@ -798,7 +865,7 @@ def lp_scripts(folder):
     same("removed", client.state(job).split()[0], "7")
     same("nothing", front.says("lpstat", "-o"), "")
     front.fails("lp", "-d", "none", folder.at("a.txt"))
-    front.fails("lp", "-Z", status=2)
+    front.fails("lp", "-Z")
 
 
 TESTS = [test for name, test in list(globals().items()) if name.startswith(("played_", "submits_", "status_", "acts_"))]

@@ -15,7 +15,7 @@ from service_parts import HERE, LONGEST, Difference, Folder, run_test, same
 BUILT = os.path.join(HERE, "..", "crates", "spool_front", "out", "spool_front")
 
 # The names under which the program is run.
-NAMES = ["spool", "lp", "lpr", "lpstat", "cancel", "lpq", "lprm"]
+NAMES = ["spool", "lp", "lpr", "lpstat", "cancel", "lpq", "lprm", "lpoptions", "lpmove", "cupsenable", "cupsdisable", "cupsaccept", "cupsreject"]
 
 
 class Front:
@@ -92,7 +92,7 @@ class Played:
     It is an older service: the words of `UNKNOWN` are answered `error syntax`, unless a step expects them.
     """
 
-    UNKNOWN = ("i-am\n", "now\n", "room\n", "find ", "stop ", "list")
+    UNKNOWN = ("i-am\n", "now\n", "room\n", "printers\n", "find ", "stop ", "why ", "list")
 
     def __init__(self, folder, connections):
         self.heard = []

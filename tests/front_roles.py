@@ -185,7 +185,7 @@ def proves_once_a_connection(folder):
 
 
 def proves_by_each_name(folder):
-    listed = {"jobs": "ok 0\n", "list": OLDER, "queues": "ok 0\n"}
+    listed = {"jobs": "ok 0\n", "list": OLDER, "printers": "ok 0\n"}
     for words in (["cancel", "7"], ["lprm", "7"], ["spool", "hold", "7"], ["spool", "release", "7"], ["spool", "end", "7"], ["spool", "purge", "7"]):
         service, front = started(folder, {word: "ok\n" for word in ("stop", "hold", "release", "end", "purge")})
         front.says(*words)
@@ -204,10 +204,19 @@ def proves_by_each_name(folder):
         service.end()
 
 
-def proves_nothing_for_queues(folder):
-    service, front = started(folder, {"queues": "ok 0\n"})
+def proves_to_show_queues(folder):
+    """Queues that are shown are listed with a proof, since only operators see their messages. A queue is looked up without one."""
+    service, front = started(folder, {"printers": "ok 0\n"})
     front.says("spool", "queues")
-    same("said", service.heard, ["queues"])
+    same("said", service.heard, ["i-am", "made", "printers"])
+    service.end()
+    service, front = started(folder, {"printers": OLDER, "queues": "ok 0\n"})
+    front.says("spool", "queues")
+    same("said to an older service", service.heard, ["i-am", "made", "printers", "queues"])
+    service.end()
+    service, front = started(folder, {"printers": "ok 0\n"})
+    front.run("lp", text=b"a letter")
+    same("said to find the only queue", service.heard, ["printers"])
     service.end()
 
 

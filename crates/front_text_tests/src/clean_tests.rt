@@ -47,14 +47,14 @@ fn shown_text(alloc: Global) -> Result<String, AllocError> {
 
 fn shown_json(alloc: Global) -> Result<String, AllocError> {
     match read_job_shown(alloc, HOSTILE_SHOWN.as_bytes())? {
-        Some(job) => json_text(alloc, &job_shown_json(alloc, &job)?),
+        Some(job) => json_text(alloc, &job_shown_json(alloc, &job, None)?),
         None => Ok(String::new(alloc)),
     }
 }
 
 fn queue_entries(alloc: Global) -> Result<Vec<u8>, AllocError> {
     match read_queue_line(alloc, LAB.as_bytes())? {
-        Some(queue) => lpq(alloc, &queue, &hostile_jobs(alloc)?),
+        Some(queue) => lpq(alloc, &queue, &hostile_jobs(alloc)?, false),
         None => Ok(Vec::new(alloc)),
     }
 }
@@ -144,7 +144,7 @@ fn terminals(rt: HostRuntime) -> Result<(), Fail> {
 fn forms(rt: HostRuntime) -> Result<(), Fail> {
     let alloc = rt.alloc();
     assert!(rt;
-        lpstat_jobs(alloc, &hostile_jobs(alloc)?)?.as_slice()
+        lpstat_jobs(alloc, &hostile_jobs(alloc)?, false)?.as_slice()
             == "lab-8                   a\u{fffd}b                  3 -\n".as_bytes()
     );
     assert!(rt;

@@ -3,10 +3,10 @@
 ghost use Rattle.std.specs.Prelude.{◌≤◌};
 
 use front_texts::{
-    JobLine, LastLine, QueueLine, WatchLine, escape, fitted, job_page, job_shown_json, jobs_json,
-    jobs_table, lpq, lpstat_accepting, lpstat_jobs, lpstat_printers, moment_text, page, queue_page,
-    queues_json, queues_table, read_job_line, read_job_shown, read_last_line, read_queue_line,
-    read_watch_line, size_text,
+    JobLine, LastLine, QueueLine, WatchLine, device_in, escape, fitted, job_page, job_shown_json,
+    jobs_json, jobs_table, lpq, lpstat_accepting, lpstat_device, lpstat_jobs, lpstat_names,
+    lpstat_printers, moment_text, page, queue_page, queues_json, queues_table, read_job_line,
+    read_job_shown, read_last_line, read_queue_line, read_watch_line, size_text,
 };
 use program_version::with_version;
 use spool_types::Moment;
@@ -103,7 +103,7 @@ fn shown_lines(alloc: Global, times: &str) -> Result<String, AllocError> {
 fn shown_json(alloc: Global) -> Result<String, AllocError> {
     let text = format!(in alloc; "{SHOWN}{TIMES}")?;
     match read_job_shown(alloc, text.as_bytes())? {
-        Some(job) => job_shown_json(alloc, &job)?.to_string(alloc),
+        Some(job) => job_shown_json(alloc, &job, Some("it is held"))?.to_string(alloc),
         None => Ok(String::new(alloc)),
     }
 }
@@ -122,13 +122,21 @@ fn table_of_queues(alloc: Global) -> Result<String, AllocError> {
 
 fn printers(alloc: Global) -> Result<Vec<u8>, AllocError> {
     let jobs = jobs(alloc, &[PRINTING, WAITING])?;
-    lpstat_printers(alloc, &queues(alloc, &[LAB, DEN])?, &jobs)
+    lpstat_printers(alloc, &queues(alloc, &[LAB, DEN])?, &jobs, false)
 }
 
 fn entries(alloc: Global, row: &str) -> Result<Vec<u8>, AllocError> {
     let jobs = jobs(alloc, &[PRINTING, WAITING, ARRIVING])?;
     match read_queue_line(alloc, row.as_bytes())? {
-        Some(queue) => lpq(alloc, &queue, &jobs),
+        Some(queue) => lpq(alloc, &queue, &jobs, false),
+        None => Ok(Vec::new(alloc)),
+    }
+}
+
+fn long_entries(alloc: Global) -> Result<Vec<u8>, AllocError> {
+    let jobs = jobs(alloc, &[PRINTING])?;
+    match read_queue_line(alloc, LAB.as_bytes())? {
+        Some(queue) => lpq(alloc, &queue, &jobs, true),
         None => Ok(Vec::new(alloc)),
     }
 }
@@ -223,7 +231,7 @@ fn one_job(rt: HostRuntime) -> Result<(), Fail> {
     assert_eq!(rt; shown_lines(alloc, "ended 1\nmore 2\n")?.as_str(), "");
     assert_eq!(rt;
         shown_json(alloc)?.as_str(),
-        "{\"asked\":{\"copies\":2,\"number\":7,\"options\":\"media=A4\",\"priority\":50,\"queue\":\"lab\",\"title\":\"P \\\"1\\\"\",\"user\":\"ann\"},\"course\":{\"attempts\":1,\"moments\":{\"by\":1700000000,\"hold_until\":null,\"not_before\":null},\"pages\":1,\"reason\":\"job-printing\",\"size\":65536,\"stage\":{\"attempt\":1,\"stage\":1,\"stages\":2},\"state\":\"processing\",\"type\":\"text/plain\"},\"times\":{\"closed\":1700000001,\"created\":1700000000,\"ended\":null,\"started\":\"unknown\"}}"
+        "{\"asked\":{\"copies\":2,\"number\":7,\"options\":\"media=A4\",\"priority\":50,\"queue\":\"lab\",\"title\":\"P \\\"1\\\"\",\"user\":\"ann\"},\"course\":{\"attempts\":1,\"moments\":{\"by\":1700000000,\"hold_until\":null,\"not_before\":null},\"pages\":1,\"reason\":\"job-printing\",\"size\":65536,\"stage\":{\"attempt\":1,\"stage\":1,\"stages\":2},\"state\":\"processing\",\"type\":\"text/plain\"},\"times\":{\"closed\":1700000001,\"created\":1700000000,\"ended\":null,\"started\":\"unknown\"},\"why\":\"it is held\"}"
     );
     Ok(())
 }
@@ -256,9 +264,46 @@ fn forms(rt: HostRuntime) -> Result<(), Fail> {
             == b"lab accepting requests since -\nden not accepting requests since - -\n\ttray \"2\" is empty\n".as_slice()
     );
     assert!(rt;
-        lpstat_jobs(alloc, &jobs(alloc, &[PRINTING, HIDDEN])?)?.as_slice()
+        lpstat_jobs(alloc, &jobs(alloc, &[PRINTING, HIDDEN])?, false)?.as_slice()
             == b"lab-7                   ann              65536 -\nlab-11                  unknown              5 -\n".as_slice()
     );
+    Ok(())
+}
+
+#[test]
+fn long_forms(rt: HostRuntime) -> Result<(), Fail> {
+    let alloc = rt.alloc();
+    let queues = queues(alloc, &[LAB, DEN])?;
+    assert!(rt; lpstat_names(alloc, &queues)?.as_slice() == b"lab\nden\n".as_slice());
+    assert!(rt;
+        lpstat_printers(alloc, &queues, &[], true)?.as_slice()
+            == b"printer lab now printing.  enabled since -\n\tAlerts: none\nprinter den disabled since - -\n\ttray \"2\" is empty\n\tAlerts: media-empty toner-low\n".as_slice()
+    );
+    assert!(rt;
+        lpstat_jobs(alloc, &jobs(alloc, &[HIDDEN])?, true)?.as_slice()
+            == b"lab-11                  unknown              5 -\n\tAlerts: none\n\tqueued for lab\n".as_slice()
+    );
+    assert!(rt;
+        long_entries(alloc)?.as_slice()
+            == b"lab is ready and printing\n\n\nann: active                            [job 7 localhost]\n        Report \"Q1\"                             65536 bytes\n".as_slice()
+    );
+    Ok(())
+}
+
+#[test]
+fn devices(rt: HostRuntime) -> Result<(), Fail> {
+    let alloc = rt.alloc();
+    let mut rows = Vec::new(alloc);
+    for row in ["queue lab", "uri socket://lab/", "type a/b"] {
+        rows.push(Vec::from_slice(alloc, row.as_bytes())?)?;
+    }
+    assert!(rt; device_in(&rows) == b"socket://lab/".as_slice());
+    assert!(rt; device_in(&[]).is_empty());
+    assert!(rt;
+        lpstat_device(alloc, "lab", device_in(&rows))?.as_slice()
+            == b"device for lab: socket://lab/\n".as_slice()
+    );
+    assert!(rt; lpstat_device(alloc, "lab", b"")?.as_slice() == b"device for lab: -\n".as_slice());
     Ok(())
 }
 
@@ -326,13 +371,25 @@ fn pages(rt: HostRuntime) -> Result<(), Fail> {
     );
     let page = page(
         alloc,
-        &queues(alloc, &[DEN])?,
+        &queues(alloc, &[DEN, LAB])?,
         &jobs(alloc, &[WAITING, ARRIVING])?,
         "now",
         true,
     )?;
-    assert!(rt; has(&page, b"<td><bdi>&lt;b&gt;&amp;&#39;x&#39;</bdi></td>"));
+    assert!(rt; has(&page, b"<td><bdi>&lt;b&gt;&amp;&#39;x&#39;</bdi> <span"));
     assert!(rt; has(&page, b"<td class=\"state arriving\">arriving</td>"));
+    assert!(rt;
+        has(
+            &page,
+            b"<span class=\"faint\">its queue prints another job</span>"
+        )
+    );
+    assert!(rt;
+        has(
+            &page,
+            b"<span class=\"faint\">its document is being sent</span>"
+        )
+    );
     assert!(rt; !has(&page, b"<script"));
     assert!(rt; page.ends_with(FOOTER.as_bytes()));
     Ok(())

@@ -100,13 +100,15 @@ times_data t =
     (member (codes "started") (time_data t.started)
     no_members))))
 
-abbrev pub shown_data : JobShown → Data
-shown_data j =
+-- A job, and why it does not print.
+abbrev pub shown_data : JobShown → Option (List ℕ) → Data
+shown_data j why =
     object
     (member (codes "asked") (asked_data j.asked)
     (member (codes "course") (job_status_data j.job_status)
     (member (codes "times") (times_data j.times)
-    no_members)))
+    (member (codes "why") (text_data why)
+    no_members))))
 
 abbrev pub jobs_data : List JobLine → Data
 jobs_data jobs = array (items_of (map job_data jobs))

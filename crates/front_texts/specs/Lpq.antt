@@ -38,8 +38,8 @@ rank_ending rank = cond (rank / 10 % 10 == 1) (codes "th") (last_ending (rank % 
 abbrev pub rank_word : ℕ → JobLine → List ℕ
 rank_word rank j = cond (is_processing j.state) (codes "active") (decimal rank ++ rank_ending rank)
 
-abbrev pub rank_cell : ℕ → JobLine → List ℕ
-rank_cell rank j = padded 7 (rank_word rank j)
+abbrev pub rank_cell : ℕ → ℕ → JobLine → List ℕ
+rank_cell columns rank j = padded columns (rank_word rank j)
 
 abbrev pub owner_cell : JobLine → List ℕ
 owner_cell j = padded 7 (clean_text (owner_word j.user))
@@ -47,32 +47,51 @@ owner_cell j = padded 7 (clean_text (owner_word j.user))
 abbrev pub number_cell : JobLine → List ℕ
 number_cell j = padded 7 (decimal j.number)
 
-abbrev pub title_cell : JobLine → List ℕ
-title_cell j = padded 31 (clean_text j.title)
+abbrev pub title_cell : ℕ → JobLine → List ℕ
+title_cell columns j = padded columns (clean_text j.title)
 
 abbrev pub bytes_part : JobLine → List ℕ
 bytes_part j = decimal j.size ++ codes " bytes\n"
 
-abbrev pub entry_line : ℕ → JobLine → List ℕ
-entry_line rank j = rank_cell rank j ++ owner_cell j ++ number_cell j ++ title_cell j ++ bytes_part j
+abbrev pub short_entry : ℕ → JobLine → List ℕ
+short_entry rank j = rank_cell 7 rank j ++ owner_cell j ++ number_cell j ++ title_cell 31 j ++ bytes_part j
+
+-- ## The long form
+
+abbrev pub owner_part : JobLine → List ℕ
+owner_part j = codes "\n" ++ clean_text (owner_word j.user) ++ codes ": "
+
+abbrev pub number_part : JobLine → List ℕ
+number_part j = codes "[job " ++ decimal j.number ++ codes " localhost]\n        "
+
+abbrev pub long_entry : ℕ → JobLine → List ℕ
+long_entry rank j = owner_part j ++ rank_cell 33 rank j ++ number_part j ++ title_cell 39 j ++ bytes_part j
+
+-- ## The listing
+
+abbrev pub entry_line : Bool → ℕ → JobLine → List ℕ
+entry_line long rank j = cond long (long_entry rank j) (short_entry rank j)
 
 -- The rank of the next job. A processing job has no rank.
 abbrev pub next_rank : ℕ → JobLine → ℕ
 next_rank rank j = cond (is_processing j.state) rank (rank + 1)
 
 -- A job if it is shown, and the rank of the next one.
-abbrev pub entry_part : List ℕ → ℕ → JobLine → List ℕ
-entry_part queue rank j = cond (is_entry queue j) (entry_line rank j) []
+abbrev pub entry_part : Bool → List ℕ → ℕ → JobLine → List ℕ
+entry_part long queue rank j = cond (is_entry queue j) (entry_line long rank j) []
 
 abbrev pub rank_after : List ℕ → ℕ → JobLine → ℕ
 rank_after queue rank j = cond (is_entry queue j) (next_rank rank j) rank
 
-abbrev pub entries : List ℕ → ℕ → List JobLine → List ℕ
-entries queue rank [] = []
-entries queue rank (j ∷ js) = entry_part queue rank j ++ entries queue (rank_after queue rank j) js
+abbrev pub entries : Bool → List ℕ → ℕ → List JobLine → List ℕ
+entries long queue rank [] = []
+entries long queue rank (j ∷ js) = entry_part long queue rank j ++ entries long queue (rank_after queue rank j) js
 
-abbrev pub entries_text : List ℕ → List JobLine → List ℕ
-entries_text queue js = cond (has_entry queue js) (HEADING.now ++ entries queue 1 js) (codes "no entries\n")
+abbrev pub heading : Bool → List ℕ
+heading long = cond long (codes "\n") HEADING.now
 
-abbrev pub queue_text : QueueLine → List JobLine → List ℕ
-queue_text q js = ready_line q ++ entries_text q.name js
+abbrev pub entries_text : Bool → List ℕ → List JobLine → List ℕ
+entries_text long queue js = cond (has_entry queue js) (heading long ++ entries long queue 1 js) (codes "no entries\n")
+
+abbrev pub queue_text : Bool → QueueLine → List JobLine → List ℕ
+queue_text long q js = ready_line q ++ entries_text long q.name js

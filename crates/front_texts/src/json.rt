@@ -1,5 +1,6 @@
 //! Jobs and queues as JSON.
 ghost use Rattle.std.specs.Prelude.{◌≡◌, IfOk, OnOk, false, option_copied, string_bytes};
+ghost use Rattle.std.specs.Option.{option_map};
 ghost use Rattle.serde_json.specs.View.{view, members_view};
 ghost use Rattle.clean_texts.specs.CleanTexts.{is_steered};
 ghost use Rattle.clean_texts.specs.JsonEscapes.{clean_json};
@@ -174,14 +175,25 @@ pub fn queues_json(alloc: Global, queues: &[QueueLine]) -> Result<Value, AllocEr
     Ok(Value::Array(array))
 }
 
-/// Returns a job with all its fields as an object. A field without a value is null.
-pub fn job_shown_json(alloc: Global, job: &JobShown) -> Result<Value, AllocError>
-    ensures value { IfOk result (λ object. view object ≡ shown_data job.now) }
+/// Returns a job with all its fields as an object, and why it does not print. A field without a value is null.
+pub fn job_shown_json(alloc: Global, job: &JobShown, why: Option<&str>) -> Result<Value, AllocError>
+    ensures value { IfOk result (λ object. view object ≡ shown_data job.now (option_map (λ text. text.now) why.entry)) }
 {
     let asked = asked_json(alloc, &job.asked)?;
     let job_status = job_status_json(alloc, &job.job_status)?;
     let times = times_json(alloc, job.times)?;
-    json!(in alloc; {"asked": &asked, "course": &job_status, "times": &times})
+    let why = why_json(alloc, why)?;
+    json!(in alloc; {"asked": &asked, "course": &job_status, "times": &times, "why": &why})
+}
+
+// Returns a sentence or null.
+fn why_json(alloc: Global, why: Option<&str>) -> Result<Value, AllocError>
+    ensures { IfOk result (λ value. view value ≡ text_data (option_map (λ text. text.now) why.entry)) }
+{
+    match why {
+        Some(why) => text_json(alloc, why),
+        None => Ok(Value::Null),
+    }
 }
 
 fn times_json(alloc: Global, times: JobTimes) -> Result<Value, AllocError>

@@ -17,10 +17,12 @@
 //! - [`job_json`], [`jobs_json`], [`queue_json`], [`queues_json`], [`job_shown_json`]: return exactly their values (`value`, `Json`).
 //!   [`json_text`] returns the text of such a value, in which a character that steers is an escape (`value`, `clean`).
 //! - [`page`]: returns exactly its bytes (`value`, `Page`): the page's own texts, and every other text appended by [`push_escaped`]. A text
-//!   that a user or a printer chose is cleaned before, and isolated by the element `bdi`.
+//!   that a user or a printer chose is cleaned before, and isolated by the element `bdi`. A job has a note that says what it waits for, as
+//!   far as the rows of the jobs and queues say (`note_text`).
 //!   [`escaped_texts_have_no_markup`]: an escaped text contains no `<`, `>`, `"` or `'`, so it cannot open or close anything. [`escape`]
 //!   returns an escaped text.
-//! - [`lpstat_printers`], [`lpstat_accepting`], [`lpstat_jobs`], [`lpq`]: return exactly their bytes (`value`; `Lpstat`, `Lpq`).
+//! - [`lpstat_printers`], [`lpstat_accepting`], [`lpstat_jobs`], [`lpstat_names`], [`lpstat_device`], [`lpq`]: return exactly their bytes
+//!   (`value`; `Lpstat`, `Lpq`).
 //! - [`size_text`], [`moment_text`]: return sizes, and moments in UTC (`value`, `Sizes`). The names of states are those of the tables in
 //!   `StateWords`.
 //!
@@ -69,8 +71,8 @@ pub use job_times::{JobTimes, TimeShown};
 pub use json::{job_json, job_shown_json, jobs_json, json_text, queue_json, queues_json};
 pub use laws::{escaped_texts_have_no_markup, job_rows_read_back};
 pub use lpq_form::lpq;
-pub use lpstat::{lpstat_accepting, lpstat_jobs, lpstat_printers};
-pub use queue_fields::queue_page;
+pub use lpstat::{lpstat_accepting, lpstat_device, lpstat_jobs, lpstat_names, lpstat_printers};
+pub use queue_fields::{device_in, queue_page};
 pub use queue_line::{QueueLine, read_queue_line};
 pub use reply_lines::{LastLine, WatchLine, read_last_line, read_watch_line};
 pub use shown_user::{ShownUser, ShownUserKind};

@@ -1,6 +1,7 @@
 //! The output of `lpq`.
 ghost use Rattle.std.specs.Prelude.{◌≡◌, ◌++◌, ◌+◌, ◌<◌, ◌≤◌, OnOk, IfOk};
 ghost use Rattle.front_texts.specs.Lpq.{is_entry, has_entry, ready_line, rank_ending, rank_cell, owner_cell, number_cell, title_cell, bytes_part, entry_line, entry_part, next_rank, rank_after, entries, entries_text, queue_text};
+ghost use Rattle.front_texts.specs.Lpq.{heading, long_entry, number_part, owner_part, short_entry};
 
 use crate::job_line::JobLine;
 use crate::lpstat::push_padded;
@@ -15,13 +16,19 @@ use std::io::Write;
 // The column names.
 const HEADING: &str = "Rank    Owner   Job     File(s)                         Total Size\n";
 
-/// Returns the output of `lpq` for a queue: its state, and its jobs that have not ended, in their order.
-pub fn lpq(alloc: Global, queue: &QueueLine, jobs: &[JobLine]) -> Result<Vec<u8>, AllocError>
-    ensures value { IfOk result (λ text. text.items ≡ queue_text queue.now jobs.now) }
+/// Returns the output of `lpq` for a queue: its state, and its jobs that have not ended, in their order. In the long form a job has two
+/// lines.
+pub fn lpq(
+    alloc: Global,
+    queue: &QueueLine,
+    jobs: &[JobLine],
+    long: bool,
+) -> Result<Vec<u8>, AllocError>
+    ensures value { IfOk result (λ text. text.items ≡ queue_text long queue.now jobs.now) }
 {
     let mut text = Vec::new(alloc);
     push_ready(&mut text, queue)?;
-    push_listing(alloc, &mut text, jobs, &queue.name)?;
+    push_listing(alloc, &mut text, jobs, &queue.name, long)?;
     Ok(text)
 }
 
@@ -30,14 +37,21 @@ fn push_listing(
     text: &mut Vec<u8>,
     jobs: &[JobLine],
     queue: &QueueName,
+    long: bool,
 ) -> Result<(), AllocError>
-    ensures { OnOk result (text.new.items ≡ text.old.items ++ entries_text queue.now jobs.now) }
+    ensures { OnOk result (text.new.items ≡ text.old.items ++ entries_text long queue.now jobs.now) }
 {
     if !has_entry(jobs, queue) {
         return text.extend_from_slice(b"no entries\n");
     }
-    text.extend_from_slice(HEADING.as_bytes())?;
-    push_entries(alloc, text, jobs, queue)
+    text.extend_from_slice(heading(long).as_bytes())?;
+    push_entries(alloc, text, jobs, queue, long)
+}
+
+fn heading(long: bool) -> &'static str
+    ensures { result.now ≡ heading long }
+{
+    if long { "\n" } else { HEADING }
 }
 
 fn has_entry(jobs: &[JobLine], queue: &QueueName) -> bool
@@ -70,12 +84,13 @@ fn push_entries(
     text: &mut Vec<u8>,
     jobs: &[JobLine],
     queue: &QueueName,
+    long: bool,
 ) -> Result<(), AllocError>
-    ensures { OnOk result (text.new.items ≡ text.old.items ++ entries queue.now 1 jobs.now) }
+    ensures { OnOk result (text.new.items ≡ text.old.items ++ entries long queue.now 1 jobs.now) }
 {
     let mut rank: usize = 1;
     for job in jobs {
-        rank = push_if_entry(alloc, text, job, queue, rank)?;
+        rank = push_if_entry(alloc, text, job, queue, rank, long)?;
     }
     Ok(())
 }
@@ -87,16 +102,17 @@ fn push_if_entry(
     job: &JobLine,
     queue: &QueueName,
     rank: usize,
+    long: bool,
 ) -> Result<usize, AllocError>
     requires { rank < usize.MAX }
-    ensures added { OnOk result (text.new.items ≡ text.old.items ++ entry_part queue.now rank job.now) }
+    ensures added { OnOk result (text.new.items ≡ text.old.items ++ entry_part long queue.now rank job.now) }
     ensures rank { IfOk result (λ next. next ≡ rank_after queue.now rank job.now) }
     ensures low { IfOk result (λ next. next ≤ rank + 1) }
 {
     if !is_entry(job, queue) {
         return Ok(rank);
     }
-    push_entry(alloc, text, job, rank)?;
+    push_entry(alloc, text, job, rank, long)?;
     Ok(next_rank(job, rank))
 }
 
@@ -118,14 +134,61 @@ fn push_entry(
     text: &mut Vec<u8>,
     job: &JobLine,
     rank: usize,
+    long: bool,
 ) -> Result<(), AllocError>
-    ensures { OnOk result (text.new.items ≡ text.old.items ++ entry_line rank job.now) }
+    ensures { OnOk result (text.new.items ≡ text.old.items ++ entry_line long rank job.now) }
 {
-    push_rank(alloc, text, job, rank)?;
+    if long {
+        push_long_entry(alloc, text, job, rank)
+    } else {
+        push_short_entry(alloc, text, job, rank)
+    }
+}
+
+fn push_short_entry(
+    alloc: Global,
+    text: &mut Vec<u8>,
+    job: &JobLine,
+    rank: usize,
+) -> Result<(), AllocError>
+    ensures { OnOk result (text.new.items ≡ text.old.items ++ short_entry rank job.now) }
+{
+    push_rank(alloc, text, job, rank, 7)?;
     push_owner(alloc, text, job)?;
     push_number(alloc, text, job)?;
-    push_title(alloc, text, job)?;
+    push_title(alloc, text, job, 31)?;
     push_bytes(text, job)
+}
+
+fn push_long_entry(
+    alloc: Global,
+    text: &mut Vec<u8>,
+    job: &JobLine,
+    rank: usize,
+) -> Result<(), AllocError>
+    ensures { OnOk result (text.new.items ≡ text.old.items ++ long_entry rank job.now) }
+{
+    push_long_owner(alloc, text, job)?;
+    push_rank(alloc, text, job, rank, 33)?;
+    push_long_number(text, job)?;
+    push_title(alloc, text, job, 39)?;
+    push_bytes(text, job)
+}
+
+fn push_long_owner(alloc: Global, text: &mut Vec<u8>, job: &JobLine) -> Result<(), AllocError>
+    ensures { OnOk result (text.new.items ≡ text.old.items ++ owner_part job.now) }
+{
+    let user = clean_text(alloc, owner_word(job.user.as_str()))?;
+    text.extend_from_slice(b"\n")?;
+    text.extend_from_slice(user.as_bytes())?;
+    text.extend_from_slice(b": ")
+}
+
+fn push_long_number(text: &mut Vec<u8>, job: &JobLine) -> Result<(), AllocError>
+    ensures { OnOk result (text.new.items ≡ text.old.items ++ number_part job.now) }
+{
+    let number = job.number.get();
+    write!(text, "[job {number} localhost]\n        ").map_err(|_| AllocError)
 }
 
 fn push_rank(
@@ -133,15 +196,16 @@ fn push_rank(
     text: &mut Vec<u8>,
     job: &JobLine,
     rank: usize,
+    columns: usize,
 ) -> Result<(), AllocError>
-    ensures { OnOk result (text.new.items ≡ text.old.items ++ rank_cell rank job.now) }
+    ensures { OnOk result (text.new.items ≡ text.old.items ++ rank_cell columns rank job.now) }
 {
     if job.state == JobState::Processing {
-        return push_padded(text, "active", 7);
+        return push_padded(text, "active", columns);
     }
     let ending = rank_ending(rank);
     let word = format!(in alloc; "{rank}{ending}")?;
-    push_padded(text, word.as_str(), 7)
+    push_padded(text, word.as_str(), columns)
 }
 
 // Returns the ending of a rank in English: 1st, 2nd, 3rd, 4th, 11th.
@@ -174,11 +238,16 @@ fn push_number(alloc: Global, text: &mut Vec<u8>, job: &JobLine) -> Result<(), A
     push_padded(text, word.as_str(), 7)
 }
 
-fn push_title(alloc: Global, text: &mut Vec<u8>, job: &JobLine) -> Result<(), AllocError>
-    ensures { OnOk result (text.new.items ≡ text.old.items ++ title_cell job.now) }
+fn push_title(
+    alloc: Global,
+    text: &mut Vec<u8>,
+    job: &JobLine,
+    columns: usize,
+) -> Result<(), AllocError>
+    ensures { OnOk result (text.new.items ≡ text.old.items ++ title_cell columns job.now) }
 {
     let title = clean_text(alloc, job.title.as_str())?;
-    push_padded(text, title.as_str(), 31)
+    push_padded(text, title.as_str(), columns)
 }
 
 fn push_bytes(text: &mut Vec<u8>, job: &JobLine) -> Result<(), AllocError>

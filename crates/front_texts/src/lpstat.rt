@@ -1,32 +1,127 @@
 //! The output of `lpstat`.
-ghost use Rattle.std.specs.Prelude.{◌≡◌, ◌++◌, OnOk, IfOk, replicate};
+ghost use Rattle.std.specs.Prelude.{◌≡◌, ◌++◌, [], cond, OnOk, IfOk, option_copied, replicate};
 ghost use Rattle.std.specs.List.{flat_map};
-ghost use Rattle.front_texts.specs.Lpstat.{padded, is_printing, printing_job, message_of, job_name, printing_line, stopped_line, printer_line, printers_text, accepting_line, pending_part, request_cell, owner_cell, bytes_cell};
+ghost use Rattle.front_texts.specs.Lpstat.{padded, is_printing, printing_job, message_of, job_name, printing_line, stopped_line, printer_line, printers_text, accepting_line, request_cell, owner_cell, bytes_cell};
+ghost use Rattle.front_texts.specs.Lpstat.{alerts_line, alerts_of, alerts_text, blank_part, device_line, device_text, job_entry, job_line, name_line, printer_entry, queued_for, reason_or_none};
 
 use crate::job_line::JobLine;
 use crate::queue_line::QueueLine;
 use crate::shown_user::owner_word;
 use crate::states::{JobState, PrinterState};
-use clean_texts::clean_text;
-use spool_types::{JobId, QueueName};
+use clean_texts::{clean_bytes, clean_text};
+use spool_types::{JobId, QueueName, Reason};
 use std::alloc::{AllocError, Global};
 use std::io::Write;
 use unicode_width::UnicodeWidthStr;
 
 /// Returns the output of `lpstat -p`: a line for each queue, and for a stopped queue a line with the reason. The date is unknown, so it is
-/// `-`.
+/// `-`. If `more` is shown, a line with the reasons of its state follows.
 pub fn lpstat_printers(
     alloc: Global,
     queues: &[QueueLine],
     jobs: &[JobLine],
+    more: bool,
 ) -> Result<Vec<u8>, AllocError>
-    ensures value { IfOk result (λ text. text.items ≡ printers_text queues.now jobs.now) }
+    ensures value { IfOk result (λ text. text.items ≡ printers_text more queues.now jobs.now) }
 {
     let mut text = Vec::new(alloc);
     for queue in queues {
-        push_printer(&mut text, queue, printing_job(jobs, &queue.name))?;
+        push_entry(&mut text, queue, printing_job(jobs, &queue.name), more)?;
     }
     Ok(text)
+}
+
+fn push_entry(
+    text: &mut Vec<u8>,
+    queue: &QueueLine,
+    job: Option<JobId>,
+    more: bool,
+) -> Result<(), AllocError>
+    ensures { OnOk result (text.new.items ≡ text.old.items ++ printer_entry more queue.now job) }
+{
+    push_printer(text, queue, job)?;
+    push_if_more(text, queue, more)
+}
+
+fn push_if_more(text: &mut Vec<u8>, queue: &QueueLine, more: bool) -> Result<(), AllocError>
+    ensures { OnOk result (text.new.items ≡ text.old.items ++ cond more (alerts_line queue.now) []) }
+{
+    if more {
+        push_alerts(text, queue)
+    } else {
+        Ok(())
+    }
+}
+
+fn push_alerts(text: &mut Vec<u8>, queue: &QueueLine) -> Result<(), AllocError>
+    ensures { OnOk result (text.new.items ≡ text.old.items ++ alerts_line queue.now) }
+{
+    text.extend_from_slice(b"\tAlerts:")?;
+    push_reasons(text, queue.reasons.as_slice())?;
+    text.extend_from_slice(b"\n")
+}
+
+fn push_reasons(text: &mut Vec<u8>, reasons: &[Reason]) -> Result<(), AllocError>
+    ensures { OnOk result (text.new.items ≡ text.old.items ++ alerts_text reasons.now) }
+{
+    if reasons.is_empty() {
+        return text.extend_from_slice(b" none");
+    }
+    push_each(text, reasons)
+}
+
+fn push_each(text: &mut Vec<u8>, reasons: &[Reason]) -> Result<(), AllocError>
+    ensures { OnOk result (text.new.items ≡ text.old.items ++ flat_map blank_part reasons.now) }
+{
+    for reason in reasons {
+        push_reason(text, reason)?;
+    }
+    Ok(())
+}
+
+fn push_reason(text: &mut Vec<u8>, reason: &Reason) -> Result<(), AllocError>
+    ensures { OnOk result (text.new.items ≡ text.old.items ++ blank_part reason.now) }
+{
+    text.extend_from_slice(b" ")?;
+    text.extend_from_slice(reason.as_str().as_bytes())
+}
+
+/// Returns the output of `lpstat -e`: the names of the queues.
+pub fn lpstat_names(alloc: Global, queues: &[QueueLine]) -> Result<Vec<u8>, AllocError>
+    ensures value { IfOk result (λ text. text.items ≡ flat_map name_line queues.now) }
+{
+    let mut text = Vec::new(alloc);
+    for queue in queues {
+        push_name(&mut text, queue)?;
+    }
+    Ok(text)
+}
+
+fn push_name(text: &mut Vec<u8>, queue: &QueueLine) -> Result<(), AllocError>
+    ensures { OnOk result (text.new.items ≡ text.old.items ++ name_line queue.now) }
+{
+    text.extend_from_slice(queue.name.as_str().as_bytes())?;
+    text.extend_from_slice(b"\n")
+}
+
+/// Returns a line of `lpstat -v`: the device of a queue, which is empty if it is not known.
+pub fn lpstat_device(alloc: Global, name: &str, uri: &[u8]) -> Result<Vec<u8>, AllocError>
+    ensures value { IfOk result (λ text. text.items ≡ device_line name.now uri.now) }
+{
+    let uri = clean_bytes(alloc, uri)?;
+    let mut text = Vec::new(alloc);
+    text.extend_from_slice(b"device for ")?;
+    text.extend_from_slice(name.as_bytes())?;
+    text.extend_from_slice(b": ")?;
+    text.extend_from_slice(device_text(uri.as_str()).as_bytes())?;
+    text.extend_from_slice(b"\n")?;
+    Ok(text)
+}
+
+fn device_text(uri: &str) -> &str
+    ensures { result.now ≡ device_text uri.now }
+{
+    if uri.is_empty() { "-" } else { uri }
 }
 
 // Returns the first processing job of a queue.
@@ -122,23 +217,62 @@ fn push_accepting(text: &mut Vec<u8>, queue: &QueueLine) -> Result<(), AllocErro
     }
 }
 
-/// Returns the output of `lpstat -o`: `QUEUE-N USER SIZE -` for each job that has not ended. The date of its creation is unknown.
-pub fn lpstat_jobs(alloc: Global, jobs: &[JobLine]) -> Result<Vec<u8>, AllocError>
-    ensures value { IfOk result (λ text. text.items ≡ flat_map pending_part jobs.now) }
+/// Returns the output of `lpstat -o`: `QUEUE-N USER SIZE -` for each job. The date of its creation is unknown. In the long form two lines
+/// follow.
+pub fn lpstat_jobs(alloc: Global, jobs: &[JobLine], long: bool) -> Result<Vec<u8>, AllocError>
+    ensures value { IfOk result (λ text. text.items ≡ flat_map (job_entry long) jobs.now) }
 {
     let mut text = Vec::new(alloc);
     for job in jobs {
-        push_pending(alloc, &mut text, job)?;
+        push_job(alloc, &mut text, job, long)?;
     }
     Ok(text)
 }
 
-fn push_pending(alloc: Global, text: &mut Vec<u8>, job: &JobLine) -> Result<(), AllocError>
-    ensures { OnOk result (text.new.items ≡ text.old.items ++ pending_part job.now) }
+fn push_job(alloc: Global, text: &mut Vec<u8>, job: &JobLine, long: bool) -> Result<(), AllocError>
+    ensures { OnOk result (text.new.items ≡ text.old.items ++ job_entry long job.now) }
 {
-    if job.has_ended() {
+    push_job_line(alloc, text, job)?;
+    push_if_long(text, job, long)
+}
+
+fn push_if_long(text: &mut Vec<u8>, job: &JobLine, long: bool) -> Result<(), AllocError>
+    ensures { OnOk result (text.new.items ≡ text.old.items ++ cond long (alerts_of job.now ++ queued_for job.now) []) }
+{
+    if !long {
         return Ok(());
     }
+    push_alerts_of(text, job)?;
+    push_queued_for(text, job)
+}
+
+fn push_alerts_of(text: &mut Vec<u8>, job: &JobLine) -> Result<(), AllocError>
+    ensures { OnOk result (text.new.items ≡ text.old.items ++ alerts_of job.now) }
+{
+    text.extend_from_slice(b"\tAlerts: ")?;
+    text.extend_from_slice(reason_or_none(job.reason.as_ref()).as_bytes())?;
+    text.extend_from_slice(b"\n")
+}
+
+fn reason_or_none(reason: Option<&Reason>) -> &str
+    ensures { result.now ≡ reason_or_none (option_copied reason.entry) }
+{
+    match reason {
+        Some(reason) => reason.as_str(),
+        None => "none",
+    }
+}
+
+fn push_queued_for(text: &mut Vec<u8>, job: &JobLine) -> Result<(), AllocError>
+    ensures { OnOk result (text.new.items ≡ text.old.items ++ queued_for job.now) }
+{
+    let queue = job.queue.as_str();
+    write!(text, "\tqueued for {queue}\n").map_err(|_| AllocError)
+}
+
+fn push_job_line(alloc: Global, text: &mut Vec<u8>, job: &JobLine) -> Result<(), AllocError>
+    ensures { OnOk result (text.new.items ≡ text.old.items ++ job_line job.now) }
+{
     push_request(alloc, text, job)?;
     push_owner(alloc, text, job)?;
     push_bytes(alloc, text, job)

@@ -1,6 +1,7 @@
 //! One queue with all its fields, for a terminal.
-ghost use Rattle.std.specs.Prelude.{◌≤◌, IfOk, OnOk};
+ghost use Rattle.std.specs.Prelude.{◌≡◌, ◌≤◌, IfOk, OnOk};
 ghost use Rattle.front_texts.specs.Cells.{AreLines};
+ghost use Rattle.front_texts.specs.Lpstat.{device_in};
 
 use crate::fields::{is_end, is_word, moment, quoted_text};
 use crate::job_fields::push_line;
@@ -19,6 +20,19 @@ pub fn queue_page(alloc: Global, rows: &[Vec<u8>], width: usize) -> Result<Vec<S
         push_row(alloc, &mut lines, row.as_slice(), width)?;
     }
     Ok(lines)
+}
+
+/// Returns the device in the rows of a reply to `queue NAME`. It is empty if the service does not show it.
+pub fn device_in(rows: &[Vec<u8>]) -> &[u8]
+    ensures value { result.now ≡ device_in (λ row. row.items) rows.now }
+{
+    for row in rows {
+        let (name, device) = first_word(row.as_slice());
+        if is_word(name, b"uri") {
+            return after_blanks(device);
+        }
+    }
+    &[]
 }
 
 fn push_row(

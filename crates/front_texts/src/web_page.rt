@@ -1,14 +1,16 @@
 //! The page of queues and jobs.
-ghost use Rattle.std.specs.Prelude.{◌≡◌, ◌++◌, OnOk, IfOk, option_copied};
+ghost use Rattle.std.specs.Prelude.{◌≡◌, ◌++◌, OnOk, IfOk};
 ghost use Rattle.std.specs.List.{flat_map};
-ghost use Rattle.front_texts.specs.Page.{cell, text_html, number_cell, state_class, state_cell, reason_part, word_part, queue_front, queue_notes, queue_html, job_front, job_middle, job_numbers, job_notes, job_html, refresh, stamp_html, head_html, queues_html, jobs_html, page_html};
+ghost use Rattle.front_texts.specs.Page.{faint_part, note_part, note_text, queue_sentence, queue_state, reason_sentence};
+ghost use Rattle.front_texts.specs.Page.{cell, text_html, number_cell, state_class, state_cell, reason_part, queue_front, queue_notes, queue_html, job_front, job_middle, job_numbers, job_notes, job_html, refresh, stamp_html, head_html, queues_html, jobs_html, page_html};
 
 use crate::escaping::push_escaped;
 use crate::job_line::JobLine;
 use crate::queue_line::QueueLine;
+use crate::states::{JobState, PrinterState};
 use clean_texts::clean_text;
 use program_version::with_version;
-use spool_types::Reason;
+use spool_types::{QueueName, Reason};
 use std::alloc::{AllocError, Global};
 use std::io::Write;
 
@@ -47,7 +49,7 @@ pub fn page(
     let mut page = Vec::new(alloc);
     push_head(&mut page, stamp, follows)?;
     push_queues(&mut page, queues)?;
-    push_jobs(&mut page, jobs)?;
+    push_jobs(&mut page, queues, jobs)?;
     page.extend_from_slice(CLOSING.as_bytes())?;
     Ok(page)
 }
@@ -104,18 +106,22 @@ fn push_queue_rows(page: &mut Vec<u8>, queues: &[QueueLine]) -> Result<(), Alloc
     Ok(())
 }
 
-fn push_jobs(page: &mut Vec<u8>, jobs: &[JobLine]) -> Result<(), AllocError>
-    ensures { OnOk result (page.new.items ≡ page.old.items ++ jobs_html jobs.now) }
+fn push_jobs(page: &mut Vec<u8>, queues: &[QueueLine], jobs: &[JobLine]) -> Result<(), AllocError>
+    ensures { OnOk result (page.new.items ≡ page.old.items ++ jobs_html queues.now jobs.now) }
 {
     page.extend_from_slice(JOBS.as_bytes())?;
-    push_job_rows(page, jobs)
+    push_job_rows(page, queues, jobs)
 }
 
-fn push_job_rows(page: &mut Vec<u8>, jobs: &[JobLine]) -> Result<(), AllocError>
-    ensures { OnOk result (page.new.items ≡ page.old.items ++ flat_map job_html jobs.now) }
+fn push_job_rows(
+    page: &mut Vec<u8>,
+    queues: &[QueueLine],
+    jobs: &[JobLine],
+) -> Result<(), AllocError>
+    ensures { OnOk result (page.new.items ≡ page.old.items ++ flat_map (job_html queues.now) jobs.now) }
 {
     for job in jobs {
-        push_job(page, job)?;
+        push_job(page, queues, job)?;
     }
     Ok(())
 }
@@ -202,12 +208,12 @@ fn push_reason(page: &mut Vec<u8>, reason: &Reason) -> Result<(), AllocError>
     page.extend_from_slice(b"</span> ")
 }
 
-fn push_job(page: &mut Vec<u8>, job: &JobLine) -> Result<(), AllocError>
-    ensures { OnOk result (page.new.items ≡ page.old.items ++ job_html job.now) }
+fn push_job(page: &mut Vec<u8>, queues: &[QueueLine], job: &JobLine) -> Result<(), AllocError>
+    ensures { OnOk result (page.new.items ≡ page.old.items ++ job_html queues.now job.now) }
 {
     push_job_front(page, job)?;
     push_job_middle(page, job)?;
-    push_job_notes(page, job)?;
+    push_job_notes(page, queues, job)?;
     page.extend_from_slice(b"</tr>\n")
 }
 
@@ -241,23 +247,78 @@ fn push_number(page: &mut Vec<u8>, number: u32) -> Result<(), AllocError>
     write!(page, "<td class=\"n\">{number}</td>").map_err(|_| AllocError)
 }
 
-// Appends the title of a job and the reason of its state.
-fn push_job_notes(page: &mut Vec<u8>, job: &JobLine) -> Result<(), AllocError>
-    ensures { OnOk result (page.new.items ≡ page.old.items ++ job_notes job.now) }
+// Appends the title of a job, and what it waits for or how it ended.
+fn push_job_notes(page: &mut Vec<u8>, queues: &[QueueLine], job: &JobLine) -> Result<(), AllocError>
+    ensures { OnOk result (page.new.items ≡ page.old.items ++ job_notes queues.now job.now) }
 {
     page.extend_from_slice(b"<td>")?;
     push_isolated(page, job.title.as_str())?;
-    push_word(page, job.reason.as_ref())?;
+    push_note(page, note_text(queues, job))?;
     page.extend_from_slice(b"</td>")
 }
 
-fn push_word(page: &mut Vec<u8>, reason: Option<&Reason>) -> Result<(), AllocError>
-    ensures { OnOk result (page.new.items ≡ page.old.items ++ word_part (option_copied reason.entry)) }
+fn push_note(page: &mut Vec<u8>, note: &str) -> Result<(), AllocError>
+    ensures { OnOk result (page.new.items ≡ page.old.items ++ note_part note.now) }
 {
-    let Some(reason) = reason else {
-        return Ok(());
-    };
+    if note.is_empty() {
+        Ok(())
+    } else {
+        push_faint(page, note)
+    }
+}
+
+fn push_faint(page: &mut Vec<u8>, text: &str) -> Result<(), AllocError>
+    ensures { OnOk result (page.new.items ≡ page.old.items ++ faint_part text.now) }
+{
     page.extend_from_slice(b" <span class=\"faint\">")?;
-    push_escaped(page, reason.as_str())?;
+    push_escaped(page, text)?;
     page.extend_from_slice(b"</span>")
+}
+
+// Returns what a job waits for, or how it ended, as far as the rows say.
+fn note_text<'a>(queues: &[QueueLine], job: &'a JobLine) -> &'a str
+    ensures { result.now ≡ note_text queues.now job.now }
+{
+    match &job.reason {
+        Some(reason) => reason_sentence(reason.as_str()),
+        None if job.state == JobState::Pending => queue_sentence(queue_state(queues, &job.queue)),
+        None => "",
+    }
+}
+
+fn reason_sentence(reason: &str) -> &str
+    ensures { result.now ≡ reason_sentence reason.now }
+{
+    if reason == "job-incoming" {
+        "its document is being sent"
+    } else if reason == "job-hold-until-specified" {
+        "it is held"
+    } else if reason == "retry-later" {
+        "an attempt failed, and the next one is not due yet"
+    } else {
+        reason
+    }
+}
+
+// Returns the state of the queue with this name.
+fn queue_state(queues: &[QueueLine], name: &QueueName) -> Option<PrinterState>
+    ensures { result ≡ queue_state name.now queues.now }
+{
+    for queue in queues {
+        if queue.name == *name {
+            return Some(queue.state);
+        }
+    }
+    None
+}
+
+// Returns why a job without a reason waits, from the state of its queue.
+fn queue_sentence(state: Option<PrinterState>) -> &'static str
+    ensures { result.now ≡ queue_sentence state }
+{
+    match state {
+        Some(PrinterState::Stopped) => "its queue is stopped",
+        Some(PrinterState::Processing) => "its queue prints another job",
+        _ => "",
+    }
 }

@@ -16,6 +16,11 @@ pub blames : (p : Type 0) (w : Wrong) → (p → ⊥) → BlamesOnly p w
 blames p (wrong.Value text) never = never
 blames p wrong.Memory never = tt
 
+-- A fault that refutes p also refutes a stronger statement q.
+pub less_blamed : (p q : Type 0) (w : Wrong) → (q → p) → BlamesOnly p w → BlamesOnly q w
+less_blamed p q (wrong.Value text) more only = λ held. only (more held)
+less_blamed p q wrong.Memory more only = tt
+
 -- A mistake that is reported is one of the values.
 pub tells_mistake : (p : Type 0) (w : Wrong) (fault : WordsFault) → BlamesOnly p w → IsMistake w fault → RefusesOnly p fault
 tells_mistake p (wrong.Value text) (Refused error) only is = only

@@ -1,5 +1,5 @@
 -- The command of each form, as clap reads it.
-use Rattle.std.specs.Prelude.{[], ◌∷◌, codes, true}
+use Rattle.std.specs.Prelude.{ℕ, [], ◌∷◌, codes, true}
 use Rattle.clap.specs.Simple.{on_top}
 use Rattle.clap.specs.Words.{App, Rule, Text, new_app, with_rule}
 use Rattle.front_words.specs.CommandOptions.{flag_rule, letter_flag_rule, letter_rule, listed, named_app, needed, several, task_app, text_rule, word_rule}
@@ -9,6 +9,7 @@ use Rattle.front_words.specs.declared.forms.Form.{Form}
 use Rattle.front_words.specs.declared.forms.Form.TheVariants.{Submit, Status, Queues, Watch, Cancel, Hold, Release, Purge, End}
 use Rattle.front_words.specs.declared.forms.Form.TheVariants.{QueueShow, QueueAdd, QueueSet, QueueAccept, QueueReject, QueueEnable, QueueDisable}
 use Rattle.front_words.specs.declared.forms.Form.TheVariants.{Devices, Check, Page, Lp, Lpr, Lpstat, CancelJobs, Lpq, Lprm, Other}
+use Rattle.front_words.specs.declared.forms.Form.TheVariants.{Lpoptions, Lpmove, CupsEnable, CupsDisable, CupsAccept, CupsReject}
 
 -- ---- the tasks of `spool`
 
@@ -84,6 +85,14 @@ other_app = with_rule (spool_app (codes "spool")) (needed (several (word_rule (c
 
 -- ---- the programs with their own names
 
+-- `[-h HOST] [-E]`, with this letter for the host.
+abbrev pub with_host : ℕ → App → App
+with_host letter app = with_rule (with_rule app (letter_rule letter (codes "host"))) (letter_flag_rule 69 (codes "encrypt"))
+
+-- `[-h HOST] [-E] [-U USER]`
+abbrev pub with_caller : App → App
+with_caller app = with_rule (with_host 104 app) (letter_rule 85 (codes "as-user"))
+
 -- `lp [-d DEST] [-t TITLE] [-U USER] [-n N] [-q P] [-o NAME=VALUE].. [-P PAGES] [-H WHEN] [-c] [-s] [FILE]..`
 abbrev pub lp_words : App
 lp_words =
@@ -93,51 +102,115 @@ lp_words =
 abbrev pub with_numbers : App → App
 with_numbers app = with_rule (with_rule app (letter_rule 110 (codes "copies"))) (letter_rule 113 (codes "priority"))
 
-abbrev pub lp_app : App
-lp_app =
+abbrev pub lp_document : App
+lp_document =
     with_rule (with_rule (with_rule (with_rule (with_rule (with_numbers lp_words)
     (several (letter_rule 111 (codes "option")))) (letter_rule 80 (codes "pages"))) (letter_rule 72 (codes "handling"))) (letter_flag_rule 99 (codes "copy")))
     (letter_flag_rule 115 (codes "quiet"))
+
+-- `[-i JOB] [-m] [-w]`
+abbrev pub lp_jobs : App → App
+lp_jobs app = with_rule (with_rule (with_rule app (letter_rule 105 (codes "job"))) (letter_flag_rule 109 (codes "mail"))) (letter_flag_rule 119 (codes "write"))
+
+-- `[-f FORM] [-S NAME] [-y MODE] [-T TYPE]`
+abbrev pub lp_ignored : App → App
+lp_ignored app =
+    with_rule (with_rule (with_rule (with_rule app (letter_rule 102 (codes "form"))) (letter_rule 83 (codes "wheel"))) (letter_rule 121 (codes "mode")))
+    (letter_rule 84 (codes "content"))
+
+abbrev pub lp_app : App
+lp_app = with_host 104 (lp_ignored (lp_jobs lp_document))
 
 -- -T, with the further letters -J and -C.
 abbrev pub title_rule : Rule
 title_rule = record (letter_rule 84 (codes "title")) { short_aliases = 74 ∷ 67 ∷ [] }
 
--- `lpr [-P DEST] [-T TITLE] [-U USER] [-# N] [-o NAME=VALUE].. [-q] [-h] [FILE]..`
+-- `lpr [-P DEST] [-T TITLE] [-U USER] [-# N] [-o NAME=VALUE].. [-q] [-h] [-l] [-m] [-r] [-s] [FILE]..`
 abbrev pub lpr_words : App
 lpr_words =
     with_rule (with_rule (with_rule (with_rule (named_app (codes "lpr"))
     (several (word_rule (codes "file")))) (letter_rule 80 (codes "queue"))) title_rule) (letter_rule 85 (codes "user"))
 
-abbrev pub lpr_app : App
-lpr_app =
+abbrev pub lpr_document : App
+lpr_document =
     with_rule (with_rule (with_rule (with_rule lpr_words (letter_rule 35 (codes "copies"))) (several (letter_rule 111 (codes "option"))))
     (letter_flag_rule 113 (codes "hold"))) (letter_flag_rule 104 (codes "no-banner"))
 
--- `lpstat [-r] [-d] [-t] [-p [LIST]] [-a [LIST]] [-v [LIST]] [-o [LIST]] [NAME]..`
+abbrev pub lpr_flags : App → App
+lpr_flags app =
+    with_rule (with_rule (with_rule (with_rule app (letter_flag_rule 108 (codes "literal"))) (letter_flag_rule 109 (codes "mail"))) (letter_flag_rule 114 (codes "remove")))
+    (letter_flag_rule 115 (codes "link"))
+
+-- `[-p] [-c] [-d] [-f] [-g] [-n] [-t] [-v] [-i N] [-w N]`
+abbrev pub lpr_filters : App → App
+lpr_filters app =
+    with_rule (with_rule (with_rule (with_rule (with_rule app (letter_flag_rule 112 (codes "pretty"))) (letter_flag_rule 99 (codes "cifplot")))
+    (letter_flag_rule 100 (codes "dvi"))) (letter_flag_rule 102 (codes "fortran"))) (letter_flag_rule 103 (codes "graph"))
+
+abbrev pub lpr_ignored : App → App
+lpr_ignored app =
+    with_rule (with_rule (with_rule (with_rule (with_rule (lpr_filters app) (letter_flag_rule 110 (codes "ditroff"))) (letter_flag_rule 116 (codes "troff")))
+    (letter_flag_rule 118 (codes "raster"))) (letter_rule 105 (codes "indent"))) (letter_rule 119 (codes "columns"))
+
+abbrev pub lpr_app : App
+lpr_app = with_host 72 (lpr_ignored (lpr_flags lpr_document))
+
+-- `lpstat [-r] [-d] [-t] [-p [LIST]] [-a [LIST]] [-v [LIST]] [-o [LIST]] [-c [LIST]] [-u [LIST]] [-W WHICH] [NAME]..`
 abbrev pub lpstat_words : App
 lpstat_words =
     with_rule (with_rule (with_rule (with_rule (named_app (codes "lpstat"))
     (several (word_rule (codes "name")))) (letter_flag_rule 114 (codes "scheduler"))) (letter_flag_rule 100 (codes "usual"))) (letter_flag_rule 116 (codes "all"))
 
-abbrev pub lpstat_app : App
-lpstat_app =
+abbrev pub lpstat_queues : App
+lpstat_queues =
     with_rule (with_rule (with_rule (with_rule lpstat_words (listed (letter_rule 112 (codes "printers")))) (listed (letter_rule 97 (codes "accepting"))))
     (listed (letter_rule 118 (codes "devices")))) (listed (letter_rule 111 (codes "jobs")))
 
--- `cancel [-a] [JOB]..`
-abbrev pub cancel_app : App
-cancel_app = with_rule (with_rule (named_app (codes "cancel")) (several (word_rule (codes "job")))) (letter_flag_rule 97 (codes "all"))
+abbrev pub lpstat_jobs : App
+lpstat_jobs =
+    with_rule (with_rule (with_rule lpstat_queues (listed (letter_rule 99 (codes "classes")))) (listed (letter_rule 117 (codes "users"))))
+    (letter_rule 87 (codes "which"))
 
--- `lpq [-P DEST] [-a] [JOB]..`
+-- `[-e] [-s] [-l] [-D] [-R] [-H]`
+abbrev pub lpstat_flags : App → App
+lpstat_flags app =
+    with_rule (with_rule (with_rule (with_rule (with_rule (with_rule app (letter_flag_rule 101 (codes "destinations"))) (letter_flag_rule 115 (codes "summary")))
+    (letter_flag_rule 108 (codes "long"))) (letter_flag_rule 68 (codes "described"))) (letter_flag_rule 82 (codes "ranks"))) (letter_flag_rule 72 (codes "server"))
+
+abbrev pub lpstat_app : App
+lpstat_app = with_caller (lpstat_flags lpstat_jobs)
+
+-- `cancel [-a] [-u USER] [-x] [JOB]..`
+abbrev pub cancel_app : App
+cancel_app =
+    with_caller (with_rule (with_rule (with_rule (with_rule (named_app (codes "cancel"))
+    (several (word_rule (codes "job")))) (letter_flag_rule 97 (codes "all"))) (letter_rule 117 (codes "user"))) (letter_flag_rule 120 (codes "purge")))
+
+-- `lpq [-P DEST] [-a] [-l] [JOB]..`
 abbrev pub lpq_app : App
 lpq_app =
-    with_rule (with_rule (with_rule (named_app (codes "lpq")) (several (word_rule (codes "job")))) (letter_rule 80 (codes "queue")))
-    (letter_flag_rule 97 (codes "all"))
+    with_caller (with_rule (with_rule (with_rule (with_rule (named_app (codes "lpq")) (several (word_rule (codes "job")))) (letter_rule 80 (codes "queue")))
+    (letter_flag_rule 97 (codes "all"))) (letter_flag_rule 108 (codes "long")))
 
--- `lprm [-P DEST] JOB..`
+-- `lprm [-P DEST] [JOB]..`
 abbrev pub lprm_app : App
-lprm_app = with_rule (with_rule (named_app (codes "lprm")) (needed (several (word_rule (codes "job"))))) (letter_rule 80 (codes "queue"))
+lprm_app = with_caller (with_rule (with_rule (named_app (codes "lprm")) (several (word_rule (codes "job")))) (letter_rule 80 (codes "queue")))
+
+-- `lpoptions -d DEST`, and options that are refused.
+abbrev pub lpoptions_app : App
+lpoptions_app =
+    with_caller (with_rule (with_rule (with_rule (with_rule (with_rule (with_rule (named_app (codes "lpoptions")) (letter_rule 100 (codes "default")))
+    (letter_rule 112 (codes "queue"))) (letter_flag_rule 108 (codes "list"))) (several (letter_rule 111 (codes "option")))) (letter_rule 114 (codes "drop")))
+    (letter_rule 120 (codes "forget")))
+
+abbrev pub lpmove_app : App
+lpmove_app = with_caller (with_rule (named_app (codes "lpmove")) (several (word_rule (codes "job"))))
+
+-- `NAME [-r TEXT] [-c] [--hold] [--release] [QUEUE]..`
+abbrev pub switch_app : Text → App
+switch_app name =
+    with_caller (with_rule (with_rule (with_rule (with_rule (with_rule (named_app name) (several (word_rule (codes "name")))) (letter_rule 114 (codes "reason")))
+    (letter_flag_rule 99 (codes "cancel"))) (flag_rule (codes "hold"))) (flag_rule (codes "release")))
 
 -- ---- all forms
 
@@ -167,6 +240,12 @@ name_of Lpstat = codes "lpstat"
 name_of CancelJobs = codes "cancel"
 name_of Lpq = codes "lpq"
 name_of Lprm = codes "lprm"
+name_of Lpoptions = codes "lpoptions"
+name_of Lpmove = codes "lpmove"
+name_of CupsEnable = codes "cupsenable"
+name_of CupsDisable = codes "cupsdisable"
+name_of CupsAccept = codes "cupsaccept"
+name_of CupsReject = codes "cupsreject"
 name_of Other = codes "spool"
 
 -- A command with this name, without its parameters.
@@ -201,4 +280,10 @@ app_for Lpstat = lpstat_app
 app_for CancelJobs = cancel_app
 app_for Lpq = lpq_app
 app_for Lprm = lprm_app
+app_for Lpoptions = lpoptions_app
+app_for Lpmove = lpmove_app
+app_for CupsEnable = switch_app (codes "cupsenable")
+app_for CupsDisable = switch_app (codes "cupsdisable")
+app_for CupsAccept = switch_app (codes "cupsaccept")
+app_for CupsReject = switch_app (codes "cupsreject")
 app_for Other = other_app

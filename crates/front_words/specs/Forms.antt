@@ -7,10 +7,20 @@ use Rattle.front_words.specs.declared.forms.Form.{Form}
 use Rattle.front_words.specs.declared.forms.Form.TheVariants.{Submit, Status, Queues, Watch, Cancel, Hold, Release, Purge, End}
 use Rattle.front_words.specs.declared.forms.Form.TheVariants.{QueueShow, QueueAdd, QueueSet, QueueAccept, QueueReject, QueueEnable, QueueDisable}
 use Rattle.front_words.specs.declared.forms.Form.TheVariants.{Devices, Check, Page, Lp, Lpr, Lpstat, CancelJobs, Lpq, Lprm, Other}
+use Rattle.front_words.specs.declared.forms.Form.TheVariants.{Lpoptions, Lpmove, CupsEnable, CupsDisable, CupsAccept, CupsReject}
 
 -- A program's name: the part after the last slash of its path.
 abbrev pub base_name : Text → Text
 base_name path = last_part 47 path
+
+-- The programs that start or stop queues.
+abbrev pub form_of_switch : Text → Option Form
+form_of_switch name =
+    if bytes_eq name (codes "cupsenable") then Some CupsEnable
+    else (if bytes_eq name (codes "cupsdisable") then Some CupsDisable
+    else (if bytes_eq name (codes "cupsaccept") then Some CupsAccept
+    else (if bytes_eq name (codes "cupsreject") then Some CupsReject
+    else None)))
 
 -- The programs with their own names.
 abbrev pub form_of_program : Text → Option Form
@@ -21,7 +31,9 @@ form_of_program name =
     else (if bytes_eq name (codes "cancel") then Some CancelJobs
     else (if bytes_eq name (codes "lpq") then Some Lpq
     else (if bytes_eq name (codes "lprm") then Some Lprm
-    else None)))))
+    else (if bytes_eq name (codes "lpoptions") then Some Lpoptions
+    else (if bytes_eq name (codes "lpmove") then Some Lpmove
+    else form_of_switch name)))))))
 
 -- The tasks of `spool` of one word.
 abbrev pub form_of_task : Text → Form
@@ -78,6 +90,12 @@ skipped Lpstat = 0
 skipped CancelJobs = 0
 skipped Lpq = 0
 skipped Lprm = 0
+skipped Lpoptions = 0
+skipped Lpmove = 0
+skipped CupsEnable = 0
+skipped CupsDisable = 0
+skipped CupsAccept = 0
+skipped CupsReject = 0
 skipped Other = 0
 skipped QueueShow = 2
 skipped QueueAdd = 2
@@ -87,3 +105,19 @@ skipped QueueReject = 2
 skipped QueueEnable = 2
 skipped QueueDisable = 2
 skipped form = 1
+
+-- The exit status if the arguments are refused: that of CUPS for a program with its own name.
+abbrev pub refusal_status : Form → ℕ
+refusal_status Lp = 1
+refusal_status Lpr = 1
+refusal_status Lpstat = 1
+refusal_status CancelJobs = 1
+refusal_status Lpq = 1
+refusal_status Lprm = 1
+refusal_status Lpoptions = 1
+refusal_status Lpmove = 1
+refusal_status CupsEnable = 1
+refusal_status CupsDisable = 1
+refusal_status CupsAccept = 1
+refusal_status CupsReject = 1
+refusal_status form = 2

@@ -16,23 +16,48 @@ pub enum Task<'a> {
     /// Show one job, the jobs of a queue, or all jobs.
     Status(Status<'a>),
     /// Show the queues.
-    Queues { json: bool },
+    Queues {
+        json: bool,
+    },
     /// Print a line for each change.
     Watch,
     /// Apply the same action to each of these jobs.
-    Jobs { act: JobAct, jobs: Vec<u32> },
+    Jobs {
+        act: JobAct,
+        jobs: Vec<u32>,
+    },
     /// Cancel all jobs of these queues, or of all queues if none is named.
-    Clear { queues: Vec<&'a str> },
+    Clear(Clear<'a>),
+    /// Cancel these jobs, and the current job of each of these queues.
+    Remove(Removal<'a>),
     /// Apply an action to a queue.
-    Queue { name: &'a str, act: QueueAct<'a> },
+    Queue {
+        name: &'a str,
+        act: QueueAct<'a>,
+    },
+    /// Apply the same action to each of these queues. With `clears` their jobs are canceled too.
+    Switch {
+        names: Vec<&'a str>,
+        act: QueueAct<'a>,
+        clears: bool,
+    },
+    /// Make a queue the default.
+    Default {
+        queue: &'a str,
+    },
     /// Show one queue with all its fields.
-    ShowQueue { name: &'a str },
+    ShowQueue {
+        name: &'a str,
+    },
     /// List the devices that the backends find.
     Devices,
     /// Check whether the services can print.
     Check,
     /// Write the queues and jobs as a page to a file.
-    Page { file: &'a str, follow: bool },
+    Page {
+        file: &'a str,
+        follow: bool,
+    },
     /// Print what lpstat prints.
     Lpstat(Lpstat<'a>),
     /// Print what lpq prints.
@@ -68,6 +93,12 @@ pub struct Submission<'a> {
     pub wait: bool,
     /// Whether nothing is printed for an accepted job.
     pub quiet: bool,
+    /// Whether a file is removed once its job is accepted.
+    pub remove: bool,
+    /// Whether the option `raw` follows the options.
+    pub raw: bool,
+    /// Whether an empty document is refused.
+    pub filled: bool,
 }
 
 /// A moment.
@@ -77,6 +108,8 @@ pub enum Moment {
     Epoch(u64),
     /// Seconds from now.
     FromNow(u64),
+    /// The next moment at this second of a day, from 0 to 86,399, in UTC.
+    OfDay(u32),
 }
 
 /// Whether and until when a job is held.
@@ -100,6 +133,8 @@ pub enum JobAct {
     /// Hold the job until this moment, or until it is released.
     Hold(Option<Moment>),
     Release,
+    /// Release the job, unless it is not held.
+    Resume,
     /// Remove the ended job.
     Purge,
     /// Terminate the running filter or backend of the job, so that its queue continues.
@@ -146,6 +181,37 @@ pub struct NewQueue<'a> {
     pub limit: u32,
 }
 
+/// Which jobs are canceled.
+#[derive(Drop)]
+pub struct Clear<'a> {
+    /// Those of these queues. If there are none, those of all queues.
+    pub queues: Vec<&'a str>,
+    /// Those of the default queue, in place of `queues`.
+    pub usual: bool,
+    /// Only those of this user.
+    pub user: Option<&'a str>,
+    /// Whether they are removed too.
+    pub purge: bool,
+}
+
+/// Jobs that are canceled, by number or as the current job of a queue.
+#[derive(Drop)]
+pub struct Removal<'a> {
+    pub jobs: Vec<u32>,
+    /// Queues. If both lists are empty, the default queue.
+    pub queues: Vec<&'a str>,
+    /// Whether the jobs are removed too.
+    pub purge: bool,
+}
+
+/// Which jobs lpstat shows.
+#[derive(Clone, Copy)]
+pub enum Which {
+    NotCompleted,
+    Completed,
+    All,
+}
+
 /// What lpstat shows. A list contains names separated by commas or blanks. The empty list means all.
 #[derive(Drop)]
 pub struct Lpstat<'a> {
@@ -153,16 +219,32 @@ pub struct Lpstat<'a> {
     pub scheduler: bool,
     /// The default queue.
     pub usual: bool,
-    /// All of this.
+    /// The service, the default queue, all queues and all jobs.
     pub all: bool,
+    /// The default queue and all devices.
+    pub summary: bool,
+    /// The names of the queues.
+    pub destinations: bool,
+    /// The socket of the service.
+    pub server: bool,
     /// Whether these queues print.
     pub printers: Option<&'a str>,
     /// Whether these queues accept jobs.
     pub accepting: Option<&'a str>,
     /// The devices of these queues.
     pub devices: Option<&'a str>,
+    /// These classes, of which there are none.
+    pub classes: Option<&'a str>,
     /// The jobs of these queues.
     pub jobs: Option<&'a str>,
+    /// The jobs of these users.
+    pub users: Option<&'a str>,
+    /// Which of the jobs.
+    pub which: Which,
+    /// Whether more of each queue and job is shown.
+    pub long: bool,
+    /// Whether more of each queue is shown.
+    pub described: bool,
     /// Queues and jobs whose jobs are also listed.
     pub names: Vec<&'a str>,
 }
@@ -174,6 +256,9 @@ pub struct Lpq<'a> {
     pub queue: Option<&'a str>,
     /// Whether the jobs of all queues are shown.
     pub all: bool,
-    /// If not empty, only these jobs are shown.
+    /// Whether more of each job is shown.
+    pub long: bool,
+    /// If `jobs` or `users` is not empty, only these jobs and the jobs of these users are shown.
     pub jobs: Vec<u32>,
+    pub users: Vec<&'a str>,
 }

@@ -29,7 +29,8 @@ const TASKS: &str = "Tasks:
   page FILE               write the queues and jobs as an HTML page
 
 `spool TASK --help` lists the options of a task.
-Called as lp, lpr, lpstat, cancel, lpq or lprm, spool takes the options of that program.";
+Called as lp, lpr, lpstat, cancel, lpq, lprm, lpoptions, cupsenable, cupsdisable, cupsaccept or
+cupsreject, spool takes the options of that program.";
 
 const DEVICES: &str = "Name the command that lists the devices that backends find";
 
@@ -120,6 +121,12 @@ fn name_and_purpose<'a>(form: Form) -> (&'a str, &'a str)
         Form::CancelJobs => ("cancel", "Cancel jobs"),
         Form::Lpq => ("lpq", "Show the jobs of a queue"),
         Form::Lprm => ("lprm", "Cancel jobs"),
+        Form::Lpoptions => ("lpoptions", "Choose the default queue"),
+        Form::Lpmove => ("lpmove", "Not supported: a job stays in its queue"),
+        Form::CupsEnable => ("cupsenable", "Start queues"),
+        Form::CupsDisable => ("cupsdisable", "Stop queues"),
+        Form::CupsAccept => ("cupsaccept", "Let queues accept jobs"),
+        Form::CupsReject => ("cupsreject", "Let queues reject jobs"),
         Form::Other => ("spool", "Print files, and manage print jobs and queues"),
     }
 }
@@ -154,6 +161,12 @@ fn outline_of<'a>(form: Form) -> (Base, &'a [Parameter<'a>])
         Form::CancelJobs => (Base::Program, &tables::CANCEL),
         Form::Lpq => (Base::Program, &tables::LPQ),
         Form::Lprm => (Base::Program, &tables::LPRM),
+        Form::Lpoptions => (Base::Program, &tables::LPOPTIONS),
+        Form::Lpmove => (Base::Program, &tables::LPMOVE),
+        Form::CupsEnable => (Base::Program, &tables::SWITCH),
+        Form::CupsDisable => (Base::Program, &tables::SWITCH),
+        Form::CupsAccept => (Base::Program, &tables::SWITCH),
+        Form::CupsReject => (Base::Program, &tables::SWITCH),
         Form::Other => (Base::Spool, &tables::TASK),
     }
 }

@@ -1,6 +1,6 @@
 //! The form of a command line: a task of `spool`, or a program with its own name.
 ghost use Rattle.std.specs.Prelude.{◌≡◌, drop, map};
-ghost use Rattle.front_words.specs.Forms.{form_in, form_of_act, form_of_program, form_of_task, queue_form, skipped, spool_form};
+ghost use Rattle.front_words.specs.Forms.{form_in, form_of_act, form_of_program, form_of_switch, form_of_task, queue_form, refusal_status, skipped, spool_form};
 
 use crate::given::last_part;
 use std::convert::AsStr;
@@ -33,6 +33,12 @@ pub enum Form {
     CancelJobs,
     Lpq,
     Lprm,
+    Lpoptions,
+    Lpmove,
+    CupsEnable,
+    CupsDisable,
+    CupsAccept,
+    CupsReject,
     /// `spool` without a known task.
     Other,
 }
@@ -62,13 +68,26 @@ pub fn own_words<S: AsStr>(form: Form, words: &[S]) -> &[S]
     }
 }
 
+/// Returns the exit status if the arguments of this form are refused: 2 for `spool`, and 1 for a program with its own name, as in CUPS.
+pub fn refusal_status(form: Form) -> u8
+    ensures { result ≡ refusal_status form }
+{
+    match form {
+        Form::Lp | Form::Lpr | Form::Lpstat | Form::CancelJobs | Form::Lpq | Form::Lprm => 1,
+        Form::Lpoptions | Form::Lpmove | Form::CupsEnable | Form::CupsDisable => 1,
+        Form::CupsAccept | Form::CupsReject => 1,
+        _ => 2,
+    }
+}
+
 // Returns the number of arguments before those.
 fn skipped(form: Form) -> usize
     ensures { result ≡ skipped form }
 {
     match form {
         Form::Lp | Form::Lpr | Form::Lpstat | Form::CancelJobs | Form::Lpq | Form::Lprm => 0,
-        Form::Other => 0,
+        Form::Lpoptions | Form::Lpmove | Form::CupsEnable | Form::CupsDisable => 0,
+        Form::CupsAccept | Form::CupsReject | Form::Other => 0,
         Form::QueueShow | Form::QueueAdd | Form::QueueSet | Form::QueueAccept => 2,
         Form::QueueReject | Form::QueueEnable | Form::QueueDisable => 2,
         _ => 1,
@@ -91,6 +110,27 @@ fn form_of_program(name: &[u8]) -> Option<Form>
         Some(Form::Lpq)
     } else if name == b"lprm".as_slice() {
         Some(Form::Lprm)
+    } else if name == b"lpoptions".as_slice() {
+        Some(Form::Lpoptions)
+    } else if name == b"lpmove".as_slice() {
+        Some(Form::Lpmove)
+    } else {
+        form_of_switch(name)
+    }
+}
+
+// Returns the form of a program that starts or stops queues.
+fn form_of_switch(name: &[u8]) -> Option<Form>
+    ensures { result ≡ form_of_switch name.now }
+{
+    if name == b"cupsenable".as_slice() {
+        Some(Form::CupsEnable)
+    } else if name == b"cupsdisable".as_slice() {
+        Some(Form::CupsDisable)
+    } else if name == b"cupsaccept".as_slice() {
+        Some(Form::CupsAccept)
+    } else if name == b"cupsreject".as_slice() {
+        Some(Form::CupsReject)
     } else {
         None
     }

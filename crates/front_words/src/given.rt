@@ -1,8 +1,10 @@
 //! The values that clap found.
-ghost use Rattle.std.specs.Prelude.{◌≡◌, ◌<◌, ◌^◌, IfOk, IsSome, MatchResult, Some, map};
+ghost use Rattle.std.specs.Prelude.{◌≡◌, ◌<◌, ◌≤◌, ◌^◌, IfOk, IfSome, IsSome, MatchResult, Some, map};
+ghost use Rattle.std.specs.List.{after_first, before_first};
 ghost use Rattle.std.specs.Option.{option_map};
 ghost use Rattle.clap.specs.Words.{first_of, found_of, rows_of};
 ghost use Rattle.front_words.specs.WordFaults.{BlamesOnly};
+ghost use Rattle.front_words.specs.ArgumentValues.{clock_of, day_moment, is_colon, is_name, jobs_among, names_among, seconds_in};
 ghost use Rattle.front_words.specs.ArgumentValues.{all_in, is_told, is_word, job_of, job_or_none, jobs_of, last_part, moment_of, moment_or_none, number_in, number_or};
 
 use crate::asked::Moment;
@@ -96,7 +98,8 @@ pub fn number_given(
 
 // Returns the decimal number if it is in the range.
 fn number_in(text: &[u8], least: u32, most: u32) -> Option<u32>
-    ensures { result ≡ number_in least most text.now }
+    ensures value { result ≡ number_in least most text.now }
+    ensures bound { IfSome result (λ number. number ≤ most) }
 {
     let number = decimal(text, u64::from(most))? as u32;
     if least <= number { Some(number) } else { None }
@@ -129,6 +132,50 @@ pub fn moment_of(text: &[u8]) -> Option<Moment>
         Some(Moment::FromNow(decimal(seconds, GREATEST_MOMENT)?))
     } else {
         Some(Moment::Epoch(decimal(text, GREATEST_MOMENT)?))
+    }
+}
+
+// Returns the moment in a text: a time of day in UTC, seconds since 1970, or `+` and seconds from now.
+pub fn day_moment(text: &str) -> Option<Moment>
+    ensures { result ≡ day_moment text.now }
+{
+    match clock_of(text) {
+        Some(moment) => Some(moment),
+        None => moment_of(text.as_bytes()),
+    }
+}
+
+// Returns the next moment at a time of day, `HH:MM` or `HH:MM:SS`.
+fn clock_of(text: &str) -> Option<Moment>
+    ensures { result ≡ clock_of text.now }
+{
+    let (hours, rest) = parted(text);
+    let (minutes, seconds) = parted(rest);
+    let hours = number_in(hours.as_bytes(), 0, 23)?;
+    let minutes = number_in(minutes.as_bytes(), 0, 59)?;
+    let seconds = seconds_in(seconds.as_bytes())?;
+    Some(Moment::OfDay(hours * 3_600 + minutes * 60 + seconds))
+}
+
+// Returns the seconds of a time of day, which can be missing.
+fn seconds_in(text: &[u8]) -> Option<u32>
+    ensures value { result ≡ seconds_in text.now }
+    ensures bound { IfSome result (λ seconds. seconds ≤ 59) }
+{
+    if text.is_empty() {
+        return Some(0);
+    }
+    number_in(text, 0, 59)
+}
+
+// Splits a text at its first colon, which is dropped.
+pub fn parted(text: &str) -> (&str, &str)
+    ensures first { result.0.now ≡ before_first is_colon text.now }
+    ensures rest { result.1.now ≡ after_first is_colon text.now }
+{
+    match text.split_once(':') {
+        Some(parts) => parts,
+        None => (text, ""),
     }
 }
 
@@ -172,6 +219,61 @@ fn jobs_of(alloc: Global, texts: &[&str]) -> Result<Option<Vec<u32>>, AllocError
         jobs.push(job)?;
     }
     Ok(Some(jobs))
+}
+
+// Returns the jobs among the values of an argument.
+pub fn jobs_among(
+    alloc: Global,
+    matches: &ArgMatches<'_>,
+    name: &str,
+) -> Result<Vec<u32>, AllocError>
+    ensures { IfOk result (λ jobs. jobs.items ≡ jobs_among (all_in name.now (rows_of (found_of matches.now)))) }
+{
+    let texts = texts_given(alloc, matches, name)?;
+    jobs_in(alloc, texts.as_slice())
+}
+
+fn jobs_in(alloc: Global, texts: &[&str]) -> Result<Vec<u32>, AllocError>
+    ensures { IfOk result (λ jobs. jobs.items ≡ jobs_among (map (λ text. text.now) texts.now)) }
+{
+    let mut jobs = Vec::new(alloc);
+    for text in texts {
+        if let Some(job) = job_of(text.as_bytes()) {
+            jobs.push(job)?;
+        }
+    }
+    Ok(jobs)
+}
+
+// Returns the values of an argument that are no jobs.
+pub fn names_among<'a>(
+    alloc: Global,
+    matches: &ArgMatches<'a>,
+    name: &str,
+) -> Result<Vec<&'a str>, AllocError>
+    ensures { IfOk result (λ names. map (λ text. text.now) names.items ≡ names_among (all_in name.now (rows_of (found_of matches.now)))) }
+{
+    let texts = texts_given(alloc, matches, name)?;
+    names_in(alloc, texts.as_slice())
+}
+
+fn names_in<'a>(alloc: Global, texts: &[&'a str]) -> Result<Vec<&'a str>, AllocError>
+    ensures { IfOk result (λ names. map (λ text. text.now) names.items ≡ names_among (map (λ text. text.now) texts.now)) }
+{
+    let mut names = Vec::new(alloc);
+    for text in texts {
+        if is_name(text) {
+            names.push(*text)?;
+        }
+    }
+    Ok(names)
+}
+
+// Returns whether a text is no job.
+fn is_name(text: &str) -> bool
+    ensures { result ≡ is_name text.now }
+{
+    job_of(text.as_bytes()).is_none()
 }
 
 // Returns the number of a job, which may follow the name of a queue and a hyphen.

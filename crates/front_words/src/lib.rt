@@ -1,11 +1,12 @@
-//! Reads the command lines of `spool`, `lp`, `lpr`, `lpstat`, `cancel`, `lpq` and `lprm`.
+//! Reads the command lines of `spool`, and those of the programs of CUPS: `lp`, `lpr`, `lpstat`, `cancel`, `lpq`, `lprm`, `lpoptions`,
+//! `lpmove`, `cupsenable`, `cupsdisable`, `cupsaccept` and `cupsreject`.
 //!
-//! The first arguments determine the form of a command line. Called as `lp`, `lpr`, `lpstat`, `cancel`, `lpq` or `lprm`, the form is that
-//! program. By any other name the program is `spool`, and its first argument is a task, or `queue` followed by an action on a queue.
+//! The first arguments determine the form of a command line. Called by the name of a program of CUPS, the form is that program. By any other
+//! name the program is `spool`, and its first argument is a task, or `queue` followed by an action on a queue.
 //!
 //! Each form has its own clap command, and so its own help and its own contract. The command reads the arguments from the last one that
-//! selects the form, so options follow the task. An option that asks for what happens anyway is accepted (`lp -c`, `lpr -h`). Any other
-//! option without a meaning is refused, never ignored.
+//! selects the form, so options follow the task. The programs of CUPS take the options that they have there, so that scripts run unchanged.
+//! Those without an effect are ignored, as their help says. Those that ask for what the service cannot do are refused with the reason.
 //!
 //! # Promises
 //!
@@ -17,6 +18,7 @@
 //! - [`read_words`] (`taken`): refuses the arguments exactly if clap finds an error in them or their values fit no task (`Fit`): a number
 //!   is out of its range, a moment or a job is invalid, or two arguments exclude each other. Memory may run out in any case. Arguments
 //!   without a known task, and requests for help or the version, are always refused.
+//! - [`words_status`]: the exit status of refused arguments: 2 for `spool`, and 1 for a program of CUPS, as there.
 //! - A number consists of decimal digits only. A moment is digits (seconds since 1970), or `+` and digits (seconds from now): clap's own
 //!   numbers would accept `+60` as 60, which is a moment in 1970. A job is its number, alone or after the last hyphen.
 //!
@@ -27,7 +29,7 @@
 //! # Errors
 //!
 //! [`WordsFault::Refused`] contains the text to print: clap's own error, or an error of the same type that names the invalid value. Its
-//! exit status is 2, or 0 for help and the version. [`WordsFault::Memory`]: out of memory.
+//! exit status is 0 for help and the version, and else that of [`words_status`]. [`WordsFault::Memory`]: out of memory.
 #![tactic(auto)]
 
 mod asked;
@@ -37,12 +39,14 @@ mod forms;
 mod given;
 mod options;
 mod parameters;
+mod programs;
 mod reading;
 mod tables;
 mod words;
 
 pub use asked::{
-    Asked, Hold, JobAct, Lpq, Lpstat, Moment, NewQueue, QueueAct, Status, Submission, Task,
+    Asked, Clear, Hold, JobAct, Lpq, Lpstat, Moment, NewQueue, QueueAct, Removal, Status,
+    Submission, Task, Which,
 };
 pub use fault::WordsFault;
-pub use words::read_words;
+pub use words::{read_words, words_status};

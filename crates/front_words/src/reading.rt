@@ -1,20 +1,21 @@
 //! Converts the values that clap found into a task, form by form.
-ghost use Rattle.std.specs.Prelude.{◌≡◌, ◌∷◌, [], ⊤, IfOk, IsSome, MatchResult, Some, codes, map};
+ghost use Rattle.std.specs.Prelude.{◌≡◌, ◌++◌, ◌∷◌, [], ⊤, IfOk, IsSome, MatchResult, OnOk, Some, codes, map};
+ghost use Rattle.std.specs.Option.{option_map};
 ghost use Rattle.clap.specs.Words.{first_of, found_of, rows_of};
-ghost use Rattle.front_words.specs.AskedTasks.{Fit, FitCancel, FitHold, FitJobs, FitNew, FitQueue, FitRemoval, FitStatus, FitSubmission};
-ghost use Rattle.front_words.specs.AskedTasks.{IsAdd, IsAskedIn, IsCancel, IsJobs, IsLpqTask, IsLpstatTask, IsPage, IsQueue, IsRemoval, IsSet, IsShow, IsStatusTask, IsStop, IsSubmit, IsTask};
-ghost use Rattle.front_words.specs.AskedTasks.{handling_of, hold_of, is_policy, until_of};
+ghost use Rattle.front_words.specs.ArgumentValues.{all_in};
+ghost use Rattle.front_words.specs.AskedTasks.{Fit, FitAltered, FitCaller, FitHold, FitJobs, FitLp, FitNew, FitQueue, FitStatus, FitSubmission, FitTask};
+ghost use Rattle.front_words.specs.AskedTasks.{IsAdd, IsAltered, IsAskedIn, IsJobs, IsLp, IsPage, IsQueue, IsSet, IsShow, IsStatusTask, IsStop, IsSubmit, IsTask};
+ghost use Rattle.front_words.specs.AskedTasks.{begins_with, change_in, handling_of, has_more, has_numbers, has_texts, hold_of, host_part, is_immediate, is_indefinite, is_filled, is_near, is_path, is_policy, is_quiet, until_of};
 ghost use Rattle.front_words.specs.WordFaults.{BlamesOnly};
 
-use crate::asked::{
-    Asked, Hold, JobAct, Lpq, Lpstat, Moment, NewQueue, QueueAct, Status, Submission, Task,
-};
+use crate::asked::{Asked, Hold, JobAct, NewQueue, QueueAct, Status, Submission, Task};
 use crate::fault::Wrong;
 use crate::forms::Form;
 use crate::given::{
-    flag_given, job_given, jobs_given, moment_given, moment_of, number_given, text_given,
-    text_needed, texts_given, word_given,
+    day_moment, flag_given, job_given, jobs_given, moment_given, number_given, parted, text_given,
+    text_needed, texts_given,
 };
+use crate::programs::{cancel_in, default_in, lpq_in, lprm_in, lpstat_in, switch_in};
 use clap::ArgMatches;
 use std::alloc::{AllocError, Global};
 
@@ -23,17 +24,85 @@ pub fn asked_in<'a>(alloc: Global, form: Form, matches: &ArgMatches<'a>) -> Resu
     ensures asked { IfOk result (IsAskedIn form (rows_of (found_of matches.now))) }
     ensures fit { MatchResult result (λ _. Fit form (rows_of (found_of matches.now))) (BlamesOnly (Fit form (rows_of (found_of matches.now)))) }
 {
-    let task = task_in(alloc, form, matches)?;
-    let sockets = texts_given(alloc, matches, "socket")?;
-    Ok(Asked { sockets, task })
+    fit_caller(matches)?;
+    match task_in(alloc, form, matches) {
+        Ok(task) => {
+            let sockets = sockets_in(alloc, matches)?;
+            Ok(Asked { sockets, task })
+        }
+        Err(wrong) => Err(wrong),
+    }
+}
+
+// Checks that the service is on this machine, and that no other user is named.
+fn fit_caller(matches: &ArgMatches<'_>) -> Result<(), Wrong>
+    ensures { MatchResult result (λ _. FitCaller (rows_of (found_of matches.now))) (BlamesOnly (FitCaller (rows_of (found_of matches.now)))) }
+{
+    if !is_near(text_given(matches, "host")) {
+        return Err(Wrong::Value(
+            "only a service of this machine can be reached: the host must be localhost or the path of a socket",
+        ));
+    }
+    if text_given(matches, "as-user").is_some() {
+        return Err(Wrong::Value(
+            "-U: the service knows who runs the command, so no other user can be named",
+        ));
+    }
+    Ok(())
+}
+
+fn is_near(host: Option<&str>) -> bool
+    ensures { result ≡ is_near (option_map (λ text. text.now) host.entry) }
+{
+    match host {
+        Some(host) => is_path(host) || parted(host).0 == "localhost",
+        None => true,
+    }
+}
+
+fn is_path(text: &str) -> bool
+    ensures { result ≡ is_path text.now }
+{
+    begins_with(text, b'/')
+}
+
+pub fn begins_with(text: &str, first: u8) -> bool
+    ensures { result ≡ begins_with first text.now }
+{
+    match text.as_bytes().split_first() {
+        Some((byte, _)) => *byte == first,
+        None => false,
+    }
+}
+
+// Returns the sockets of --socket, and that of -h.
+fn sockets_in<'a>(alloc: Global, matches: &ArgMatches<'a>) -> Result<Vec<&'a str>, AllocError>
+    ensures { IfOk result (λ sockets. map (λ text. text.now) sockets.items
+        ≡ all_in (codes "socket") (rows_of (found_of matches.now)) ++ host_part (first_of (codes "host") (rows_of (found_of matches.now)))) }
+{
+    let mut sockets = texts_given(alloc, matches, "socket")?;
+    push_host(&mut sockets, text_given(matches, "host"))?;
+    Ok(sockets)
+}
+
+fn push_host<'a>(sockets: &mut Vec<&'a str>, host: Option<&'a str>) -> Result<(), AllocError>
+    ensures { OnOk result (map (λ text. text.now) sockets.new.items
+        ≡ map (λ text. text.now) sockets.old.items ++ host_part (option_map (λ text. text.now) host.entry)) }
+{
+    match host {
+        Some(host) if is_path(host) => Ok(sockets.push(host)?),
+        _ => Ok(()),
+    }
 }
 
 fn task_in<'a>(alloc: Global, form: Form, matches: &ArgMatches<'a>) -> Result<Task<'a>, Wrong>
     ensures asked { IfOk result (IsTask form (rows_of (found_of matches.now))) }
-    ensures fit { MatchResult result (λ _. Fit form (rows_of (found_of matches.now))) (BlamesOnly (Fit form (rows_of (found_of matches.now)))) }
+    ensures fit { MatchResult result (λ _. FitTask form (rows_of (found_of matches.now))) (BlamesOnly (FitTask form (rows_of (found_of matches.now)))) }
 {
     match form {
-        Form::Submit | Form::Lp | Form::Lpr => submit_in(alloc, matches),
+        Form::Submit => submit_in(alloc, form, matches),
+        Form::Lp => lp_in(alloc, matches),
+        Form::Lpr => submit_in(alloc, form, matches),
         Form::Status => status_in(matches),
         Form::Queues => Ok(Task::Queues {
             json: flag_given(matches, "json"),
@@ -58,12 +127,18 @@ fn task_in<'a>(alloc: Global, form: Form, matches: &ArgMatches<'a>) -> Result<Ta
         Form::CancelJobs => cancel_in(alloc, matches),
         Form::Lpq => lpq_in(alloc, matches),
         Form::Lprm => lprm_in(alloc, matches),
+        Form::Lpoptions => default_in(matches),
+        Form::Lpmove => Err(Wrong::Value(NO_MOVE)),
+        Form::CupsEnable => switch_in(alloc, QueueAct::Enable, matches),
+        Form::CupsDisable => switch_in(alloc, QueueAct::Disable, matches),
+        Form::CupsAccept => switch_in(alloc, QueueAct::Accept, matches),
+        Form::CupsReject => switch_in(alloc, QueueAct::Reject, matches),
         Form::Other => Err(Wrong::Value("no such task; `spool --help` lists all tasks")),
     }
 }
 
-fn submit_in<'a>(alloc: Global, matches: &ArgMatches<'a>) -> Result<Task<'a>, Wrong>
-    ensures asked { IfOk result (IsSubmit (rows_of (found_of matches.now))) }
+fn submit_in<'a>(alloc: Global, form: Form, matches: &ArgMatches<'a>) -> Result<Task<'a>, Wrong>
+    ensures asked { IfOk result (IsSubmit form (rows_of (found_of matches.now))) }
     ensures fit { MatchResult result (λ _. FitSubmission (rows_of (found_of matches.now))) (BlamesOnly (FitSubmission (rows_of (found_of matches.now)))) }
 {
     let copies = number_given(
@@ -95,9 +170,32 @@ fn submit_in<'a>(alloc: Global, matches: &ArgMatches<'a>) -> Result<Task<'a>, Wr
         hold,
         by,
         wait: flag_given(matches, "wait"),
-        quiet: flag_given(matches, "quiet"),
+        quiet: is_quiet(form, matches),
+        remove: flag_given(matches, "remove"),
+        raw: flag_given(matches, "literal"),
+        filled: is_filled(form),
     }))
 }
+
+// Returns whether an empty document is refused.
+fn is_filled(form: Form) -> bool
+    ensures { result ≡ is_filled form }
+{
+    !matches!(form, Form::Submit)
+}
+
+// Returns whether the number of the job is not printed. lpr never prints it.
+fn is_quiet(form: Form, matches: &ArgMatches<'_>) -> bool
+    ensures { result ≡ is_quiet form (rows_of (found_of matches.now)) }
+{
+    matches!(form, Form::Lpr)
+        || flag_given(matches, "quiet")
+        || flag_given(matches, "mail")
+        || flag_given(matches, "write")
+}
+
+const NO_MOVE: &str =
+    "a job cannot be moved to another queue; cancel it and print the document again";
 
 const NO_MOMENT: &str = "MOMENT must be seconds since 1970 or +SECONDS, up to 4000000000000";
 
@@ -106,9 +204,7 @@ fn hold_given(matches: &ArgMatches<'_>) -> Result<Hold, Wrong>
     ensures { MatchResult result (λ hold. hold_of (rows_of (found_of matches.now)) ≡ Some hold) (BlamesOnly (IsSome (hold_of (rows_of (found_of matches.now))))) }
 {
     if let Some(text) = text_given(matches, "handling") {
-        return handling_of(text).ok_or(Wrong::Value(
-            "-H must be hold, indefinite, immediate, no-hold, seconds since 1970 or +SECONDS",
-        ));
+        return handling_of(text).ok_or(NO_HANDLING);
     }
     match moment_given(matches, "at", NO_MOMENT)? {
         Some(moment) => Ok(Hold::Until(moment)),
@@ -117,17 +213,103 @@ fn hold_given(matches: &ArgMatches<'_>) -> Result<Hold, Wrong>
     }
 }
 
+const NO_HANDLING: Wrong = Wrong::Value(
+    "-H must be hold, indefinite, immediate, no-hold, resume, HH:MM (UTC), seconds since 1970 or +SECONDS",
+);
+
 // Returns the hold that the value of -H asks for, or `None` if the value is invalid.
 fn handling_of(text: &str) -> Option<Hold>
     ensures { result ≡ handling_of text.now }
 {
-    if text == "hold" || text == "indefinite" {
+    if is_indefinite(text) {
         Some(Hold::Indefinite)
-    } else if text == "immediate" || text == "no-hold" {
+    } else if is_immediate(text) {
         Some(Hold::No)
     } else {
-        Some(Hold::Until(moment_of(text.as_bytes())?))
+        Some(Hold::Until(day_moment(text)?))
     }
+}
+
+fn is_indefinite(text: &str) -> bool
+    ensures { result ≡ is_indefinite text.now }
+{
+    text == "hold" || text == "indefinite"
+}
+
+fn is_immediate(text: &str) -> bool
+    ensures { result ≡ is_immediate text.now }
+{
+    text == "immediate" || text == "no-hold" || text == "resume"
+}
+
+// Returns what lp was asked for: to print, or with -i to change a job.
+fn lp_in<'a>(alloc: Global, matches: &ArgMatches<'a>) -> Result<Task<'a>, Wrong>
+    ensures asked { IfOk result (IsLp (rows_of (found_of matches.now))) }
+    ensures fit { MatchResult result (λ _. FitLp (rows_of (found_of matches.now))) (BlamesOnly (FitLp (rows_of (found_of matches.now)))) }
+{
+    match job_given(matches, "job")? {
+        Some(job) => altered_in(alloc, job, matches),
+        None => submit_in(alloc, Form::Lp, matches),
+    }
+}
+
+fn altered_in<'a>(alloc: Global, job: u32, matches: &ArgMatches<'a>) -> Result<Task<'a>, Wrong>
+    ensures asked { IfOk result (IsAltered job (rows_of (found_of matches.now))) }
+    ensures fit { MatchResult result (λ _. FitAltered (rows_of (found_of matches.now))) (BlamesOnly (FitAltered (rows_of (found_of matches.now)))) }
+{
+    if has_more(matches) {
+        return Err(Wrong::Value("-i: only the hold of a job can be changed: -i JOB -H WHEN"));
+    }
+    match change_in(text_given(matches, "handling")) {
+        Some(act) => {
+            let jobs = only_job(alloc, job)?;
+            Ok(Task::Jobs { act, jobs })
+        }
+        None => Err(NO_HANDLING),
+    }
+}
+
+fn only_job(alloc: Global, job: u32) -> Result<Vec<u32>, AllocError>
+    ensures { IfOk result (λ jobs. jobs.items ≡ job ∷ []) }
+{
+    let mut jobs = Vec::new(alloc);
+    jobs.push(job)?;
+    Ok(jobs)
+}
+
+// Returns the action on a job that the value of -H asks for.
+fn change_in(text: Option<&str>) -> Option<JobAct>
+    ensures { result ≡ change_in (option_map (λ text. text.now) text.entry) }
+{
+    let text = text?;
+    if is_indefinite(text) {
+        Some(JobAct::Hold(None))
+    } else if is_immediate(text) {
+        Some(JobAct::Resume)
+    } else {
+        Some(JobAct::Hold(Some(day_moment(text)?)))
+    }
+}
+
+// Returns whether a document is given, or a change that the service cannot make.
+fn has_more(matches: &ArgMatches<'_>) -> bool
+    ensures { result ≡ has_more (rows_of (found_of matches.now)) }
+{
+    text_given(matches, "file").is_some() || has_numbers(matches) || has_texts(matches)
+}
+
+fn has_numbers(matches: &ArgMatches<'_>) -> bool
+    ensures { result ≡ has_numbers (rows_of (found_of matches.now)) }
+{
+    text_given(matches, "copies").is_some() || text_given(matches, "priority").is_some()
+}
+
+fn has_texts(matches: &ArgMatches<'_>) -> bool
+    ensures { result ≡ has_texts (rows_of (found_of matches.now)) }
+{
+    text_given(matches, "title").is_some()
+        || text_given(matches, "option").is_some()
+        || text_given(matches, "pages").is_some()
 }
 
 fn status_in<'a>(matches: &ArgMatches<'a>) -> Result<Task<'a>, Wrong>
@@ -250,68 +432,4 @@ fn page_in<'a>(matches: &ArgMatches<'a>) -> Result<Task<'a>, Wrong>
         file,
         follow: flag_given(matches, "follow"),
     })
-}
-
-fn lpstat_in<'a>(alloc: Global, matches: &ArgMatches<'a>) -> Result<Task<'a>, Wrong>
-    ensures asked { IfOk result (IsLpstatTask (rows_of (found_of matches.now))) }
-    ensures fit { MatchResult result (λ _. ⊤) (BlamesOnly (⊤)) }
-{
-    Ok(Task::Lpstat(Lpstat {
-        scheduler: flag_given(matches, "scheduler"),
-        usual: flag_given(matches, "usual"),
-        all: flag_given(matches, "all"),
-        printers: text_given(matches, "printers"),
-        accepting: text_given(matches, "accepting"),
-        devices: text_given(matches, "devices"),
-        jobs: text_given(matches, "jobs"),
-        names: texts_given(alloc, matches, "name")?,
-    }))
-}
-
-fn cancel_in<'a>(alloc: Global, matches: &ArgMatches<'a>) -> Result<Task<'a>, Wrong>
-    ensures asked { IfOk result (IsCancel (rows_of (found_of matches.now))) }
-    ensures fit { MatchResult result (λ _. FitCancel (rows_of (found_of matches.now))) (BlamesOnly (FitCancel (rows_of (found_of matches.now)))) }
-{
-    if flag_given(matches, "all") {
-        let queues = texts_given(alloc, matches, "job")?;
-        return Ok(Task::Clear { queues });
-    }
-    if text_given(matches, "job").is_none() {
-        return Err(Wrong::Value("no JOB given; -a cancels all jobs"));
-    }
-    jobs_in(alloc, JobAct::Cancel, matches)
-}
-
-fn lpq_in<'a>(alloc: Global, matches: &ArgMatches<'a>) -> Result<Task<'a>, Wrong>
-    ensures asked { IfOk result (IsLpqTask (rows_of (found_of matches.now))) }
-    ensures fit { MatchResult result (λ _. FitJobs (rows_of (found_of matches.now))) (BlamesOnly (FitJobs (rows_of (found_of matches.now)))) }
-{
-    Ok(Task::Lpq(Lpq {
-        queue: text_given(matches, "queue"),
-        all: flag_given(matches, "all"),
-        jobs: jobs_given(alloc, matches, "job")?,
-    }))
-}
-
-// Returns the removal of the jobs, or of all jobs of the queue if the first argument is `-`.
-fn lprm_in<'a>(alloc: Global, matches: &ArgMatches<'a>) -> Result<Task<'a>, Wrong>
-    ensures asked { IfOk result (IsRemoval (rows_of (found_of matches.now))) }
-    ensures fit { MatchResult result (λ _. FitRemoval (rows_of (found_of matches.now))) (BlamesOnly (FitRemoval (rows_of (found_of matches.now)))) }
-{
-    if !word_given(matches, "job", "-") {
-        return jobs_in(alloc, JobAct::Cancel, matches);
-    }
-    let Some(queue) = text_given(matches, "queue") else {
-        return Err(Wrong::Value("`-` needs a queue: -P DEST -"));
-    };
-    let queues = only(alloc, queue)?;
-    Ok(Task::Clear { queues })
-}
-
-fn only<'a>(alloc: Global, text: &'a str) -> Result<Vec<&'a str>, AllocError>
-    ensures { IfOk result (λ texts. map (λ text. text.now) texts.items ≡ text.entry.now ∷ []) }
-{
-    let mut texts = Vec::new(alloc);
-    texts.push(text)?;
-    Ok(texts)
 }

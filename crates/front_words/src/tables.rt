@@ -121,7 +121,7 @@ pub static PAGE: [Parameter<'static>; 2] = [
 
 pub static TASK: [Parameter<'static>; 1] = [NeededWords("task", "TASK", "One of the tasks below")];
 
-pub static LP: [Parameter<'static>; 11] = [
+pub static LP: [Parameter<'static>; 20] = [
     Words(
         "file",
         "FILE",
@@ -168,13 +168,36 @@ pub static LP: [Parameter<'static>; 11] = [
         'H',
         "handling",
         "WHEN",
-        "When to print: hold, immediate, seconds since 1970, or +SECONDS from now",
+        "When to print: hold, immediate, HH:MM (UTC), seconds since 1970, or +SECONDS from now",
     ),
     LetterFlag('c', "copy", "Ignored: a copy of the file is always printed"),
     LetterFlag('s', "quiet", "Do not print the number of the job"),
+    Letter('i', "job", "JOB", "Hold or resume this job, with -H"),
+    LetterFlag('m', "mail", "The same as -s: no mail is sent"),
+    LetterFlag('w', "write", "The same as -s: no message is written"),
+    Letter('f', "form", "FORM", "Ignored: there are no forms"),
+    Letter('S', "wheel", "NAME", "Ignored: there are no print wheels"),
+    Letter('y', "mode", "MODE", "Ignored: there are no modes"),
+    Letter(
+        'T',
+        "content",
+        "TYPE",
+        "Ignored: the service detects the type",
+    ),
+    Letter(
+        'h',
+        "host",
+        "HOST",
+        "The service: localhost, or the path of its socket",
+    ),
+    LetterFlag(
+        'E',
+        "encrypt",
+        "Ignored: the connection does not leave this machine",
+    ),
 ];
 
-pub static LPR: [Parameter<'static>; 8] = [
+pub static LPR: [Parameter<'static>; 24] = [
     Words(
         "file",
         "FILE",
@@ -209,9 +232,34 @@ pub static LPR: [Parameter<'static>; 8] = [
     ),
     LetterFlag('q', "hold", "Hold the job until it is released"),
     LetterFlag('h', "no-banner", "Ignored: there is never a banner"),
+    LetterFlag('l', "literal", "Set the option raw"),
+    LetterFlag('m', "mail", "Ignored: no mail is sent"),
+    LetterFlag('r', "remove", "Remove each file once its job is accepted"),
+    LetterFlag('s', "link", "Ignored: a copy of the file is always printed"),
+    LetterFlag('p', "pretty", "Ignored: the service detects the type"),
+    LetterFlag('c', "cifplot", "Ignored: the service detects the type"),
+    LetterFlag('d', "dvi", "Ignored: the service detects the type"),
+    LetterFlag('f', "fortran", "Ignored: the service detects the type"),
+    LetterFlag('g', "graph", "Ignored: the service detects the type"),
+    LetterFlag('n', "ditroff", "Ignored: the service detects the type"),
+    LetterFlag('t', "troff", "Ignored: the service detects the type"),
+    LetterFlag('v', "raster", "Ignored: the service detects the type"),
+    Letter('i', "indent", "N", "Ignored: the text is not indented"),
+    Letter('w', "columns", "N", "Ignored: a filter chooses the width"),
+    Letter(
+        'H',
+        "host",
+        "HOST",
+        "The service: localhost, or the path of its socket",
+    ),
+    LetterFlag(
+        'E',
+        "encrypt",
+        "Ignored: the connection does not leave this machine",
+    ),
 ];
 
-pub static LPSTAT: [Parameter<'static>; 8] = [
+pub static LPSTAT: [Parameter<'static>; 20] = [
     Words(
         "name",
         "NAME",
@@ -222,42 +270,205 @@ pub static LPSTAT: [Parameter<'static>; 8] = [
     LetterFlag('t', "all", "Show all of this"),
     List('p', "printers", "Show whether these queues print"),
     List('a', "accepting", "Show whether these queues accept jobs"),
-    List(
-        'v',
-        "devices",
-        "Not supported: the service does not report its devices",
-    ),
+    List('v', "devices", "Show the devices of these queues"),
     List('o', "jobs", "Show the jobs of these queues"),
+    List('c', "classes", "Show nothing: there are no classes"),
+    List('u', "users", "Show the jobs of these users"),
+    Letter(
+        'W',
+        "which",
+        "WHICH",
+        "The jobs that are shown: not-completed, completed or all [default: not-completed]",
+    ),
+    LetterFlag('e', "destinations", "Show the names of the queues"),
+    LetterFlag('s', "summary", "Show the default queue and all devices"),
+    LetterFlag('l', "long", "Show more of each queue and job"),
+    LetterFlag('D', "described", "Show more of each queue"),
+    LetterFlag('R', "ranks", "Ignored: the jobs are listed in their order"),
+    LetterFlag('H', "server", "Show the socket of the service"),
+    Letter(
+        'h',
+        "host",
+        "HOST",
+        "The service: localhost, or the path of its socket",
+    ),
+    LetterFlag(
+        'E',
+        "encrypt",
+        "Ignored: the connection does not leave this machine",
+    ),
+    Letter(
+        'U',
+        "as-user",
+        "USER",
+        "Not supported: the service knows who runs the command",
+    ),
 ];
 
-pub static CANCEL: [Parameter<'static>; 2] = [
+pub static CANCEL: [Parameter<'static>; 7] = [
     Words(
         "job",
         "JOB",
-        "The jobs, such as 12 or office-12; with -a, queues",
+        "The jobs, such as 12 or office-12, or queues: the current job of each",
     ),
     LetterFlag(
         'a',
         "all",
         "Cancel all jobs of these queues, or of all queues",
     ),
+    Letter('u', "user", "USER", "Cancel all jobs of this user"),
+    LetterFlag('x', "purge", "Remove the canceled jobs too"),
+    Letter(
+        'h',
+        "host",
+        "HOST",
+        "The service: localhost, or the path of its socket",
+    ),
+    LetterFlag(
+        'E',
+        "encrypt",
+        "Ignored: the connection does not leave this machine",
+    ),
+    Letter(
+        'U',
+        "as-user",
+        "USER",
+        "Not supported: the service knows who runs the command",
+    ),
 ];
 
-pub static LPQ: [Parameter<'static>; 3] = [
+pub static LPQ: [Parameter<'static>; 7] = [
     Words(
         "job",
         "JOB",
-        "Show only these jobs, such as 12 or office-12",
+        "Show only these jobs, such as 12 or office-12, and the jobs of these users",
     ),
     Letter('P', "queue", "DEST", "The queue"),
     LetterFlag('a', "all", "Show the jobs of all queues"),
+    LetterFlag('l', "long", "Show more of each job"),
+    Letter(
+        'h',
+        "host",
+        "HOST",
+        "The service: localhost, or the path of its socket",
+    ),
+    LetterFlag(
+        'E',
+        "encrypt",
+        "Ignored: the connection does not leave this machine",
+    ),
+    Letter(
+        'U',
+        "as-user",
+        "USER",
+        "Not supported: the service knows who runs the command",
+    ),
 ];
 
-pub static LPRM: [Parameter<'static>; 2] = [
-    NeededWords(
+pub static LPRM: [Parameter<'static>; 5] = [
+    Words(
         "job",
         "JOB",
-        "The jobs, such as 12 or office-12; `-` means all jobs of the queue of -P",
+        "The jobs, such as 12 or office-12; `-` means all jobs of the queue",
     ),
-    Letter('P', "queue", "DEST", "The queue for `-`"),
+    Letter('P', "queue", "DEST", "The queue"),
+    Letter(
+        'h',
+        "host",
+        "HOST",
+        "The service: localhost, or the path of its socket",
+    ),
+    LetterFlag(
+        'E',
+        "encrypt",
+        "Ignored: the connection does not leave this machine",
+    ),
+    Letter(
+        'U',
+        "as-user",
+        "USER",
+        "Not supported: the service knows who runs the command",
+    ),
+];
+
+pub static LPOPTIONS: [Parameter<'static>; 9] = [
+    Letter('d', "default", "DEST", "Make this queue the default"),
+    Letter('p', "queue", "DEST", "Not supported: no options are stored"),
+    LetterFlag('l', "list", "Not supported: the service reports no options"),
+    Letters(
+        'o',
+        "option",
+        "NAME=VALUE",
+        "Not supported: no options are stored",
+    ),
+    Letter('r', "drop", "NAME", "Not supported: no options are stored"),
+    Letter(
+        'x',
+        "forget",
+        "DEST",
+        "Not supported: no options are stored",
+    ),
+    Letter(
+        'h',
+        "host",
+        "HOST",
+        "The service: localhost, or the path of its socket",
+    ),
+    LetterFlag(
+        'E',
+        "encrypt",
+        "Ignored: the connection does not leave this machine",
+    ),
+    Letter(
+        'U',
+        "as-user",
+        "USER",
+        "Not supported: the service knows who runs the command",
+    ),
+];
+
+pub static LPMOVE: [Parameter<'static>; 4] = [
+    Words("job", "JOB", "Not supported: a job stays in its queue"),
+    Letter(
+        'h',
+        "host",
+        "HOST",
+        "The service: localhost, or the path of its socket",
+    ),
+    LetterFlag(
+        'E',
+        "encrypt",
+        "Ignored: the connection does not leave this machine",
+    ),
+    Letter(
+        'U',
+        "as-user",
+        "USER",
+        "Not supported: the service knows who runs the command",
+    ),
+];
+
+pub static SWITCH: [Parameter<'static>; 8] = [
+    Words("name", "NAME", "The queues"),
+    Letter('r', "reason", "TEXT", "Ignored: a queue has no such text"),
+    LetterFlag('c', "cancel", "Cancel all jobs of these queues too"),
+    Flag("hold", "Ignored: a job that prints always continues"),
+    Flag("release", "Ignored: no job was held"),
+    Letter(
+        'h',
+        "host",
+        "HOST",
+        "The service: localhost, or the path of its socket",
+    ),
+    LetterFlag(
+        'E',
+        "encrypt",
+        "Ignored: the connection does not leave this machine",
+    ),
+    Letter(
+        'U',
+        "as-user",
+        "USER",
+        "Not supported: the service knows who runs the command",
+    ),
 ];

@@ -1,18 +1,27 @@
 //! Reading the command line.
-ghost use Rattle.std.specs.Prelude.{IfOk, MatchResult, map};
+ghost use Rattle.std.specs.Prelude.{◌≡◌, IfOk, MatchResult, map};
 ghost use Rattle.clap.specs.Words.{found_of, rows_of};
 ghost use Rattle.front_words.specs.AskedTasks.{AreTaken, Fit, IsAsked, IsAskedIn};
+ghost use Rattle.front_words.specs.Forms.{form_in, refusal_status};
 ghost use Rattle.front_words.specs.WordFaults.{RefusesOnly};
 
 use crate::asked::Asked;
 use crate::commands::command_for;
 use crate::fault::{WordsFault, mistake};
-use crate::forms::{Form, form_of, own_words};
+use crate::forms::{Form, form_of, own_words, refusal_status};
 use crate::options::parse;
 use crate::reading::asked_in;
 use clap::{ArgMatches, Command};
 use std::alloc::Global;
 use std::convert::AsStr;
+
+/// Returns the exit status if these arguments are refused, including the program's name: 2 for `spool`, and 1 for a program with its own
+/// name, as in CUPS.
+pub fn words_status<S: AsStr>(words: &[S]) -> u8
+    ensures { result ≡ refusal_status (form_in (map S.text words.now)) }
+{
+    refusal_status(form_of(words))
+}
 
 /// Reads the arguments of the command line, including the program's name.
 pub fn read_words<'a, S: AsStr>(alloc: Global, words: &'a [S]) -> Result<Asked<'a>, WordsFault>

@@ -1,5 +1,6 @@
 use front_words::{
-    Asked, Hold, JobAct, Moment, QueueAct, Submission, Task, WordsFault, read_words,
+    Asked, Hold, JobAct, Moment, QueueAct, Submission, Task, Which, WordsFault, read_words,
+    words_status,
 };
 use program_version::with_version;
 use std::test::Fail;
@@ -104,9 +105,12 @@ fn submits_as_lp(rt: HostRuntime) -> Result<(), Fail> {
 
 #[test]
 fn refuses(rt: HostRuntime) -> Result<(), Fail> {
-    assert!(rt; is_refused(&rt, &["lp", "-m", "x"])?);
     assert!(rt; is_refused(&rt, &["lp", "-h", "host", "x"])?);
-    assert!(rt; is_refused(&rt, &["lp", "-H", "12:30", "x"])?);
+    assert!(rt; is_refused(&rt, &["lp", "-H", "24:00", "x"])?);
+    assert!(rt; is_refused(&rt, &["lp", "-H", "12:60", "x"])?);
+    assert!(rt; is_refused(&rt, &["lp", "-H", "night", "x"])?);
+    assert!(rt; is_refused(&rt, &["lp", "-i", "7", "-n", "2"])?);
+    assert!(rt; is_refused(&rt, &["lp", "-i", "7", "-H", "restart"])?);
     assert!(rt; is_refused(&rt, &["lp", "-n", "0", "x"])?);
     assert!(rt; is_refused(&rt, &["lp", "-q", "101", "x"])?);
     assert!(rt; is_refused(&rt, &["spool"])?);
@@ -117,9 +121,50 @@ fn refuses(rt: HostRuntime) -> Result<(), Fail> {
     assert!(rt; is_refused(&rt, &["spool", "status", "1", "-q", "x"])?);
     assert!(rt; is_refused(&rt, &["spool", "queue", "add", "a", "b", "--policy", "c"])?);
     assert!(rt; is_refused(&rt, &["spool", "queue"])?);
-    assert!(rt; is_refused(&rt, &["cancel"])?);
-    assert!(rt; is_refused(&rt, &["lprm", "-"])?);
-    assert!(rt; is_refused(&rt, &["lpstat", "-u"])?);
+    assert!(rt; is_refused(&rt, &["cancel", "-U", "ann", "1"])?);
+    assert!(rt; is_refused(&rt, &["lpq", "+10"])?);
+    assert!(rt; is_refused(&rt, &["lpstat", "-W", "done"])?);
+    assert!(rt; is_refused(&rt, &["lpmove", "1", "office"])?);
+    assert!(rt; is_refused(&rt, &["lpoptions"])?);
+    assert!(rt; is_refused(&rt, &["lpoptions", "-d", "office", "-o", "a=b"])?);
+    Ok(())
+}
+
+#[test]
+fn ends_as_cups_does(rt: HostRuntime) -> Result<(), Fail> {
+    assert!(rt; words_status(&["/usr/bin/lp", "-x"]) == 1);
+    assert!(rt; words_status(&["cupsreject"]) == 1);
+    assert!(rt; words_status(&["spool", "lp"]) == 2);
+    Ok(())
+}
+
+#[test]
+fn takes_what_cups_takes(rt: HostRuntime) -> Result<(), Fail> {
+    let asked = submission(
+        &rt,
+        &["lp", "-m", "-H", "12:30", "-h", "localhost:631", "-E", "x"],
+    )?;
+    assert!(rt; asked.quiet && asked.filled && !asked.remove);
+    assert!(rt; matches!(asked.hold, Hold::Until(Moment::OfDay(45_000))));
+    let asked = submission(&rt, &["lpr", "-r", "-l", "-p", "-w", "80", "x"])?;
+    assert!(rt; asked.remove && asked.raw && asked.quiet);
+    let Task::Jobs { act, jobs } = task_of(&rt, &["lp", "-i", "lab-7", "-H", "resume"])? else {
+        return Err("another task")?;
+    };
+    assert!(rt; matches!(act, JobAct::Resume) && jobs.as_slice() == [7].as_slice());
+    let Task::Default { queue } = task_of(&rt, &["lpoptions", "-d", "office"])? else {
+        return Err("another task")?;
+    };
+    assert!(rt; queue == "office");
+    let Task::Switch { names, act, clears } = task_of(
+        &rt,
+        &["cupsdisable", "-c", "-r", "no paper", "office", "lab"],
+    )?
+    else {
+        return Err("another task")?;
+    };
+    assert!(rt; names.as_slice() == ["office", "lab"].as_slice());
+    assert!(rt; matches!(act, QueueAct::Disable) && clears);
     Ok(())
 }
 
@@ -164,23 +209,33 @@ fn names_jobs(rt: HostRuntime) -> Result<(), Fail> {
     assert!(rt;
         matches!(act, JobAct::Hold(Some(Moment::Epoch(9)))) && jobs.as_slice() == [1, 12].as_slice()
     );
-    let Task::Jobs { act, jobs } = task_of(&rt, &["cancel", "a-b-7"])? else {
+    let Task::Remove(asked) = task_of(&rt, &["cancel", "a-b-7", "office"])? else {
         return Err("another task")?;
     };
-    assert!(rt; matches!(act, JobAct::Cancel) && jobs.as_slice() == [7].as_slice());
+    assert!(rt; asked.jobs.as_slice() == [7].as_slice() && !asked.purge);
+    assert!(rt; asked.queues.as_slice() == ["office"].as_slice());
     let Task::Jobs { act, jobs } = task_of(&rt, &["spool", "cancel", "8", "--keep-printing"])?
     else {
         return Err("another task")?;
     };
     assert!(rt; matches!(act, JobAct::CancelOnly) && jobs.as_slice() == [8].as_slice());
-    let Task::Clear { queues } = task_of(&rt, &["cancel", "-a", "office"])? else {
+    let Task::Clear(asked) = task_of(&rt, &["cancel", "-u", "ann", "-x", "office"])? else {
         return Err("another task")?;
     };
-    assert!(rt; queues.as_slice() == ["office"].as_slice());
-    let Task::Clear { queues } = task_of(&rt, &["lprm", "-P", "office", "-"])? else {
+    assert!(rt; asked.queues.as_slice() == ["office"].as_slice() && !asked.usual);
+    assert!(rt; asked.user == Some("ann") && asked.purge);
+    let Task::Clear(asked) = task_of(&rt, &["lprm", "-P", "office", "-"])? else {
         return Err("another task")?;
     };
-    assert!(rt; queues.as_slice() == ["office"].as_slice());
+    assert!(rt; asked.queues.as_slice() == ["office"].as_slice() && asked.user.is_none());
+    let Task::Clear(asked) = task_of(&rt, &["lprm", "-"])? else {
+        return Err("another task")?;
+    };
+    assert!(rt; asked.queues.is_empty() && asked.usual);
+    let Task::Remove(asked) = task_of(&rt, &["lprm", "-P", "office"])? else {
+        return Err("another task")?;
+    };
+    assert!(rt; asked.jobs.is_empty() && asked.queues.as_slice() == ["office"].as_slice());
     Ok(())
 }
 
@@ -198,9 +253,16 @@ fn tells(rt: HostRuntime) -> Result<(), Fail> {
     assert!(rt;
         asked.devices.is_none() && !asked.all && !asked.scheduler && asked.names.is_empty()
     );
-    let Task::Lpq(asked) = task_of(&rt, &["lpq", "-P", "office", "3"])? else {
+    let Task::Lpstat(asked) = task_of(&rt, &["lpstat", "-W", "completed", "-l", "-u", "ann"])?
+    else {
         return Err("another task")?;
     };
+    assert!(rt; matches!(asked.which, Which::Completed) && asked.long);
+    assert!(rt; asked.users == Some("ann") && asked.jobs.is_none());
+    let Task::Lpq(asked) = task_of(&rt, &["lpq", "-P", "office", "3", "ann"])? else {
+        return Err("another task")?;
+    };
+    assert!(rt; asked.users.as_slice() == ["ann"].as_slice() && !asked.long);
     assert!(rt;
         asked.queue == Some("office") && asked.jobs.as_slice() == [3].as_slice() && !asked.all
     );

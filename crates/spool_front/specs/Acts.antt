@@ -1,11 +1,12 @@
 -- The commands for actions on jobs and queues.
-use Rattle.std.specs.Prelude.{◌≡◌, ℕ, Bool, true, false, ◌&&◌, ◌||◌, not, cond, ◌==◌, List, length, codes, string_bytes, Option, None, Some, Result, Ok, Err}
+use Rattle.std.specs.Prelude.{◌≡◌, ℕ, Bool, true, false, ◌&&◌, ◌||◌, not, cond, ◌==◌, List, [], ◌∷◌, length, codes, string_bytes, Option, None, Some, Result, Ok, Err}
 use Rattle.std.specs.List.{list_any}
 use Rattle.command_lines.specs.CommandGrammar.{is_word}
+use Rattle.front_texts.specs.Lpstat.{is_processing}
 use Rattle.front_texts.specs.StateWords.{is_ended}
 use Rattle.front_texts.specs.declared.job_line.JobLine.{JobLine}
 use Rattle.front_words.specs.declared.asked.JobAct.{JobAct}
-use Rattle.front_words.specs.declared.asked.JobAct.TheVariants.{Cancel, CancelOnly, Hold, Release, Purge, End}
+use Rattle.front_words.specs.declared.asked.JobAct.TheVariants.{Cancel, CancelOnly, Hold, Release, Resume, Purge, End}
 use Rattle.front_words.specs.declared.asked.QueueAct.{QueueAct}
 use Rattle.front_words.specs.declared.asked.QueueAct.TheVariants.{Add, Set, Accept, Reject, Enable, Disable}
 use Rattle.spool_front.specs.SentCommands.{hold_line, info_line, job_line, name_line, queue_line}
@@ -20,6 +21,7 @@ abbrev pub act_line : Clocks → JobAct → ℕ → List ℕ
 act_line c Cancel job = job_line (codes "stop") job
 act_line c CancelOnly job = job_line (codes "cancel") job
 act_line c Release job = job_line (codes "release") job
+act_line c Resume job = job_line (codes "release") job
 act_line c Purge job = job_line (codes "purge") job
 act_line c End job = job_line (codes "end") job
 act_line c (Hold None) job = hold_line job Released
@@ -33,6 +35,15 @@ is_stop act = false
 abbrev pub is_unknown : Result (Unit {0}) Fault → Bool
 is_unknown (Err (Refused text)) = is_word (string_bytes text) (codes "error syntax")
 is_unknown ended = false
+
+-- The job is not released if it is not held.
+abbrev pub is_resume : JobAct → Bool
+is_resume Resume = true
+is_resume act = false
+
+abbrev pub is_not_held : Result (Unit {0}) Fault → Bool
+is_not_held (Err (Refused text)) = is_word (string_bytes text) (codes "error 15 NotHeld") || is_word (string_bytes text) (codes "error 11 NotWaiting")
+is_not_held ended = false
 
 abbrev pub is_refused : Result (Unit {0}) Fault → Bool
 is_refused (Err (Refused text)) = true
@@ -56,9 +67,30 @@ abbrev pub is_of : Option (List ℕ) → JobLine → Bool
 is_of None job = true
 is_of (Some queue) job = is_word job.queue queue
 
--- The job is of one of these queues, or none is named, and it has not ended.
-abbrev pub is_cleared : {T : Type 0} → List T → (T → List ℕ) → JobLine → Bool
-is_cleared names text job = ((length names == 0) || list_any (λ name. is_word (text name) job.queue) names) && not (is_ended job.state)
+-- The job is of this user, or no user is named.
+abbrev pub is_by : Option (List ℕ) → JobLine → Bool
+is_by None job = true
+is_by (Some user) job = is_word job.user user
 
-abbrev pub number_of : {T : Type 0} → List T → (T → List ℕ) → JobLine → Option ℕ
-number_of names text job = cond (is_cleared names text job) (Some job.number) None
+-- The job is of one of these queues, or none is named, and of the user, and it has not ended.
+abbrev pub is_cleared : {T : Type 0} → List T → (T → List ℕ) → Option (List ℕ) → JobLine → Bool
+is_cleared names text user job =
+    ((length names == 0) || list_any (λ name. is_word (text name) job.queue) names) && (is_by user job && not (is_ended job.state))
+
+abbrev pub number_of : {T : Type 0} → List T → (T → List ℕ) → Option (List ℕ) → JobLine → Option ℕ
+number_of names text user job = cond (is_cleared names text user job) (Some job.number) None
+
+-- The current job of a queue: its printing job, or else its first job that has not ended.
+abbrev pub is_active : Bool → List ℕ → JobLine → Bool
+is_active printing queue job = is_word job.queue queue && cond printing (is_processing job.state) (not (is_ended job.state))
+
+abbrev pub active_job : Bool → List ℕ → List JobLine → Option ℕ
+active_job printing queue [] = None
+active_job printing queue (job ∷ jobs) = cond (is_active printing queue job) (Some job.number) (active_job printing queue jobs)
+
+abbrev pub or_waiting : Option ℕ → List ℕ → List JobLine → Option ℕ
+or_waiting (Some job) queue jobs = Some job
+or_waiting None queue jobs = active_job false queue jobs
+
+abbrev pub current_job : List ℕ → List JobLine → Option ℕ
+current_job queue jobs = or_waiting (active_job true queue jobs) queue jobs

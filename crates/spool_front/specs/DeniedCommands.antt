@@ -6,7 +6,7 @@ use Rattle.command_lines.specs.CommandGrammar.{is_word}
 use Rattle.front_proof.specs.Denials.{denied_job, denied_to_all}
 use Rattle.front_proof.specs.Standings.{Standing, unproved}
 use Rattle.front_words.specs.declared.asked.JobAct.{JobAct}
-use Rattle.front_words.specs.declared.asked.JobAct.TheVariants.{Cancel, CancelOnly, Hold, Release, Purge, End}
+use Rattle.front_words.specs.declared.asked.JobAct.TheVariants.{Cancel, CancelOnly, Hold, Release, Resume, Purge, End}
 use Rattle.front_words.specs.declared.asked.QueueAct.{QueueAct}
 use Rattle.front_words.specs.declared.asked.QueueAct.TheVariants.{Add, Set, Accept, Reject, Enable, Disable}
 use Rattle.spool_front.specs.declared.fault.Fault.{Fault}
@@ -33,6 +33,7 @@ act_word Cancel = codes "cancel"
 act_word CancelOnly = codes "cancel"
 act_word (Hold moment) = codes "hold"
 act_word Release = codes "release"
+act_word Resume = codes "release"
 act_word Purge = codes "purge"
 act_word End = codes "end"
 

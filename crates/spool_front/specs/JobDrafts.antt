@@ -1,5 +1,5 @@
 -- The fields of the job that a document becomes.
-use Rattle.std.specs.Prelude.{◌≡◌, ◌≢◌, ℕ, ◌<◌, ◌⊎◌, cond, List, [], ◌∷◌, ◌++◌, length, slice_index, map, chars, codes, encode_utf8_all, Option, None, Some}
+use Rattle.std.specs.Prelude.{◌≡◌, ◌≢◌, ℕ, Bool, ◌<◌, ◌⊎◌, cond, List, [], ◌∷◌, ◌++◌, length, slice_index, map, chars, codes, encode_utf8_all, Option, None, Some}
 use Rattle.std.specs.List.{flat_map}
 use Rattle.std.specs.Option.{option_map}
 use Rattle.front_words.specs.declared.asked.Hold.{Hold}
@@ -26,10 +26,13 @@ abbrev pub pages_option : Option (List ℕ) → List ℕ
 pages_option None = []
 pages_option (Some pages) = codes "page-ranges=" ++ option_text pages
 
--- The requested options, each followed by a blank, the page ranges, and the token.
+abbrev pub raw_option : Bool → List ℕ
+raw_option raw = cond raw (codes "raw ") []
+
+-- The requested options, each followed by a blank, `raw` if it is set, the page ranges, and the token.
 abbrev pub options_of : Submission → List ℕ → List ℕ
 options_of asked token =
-    flat_map (λ option. option_text option.now) asked.options.items ++ pages_option (option_map (λ pages. pages.now) asked.pages) ++ token
+    flat_map (λ option. option_text option.now) asked.options.items ++ raw_option asked.raw ++ pages_option (option_map (λ pages. pages.now) asked.pages) ++ token
 
 -- A question mark in place of a control character.
 abbrev pub plain_char : ℕ → ℕ

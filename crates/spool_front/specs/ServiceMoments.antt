@@ -1,5 +1,5 @@
 -- Moments by the time of the service.
-use Rattle.std.specs.Prelude.{ℕ, ◌+◌, ◌-◌, ◌^◌, min, nat_lt, Bool, true, false, ◌||◌, cond, List, codes, Option, None, Some, unwrap_or}
+use Rattle.std.specs.Prelude.{ℕ, ◌+◌, ◌-◌, ◌%◌, ◌^◌, min, nat_lt, Bool, true, false, ◌||◌, cond, List, codes, Option, None, Some, unwrap_or}
 use Rattle.std.specs.List.{before_first, after_first}
 use Rattle.line_words.specs.DecimalNumbers.{decimal}
 use Rattle.command_lines.specs.CommandGrammar.{is_word}
@@ -7,7 +7,7 @@ use Rattle.front_texts.specs.ReplyLines.{Last, done, last_line, is_space}
 use Rattle.front_words.specs.declared.asked.Hold.{Hold}
 use Rattle.front_words.specs.declared.asked.Hold.TheVariants.{Until}
 use Rattle.front_words.specs.declared.asked.Moment.{Moment}
-use Rattle.front_words.specs.declared.asked.Moment.TheVariants.{Epoch, FromNow}
+use Rattle.front_words.specs.declared.asked.Moment.TheVariants.{Epoch, FromNow, OfDay}
 use Rattle.spool_front.specs.declared.moments.Clocks.{Clocks}
 
 -- A service that does not know `now` has the system's clock.
@@ -22,9 +22,14 @@ are_apart c = nat_lt 2 (c.service - c.system) || nat_lt 2 (c.system - c.service)
 abbrev pub shifted : Clocks → ℕ → ℕ
 shifted c seconds = min (seconds + c.service) (2 ^ 64 - 1) - c.system
 
+-- The seconds from a second of a day to the next moment at another second of a day.
+abbrev pub until_day : ℕ → ℕ → ℕ
+until_day now second = (second + 86400 - now % 86400) % 86400
+
 -- A relative moment counts from the service's time. An absolute one is shifted by the difference of the clocks if they are apart.
 abbrev pub second_of : Clocks → Moment → ℕ
 second_of c (FromNow seconds) = min (c.service + seconds) (2 ^ 64 - 1)
+second_of c (OfDay second) = min (c.service + until_day c.service second) (2 ^ 64 - 1)
 second_of c (Epoch seconds) = cond (are_apart c) (shifted c seconds) seconds
 
 -- The moment until which a job is held.

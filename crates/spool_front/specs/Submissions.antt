@@ -1,5 +1,5 @@
 -- The steps of a submission.
-use Rattle.std.specs.Prelude.{◌≡◌, ℕ, ◌+◌, ◌⊎◌, Bool, true, false, ◌&&◌, cond, is_some, min, List, codes, String, string_bytes, Option, None, Some}
+use Rattle.std.specs.Prelude.{◌≡◌, ℕ, ◌+◌, ◌⊎◌, Bool, true, false, ◌&&◌, ◌==◌, cond, is_some, min, List, codes, String, string_bytes, Option, None, Some}
 use Rattle.std.specs.Global.{Global}
 use Rattle.command_lines.specs.CommandGrammar.{is_word}
 use Rattle.front_submission.specs.SubmissionSteps.{deserted, heard, lost, supplied, unread}
@@ -84,3 +84,12 @@ is_behind (Closing job size tries again) = true
 is_behind (Checking job size) = true
 is_behind (Ended end) = was_closed end
 is_behind step = false
+
+-- A document without a byte is refused if the program takes none.
+abbrev pub is_refused : Bool → Option ℕ → Bool
+is_refused filled None = false
+is_refused filled (Some size) = filled && (size == 0)
+
+-- A file is removed if this was requested, and its job was accepted.
+abbrev pub is_removed : Bool → ℕ → Bool
+is_removed remove status = remove && (status == 0)

@@ -1,11 +1,11 @@
 -- Why tasks fail, and their exit statuses.
-use Rattle.std.specs.Prelude.{◌≡◌, ℕ, List, Option, None, Some, Result, Ok, Err, String, alloc_error, string_bytes}
+use Rattle.std.specs.Prelude.{◌≡◌, ◌==◌, ℕ, Bool, true, false, List, [], codes, Option, None, Some, Result, Ok, Err, String, alloc_error, string_bytes}
 use Rattle.std.specs.Global.{Global}
 use Rattle.std.specs.declared.alloc.AllocError.{AllocError}
 use Rattle.std.specs.declared.env.VarError.{VarError}
 use Rattle.std.specs.declared.env.VarError.TheVariants as told
 use Rattle.std.specs.declared.io.ErrorKind.{ErrorKind}
-use Rattle.std.specs.declared.io.ErrorKind.TheVariants.{OutOfMemory}
+use Rattle.std.specs.declared.io.ErrorKind.TheVariants.{OutOfMemory, NotFound, ConnectionRefused, PermissionDenied}
 use Rattle.spool_front.specs.declared.connection.ConnectionFault.{ConnectionFault}
 use Rattle.spool_front.specs.declared.connection.ConnectionFault.TheVariants as connection
 use Rattle.spool_front.specs.declared.fault.Fault.{Fault}
@@ -15,6 +15,11 @@ use Rattle.spool_front.specs.declared.fault.Fault.TheVariants.{Memory, Nobody, B
 abbrev pub status_of : Fault → ℕ
 status_of Unknown = 3
 status_of fault = 1
+
+-- The status after help, the version or an error of the command line was printed.
+abbrev pub status_after : Bool → ℕ → ℕ
+status_after true refused = refused
+status_after false refused = 0
 
 -- The fault of a failed call on the connection.
 abbrev pub lost_by : ErrorKind → ConnectionFault
@@ -31,10 +36,24 @@ abbrev pub gone_by : ConnectionFault → Fault
 gone_by connection.Lost = Gone
 gone_by connection.Memory = Memory
 
--- The fault of a file that cannot be read.
-abbrev pub unread_by : ErrorKind → String Global → Fault
-unread_by OutOfMemory name = Memory
-unread_by kind name = File name
+abbrev pub IsFile : String Global → Fault → Type 0
+IsFile name (File file why) = file ≡ name
+IsFile name fault = ⊥
+
+-- The fault of a file that cannot be read, with the system's reason.
+abbrev pub IsUnreadBy : ErrorKind → String Global → Fault → Type 0
+IsUnreadBy OutOfMemory name fault = fault ≡ Memory
+IsUnreadBy kind name fault = IsFile name fault
+
+abbrev pub is_bracket : ℕ → Bool
+is_bracket b = b == 40
+
+-- What to do if a service cannot be reached.
+abbrev pub hint_for : ErrorKind → List ℕ
+hint_for NotFound = codes " (is cegmandi running? systemctl status cegmandi)"
+hint_for ConnectionRefused = codes " (is cegmandi running? systemctl status cegmandi)"
+hint_for PermissionDenied = codes " (may this user use the socket? ls -l)"
+hint_for kind = []
 
 -- A variable, which is `None` if it is not set or is not valid UTF-8.
 abbrev pub variable_as : {T : Type 0} → Result T VarError → Result (Option T) AllocError
@@ -44,7 +63,8 @@ variable_as (Err fault) = Ok None
 
 -- No service can be reached at this socket.
 abbrev pub IsNobodyAt : List ℕ → Fault → Type 0
-IsNobodyAt socket fault = (name : String Global) × (fault ≡ Nobody name) × (string_bytes name ≡ socket)
+IsNobodyAt socket (Nobody name why) = string_bytes name ≡ socket
+IsNobodyAt socket fault = ⊥
 
 -- The service at this socket is busy.
 abbrev pub IsBusyAt : List ℕ → Fault → Type 0

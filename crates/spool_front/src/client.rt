@@ -15,13 +15,16 @@ use crate::connection::{Connection, ConnectionFault};
 use crate::fault::Fault;
 use crate::moments::moment_in;
 use crate::proving::first_exchange;
+use crate::reasons::reason_and_hint;
 use crate::replies::is_gone;
+use cause_sentences::cause_sentence;
 use front_proof::Caller;
 use front_texts::{
     JobLine, JobShown, LastLine, QueueLine, read_job_line, read_job_shown, read_last_line,
     read_queue_line,
 };
 use std::alloc::{AllocError, Global};
+use std::os::unix::net::UnixStream;
 use std::time::Duration;
 
 // The pause before another attempt to connect, in milliseconds, and the number of pauses in a second.
@@ -73,6 +76,14 @@ impl Answer {
             text.extend_from_slice(b"\n")?;
         }
         Ok(text)
+    }
+}
+
+// Returns why no service can be reached at a socket.
+fn unreached(rt: &HostRuntime, socket: &str) -> Result<String, AllocError> {
+    match UnixStream::connect(rt, socket) {
+        Ok(_) => String::from_str(rt.alloc(), "the connection was lost"),
+        Err(error) => reason_and_hint(rt.alloc(), &error),
     }
 }
 
@@ -258,7 +269,8 @@ impl<'a> Client<'a> {
     fn nobody(&self) -> Result<Fault, AllocError>
         ensures { IfOk result (IsNobodyAt self.now.socket.now) }
     {
-        Ok(Fault::Nobody(String::from_str(self.rt.alloc(), self.socket)?))
+        let why = unreached(self.rt, self.socket)?;
+        Ok(Fault::Nobody(String::from_str(self.rt.alloc(), self.socket)?, why))
     }
 
     /// Returns the jobs, in the order of their numbers.
@@ -305,9 +317,28 @@ impl<'a> Client<'a> {
         Ok(Some(accepted(answer)?))
     }
 
+    /// Returns why a job does not print, as a sentence. Returns `None` if the service names no cause, or does not know the question.
+    pub fn why(&mut self, job: u32) -> Result<Option<Vec<u8>>, Fault> {
+        let line = job_line(self.rt.alloc(), "why", job)?;
+        let answer = self.ask_or_refused(line.as_slice())?;
+        let sentence = cause_sentence(self.rt.alloc(), answer.last.as_str().as_bytes());
+        drop(answer);
+        Ok(sentence?)
+    }
+
+    // Returns the listing of the queues. A service that does not know `printers` is asked for `queues`.
+    fn ask_queues(&mut self) -> Result<Answer, Fault> {
+        let answer = self.ask_or_refused(b"printers\n")?;
+        if answer.is_unknown() {
+            drop(answer);
+            return self.ask(b"queues\n");
+        }
+        accepted(answer)
+    }
+
     /// Returns the queues, in the order of their names.
     pub fn queues(&mut self) -> Result<Vec<QueueLine>, Fault> {
-        let answer = self.ask(b"queues\n")?;
+        let answer = self.ask_queues()?;
         let queues = queues_in(self.rt.alloc(), &answer.rows);
         drop(answer);
         Ok(queues?)

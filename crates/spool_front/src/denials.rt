@@ -83,7 +83,7 @@ fn act_word(act: JobAct) -> &'static str
     match act {
         JobAct::Cancel | JobAct::CancelOnly => "cancel",
         JobAct::Hold(_) => "hold",
-        JobAct::Release => "release",
+        JobAct::Release | JobAct::Resume => "release",
         JobAct::Purge => "purge",
         JobAct::End => "end",
     }

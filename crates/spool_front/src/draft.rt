@@ -2,7 +2,7 @@
 ghost use Rattle.std.specs.Prelude.{◌≡◌, ◌++◌, IfOk, IfSome, OnOk, is_some, string_bytes, unwrap_or};
 ghost use Rattle.std.specs.Option.{option_map};
 ghost use Rattle.spool_front.specs.ServiceMoments.{second_of};
-ghost use Rattle.spool_front.specs.JobDrafts.{option_text, options_of, pages_option, plain_char, plain_text, until_of};
+ghost use Rattle.spool_front.specs.JobDrafts.{option_text, options_of, pages_option, plain_char, plain_text, raw_option, until_of};
 
 use crate::commands::{Draft, Until};
 use crate::fault::Fault;
@@ -133,9 +133,19 @@ fn options_of(alloc: Global, asked: &Submission<'_>, token: &str) -> Result<Stri
     for option in &asked.options {
         push_option(&mut options, option)?;
     }
+    push_raw(&mut options, asked.raw)?;
     push_pages(&mut options, asked.pages)?;
     options.push_str(token)?;
     Ok(options)
+}
+
+fn push_raw(options: &mut String, raw: bool) -> Result<(), AllocError>
+    ensures { OnOk result (string_bytes options.new ≡ string_bytes options.old ++ raw_option raw) }
+{
+    if raw {
+        options.push_str("raw ")?;
+    }
+    Ok(())
 }
 
 fn push_pages(options: &mut String, pages: Option<&str>) -> Result<(), AllocError>

@@ -15,9 +15,9 @@ use thiserror::Error;
 pub enum Fault {
     #[error("out of memory")]
     Memory,
-    /// No service can be reached at this socket.
-    #[error("cannot reach the service at {socket}", socket = clean(.0.as_str()))]
-    Nobody(String),
+    /// No service can be reached at this socket. The second text is the system's reason.
+    #[error("cannot connect to {socket}: {why}", socket = clean(.0.as_str()), why = .1.as_str())]
+    Nobody(String, String),
     /// The service at this socket had no place for the client, as often as it was asked.
     #[error("the service at {0} is busy")]
     Busy(String),
@@ -36,15 +36,18 @@ pub enum Fault {
     /// Standard output or standard error cannot be written.
     #[error("cannot write the output")]
     Write,
-    /// A file cannot be read.
-    #[error("cannot read {file}", file = clean(.0.as_str()))]
-    File(String),
-    /// A file cannot be written.
-    #[error("cannot write {file}", file = clean(.0.as_str()))]
-    NotWritten(String),
+    /// A file cannot be read. The second text is the system's reason.
+    #[error("cannot read {file}: {why}", file = clean(.0.as_str()), why = .1.as_str())]
+    File(String, String),
+    /// A file cannot be written. The second text is the system's reason.
+    #[error("cannot write {file}: {why}", file = clean(.0.as_str()), why = .1.as_str())]
+    NotWritten(String, String),
     /// A line of a file is invalid.
     #[error("{file} is invalid", file = clean(.0.as_str()))]
     Invalid(String),
+    /// The task cannot be done for this queue.
+    #[error("{what} {name}", what = .0, name = clean(.1.as_str()))]
+    Named(&'static str, String),
     /// The task cannot be done as requested.
     #[error("{0}")]
     Words(&'static str),

@@ -1,16 +1,17 @@
 //! The front end: prints files through a service, and shows and changes jobs and queues.
 //!
-//! The program's name selects the command line, which `front_words` reads: `spool`, `lp`, `lpr`, `lpstat`, `cancel`, `lpq` or `lprm`. These
+//! The program's name selects the command line, which `front_words` reads: `spool`, or the name of a program of CUPS such as `lp`. These
 //! environment variables are used:
 //!
 //! - `SPOOL_SOCKET`: the socket of the service. `SPOOL_PATIENCE`: how many seconds to wait for a service, by default 30.
 //! - `USER` or `LOGNAME`: the owner of jobs, unless the service identifies the user. `LPDEST` or `PRINTER`: the queue if none is named.
-//!   `COLUMNS`: the width of the terminal.
+//!   `HOME`: the folder of the file with the user's default queue. `COLUMNS`: the width of the terminal.
 //! - `SPOOL_TYPES`, `SPOOL_CONVS` and `SPOOL_PROGRAMS`: the service's files, from which `check` determines whether documents can be
 //!   converted for a printer and whether the programs can be run.
 //!
-//! Over each connection the program first proves which user runs it, if the service takes proofs ([`proving`]). The queues are listed
-//! without a proof, since they are the same for all clients.
+//! Over each connection the program first proves which user runs it, if the service takes proofs ([`proving`]). A queue is looked up without
+//! a proof, since names and states are the same for all clients. Queues that are shown are listed with one, since the service shows their
+//! messages to operators only.
 //!
 //! A command that changes something, and is not part of a submission, is sent once. If its reply is lost, the task ends with status 3. A
 //! job number is looked up at one service, since each service numbers its own jobs. The name of a queue is looked up at all services. A
@@ -24,7 +25,8 @@
 //! - [`submit`]: submits one document as one job, by the decisions of `front_submission`. [`document`]: the pieces of a document.
 //!   [`draft`]: the fields of its job. [`moments`]: moments by the time of the service. [`printing`]: printing files.
 //! - [`tasks`]: the other tasks of `spool`. [`check`], [`programs`] and [`chains`]: whether a queue can print. [`web_page`]: the page.
-//!   [`cups_forms`]: lpstat and lpq. [`output`]: standard output. [`services`]: the choice of services and queues.
+//!   [`cups_forms`]: lpstat and lpq. [`canceling`]: cancel and lprm. [`defaults`]: the default queue. [`output`]: standard output.
+//!   [`services`]: the choice of services and queues. [`reasons`]: the system's reasons.
 //!
 //! # Promises
 //!
@@ -39,14 +41,19 @@
 //!   whether the command was executed, so such a reply is never taken for a refusal (`failed_as`). `shown_as` returns the state of a job.
 //! - Pieces: a piece of a document consists of the bytes that were read last, up to 65,536 bytes, and fewer only at the document's end
 //!   (`next_piece`, `piece`).
-//! - System errors are reported by their kind (`lost_by`, `unwritten_by`, `unread_by`, `no_words`).
-//! - Moments: a relative moment counts from the time that the service reports, and an absolute one is shifted by the difference from the
-//!   system's clock if that is more than two seconds (`second_of`, `shifted`, `moment_in`). A service that does not know `now` has the
+//! - System errors are reported by their kind (`lost_by`, `unwritten_by`, `unread`, `no_words`).
+//! - Moments: a relative moment counts from the time that the service reports, and so does the next time of a day. An absolute one is shifted
+//!   by the difference from the system's clock if that is more than two seconds (`second_of`, `until_day`, `shifted`, `moment_in`). A service that does not know `now` has the
 //!   system's clock (`clocks_of`).
 //! - Drafts: the draft of a job has the requested fields, and a title and a file name without control characters (`draft_of`,
 //!   `plain_text`). The file name is the part of the path after the last slash (`base_name`).
 //! - Queues and services: the named queue is used, at one of the named services (`queue_of`). If there is only one service, it is not asked
-//!   for its queues (`socket_of`). A queue is the only one if no other row exists (`note_only`).
+//!   for its queues (`socket_of`). A queue is the only one if no other row exists (`note_only`). LPDEST precedes PRINTER (`queue_in`).
+//! - Canceling: the jobs of the named queues and of the user that have not ended (`numbers_of`), and the current job of a queue, which is the
+//!   one that prints, or else the first one that has not ended (`current_job`). A file is removed only if its job was accepted
+//!   (`is_removed`), and an empty document is refused if the program takes none (`is_refused`).
+//! - lpstat: a list with the name of no queue is refused (`has_unknown`). Of the jobs those of -W and -u are shown (`keep_asked`). Without a
+//!   service only the question whether one is running succeeds (`end_without_service`).
 //! - Selections: the jobs of a queue, with numbers and with names are shown, in their order (`keep_of`, `keep_numbered`, `named_jobs`), and
 //!   the queues with names (`keep_queues`). A variable that is not set, or is not a number, has its default (`text_or`, `number_or`).
 //! - Status: showing, watching, writing a page and changing a queue end with 0 or a fault (`show_status`, `show_queues`, `show_lpstat`,
@@ -87,7 +94,7 @@
 //!
 //! - 0: success.
 //! - 1: a failure, or a document that is not printed.
-//! - 2: the command line is refused. The line then begins with `error:`.
+//! - 2: the command line is refused. The line then begins with `error:`. A program of CUPS ends with 1 (`status_after`).
 //! - 3: it is unknown whether a job will be printed, or whether a command was executed.
 //! - 4: the document of a job cannot be converted for its printer.
 //! - 5: a job that the program waited for was not completed.
@@ -98,15 +105,17 @@
 ghost use Rattle.std.specs.Prelude.{◌≡◌, ◌≢◌, MatchResult};
 ghost use Rattle.std.specs.IoError.{error_kind};
 ghost use Rattle.std.specs.Process.{exit_status};
-ghost use Rattle.spool_front.specs.TaskFaults.{status_of};
+ghost use Rattle.spool_front.specs.TaskFaults.{status_after, status_of};
 ghost use Rattle.spool_front.specs.EnvironmentValues.{IsNumberOr};
 
+mod canceling;
 mod chains;
 mod check;
 mod client;
 mod commands;
 mod connection;
 mod cups_forms;
+mod defaults;
 mod denials;
 mod document;
 mod draft;
@@ -118,6 +127,7 @@ mod output;
 mod printing;
 mod programs;
 mod proving;
+mod reasons;
 mod replies;
 mod room;
 mod services;
@@ -127,7 +137,7 @@ mod web_page;
 
 use commands::has_control;
 use fault::Fault;
-use front_words::{Asked, Task, WordsFault, read_words};
+use front_words::{Asked, Task, WordsFault, read_words, words_status};
 use host::{Screen, number_or, variable};
 use services::{Services, patience, usual_socket};
 use std::alloc::AllocError;
@@ -146,7 +156,7 @@ fn main(rt: HostRuntime) -> ExitCode {
     };
     if words.iter().any(|word| has_control(word.as_str())) {
         let _ = eprintln!(rt; "error: an argument contains a control character");
-        return ExitCode::from(2);
+        return ExitCode::from(words_status(words.as_slice()));
     }
     let told = match environment_of(&rt) {
         Ok(told) => told,
@@ -159,10 +169,17 @@ fn main(rt: HostRuntime) -> ExitCode {
         }
         Err(WordsFault::Refused(error)) => {
             let _ = error.print(&rt);
-            ExitCode::from(error.exit_code() as u8)
+            ExitCode::from(status_after(error.exit_code() != 0, words_status(words.as_slice())))
         }
         Err(WordsFault::Memory) => ended(&rt, Err(Fault::Memory)),
     }
+}
+
+// Returns the exit status after help, the version or an error was printed, from that of an error.
+fn status_after(is_error: bool, refused: u8) -> u8
+    ensures { result ≡ status_after is_error refused }
+{
+    if is_error { refused } else { 0 }
 }
 
 fn given_words(rt: &HostRuntime) -> io::Result<Vec<String>> {
@@ -259,8 +276,13 @@ fn run_task(
         Task::Queues { json } => tasks::show_queues(rt, services, *json, screen),
         Task::Watch => tasks::watch(rt, services),
         Task::Jobs { act, jobs } => tasks::act_on_jobs(rt, services, *act, jobs.as_slice()),
-        Task::Clear { queues } => tasks::clear(rt, services, queues.as_slice()),
+        Task::Clear(asked) => canceling::clear(rt, services, asked),
+        Task::Remove(asked) => canceling::remove_jobs(rt, services, asked),
         Task::Queue { name, act } => tasks::act_on_queue(rt, services, name, *act),
+        Task::Switch { names, act, clears } => {
+            tasks::switch_queues(rt, services, names.as_slice(), *act, *clears)
+        }
+        Task::Default { queue } => defaults::store_queue(rt, services, queue),
         Task::ShowQueue { name } => tasks::show_queue(rt, services, name, screen),
         Task::Devices => Err(Fault::Words(
             "the service does not list devices; use `spool_shell --devices`",

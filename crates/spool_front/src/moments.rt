@@ -1,6 +1,6 @@
 //! Moments by the time of the service.
 ghost use Rattle.std.specs.Prelude.{◌≡◌};
-ghost use Rattle.spool_front.specs.ServiceMoments.{are_apart, clocks_of, hold_moment, is_absolute, moment_in, second_of, shifted};
+ghost use Rattle.spool_front.specs.ServiceMoments.{are_apart, clocks_of, hold_moment, is_absolute, moment_in, second_of, shifted, until_day};
 
 use crate::client::Client;
 use crate::fault::Fault;
@@ -11,6 +11,9 @@ use std::time::SystemTime;
 
 // The greatest moment that a service reports, in seconds.
 const GREATEST_MOMENT: u64 = 4_000_000_000_000;
+
+// The seconds of a day.
+const DAY: u64 = 86_400;
 
 // How many seconds the clocks may differ before absolute moments are shifted.
 const MOST_APART: u64 = 2;
@@ -36,6 +39,7 @@ impl Clocks {
     {
         match moment {
             Moment::FromNow(seconds) => self.service.saturating_add(seconds),
+            Moment::OfDay(second) => self.service.saturating_add(until_day(self.service, second)),
             Moment::Epoch(seconds) if self.are_apart() => self.shifted(seconds),
             Moment::Epoch(seconds) => seconds,
         }
@@ -54,6 +58,13 @@ impl Clocks {
             .saturating_add(self.service)
             .saturating_sub(self.system)
     }
+}
+
+// Returns the seconds until the next moment at this second of a day.
+fn until_day(now: u64, second: u32) -> u64
+    ensures { result ≡ until_day now second }
+{
+    (u64::from(second) + DAY - now % DAY) % DAY
 }
 
 /// Reads the clocks for the moments of a submission.

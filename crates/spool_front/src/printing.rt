@@ -3,7 +3,7 @@ ghost use Rattle.std.specs.Prelude.{◌≡◌, IsTrue};
 ghost use Rattle.std.specs.Io.KnownBytes.{IsAtEnd};
 ghost use Rattle.spool_front.specs.JobDrafts.{IsLastPart};
 ghost use Rattle.spool_front.specs.ServiceReplies.{status_at};
-ghost use Rattle.spool_front.specs.Submissions.{was_closed};
+ghost use Rattle.spool_front.specs.Submissions.{is_refused, is_removed, was_closed};
 
 use crate::client::{Client, pause};
 use crate::commands::Draft;
@@ -12,14 +12,15 @@ use crate::draft::draft_of;
 use crate::fault::{Fault, first_failure};
 use crate::host::Screen;
 use crate::moments::{Clocks, clocks_for_job};
+use crate::reasons::reason_of;
 use crate::services::{Services, client_at, queue_of};
 use crate::submit::Submitting;
 use clean_texts::clean;
 use front_submission::End;
 use front_texts::{JobShown, JobState};
 use front_words::Submission;
-use std::fs;
-use std::io::Read;
+use std::io::{BufRead, Read};
+use std::{fs, io};
 
 // The status if a document cannot be read, if the outcome of a job is unknown, and if a job was not completed.
 const FAILED: u8 = 1;
@@ -75,15 +76,61 @@ fn print_named(
     }
     let source = match fs::open(rt, file) {
         Ok(source) => source,
-        Err(_) => {
-            let _ = eprintln!(rt; "spool: cannot open {}", clean(file));
-            return Ok(FAILED);
-        }
+        Err(error) => return Ok(report_unopened(rt, file, &error)),
     };
+    let size = size_of(rt, file);
+    if is_refused(asked.filled, size) {
+        drop(source);
+        return Ok(report_empty(rt, file));
+    }
     let name = base_name(file);
     let draft = draft_of(rt, asked, clocks, queue, name, name)?;
-    let size = size_of(rt, file);
-    print_document(rt, client, asked, &draft, size, source, screen)
+    let status = print_document(rt, client, asked, &draft, size, source, screen)?;
+    if is_removed(asked.remove, status) {
+        remove(rt, file);
+    }
+    Ok(status)
+}
+
+fn report_unopened(rt: &HostRuntime, file: &str, error: &io::Error) -> u8
+    ensures { result ≡ 1 }
+{
+    let file = clean(file);
+    let _ = match reason_of(rt.alloc(), error) {
+        Ok(why) => eprintln!(rt; "spool: cannot open {file}: {why}"),
+        Err(_) => eprintln!(rt; "spool: cannot open {file}"),
+    };
+    FAILED
+}
+
+fn report_empty(rt: &HostRuntime, file: &str) -> u8
+    ensures { result ≡ 1 }
+{
+    let _ = eprintln!(rt; "spool: {} is empty, so nothing is printed", clean(file));
+    FAILED
+}
+
+// Returns whether a document of this length is refused. The length of some documents is not known.
+fn is_refused(filled: bool, size: Option<u64>) -> bool
+    ensures { result ≡ is_refused filled size }
+{
+    match size {
+        Some(size) => filled && size == 0,
+        None => false,
+    }
+}
+
+// Returns whether a file is removed: its job was accepted.
+fn is_removed(remove: bool, status: u8) -> bool
+    ensures { result ≡ is_removed remove status }
+{
+    remove && status == 0
+}
+
+fn remove(rt: &HostRuntime, file: &str) {
+    if fs::remove_file(rt, file).is_err() {
+        let _ = eprintln!(rt; "spool: cannot remove {}", clean(file));
+    }
 }
 
 fn print_input(
@@ -94,8 +141,21 @@ fn print_input(
     queue: &str,
     screen: Screen,
 ) -> Result<u8, Fault> {
+    let mut source = rt.reader();
+    if asked.filled && is_at_end(&mut source) {
+        drop(source);
+        return Ok(report_empty(rt, "standard input"));
+    }
     let draft = draft_of(rt, asked, clocks, queue, "(stdin)", "")?;
-    print_document(rt, client, asked, &draft, None, rt.reader(), screen)
+    print_document(rt, client, asked, &draft, None, source, screen)
+}
+
+// Returns whether a document has no further byte. An error is reported by the next read.
+fn is_at_end<S: BufRead>(source: &mut S) -> bool {
+    match source.fill_buf() {
+        Ok(bytes) => bytes.is_empty(),
+        Err(_) => false,
+    }
 }
 
 // Returns the length of a regular file in bytes. Other files have none that is known before they are read.
@@ -201,10 +261,7 @@ fn wait_for(rt: &HostRuntime, client: &mut Client<'_>, job: u32, screen: Screen)
 fn status_of(rt: &HostRuntime, client: &mut Client<'_>, job: u32, screen: Screen) -> Option<u8> {
     match client.job(job) {
         Ok(Some(shown)) => report_shown(rt, shown, screen),
-        Ok(None) => {
-            let _ = eprintln!(rt; "spool: job {job} has ended and was removed");
-            Some(NOT_COMPLETED)
-        }
+        Ok(None) => Some(report_gone(rt, job)),
         Err(fault) => Some(report_unknown(rt, job, fault)),
     }
 }
@@ -216,6 +273,14 @@ fn report_shown(rt: &HostRuntime, shown: JobShown, screen: Screen) -> Option<u8>
     let status = end_of(rt, &shown);
     drop(shown);
     status
+}
+
+// Reports that a job was removed, so that it is unknown whether it was completed.
+fn report_gone(rt: &HostRuntime, job: u32) -> u8
+    ensures { result ≡ 5 }
+{
+    let _ = eprintln!(rt; "spool: job {job} has ended and was removed");
+    NOT_COMPLETED
 }
 
 fn report_unknown(rt: &HostRuntime, job: u32, fault: Fault) -> u8

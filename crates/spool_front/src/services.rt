@@ -1,11 +1,12 @@
 //! The choice of services and queues.
-ghost use Rattle.std.specs.Prelude.{◌≡◌, ◌≢◌, ◌*◌, IfErr, IfOk, IfSome, IsOk, OnOk, [], ◌∷◌, ◌++◌, length, map, string_bytes, true};
+ghost use Rattle.std.specs.Prelude.{◌≡◌, ◌≢◌, ◌*◌, IfErr, IfOk, IfSome, IsOk, None, OnOk, [], ◌∷◌, ◌++◌, length, map, string_bytes, true};
 ghost use Rattle.std.specs.List.{Contains};
-ghost use Rattle.spool_front.specs.QueueChoice.{has_queue, noted, place_at};
+ghost use Rattle.spool_front.specs.QueueChoice.{has_queue, noted, place_at, queue_in};
 ghost use Rattle.spool_front.specs.EnvironmentValues.{IsNumberOr};
 
 use crate::client::Client;
 use crate::commands::has_control;
+use crate::defaults::stored_queue;
 use crate::fault::Fault;
 use crate::host::{number_or, variable, variable_or};
 use front_texts::{JobLine, QueueLine};
@@ -62,7 +63,7 @@ pub fn only_socket<'a>(services: Services<'_, 'a>) -> Result<&'a str, Fault>
     }
 }
 
-/// Returns the queues of the service at a socket. They are the same for all clients.
+/// Returns the queues of the service at a socket, without a proof of who asks: names and states are the same for all clients.
 pub fn queues_at(
     rt: &HostRuntime,
     services: Services<'_, '_>,
@@ -74,11 +75,23 @@ pub fn queues_at(
     queues
 }
 
-/// Returns the queues of all services.
+// Returns the queues of the service at a socket, with the messages that are shown to the user who asks.
+fn shown_queues_at(
+    rt: &HostRuntime,
+    services: Services<'_, '_>,
+    socket: &str,
+) -> Result<Vec<QueueLine>, Fault> {
+    let mut client = client_at(rt, services, socket);
+    let queues = client.queues();
+    drop(client);
+    queues
+}
+
+/// Returns the queues of all services, with the messages that are shown to the user who asks.
 pub fn all_queues(rt: &HostRuntime, services: Services<'_, '_>) -> Result<Vec<QueueLine>, Fault> {
     let mut queues = Vec::new(rt.alloc());
     for socket in services.sockets {
-        for queue in queues_at(rt, services, socket)? {
+        for queue in shown_queues_at(rt, services, socket)? {
             queues.push(queue)?;
         }
     }
@@ -107,7 +120,7 @@ fn jobs_at(
     jobs
 }
 
-/// Returns the socket and the name of the requested queue: the named one, that of the environment, or the only one.
+/// Returns the socket and the name of the requested queue: the named one, that of the environment, the stored default, or the only one.
 pub fn queue_of<'a>(
     rt: &HostRuntime,
     services: Services<'_, 'a>,
@@ -120,17 +133,47 @@ pub fn queue_of<'a>(
     if let Some(queue) = queue {
         return place_of(rt, services, String::from_str(alloc, queue)?);
     }
-    for name in ["LPDEST", "PRINTER"] {
-        if let Some(queue) = variable(rt, name)? {
-            if has_control(queue.as_str()) {
-                return Err(Fault::Words(
-                    "the queue in LPDEST or PRINTER contains a control character",
-                ));
-            }
-            return place_of(rt, services, queue);
-        }
+    match usual_queue(rt)? {
+        Some(queue) => place_of(rt, services, queue),
+        None => only_queue(rt, services),
     }
-    only_queue(rt, services)
+}
+
+// Returns the queue of the environment, or the stored default.
+fn usual_queue(rt: &HostRuntime) -> Result<Option<String>, Fault> {
+    let lpdest = variable(rt, "LPDEST")?;
+    let printer = variable(rt, "PRINTER")?;
+    let Some(queue) = queue_in(lpdest, printer) else {
+        return stored_queue(rt);
+    };
+    if has_control(queue.as_str()) {
+        drop(queue);
+        return Err(Fault::Words("the queue in LPDEST or PRINTER contains a control character"));
+    }
+    Ok(Some(queue))
+}
+
+// Returns the queue of LPDEST, or else that of PRINTER. `lp` in PRINTER names no queue.
+fn queue_in(lpdest: Option<String>, printer: Option<String>) -> Option<String>
+    ensures { result ≡ queue_in lpdest printer }
+{
+    match lpdest {
+        Some(queue) => Some(queue),
+        None => printer_queue(printer),
+    }
+}
+
+fn printer_queue(printer: Option<String>) -> Option<String>
+    ensures { result ≡ queue_in None printer }
+{
+    let Some(queue) = printer else {
+        return None;
+    };
+    if queue.as_str() == "lp" {
+        drop(queue);
+        return None;
+    }
+    Some(queue)
 }
 
 fn place_of<'a>(

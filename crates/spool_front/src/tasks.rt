@@ -1,11 +1,10 @@
 //! The tasks that show and change jobs and queues.
-ghost use Rattle.std.specs.Prelude.{◌≡◌, IfOk, filter, filter_map};
-ghost use Rattle.std.specs.List.{list_any};
+ghost use Rattle.std.specs.Prelude.{◌≡◌, IfOk, filter};
 ghost use Rattle.std.specs.Option.{option_map};
-ghost use Rattle.command_lines.specs.CommandGrammar.{is_word};
-ghost use Rattle.spool_front.specs.Acts.{act_line, is_cleared, is_of, is_refused, is_stop, is_unknown, number_of, queue_act_line, unless_refused};
+ghost use Rattle.spool_front.specs.Acts.{act_line, is_not_held, is_of, is_refused, is_resume, is_stop, is_unknown, queue_act_line, unless_refused};
 ghost use Rattle.spool_front.specs.TaskFaults.{status_of};
 
+use crate::canceling::clear_queues;
 use crate::client::{Answer, Client};
 use crate::commands::{Until, hold_line, info_line, job_line, name_line, queue_line};
 use crate::denials::{explain_job, explain_queue};
@@ -13,9 +12,7 @@ use crate::fault::{Fault, first_failure};
 use crate::host::Screen;
 use crate::moments::{Clocks, clocks_for_act};
 use crate::output::print_lines;
-use crate::services::{
-    Services, all_jobs, all_queues, client_at, has_queue, only_socket, socket_of,
-};
+use crate::services::{Services, all_jobs, all_queues, client_at, only_socket, socket_of};
 use clean_texts::clean_bytes;
 use front_texts::{
     JobLine, JobShown, QueueLine, job_page, job_shown_json, jobs_json, jobs_table, json_text,
@@ -95,7 +92,8 @@ fn show_job(
         drop(client);
         if let Some(shown) = shown? {
             found = true;
-            print_shown(rt, shown, json, screen)?;
+            let why = why_of(rt, services, socket, job);
+            print_shown(rt, shown, why, json, screen)?;
         }
     }
     if found {
@@ -105,18 +103,62 @@ fn show_job(
     }
 }
 
-fn print_shown(rt: &HostRuntime, shown: JobShown, json: bool, screen: Screen) -> Result<(), Fault> {
-    let printed = print_job(rt, &shown, json, screen);
+fn print_shown(
+    rt: &HostRuntime,
+    shown: JobShown,
+    why: Result<Option<String>, Fault>,
+    json: bool,
+    screen: Screen,
+) -> Result<(), Fault> {
+    let printed = print_with_why(rt, &shown, why, json, screen);
     drop(shown);
     printed
 }
 
-fn print_job(rt: &HostRuntime, shown: &JobShown, json: bool, screen: Screen) -> Result<(), Fault> {
+fn print_with_why(
+    rt: &HostRuntime,
+    shown: &JobShown,
+    why: Result<Option<String>, Fault>,
+    json: bool,
+    screen: Screen,
+) -> Result<(), Fault> {
+    match why? {
+        Some(why) => print_job(rt, shown, Some(why.as_str()), json, screen),
+        None => print_job(rt, shown, None, json, screen),
+    }
+}
+
+// Returns why a job does not print, as a clean sentence, if there is a cause.
+fn why_of(
+    rt: &HostRuntime,
+    services: Services<'_, '_>,
+    socket: &str,
+    job: u32,
+) -> Result<Option<String>, Fault> {
+    let mut client = client_at(rt, services, socket);
+    let why = client.why(job);
+    drop(client);
+    match why? {
+        Some(why) => Ok(Some(clean_bytes(rt.alloc(), why.as_slice())?)),
+        None => Ok(None),
+    }
+}
+
+fn print_job(
+    rt: &HostRuntime,
+    shown: &JobShown,
+    why: Option<&str>,
+    json: bool,
+    screen: Screen,
+) -> Result<(), Fault> {
     let alloc = rt.alloc();
     if json {
-        return print_json(rt, job_shown_json(alloc, shown)?);
+        return print_json(rt, job_shown_json(alloc, shown, why)?);
     }
     print_lines(rt, &job_page(alloc, shown, screen.width.max(1))?)?;
+    if let Some(why) = why {
+        println!(rt; "why       {why}")?;
+    }
     Ok(())
 }
 
@@ -241,8 +283,8 @@ pub fn act_on_jobs(
     ended
 }
 
-// If the action is refused for a job, or the reply is lost, this is reported and the next job follows.
-fn act_by(
+/// Applies the same action to each of these jobs. If the action is refused for a job, or the reply is lost, this is reported and the next job follows.
+pub fn act_by(
     rt: &HostRuntime,
     client: &mut Client<'_>,
     act: JobAct,
@@ -274,7 +316,29 @@ fn order_act(
         drop(ended);
         return cancel_and_end(rt, client, job);
     }
+    if is_resume(act) && is_not_held(&ended) {
+        drop(ended);
+        return Ok(());
+    }
     ended
+}
+
+// Returns whether a job that is not held counts as released.
+fn is_resume(act: JobAct) -> bool
+    ensures { result ≡ is_resume act }
+{
+    matches!(act, JobAct::Resume)
+}
+
+fn is_not_held(ended: &Result<(), Fault>) -> bool
+    ensures { result ≡ is_not_held ended.now }
+{
+    match ended {
+        Err(Fault::Refused(text)) => {
+            text.as_str() == "error 15 NotHeld" || text.as_str() == "error 11 NotWaiting"
+        }
+        _ => false,
+    }
 }
 
 // Returns whether the command of this action is `stop`.
@@ -342,7 +406,7 @@ fn act_line(alloc: Global, clocks: Clocks, act: JobAct, job: u32) -> Result<Vec<
     match act {
         JobAct::Cancel => job_line(alloc, "stop", job),
         JobAct::CancelOnly => job_line(alloc, "cancel", job),
-        JobAct::Release => job_line(alloc, "release", job),
+        JobAct::Release | JobAct::Resume => job_line(alloc, "release", job),
         JobAct::Purge => job_line(alloc, "purge", job),
         JobAct::End => job_line(alloc, "end", job),
         JobAct::Hold(None) => hold_line(alloc, job, Until::Released),
@@ -352,54 +416,22 @@ fn act_line(alloc: Global, clocks: Clocks, act: JobAct, job: u32) -> Result<Vec<
     }
 }
 
-/// Cancels all jobs of these queues, or of all queues, that have not ended.
-pub fn clear(rt: &HostRuntime, services: Services<'_, '_>, names: &[&str]) -> Result<u8, Fault> {
-    let queues = all_queues(rt, services)?;
-    let known = names.iter().all(|name| has_queue(&queues, name));
-    drop(queues);
-    if !known {
-        return Err(Fault::Words("no such queue"));
+/// Applies the same action to each of these queues, in their order, up to the first one for which it fails. With `clears` their jobs are
+/// canceled too.
+pub fn switch_queues(
+    rt: &HostRuntime,
+    services: Services<'_, '_>,
+    names: &[&str],
+    act: QueueAct<'_>,
+    clears: bool,
+) -> Result<u8, Fault> {
+    for name in names {
+        act_on_queue(rt, services, name, act)?;
     }
-    let mut status = 0;
-    for socket in services.sockets {
-        let mut client = client_at(rt, services, socket);
-        let ended = clear_by(rt, &mut client, names);
-        drop(client);
-        status = first_failure(status, ended?);
+    if clears && !names.is_empty() {
+        return clear_queues(rt, services, names, None, false);
     }
-    Ok(status)
-}
-
-fn clear_by(rt: &HostRuntime, client: &mut Client<'_>, names: &[&str]) -> Result<u8, Fault> {
-    let jobs = client.jobs()?;
-    let numbers = numbers_of(rt.alloc(), &jobs, names);
-    drop(jobs);
-    act_by(rt, client, JobAct::Cancel, numbers?.as_slice())
-}
-
-// Returns the numbers of the jobs of these queues, or of all queues, that have not ended.
-fn numbers_of(alloc: Global, jobs: &[JobLine], names: &[&str]) -> Result<Vec<u32>, AllocError>
-    ensures { IfOk result (λ numbers. numbers.items ≡ filter_map (number_of names.now (λ name. name.now)) jobs.now) }
-{
-    let mut numbers = Vec::new(alloc);
-    for job in jobs {
-        if is_cleared(names, job) {
-            numbers.push(job.number.get())?;
-        }
-    }
-    Ok(numbers)
-}
-
-fn is_cleared(names: &[&str], job: &JobLine) -> bool
-    ensures { result ≡ is_cleared names.now (λ name. name.now) job.now }
-{
-    (names.is_empty() || is_among(names, job.queue.as_str())) && !job.has_ended()
-}
-
-fn is_among(names: &[&str], queue: &str) -> bool
-    ensures { result ≡ list_any (λ name. is_word name.now queue.now) names.now }
-{
-    names.iter().any(|name| *name == queue)
+    Ok(0)
 }
 
 /// Applies an action to a queue.

@@ -3,14 +3,12 @@ ghost use Rattle.std.specs.Prelude.{◌≡◌, IfOk};
 ghost use Rattle.spool_front.specs.StatusPages.{IsPage};
 
 use crate::fault::Fault;
+use crate::files::write_as;
 use crate::moments::now;
 use crate::services::{Services, all_jobs, all_queues};
 use front_texts::{JobLine, QueueLine, moment_text, page};
 use spool_types::Moment;
-use std::fs::OpenOptions;
-use std::io::Write;
 use std::time::Duration;
-use std::{fs, io};
 
 // The seconds between two pages.
 const PAGE_SECONDS: u64 = 5;
@@ -71,27 +69,4 @@ fn page_at(
     let alloc = rt.alloc();
     let stamp = moment_text(alloc, Moment::ZERO.plus(now(rt)?))?;
     Ok(page(alloc, queues, jobs, stamp.as_str(), follow)?)
-}
-
-// Writes a new file and gives it the name, so that a reader never sees half a page. A file that was left under the name of the new one is
-// removed, and a link of that name is not followed.
-fn write_as(rt: &HostRuntime, file: &str, text: &[u8]) -> Result<(), Fault> {
-    let alloc = rt.alloc();
-    let unfinished = format!(in alloc; "{file}.new")?;
-    let _ = fs::remove_file(rt, unfinished.as_str());
-    if write_new(rt, unfinished.as_str(), text).is_err()
-        || fs::rename(rt, unfinished.as_str(), file).is_err()
-    {
-        return Err(Fault::NotWritten(String::from_str(alloc, file)?));
-    }
-    Ok(())
-}
-
-// Writes a file. Fails if the name is taken.
-fn write_new(rt: &HostRuntime, file: &str, text: &[u8]) -> io::Result<()> {
-    OpenOptions::new()
-        .write(true)
-        .create_new(true)
-        .open(rt, file)?
-        .write_all(text)
 }

@@ -5,4 +5,4 @@ use Rattle.front_texts.specs.Page.{job_html}
 use Rattle.front_texts.proofs.web_page.push_job_rows.Given as goal
 
 abbrev pub invariant-loop-job : goal.invariant-loop-job
-invariant-loop-job l = l.page.items ≡ l.initial.page.items ++ flat_map job_html (take l.job-index l.jobs)
+invariant-loop-job l = l.page.items ≡ l.initial.page.items ++ flat_map (job_html l.queues) (take l.job-index l.jobs)

@@ -76,5 +76,23 @@ returns-in-Lpq c = rw c.in-Lpq.is refl
 pub returns-in-Lprm : goal.returns-in-Lprm
 returns-in-Lprm c = rw c.in-Lprm.is refl
 
+pub returns-in-Lpoptions : goal.returns-in-Lpoptions
+returns-in-Lpoptions c = rw c.in-Lpoptions.is refl
+
+pub returns-in-Lpmove : goal.returns-in-Lpmove
+returns-in-Lpmove c = rw c.in-Lpmove.is refl
+
+pub returns-in-CupsEnable : goal.returns-in-CupsEnable
+returns-in-CupsEnable c = rw c.in-CupsEnable.is refl
+
+pub returns-in-CupsDisable : goal.returns-in-CupsDisable
+returns-in-CupsDisable c = rw c.in-CupsDisable.is refl
+
+pub returns-in-CupsAccept : goal.returns-in-CupsAccept
+returns-in-CupsAccept c = rw c.in-CupsAccept.is refl
+
+pub returns-in-CupsReject : goal.returns-in-CupsReject
+returns-in-CupsReject c = rw c.in-CupsReject.is refl
+
 pub returns-in-Other : goal.returns-in-Other
 returns-in-Other c = rw c.in-Other.is refl
