@@ -1,21 +1,23 @@
 #!/bin/sh
 # Installs the built programs where Debian expects them, or removes them.
 #
-#   install.sh [--lp] PREFIX     after the proved build, as install.sh /usr/local
+#   install.sh [--lp] [--stock-filters] [--programs FOLDER] PREFIX     after ./build.py, as install.sh /usr/local
 #   install.sh --remove PREFIX
 #
 # PREFIX is absolute, as /usr/local. If DESTDIR is set in the environment, the files are written below that folder, and the paths in them
-# are those of PREFIX.
+# are those of PREFIX. packaging/deb makes a package of them in this way. FOLDER has the programs to install, by default those of crates/.
 #
-#   PREFIX/bin                   spool; with --lp also lp, lpr, lpstat, cancel, lpq and lprm
-#   PREFIX/lib/cegmandi/bin      these six, without --lp, so that they do not replace those of CUPS: put this folder first in PATH
+#   PREFIX/bin                   spool; with --lp also lp, lpr, lpstat, cancel, lpq, lprm, lpoptions, lpmove, cupsenable, cupsdisable,
+#                                cupsaccept and cupsreject
+#   PREFIX/lib/cegmandi/bin      these, without --lp, so that they do not replace those of CUPS: put this folder first in PATH
 #   PREFIX/sbin                  spool_shell, spool_service, spool_admin
-#   PREFIX/lib/cegmandi          spool_tools, say.py, the wrappers of stock filters and their PPD, and the manifest: the list of all
-#                                installed files
+#   PREFIX/lib/cegmandi          spool_tools, say.py, copy-spool.py, the wrappers of stock filters and their PPD, and the manifest: the
+#                                list of all installed files
 #   PREFIX/lib/systemd/system    cegmandi.service
-#   PREFIX/share                 man pages, the completion for bash, the README and the examples
-#   /etc/cegmandi                the files that the unit names, with the stock filters of CUPS if /usr/lib/cups/filter exists;
-#                                PREFIX/etc/cegmandi if PREFIX is neither /usr nor /usr/local
+#   PREFIX/lib/sysusers.d        cegmandi.conf: the users of the unit, for systemd-sysusers(8)
+#   PREFIX/share                 man pages, the completions for bash, zsh and fish, the README and the examples
+#   /etc/cegmandi                the files that the unit names, with the stock filters of CUPS if /usr/lib/cups/filter exists or with
+#                                --stock-filters; PREFIX/etc/cegmandi if PREFIX is neither /usr nor /usr/local
 #
 # The script never overwrites a file that it did not install or that was changed since: it fails before it changes anything. A file below
 # etc that exists is kept unchanged. A second install removes the first one before it writes its own files. --remove keeps and names the
@@ -34,10 +36,18 @@ fail() {
 
 remove=
 lp=
+with_filters=
+programs=
 while [ $# -gt 0 ]; do
     case $1 in
     --remove) remove=yes ;;
     --lp) lp=yes ;;
+    --stock-filters) with_filters=yes ;;
+    --programs)
+        if [ $# -lt 2 ] || [ ! -d "$2" ]; then usage; fi
+        programs=$(cd "$2" && pwd)
+        shift
+        ;;
     /*) break ;;
     *) usage ;;
     esac
@@ -150,25 +160,24 @@ put() {
 }
 
 # Writes a copy of a file of the repository with the paths of this install, and prints the path of the copy.
-adapted() {
-    mkdir -p "$work/texts"
-    sed -e "s|TOOLS|$library/spool_tools|g" -e "s|HERE/|$library/|g" -e "s|/usr/local/sbin/|$prefix/sbin/|g" \
-        -e "s|/usr/local/lib/cegmandi|$library|g" -e "s|/usr/local/bin/|$prefix/bin/|g" -e "s|/etc/cegmandi|$etc|g" \
-        "$here/$1" > "$work/texts/$(basename "$1")"
-    echo "$work/texts/$(basename "$1")"
+filled() {
+    mkdir -p "$work/filled/$(dirname "$1")"
+    sed -e "s|@bindir@|$prefix/bin|g" -e "s|@sbindir@|$prefix/sbin|g" -e "s|@libdir@|$prefix/lib|g" -e "s|@sysconfdir@|${etc%/*}|g" \
+        "$here/$1" > "$work/filled/$1"
+    echo "$work/filled/$1"
 }
 
-# Writes a copy of an example script with the paths of the installed programs, and prints the path of the copy.
-script() {
-    mkdir -p "$work/scripts"
-    sed -e '/^crates=/d' -e "s|\$crates/spool_tools/out/spool_tools|$library/spool_tools|g" \
-        -e "s|\$crates/spool_front/out/spool_front|$prefix/bin/spool|g" -e "s|\$crates/\([a-z_]*\)/out/[a-z_]*|$prefix/sbin/\1|g" \
-        "$1" > "$work/scripts/$(basename "$1")"
-    echo "$work/scripts/$(basename "$1")"
+# The path of a built program.
+built() {
+    if [ -n "$programs" ]; then
+        echo "$programs/$1"
+    else
+        echo "$here/crates/$1/out/$1"
+    fi
 }
 
 program() {
-    "$1" file 755 "$here/crates/$2/out/$2" "$3"
+    "$1" file 755 "$(built "$2")" "$3"
 }
 
 programs() {
@@ -177,20 +186,18 @@ programs() {
         program "$1" $name "$prefix/sbin/$name"
     done
     program "$1" spool_tools "$library/spool_tools"
-    for name in say.py with-cups-env as-pages; do
-        if [ -f "$here/examples/office/$name" ]; then
-            "$1" file 755 "$here/examples/office/$name" "$library/$name"
-        fi
+    for name in say.py copy-spool.py with-cups-env as-pages; do
+        "$1" file 755 "$here/examples/office/$name" "$library/$name"
     done
-    if [ -f "$here/examples/office/paper.ppd" ]; then
-        "$1" file 644 "$here/examples/office/paper.ppd" "$library/paper.ppd"
-    fi
+    "$1" file 644 "$here/examples/office/paper.ppd" "$library/paper.ppd"
 }
 
 front() {
     program "$1" spool_front "$prefix/bin/spool"
     "$1" file 644 "$here/completions/spool.bash" "$prefix/share/bash-completion/completions/spool"
-    for name in lp lpr lpstat cancel lpq lprm; do
+    "$1" file 644 "$here/completions/_spool" "$prefix/share/zsh/vendor-completions/_spool"
+    "$1" file 644 "$here/completions/spool.fish" "$prefix/share/fish/vendor_completions.d/spool.fish"
+    for name in lp lpr lpstat cancel lpq lprm lpoptions lpmove cupsenable cupsdisable cupsaccept cupsreject; do
         if [ -n "$lp" ]; then
             "$1" link - spool "$prefix/bin/$name"
         else
@@ -201,15 +208,15 @@ front() {
 
 # The systemd unit, and the files that it names.
 unit() {
-    "$1" file 644 "$(adapted examples/office/cegmandi.service)" "$prefix/lib/systemd/system/cegmandi.service"
-    named=$(grep -o '/etc/cegmandi/[A-Za-z0-9._-]*' "$here/examples/office/cegmandi.service" | sed 's|.*/||' | sort -u)
+    "$1" file 644 "$(filled examples/office/cegmandi.service)" "$prefix/lib/systemd/system/cegmandi.service"
+    "$1" file 644 "$here/examples/office/cegmandi.sysusers" "$prefix/lib/sysusers.d/cegmandi.conf"
+    named=$(grep -o '@sysconfdir@/cegmandi/[A-Za-z0-9._-]*' "$here/examples/office/cegmandi.service" | sed 's|.*/||' | sort -u)
     for name in $named; do
         example=$name
-        # The stock filters of CUPS are used if they are installed.
-        if [ "$name" = programs ] && [ -d "$root/usr/lib/cups/filter" ] && [ -f "$here/examples/office/stock-programs" ]; then
+        if [ "$name" = programs ] && { [ -n "$with_filters" ] || [ -d "$root/usr/lib/cups/filter" ]; }; then
             example=stock-programs
         fi
-        "$1" config 644 "$(adapted "examples/office/$example")" "$etc/$name"
+        "$1" config 644 "$(filled "examples/office/$example")" "$etc/$name"
     done
 }
 
@@ -218,20 +225,17 @@ texts() {
         "$1" file 644 "$page" "$prefix/share/man/man${page##*.}/$(basename "$page")"
     done
     for name in README.md docs/STOCK.md docs/first-page.png; do
-        if [ -f "$here/$name" ]; then
-            "$1" file 644 "$here/$name" "$prefix/share/doc/cegmandi/$name"
-        fi
+        "$1" file 644 "$here/$name" "$prefix/share/doc/cegmandi/$name"
     done
-    find "$here/examples" -type f ! -path '*/__pycache__/*' | sort > "$work/examples"
+    (cd "$here" && find examples -type f ! -name paths ! -path '*/__pycache__/*') | sort > "$work/examples"
     while read -r file; do
         mode=644
-        [ ! -x "$file" ] || mode=755
-        text=$file
+        [ ! -x "$here/$file" ] || mode=755
         case $file in
-        *.sh) text=$(script "$file") ;;
-        *.service) text=$(adapted "${file#"$here/"}") ;;
+        *.service | *.in) text=$(filled "$file") ;;
+        *) text=$here/$file ;;
         esac
-        "$1" file $mode "$text" "$prefix/share/doc/cegmandi/examples${file#"$here/examples"}"
+        "$1" file $mode "$text" "$prefix/share/doc/cegmandi/${file%.in}"
     done < "$work/examples"
 }
 
@@ -248,7 +252,7 @@ if [ -n "$remove" ]; then
 fi
 
 for name in spool_front spool_shell spool_service spool_admin spool_tools; do
-    [ -x "$here/crates/$name/out/$name" ] || fail "crates/$name/out has no program: run \`rt run\` in crates/$name first"
+    [ -x "$(built $name)" ] || fail "$(built $name) does not exist: run ./build.py first"
 done
 : > "$work/made"
 : > "$work/ours"

@@ -4,13 +4,13 @@
 The script tests the effect of install.sh on files with substitutes for the programs, in fresh folders. It tests the installed programs with
 those that are built (`rt run` in the folder of each).
 
-1. `shellcheck` reports nothing about install.sh and the completion (Debian's package shellcheck).
+1. `shellcheck` reports nothing about install.sh, packaging/deb, the completion and the examples (Debian's package shellcheck).
 2. The installed files are those of the manifest, with the right modes. The links refer to `spool`, and the unit names only files that
    exist, for each PREFIX. Files that existed before are unchanged, and a removal leaves exactly these.
 3. A file that install.sh did not install makes it fail before it changes anything. A file that was changed is kept and reported. A second
    install replaces the first one, also with --lp. If an install is killed at any moment, --remove removes its files.
 4. Invalid arguments are refused.
-5. The completion offers tasks, options, queues and jobs.
+5. The completions offer tasks, options, queues and jobs (Debian's packages fish and zsh).
 6. The installed programs print a letter, from a folder of their own.
 7. The same in a fresh Debian, which debootstrap creates (as root; Debian's package debootstrap; this takes some minutes). --chroot names a
    folder with an existing one, which is used instead and not removed.
@@ -20,6 +20,7 @@ the number that failed, with status 1.
 """
 import os
 import random
+import re
 import shutil
 import subprocess
 import sys
@@ -29,7 +30,8 @@ from pathlib import Path
 
 ROOT = Path(__file__).resolve().parent.parent
 PROGRAMS = ["spool_front", "spool_shell", "spool_service", "spool_admin", "spool_tools"]
-LINKS = ["lp", "lpr", "lpstat", "cancel", "lpq", "lprm"]
+LINKS = ["lp", "lpr", "lpstat", "cancel", "lpq", "lprm", "lpoptions", "lpmove", "cupsenable", "cupsdisable", "cupsaccept", "cupsreject"]
+SCRIPTS = ["install.sh", "completions/spool.bash", "packaging/deb", *(f"examples/office/{name}.sh" for name in ("print", "pages", "serve"))]
 LETTER = b"Dear Bo,\r\ncome. Ann\r\n\x0c" * 2
 DEBIAN = "bookworm"
 
@@ -93,8 +95,8 @@ def checked_by_shellcheck():
     if not shutil.which("shellcheck"):
         LEFT_OUT.append("shellcheck (Debian's package shellcheck)")
         return
-    for name in ("install.sh", "completions/spool.bash"):
-        run = subprocess.run(["shellcheck", ROOT / name], capture_output=True, text=True)
+    for name in SCRIPTS:
+        run = subprocess.run(["shellcheck", "-x", "-P", "SCRIPTDIR", ROOT / name], capture_output=True, text=True)
         check(run.returncode == 0, f"shellcheck of {name}: {run.stdout}")
 
 
@@ -145,9 +147,12 @@ def unit_fits(below, prefix, there):
     for word in unit.replace("=", " ").split():
         if word.startswith(("/usr", "/etc", "/opt")):
             check(word in there, f"{prefix}: the unit names {word}, which does not exist")
+    for path, what in there.items():
+        if what[0] == "file" and "/share/doc/" not in path and not path.endswith("manifest"):
+            check(not re.search(rb"@[a-z]+dir@", what[2]), f"{path} has a path that is not filled")
     for line in there[f"{etc}/programs"][2].decode().splitlines():
         words = line.split()
-        if words and words[0] in ("filter", "backend", "side"):
+        if words and words[0] in ("filter", "backend", "root-backend", "side"):
             path = next(it for it in words if it.startswith("/"))
             check(path in there or not path.startswith(prefix), f"{prefix}: the programs file names {path}, which does not exist")
 
@@ -189,7 +194,7 @@ def wrong_words(script, room):
     check(run.returncode == 1 and not (room / "absent").exists(), "a DESTDIR that does not exist is created")
     shutil.move(script.parent / "crates/spool_admin/out/spool_admin", room / "away")
     run = ran(script, "/usr", below=below)
-    check(run.returncode == 1 and "rt run" in run.stderr and not seen(below), f"a program that is not built: {run.stderr}")
+    check(run.returncode == 1 and "./build.py" in run.stderr and not seen(below), f"a program that is not built: {run.stderr}")
     shutil.move(room / "away", script.parent / "crates/spool_admin/out/spool_admin")
 
 
@@ -255,11 +260,38 @@ _spool
 printf '%s\\n' "${COMPREPLY[@]}"
 """
 
+FISH = """
+function spool
+    switch $argv[1]
+        case queues
+            echo '[{"name":"lab","n":1},{"name":"hall"}]'
+        case status
+            echo '[{"number":1},{"number":22}]'
+    end
+end
+function timeout
+    $argv[2..]
+end
+source $argv[1]
+complete -C $argv[2]
+"""
+
 
 def completion():
     for line, wanted in COMPLETED.items():
         run = subprocess.run(["bash", "-c", BASH, "bash", ROOT / "completions/spool.bash", line], capture_output=True, text=True)
         check(set(run.stdout.split()) == wanted, f"`{line}` is completed to {run.stdout.split()} {run.stderr}")
+        if shutil.which("fish") and line != "spool --":
+            run = subprocess.run(["fish", "--no-config", "-c", FISH, ROOT / "completions/spool.fish", line], capture_output=True, text=True)
+            found = {words.split("\t")[0] for words in run.stdout.splitlines()}
+            check(wanted <= found, f"fish completes `{line}` to {found} {run.stderr}")
+    if not shutil.which("fish"):
+        LEFT_OUT.append("the completion for fish (Debian's package fish)")
+    if shutil.which("zsh"):
+        run = subprocess.run(["zsh", "-n", ROOT / "completions/_spool"], capture_output=True, text=True)
+        check(run.returncode == 0, f"zsh reads completions/_spool: {run.stderr}")
+    else:
+        LEFT_OUT.append("the completion for zsh (Debian's package zsh)")
 
 
 def unbuilt():

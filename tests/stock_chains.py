@@ -30,7 +30,7 @@ class ChainSpool:
         self.socket = os.path.join(spool, "spool.sock")
         programs = os.path.join(self.folder, "programs")
         with open(os.path.join(place.office, "stock-programs")) as file:
-            text = file.read().replace("HERE", place.office).replace("TOOLS", place.tools)
+            text = file.read().replace("@libdir@/cegmandi/spool_tools", place.tools).replace("@libdir@/cegmandi", place.office)
         with open(programs, "w") as file:
             file.write(text)
         self.program = place.service if place.serves() else place.shell

@@ -3,8 +3,8 @@
 
 A block of the README that begins with ```console contains commands, each after `$ ` on its own line, followed by the expected output. One
 bash runs them in order, in a copy of the repository with the results of the proved build, with a HOME of their own, so `~` is
-an empty folder at first. `rt run` starts the built program instead of proving it again: `rt ci` keeps only the program, and a new proof
-would take hours. The output of a command on both streams must be the lines below it, except for carriage returns, form feeds and
+an empty folder at first. `rt run` starts the built program instead of proving it again, and `rt ci` proves nothing: a new proof would take
+hours. The output of a command on both streams must be the lines below it, except for carriage returns, form feeds and
 blanks at the end of a line. `...` represents any text within a line, and alone on a line any lines. --show prints the output.
 
 If a program is not built, or `rt` is not installed, the commands are not run, and the script reports that. It also checks that each file
@@ -64,9 +64,13 @@ def copy_of_all(room):
             subprocess.run(["umount", "-l", folder], check=True)
 
 
-# Replaces the toolchain's `rt`: `rt run` starts the built program, and rt does anything else.
+# Replaces the toolchain's `rt`: `rt run` starts the built program, `rt ci` proves nothing, and rt does anything else.
 SUBSTITUTE = """#!/bin/sh
 case $1 in
+ci)
+    echo '0 passed, 0 failed'
+    exit
+    ;;
 run)
     shift
     [ "$1" = -- ] && shift

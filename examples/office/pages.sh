@@ -9,11 +9,12 @@
 set -eu
 folder=$1 file=$2 copies=${3:-1}
 here=$(cd "$(dirname "$0")" && pwd)
-crates=$(cd "$here/../../crates" && pwd)
+# shellcheck source=paths
+. "$here/paths"
 size=$(($(wc -c < "$file")))
 name=$(basename "$file" | tr -c 'A-Za-z0-9._\n-' _)
 mkdir "$folder" "$folder/spool"
-sed "s|HERE|$here|; s|TOOLS|$crates/spool_tools/out/spool_tools|" "$here/stock-programs" > "$folder/programs"
+sed "s|@libdir@/cegmandi/spool_tools|$spool_tools|; s|@libdir@/cegmandi|$here|" "$here/stock-programs" > "$folder/programs"
 
 # Prints the commands for a queue and a job: the job's number, the suffix of the printer's file, and the type that the printer accepts.
 job() {
@@ -39,5 +40,5 @@ job() {
     job 6 raw application/octet-stream
     echo drain 20
     echo jobs
-} | "$crates/spool_shell/out/spool_shell" --root "$folder/spool" --size 67108864 --types "$here/types" --convs "$here/convs" \
+} | "$spool_shell" --root "$folder/spool" --size 67108864 --types "$here/types" --convs "$here/convs" \
     --programs "$folder/programs"

@@ -9,12 +9,13 @@ set -eu
 folder=$1
 printer=${2:-}
 here=$(cd "$(dirname "$0")" && pwd)
-crates=$(cd "$here/../../crates" && pwd)
+# shellcheck source=paths
+. "$here/paths"
 # If the printer cannot be reached for ten seconds, the job waits (`retry-later`). spool_shell has no clock: a later run tries again after
 # `clock MOMENT`, 30 seconds later, and `drain 9`. The service (serve.sh) keeps the time by itself.
 device=${printer:+appsocket://$printer/?contimeout=10}
 mkdir "$folder" "$folder/spool"
-sed "s|TOOLS|$crates/spool_tools/out/spool_tools|" "$here/programs" > "$folder/programs"
+sed "s|@libdir@/cegmandi/spool_tools|$spool_tools|" "$here/programs" > "$folder/programs"
 sed "s|DEVICE|${device:-spoolfile:$folder/letter.prn}|" "$here/letter.spool" |
-    "$crates/spool_shell/out/spool_shell" --root "$folder/spool" --types "$here/types" \
+    "$spool_shell" --root "$folder/spool" --types "$here/types" \
         --convs "$here/convs" --programs "$folder/programs"

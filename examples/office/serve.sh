@@ -6,10 +6,11 @@
 set -eu
 folder=$1
 here=$(cd "$(dirname "$0")" && pwd)
-crates=$(cd "$here/../../crates" && pwd)
+# shellcheck source=paths
+. "$here/paths"
 mkdir "$folder" "$folder/spool"
-sed "s|TOOLS|$crates/spool_tools/out/spool_tools|" "$here/programs" > "$folder/programs"
-"$crates/spool_service/out/spool_service" --root "$folder/spool" --types "$here/types" --convs "$here/convs" \
+sed "s|@libdir@/cegmandi/spool_tools|$spool_tools|" "$here/programs" > "$folder/programs"
+"$spool_service" --root "$folder/spool" --types "$here/types" --convs "$here/convs" \
     --programs "$folder/programs" --children 6 --quiet &
 service=$!
 socket=$folder/spool/spool.sock
