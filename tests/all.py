@@ -44,6 +44,7 @@ SCRIPTS = {
     "service.py": [],
     "front.py": [],
     "front_roles.py": [],
+    "front_cups.py": [],
     "clean_output.py": [],
     "lives.py": [],
     "failover.py": [],
@@ -63,6 +64,7 @@ SCRIPTS = {
     "events.py": [],
     "version_one.py": [],
     "tools.py": [],
+    "hostile.py": [],
     "office.py": [],
     "stock.py": [],
     "walk.py": [],
@@ -72,6 +74,8 @@ SCRIPTS = {
     "grow.py": [],
     "split.py": [],
     "queue_set.py": [],
+    "reserve.py": [],
+    "copies.py": [],
     "large.py": [],
 }
 
@@ -80,7 +84,7 @@ ALONE = ["large.py"]
 
 # The scripts that the gate runs (`.ci/run`), the scripts that take long and are run on demand, and the modules and data of the scripts.
 IN_GATE = ["out_of_memory.py", "unused_lemmas.py", "edits_apply.py", "places.py", "promises.py", "reference.py", "english.py"]
-ON_DEMAND = ["cuts.py", "failing_calls.py", "gate_minutes.py", "more_edits.py"]
+ON_DEMAND = ["building.py", "cuts.py", "failing_calls.py", "gate_minutes.py", "ipp_codec.py", "more_edits.py", "package.py"]
 PARTS = [
     "admin_parts.py",
     "all.py",
@@ -88,9 +92,12 @@ PARTS = [
     "child_folder.py",
     "children_harm.py",
     "count_allocations.c",
+    "debian_machine.py",
     "cups_beside.py",
     "failover_volume.py",
     "fast_clock.c",
+    "hostile_children.py",
+    "front_cups.table",
     "front_parts.py",
     "journal.py",
     "large_children.py",
@@ -180,6 +187,7 @@ def missing_parts():
     if not shutil.which("chromium"):
         missing["front.py"] = (False, "the page in a browser (Debian's package chromium)")
     if os.geteuid():
+        missing["hostile.py"] = (True, "users for the children (as root)")
         missing["front_roles.py"] = (False, "other users, and a folder of another owner (as root)")
     if not shutil.which("strace"):
         missing["syncs.py"] = (True, "strace (Debian's package strace)")

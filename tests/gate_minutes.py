@@ -1,5 +1,5 @@
 #!/usr/bin/env python3
-"""Measures the processor time of the gate from scratch: gate_minutes.py [MINUTES]
+"""Measures the processor time of the gate from scratch: gate_minutes.py [--write] [MINUTES]
 
 It runs `rt ci` in a clean clone of the committed state, with `--anew` if this toolchain has that option, so that no results of earlier runs
 are used, and prints a table by crate: the processor minutes of its proof, of its tests and of its edits. A second table has the seconds of
@@ -8,8 +8,8 @@ the crate. The last line is `N processor minutes`, with status 0, or says that t
 failed, with status 1.
 
 The sum is the time that the system counted for the gate and all processes that it started. The table comes from polls of the running
-provers, so its parts may lack half a second for each of them. Do not run other heavy work at the same time: two provers on one core slow
-each other down. On four processors it takes about fifty minutes.
+provers, so its parts may lack half a second for each of them. With --write they go to build-times.txt, for the estimates of build.py. Do
+not run other heavy work at the same time: two provers on one core slow each other down. On four processors it takes about fifty minutes.
 """
 import os
 import re
@@ -115,8 +115,19 @@ def gate(folder, polls):
         return os.waitstatus_to_exitcode(status), file.read(), usage.ru_utime + usage.ru_stime
 
 
+def write(minutes):
+    """Writes the minutes of each crate to build-times.txt, in the order of crates.txt."""
+    with open(os.path.join(TOP, "crates.txt"), encoding="utf-8") as file:
+        names = [line.partition(":")[0].split()[0] for line in file if ":" in line.partition("#")[0]]
+    lines = ["# The processor minutes of each crate in the gate: of its proof, of its tests, and of its edits."]
+    lines += [f"{name:24}" + "".join(f"{minutes[name][part]:8.1f}" for part in PARTS) for name in names if name in minutes]
+    with open(os.path.join(TOP, "build-times.txt"), "w", encoding="utf-8") as file:
+        file.write("\n".join(lines) + "\n")
+
+
 def main():
-    most = float(sys.argv[1]) if len(sys.argv) > 1 else 150.0
+    words = [it for it in sys.argv[1:] if it != "--write"]
+    most = float(words[0]) if words else 150.0
     polls, start = Polls(), time.monotonic()
     with tempfile.TemporaryDirectory() as folder:
         subprocess.run(["git", "clone", "--quiet", TOP, os.path.join(folder, "clone")], check=True)
@@ -133,6 +144,8 @@ def main():
             print(f"{crate:24}{taken or 0:8.0f}  {name or 'another check'}")
     said = re.findall(r"^\d+ passed, \d+ failed.*$", text, re.M)
     print(f"{said[-1] if said else 'no last line'}; {(time.monotonic() - start) / 60:.0f} minutes by the clock")
+    if "--write" in sys.argv and not status:
+        write(minutes)
     if status:
         print("\n".join(text.splitlines()[-20:]))
         print("the gate failed")

@@ -6,7 +6,7 @@ The script reads the names that the pages in docs/man must document from the sou
 1. `mandoc -Tlint -W warning` reports nothing. Each page has its own name and section, and a name line. It refers only to pages in
    docs/man and to known pages of other packages. Without mandoc (Debian's package `mandoc`) the script skips the lint and reports this.
 2. The page of a program documents exactly the options in the program's sources and, if the program is built, in its `--help`. All
-   options and tasks of `spool` are in spool(1) and in the completion, and all its environment variables in spool(1).
+   options and tasks of `spool` are in spool(1) and in the completions, and all its environment variables in spool(1).
 3. cegmandi_protocol(5) documents each command, each command of the service, each refusal with its number, each other error, each
    policy and each reason of a job. cegmandi_programs(5) documents each variable of a child and each kind of warning, and
    cegmandi_printers(5) each property of a printer and each reason for which its line is rejected. No other page has an entry for a
@@ -32,12 +32,12 @@ CRATES = HERE / "crates"
 
 # Pages of other packages that the pages may refer to.
 OTHERS = {"filter(7)", "backend(7)", "mime.types(5)", "mime.convs(5)", "lp(1)", "lpr(1)", "lpstat(1)", "cancel(1)", "lpq(1)", "lprm(1)"}
-OTHERS |= {"systemctl(1)", "journalctl(1)", "date(1)", "cups(1)", "signal(7)", "unix(7)", "getent(1)", "id(1)", "timeout(1)"}
+OTHERS |= {"systemctl(1)", "journalctl(1)", "date(1)", "cups(1)", "signal(7)", "unix(7)", "getent(1)", "id(1)", "timeout(1)", "setpriv(1)", "systemd-sysusers(8)"}
 
 # The programs of a spool: for each its page and the sources with its options.
 SPOOLERS = {
     "spool_shell": ("spool_shell.8", ["spool_runtime/src/options.rt", "spool_runtime/src/words.rt"]),
-    "spool_service": ("spool_service.8", ["spool_runtime/src/options.rt", "spool_service/src/words.rt"]),
+    "spool_service": ("spool_service.8", ["spool_runtime/src/options.rt", "spool_service/src/words.rt", "spool_service/src/child_words.rt"]),
     "spool_admin": ("spool_admin.8", ["spool_admin/src/words.rt", "spool_admin/src/queue_words.rt"]),
 }
 FRONT = ("spool.1", "front_words/src")
@@ -152,20 +152,24 @@ def front():
     if not folder.is_dir():
         return
     code = "\n".join(source(it.relative_to(CRATES)) for it in sorted(folder.rglob("*.rt")))
-    said, completed = page(FRONT[0]), (HERE / "completions" / "spool.bash").read_text(encoding="utf-8")
+    said = page(FRONT[0])
+    completions = {name: (HERE / "completions" / name).read_text(encoding="utf-8") for name in ("spool.bash", "_spool", "spool.fish")}
     rows = source(f"{FRONT[1]}/tables.rt")
     long = set(re.findall(r'\b(?:Text|Flag|text_option)\(\s*(?:alloc,\s*)?"([a-z][a-z-]*)"', code))
+    of_programs = set(re.findall(r'\bFlag\(\s*"([a-z][a-z-]*)"', rows.split("pub static LP:")[-1]))
     short = set(re.findall(r"'(.)'", rows))
     tasks = set(re.findall(r'task == "([a-z]+)"', code)) | set(re.findall(r'"spool (?:queue )?([a-z]+)"', code))
     check(long and short and tasks, "the tasks and options of front_words cannot be read")
     for option in sorted(long):
         check(re.search(rf"Fl -{option}\b", said), f"{FRONT[0]} lacks --{option}")
-        check(f"--{option}" in completed, f"completions/spool.bash lacks --{option}")
+        for name, completed in completions.items() if option not in of_programs else ():
+            check(re.search(rf"(?:--|-l ){option}\b", completed), f"completions/{name} lacks --{option}")
     for letter in sorted(short):
         check(re.search(rf"^\.(?:It |Op |Fl )?.*\b(?:Fl )(?:\S , )?{re.escape(letter)}(?!\w)", said, re.MULTILINE), f"{FRONT[0]} lacks -{letter}")
     for task in sorted(tasks):
         check(re.search(rf"^\.It .*\b{task}\b", said, re.MULTILINE), f"{FRONT[0]} lacks the task {task}")
-        check(re.search(rf"\b{task}\b", completed), f"completions/spool.bash lacks {task}")
+        for name, completed in completions.items():
+            check(re.search(rf"\b{task}\b", completed), f"completions/{name} lacks {task}")
     program = "\n".join(source(it.relative_to(CRATES)) for it in sorted((CRATES / "spool_front" / "src").glob("*.rt")))
     for variable in sorted(set(re.findall(r'"([A-Z]{4,}(?:_[A-Z]+)?)"', program))):
         check(re.search(rf"\.It Ev (?:\w+ , )*{variable}\b", said), f"{FRONT[0]} lacks the variable {variable}")
