@@ -13,8 +13,11 @@ const CALLS_OF_OPEN: u64 = 4;
 // Returns whether areas with no more room than that of a reopening take its record, and no other.
 fn keeps_room(areas: &mut Areas<MemDisk>) -> bool {
     let mut reopen = [0, 0, 0, 0, 0x0F, 0];
-    areas.append(&mut reopen) == Err(JournalFault::Full)
+    areas.is_settled()
+        && areas.append(&mut reopen) == Err(JournalFault::Full)
+        && areas.is_settled()
         && areas.append_kept(&mut reopen) == Ok(21)
+        && areas.is_settled()
         && areas.append_kept(&mut reopen) == Err(JournalFault::Full)
         && !areas.is_dead()
 }
@@ -71,7 +74,7 @@ fn adds(areas: &mut Failing, byte: u8, place: u64) -> bool
     ensures base { areas.new.base ≡ 0 }
     ensures end { 99 ≤ areas.new.end }
 {
-    areas.append(&mut [0, 0, 0, 0, byte, 0]) == Ok(place)
+    areas.is_settled() && areas.append(&mut [0, 0, 0, 0, byte, 0]) == Ok(place)
 }
 
 // After each append the next read calls the device. A read of bytes that were read before takes no call. The read that fails ends
@@ -86,7 +89,7 @@ fn reads_on_in_one_block(rt: HostRuntime) -> Result<(), Fail> {
     assert!(rt; read_at(&mut areas, 27) == (Ok(()), 9));
     assert!(rt; read_at(&mut areas, 28) == (Ok(()), 0));
     assert!(rt; read_at(&mut areas, 21).0 == Err(ReadFault::Disk));
-    assert!(rt; areas.append(&mut [0; 6]) == Err(JournalFault::Dead));
+    assert!(rt; areas.is_settled() && areas.append(&mut [0; 6]) == Err(JournalFault::Dead));
     assert!(rt; areas.is_dead());
     Ok(())
 }
@@ -97,7 +100,9 @@ fn dies(areas: &mut Failing) -> bool
     requires end { 99 ≤ areas.old.end }
 {
     let mut frame = [0; 6];
-    areas.append(&mut frame) == Err(JournalFault::Disk)
+    areas.is_settled()
+        && areas.append(&mut frame) == Err(JournalFault::Disk)
+        && areas.is_settled()
         && areas.append(&mut frame) == Err(JournalFault::Dead)
         && areas.append_kept(&mut frame) == Err(JournalFault::Dead)
         && areas.is_dead()

@@ -13,7 +13,7 @@ const CALLS_OF_OPEN: u64 = 5;
 
 // Adds a payload to the current area. Returns the place where it begins, or 0.
 fn append(areas: &mut Areas<MemDisk>, frame: &mut [u8]) -> u64 {
-    if frame.len() < 5 || 100_000 < frame.len() {
+    if frame.len() < 5 || 100_000 < frame.len() || !areas.is_settled() {
         return 0;
     }
     areas.append(frame).unwrap_or(0)

@@ -1,7 +1,7 @@
 //! The journal of an area, and the window that reads it.
-ghost use Rattle.std.specs.Prelude.{◌≤◌};
+ghost use Rattle.std.specs.Prelude.{◌≡◌, ◌≤◌, None};
 ghost use Rattle.gate_journal.specs.Window.{Holds};
-ghost use Rattle.gate_journal.specs.Journal.{end_of};
+ghost use Rattle.gate_journal.specs.Journal.{end_of, held_of};
 
 use crate::spools::have_at;
 use gate_journal::{Found, Journal, JournalFault, Window, next_entry};
@@ -29,7 +29,9 @@ fn takes_five<D: Disk>(journal: &mut Journal, disk: &mut D) -> bool
     requires { end_of journal.old ≤ D.device.size disk.old }
     ensures { end_of journal.new ≤ D.device.size disk.new }
 {
-    journal.append(disk, &mut frame_of_five()) == Ok(5)
+    journal.is_settled()
+        && journal.append(disk, &mut frame_of_five()) == Ok(5)
+        && journal.is_settled()
         && journal.append(disk, &mut [0; 5]) == Err(JournalFault::Full)
 }
 
@@ -37,7 +39,9 @@ fn takes_five<D: Disk>(journal: &mut Journal, disk: &mut D) -> bool
 fn takes_one<D: Disk>(journal: &mut Journal, disk: &mut D) -> bool
     requires { end_of journal.old ≤ D.device.size disk.old }
 {
-    journal.append_kept(disk, &mut frame_of_one()) == Ok(15)
+    journal.is_settled()
+        && journal.append_kept(disk, &mut frame_of_one()) == Ok(15)
+        && journal.is_settled()
         && journal.append_kept(disk, &mut frame_of_one()) == Err(JournalFault::Full)
 }
 
@@ -59,7 +63,8 @@ fn twice<D: Disk>(
     journal: &mut Journal,
     disk: &mut D,
 ) -> (Result<u64, JournalFault>, Result<u64, JournalFault>, bool)
-    requires { end_of journal.old ≤ D.device.size disk.old }
+    requires within { end_of journal.old ≤ D.device.size disk.old }
+    requires settled { held_of journal.old ≡ None }
 {
     let first = journal.append(disk, &mut frame_of_five());
     let second = journal.append(disk, &mut frame_of_five());
@@ -86,6 +91,93 @@ fn append_takes_four_device_calls(rt: HostRuntime) -> Result<(), Fail> {
         assert!(rt; twice_after(rt.alloc(), calls)? == stopped);
     }
     assert!(rt; twice_after(rt.alloc(), 4)? == (Ok(5), Err(JournalFault::Full), true));
+    Ok(())
+}
+
+// The bytes of an area of 24 bytes in which these two payloads are staged. Only the first gate is closed.
+const TWO_STAGED: [u8; 24] = [
+    0, 0, 0, 0, 5, 0x0A, 0, 0, 0, 1, 0xA5, 0, 0, 0, 1, 0x0F, 0, 0, 0, 0, 0, 0, 0, 0,
+];
+
+// Returns the results of staging two payloads and settling them, and of settling again.
+fn staged<D: Disk>(
+    journal: &mut Journal,
+    disk: &mut D,
+) -> (
+    Result<u64, JournalFault>,
+    Result<u64, JournalFault>,
+    Result<(), JournalFault>,
+    Result<(), JournalFault>,
+)
+    requires { end_of journal.old ≤ D.device.size disk.old }
+{
+    let first = journal.stage(disk, &mut frame_of_five());
+    let second = journal.stage(disk, &mut frame_of_one());
+    let settled = journal.settle(disk);
+    (first, second, settled, journal.settle(disk))
+}
+
+// Does the same on a device that fails after `calls` calls from the beginning of the journal on.
+fn staged_after(
+    alloc: Global,
+    calls: u64,
+) -> Result<
+    (
+        Result<u64, JournalFault>,
+        Result<u64, JournalFault>,
+        Result<(), JournalFault>,
+        Result<(), JournalFault>,
+    ),
+    Fail,
+> {
+    let mut disk = MemDisk::new(alloc, 24)?;
+    match Journal::begin(&mut disk, 0, 24) {
+        Ok(mut journal) => Ok(staged(&mut journal, &mut FuseDisk::new(disk, calls))),
+        Err(_) => Err(Fail::from("begin")),
+    }
+}
+
+// The first record takes one call, a later one two, and a settle three, or none if nothing is staged.
+#[test]
+fn two_staged_records_take_six_device_calls(rt: HostRuntime) -> Result<(), Fail> {
+    let disk = Err(JournalFault::Disk);
+    let dead = Err(JournalFault::Dead);
+    assert!(rt;
+        staged_after(rt.alloc(), 0)?
+            == (Err(JournalFault::Disk), Err(JournalFault::Dead), dead, dead)
+    );
+    for calls in 1..3 {
+        assert!(rt;
+            staged_after(rt.alloc(), calls)? == (Ok(5), Err(JournalFault::Disk), dead, dead)
+        );
+    }
+    for calls in 3..6 {
+        assert!(rt; staged_after(rt.alloc(), calls)? == (Ok(5), Ok(15), disk, dead));
+    }
+    assert!(rt; staged_after(rt.alloc(), 6)? == (Ok(5), Ok(15), Ok(()), Ok(())));
+    Ok(())
+}
+
+// Returns whether two payloads are staged.
+fn stages_two<D: Disk>(journal: &mut Journal, disk: &mut D) -> bool
+    requires { end_of journal.old ≤ D.device.size disk.old }
+    ensures { end_of journal.new ≤ D.device.size disk.new }
+{
+    journal.stage(disk, &mut frame_of_five()) == Ok(5)
+        && journal.stage(disk, &mut frame_of_one()) == Ok(15)
+        && !journal.is_settled()
+}
+
+#[test]
+fn staged_records_have_one_closed_gate(rt: HostRuntime) -> Result<(), Fail> {
+    let mut disk = MemDisk::new(rt.alloc(), 24)?;
+    let Ok(mut journal) = Journal::begin(&mut disk, 0, 24) else {
+        return Err(Fail::from("begin"));
+    };
+    assert!(rt; stages_two(&mut journal, &mut disk));
+    assert!(rt; disk.bytes() == TWO_STAGED.as_slice());
+    assert!(rt; journal.settle(&mut disk) == Ok(()) && journal.is_settled());
+    assert!(rt; have_at(disk.bytes(), 0, &TWO_ENTRIES));
     Ok(())
 }
 

@@ -164,7 +164,7 @@ fn each_device_call_of_an_opening_may_fail(rt: HostRuntime) -> Result<(), Fail> 
 // Returns whether 12,000 records of one byte are added.
 fn add_many(areas: &mut Areas<MemDisk>) -> bool {
     for _ in 0..12_000 {
-        if areas.append(&mut [0, 0, 0, 0, 7, 0]).is_err() {
+        if !areas.is_settled() || areas.append(&mut [0, 0, 0, 0, 7, 0]).is_err() {
             return false;
         }
     }

@@ -21,7 +21,7 @@ bytes_are bytes x =
     let len : x.place + x.len - x.place ≡ x.len = omega arith in
     ap (λ (n : ℕ). take n (drop x.place bytes)) len
 
-kept_one : (low high at n : ℕ) (x : Extent) (old new : List ℕ) → low ≤ x.place → x.place + x.len ≤ high → (high ≤ at) ⊎ (at + n ≤ low) → SameOutside at n old new → bytes_of new x ≡ bytes_of old x
+pub kept_one : (low high at n : ℕ) (x : Extent) (old new : List ℕ) → low ≤ x.place → x.place + x.len ≤ high → (high ≤ at) ⊎ (at + n ≤ low) → SameOutside at n old new → bytes_of new x ≡ bytes_of old x
 kept_one low high at n x old new from to (inl before) same =
     let e : take (x.place + x.len) new ≡ take (x.place + x.len) old =
     sym (take-take (x.place + x.len) at new (omega arith)) ∙ ap (take (x.place + x.len)) same.before ∙ take-take (x.place + x.len) at old (omega arith) in

@@ -3,6 +3,7 @@ ghost use Rattle.std.specs.Prelude.{◌≡◌, ◌<◌, ◌≤◌, ◌+◌, ◌^
 ghost use Rattle.spool_disk.specs.Disk.{Blames, ChangesNothing};
 ghost use Rattle.spool_areas.specs.Header.{header_len};
 ghost use Rattle.spool_areas.specs.Current.{KeepsPayloads};
+ghost use Rattle.spool_areas.specs.AreaStages.{KeepsStagedPayloads};
 ghost use Rattle.extents.specs.Extents.{size_of};
 ghost use Rattle.documents.specs.Documents.{joined, LieIn};
 
@@ -33,8 +34,10 @@ pub fn read_joined<D: Disk>(
 
     // A read changes nothing, and a crash meanwhile leaves only images that were possible before it.
     ensures same { (areas.new.base ≡ areas.old.base) × (areas.new.end ≡ areas.old.end) × (areas.new.epoch ≡ areas.old.epoch) × (areas.new.gate ≡ areas.old.gate) × (areas.new.version ≡ areas.old.version) }
+    ensures held { areas.new.held ≡ areas.old.held }
     ensures still { ChangesNothing D.device areas.old.disk areas.new.disk }
     ensures keeps { (payloads : List (List ℕ)) → KeepsPayloads D.device areas.old payloads → KeepsPayloads D.device areas.new payloads }
+    ensures staged { (payloads staged : List (List ℕ)) → KeepsStagedPayloads D.device areas.old payloads staged → KeepsStagedPayloads D.device areas.new payloads staged }
 {
     if areas.is_dead() {
         return Err(ReadFault::Dead);

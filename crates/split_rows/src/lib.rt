@@ -18,6 +18,7 @@
 //! # Not proved
 //!
 //! - That the rows of a half are all added: `spool_halves` reads them back and compares them instead.
+//! - That [`begin`] and the calls of a [`Writing`] succeed: a body that always returns [`HalfFault::Disk`] meets their clauses.
 //!
 //! # How rows are written
 //!

@@ -143,7 +143,7 @@ module _ {D : Type 0} (v : DiskView D) (lawful : IsLawful v) (room : ℕ) (some 
   new = record { disk = after; base = old.base; len = old.len; epoch = old.epoch; version = old.version; journal = journal; dead = dead; window = window }
 
   old_state : state_of old.journal ≡ journal_of (current_of old)
-  old_state = λ i. record { base = inv.journal i; end = old.journal.end; place = old.journal.place; dead = (inv.alive alive ∙ sym alive) i }
+  old_state = λ i. record { base = inv.journal i; end = old.journal.end; place = old.journal.place; held = old.journal.held; dead = (inv.alive alive ∙ sym alive) i }
 
   new_dead : journal.dead ≡ dead
   new_dead = same_test journal.dead dead
@@ -151,7 +151,7 @@ module _ {D : Type 0} (v : DiskView D) (lawful : IsLawful v) (room : ℕ) (some 
       (λ is. step.dies.1 (inr (dies.0 is)))
 
   new_state : state_of journal ≡ journal_of (current_of new)
-  new_state = λ i. record { base = (step.same.0 ∙ inv.journal) i; end = journal.end; place = journal.place; dead = new_dead i }
+  new_state = λ i. record { base = (step.same.0 ∙ inv.journal) i; end = journal.end; place = journal.place; held = journal.held; dead = new_dead i }
 
   fits : (IsErrOf result Full → ⊥) → old.journal.place + length frame < old.journal.end
   fits not_full = ⊎_elim (λ short. absurd (not_full (step.full.1 (inv.alive alive, short)))) (λ enough. omega (arith, enough, some)) (cases_lt old.journal.end (old.journal.place + length frame + room))
@@ -164,8 +164,9 @@ module _ {D : Type 0} (v : DiskView D) (lawful : IsLawful v) (room : ℕ) (some 
         let same = step.untouched why in
         let place = ap (λ s. s.place) same.0 in
         let end = ap (λ s. s.end) same.0 in
+        let held = ap (λ s. s.held) same.0 in
         let still : dead ≡ old.dead = sym new_dead ∙ ap (λ s. s.dead) same.0 ∙ inv.alive alive ∙ sym alive in
-        (λ i. record { disk = same.1 i; base = old.base; end = end i; epoch = old.epoch; version = old.version; gate = place i; dead = still i });
+        (λ i. record { disk = same.1 i; base = old.base; end = end i; epoch = old.epoch; version = old.version; gate = place i; held = held i; dead = still i });
     same = (refl, step.same.1, refl, refl);
     added = both_ok result step.durable (ok_not _ result Full step.added) (λ synced both payloads keeps.
         added v lawful (current_of old) old.journal.base payloads inv.journal inv.area.end_is keeps frame whole
@@ -193,6 +194,7 @@ refused v lawful room old frame dead = record {
     same = (refl, refl);
     place = tt;
     held = refl;
+    none = refl;
     payload = refl;
     framed = tt;
     written = tt;

@@ -1,11 +1,11 @@
 -- The areas of an opened spool as their callers see them.
-use Rattle.std.specs.Prelude.{◌≡◌, ℕ, List, Bool, IsSome}
+use Rattle.std.specs.Prelude.{◌≡◌, ℕ, List, Bool, Option, IsSome}
 use Rattle.spool_disk.specs.Disk.{DiskView, IsSynced}
 use Rattle.spool_areas.specs.Header.{header_at, epoch_of, version_of}
 use Rattle.spool_areas.specs.Payloads.{HasPayloads, gate_after}
 
--- The disk, the base and end of the current area, its epoch, its version, the place of its closed gate, and whether the
--- device has failed.
+-- The disk, the base and end of the current area, its epoch, its version, the place of its next record, the closed gate in
+-- front of the staged records, if there are any, and whether the device has failed.
 pub record Current (D : Type 0) : Type 0 where
   pub disk : D
   pub base : ℕ
@@ -13,6 +13,7 @@ pub record Current (D : Type 0) : Type 0 where
   pub epoch : ℕ
   pub version : ℕ
   pub gate : ℕ
+  pub held : Option ℕ
   pub dead : Bool
 
 -- The disk reports its bytes and nothing is unsynced. The current area of each of its images has this epoch and version

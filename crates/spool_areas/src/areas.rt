@@ -1,11 +1,12 @@
 //! The areas of an opened spool.
-ghost use Rattle.std.specs.Prelude.{◌≡◌, ◌≢◌, ◌<◌, ◌≤◌, ◌+◌, ◌-◌, ◌^◌, ◌↔◌, ◌⊎◌, [], List, ℕ, false, length, Err, OnOk, OnErr, IsErrOf, IsTrue};
+ghost use Rattle.std.specs.Prelude.{◌≡◌, ◌≢◌, ◌<◌, ◌≤◌, ◌+◌, ◌-◌, ◌^◌, ◌↔◌, ◌⊎◌, [], List, ℕ, false, None, length, Err, OnOk, OnErr, IsErrOf, IsTrue};
 ghost use Rattle.spool_disk.specs.Disk.{Blames, Reads, IsSynced, ChangesNothing, ChangesOnly};
 ghost use Rattle.gate_journal.specs.Appends.{kept_room};
 ghost use Rattle.gate_journal.specs.Window.{Holds};
 ghost use Rattle.spool_areas.specs.Header.{header_len, IsVersion};
 ghost use Rattle.spool_areas.specs.AreaFields.{IsArea};
 ghost use Rattle.spool_areas.specs.AreaAppends.{AreaAppends};
+ghost use Rattle.spool_areas.specs.AreaStages.{KeepsStagedPayloads, AreaStages, AreaSettles, AreSettled};
 ghost use Rattle.spool_areas.specs.Current.{KeepsPayloads};
 ghost use Rattle.spool_areas.specs.Checkpoint.{plan_of};
 
@@ -62,7 +63,7 @@ impl<D: Disk> Areas<D> {
         requires known { IsVersion version }
         requires header { base + header_len ≤ gate }
         requires inside { gate < end }
-        ensures { result ≡ record { disk = disk; base = base; end = end; epoch = epoch; version = version; gate = gate; dead = false } }
+        ensures { result ≡ record { disk = disk; base = base; end = end; epoch = epoch; version = version; gate = gate; held = None; dead = false } }
     {
         let first = base + HEADER_LEN;
         Areas {
@@ -77,12 +78,14 @@ impl<D: Disk> Areas<D> {
         }
     }
 
-    /// Adds the payload of a frame to the current area, and returns the payload's place on the device.
+    /// Adds the payload of a frame to the current area, and returns the payload's place on the device. Nothing may be
+    /// staged, unless the device has failed.
     ///
     /// A frame is four free bytes, the payload, which may be empty, and one free byte. The call fails with `Full`
     /// exactly if the record and the 7 bytes reserved after it, room for one record of one byte and its next gate,
     /// would exceed the area.
     pub fn append(&mut self, frame: &mut [u8]) -> Result<u64, JournalFault>
+        requires none { AreSettled self.old }
         requires whole { 5 ≤ length frame.old }
         requires short { length frame.old < 2 ^ 32 }
         ensures { AreaAppends D.device kept_room self.old self.new frame.old frame.new result }
@@ -99,6 +102,7 @@ impl<D: Disk> Areas<D> {
     /// Does the same, using the room that `append` reserves. It fails with `Full` exactly if the record and its next
     /// gate would exceed the area.
     pub fn append_kept(&mut self, frame: &mut [u8]) -> Result<u64, JournalFault>
+        requires none { AreSettled self.old }
         requires whole { 5 ≤ length frame.old }
         requires short { length frame.old < 2 ^ 32 }
         ensures { AreaAppends D.device 1 self.old self.new frame.old frame.new result }
@@ -110,6 +114,46 @@ impl<D: Disk> Areas<D> {
         let added = self.journal.append_kept(&mut self.disk, frame);
         self.dead = added == Err(JournalFault::Disk);
         added
+    }
+
+    /// Stages the payload of a frame: writes its record after the records of the current area, without a sync. No image
+    /// has it before `settle`. Frames, the place that it returns, `Full` and `Dead` are as in `append`.
+    pub fn stage(&mut self, frame: &mut [u8]) -> Result<u64, JournalFault>
+        requires whole { 5 ≤ length frame.old }
+        requires short { length frame.old < 2 ^ 32 }
+        ensures { AreaStages D.device kept_room self.old self.new frame.old frame.new result }
+    {
+        if self.dead {
+            return Err(JournalFault::Dead);
+        }
+        self.window.clear();
+        let staged = self.journal.stage(&mut self.disk, frame);
+        self.dead = staged == Err(JournalFault::Disk);
+        staged
+    }
+
+    /// Makes all staged payloads durable together, with two syncs. If nothing is staged, it calls no device.
+    pub fn settle(&mut self) -> Result<(), JournalFault>
+        ensures { AreaSettles D.device self.old self.new result }
+    {
+        if self.dead {
+            return Err(JournalFault::Dead);
+        }
+        self.window.clear();
+        match self.journal.settle(&mut self.disk) {
+            Ok(()) => Ok(()),
+            Err(fault) => {
+                self.dead = fault == JournalFault::Disk;
+                Err(fault)
+            }
+        }
+    }
+
+    /// Returns whether nothing is staged or the device has failed.
+    pub fn is_settled(&self) -> bool
+        ensures { IsTrue result ↔ AreSettled self.now }
+    {
+        self.dead || self.journal.is_settled()
     }
 
     /// Returns the first gate of the other area, so that the places of rows with payloads of these lengths are known
@@ -153,8 +197,10 @@ impl<D: Disk> Areas<D> {
         ensures dies { IsTrue self.new.dead ↔ (IsTrue self.old.dead ⊎ IsErrOf result ReadFault.Disk) }
         ensures untouched { IsErrOf result ReadFault.Dead → self.new ≡ self.old }
         ensures same { (self.new.base ≡ self.old.base) × (self.new.end ≡ self.old.end) × (self.new.epoch ≡ self.old.epoch) × (self.new.gate ≡ self.old.gate) × (self.new.version ≡ self.old.version) }
+        ensures held { self.new.held ≡ self.old.held }
         ensures still { ChangesNothing D.device self.old.disk self.new.disk }
         ensures keeps { (payloads : List (List ℕ)) → KeepsPayloads D.device self.old payloads → KeepsPayloads D.device self.new payloads }
+        ensures staged { (payloads staged : List (List ℕ)) → KeepsStagedPayloads D.device self.old payloads staged → KeepsStagedPayloads D.device self.new payloads staged }
     {
         if self.dead {
             return Err(ReadFault::Dead);

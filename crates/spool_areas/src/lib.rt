@@ -32,7 +32,14 @@
 //! - [`Areas::append`] and [`Areas::append_kept`] add one payload, if every image at their start has the old payloads and no
 //!   others (`KeepsPayloads`). After Ok every image has the old payloads and this one (`added`), and nothing is unsynced
 //!   (`durable`). A crash at any moment of the call leaves the old payloads, or these and this one (`any_moment`,
-//!   `HasBeforeOrAfter`), whatever the call returns. The version, the base and the epoch do not change.
+//!   `HasBeforeOrAfter`), whatever the call returns. The version, the base and the epoch do not change. Nothing may be staged,
+//!   unless the areas are dead (`AreSettled`).
+//! - [`Areas::stage`] stages one payload without a sync. No image has it before [`Areas::settle`], which makes all staged
+//!   payloads durable with two syncs (`AreaStages`, `AreaSettles`). If every image has the old payloads and the staged ones are
+//!   written after them (`KeepsStagedPayloads`), a stage adds one to these (`staged`), and a crash during it leaves the old
+//!   payloads (`any_moment`). After `Ok` of a settle every image has the old payloads and the staged ones (`settled`). A crash
+//!   during it leaves the old payloads, or these and all staged ones (`any_moment`, `HasBeforeOrAll`). [`Areas::is_settled`]
+//!   returns whether nothing is staged or the areas are dead.
 //! - A checkpoint writes rows into the other area and makes it current, in steps, so that the caller need not have all rows in
 //!   memory. [`Areas::plan`] returns from the lengths of the rows where they will be, or the error, and [`Areas::plan_by_sum`]
 //!   does so from the sum of the records' lengths (`exact`, `fits`). [`Areas::begin`] closes the header of the other area and
@@ -44,7 +51,7 @@
 //!   these, or the rows in version 2, whatever the steps return (`any_moment`). The bytes of the old area do not change
 //!   (`changes`).
 //! - [`Areas::read_extent`] reads bytes of the current area after its header (`behind`, `inside`), and returns what the disk
-//!   reports (`data`). It changes nothing (`keeps`).
+//!   reports (`data`). It changes nothing (`keeps`, `staged`).
 //!
 //! # Not proved
 //!

@@ -5,7 +5,7 @@ use Rattle.job_table.specs.Over.{is_over}
 use Rattle.spool_disk.specs.Disk.{DiskView}
 use Rattle.spool_core.specs.Image.{HasDocument}
 use Rattle.spool_core.specs.DocumentReading.{IsPart}
-use Rattle.spool_core.specs.OpenSpools.{OpenSpool, len_at}
+use Rattle.spool_core.specs.OpenSpools.{OpenSpool, len_at, shown_bytes}
 
 module _ {D : Type 0} (v : DiskView D) (s : OpenSpool D) (j at n : ℕ) (part : List ℕ) (held : length part ≡ n) (inside : at + n ≤ len_at s.state j) where
   -- If the disk does not show its bytes, any list with these bytes will do.
@@ -15,7 +15,7 @@ module _ {D : Type 0} (v : DiskView D) (s : OpenSpool D) (j at n : ℕ) (part : 
   abbrev padded : List ℕ
   padded = replicate at 0 ++ (part ++ padding)
 
-  pub untold_part : v.bytes s.disk ≡ None → IsPart v s j at n part
+  pub untold_part : shown_bytes v s ≡ None → IsPart v s j at n part
   untold_part none = record {
     document = padded;
     is = record {
@@ -26,7 +26,7 @@ module _ {D : Type 0} (v : DiskView D) (s : OpenSpool D) (j at n : ℕ) (part : 
   }
 
   -- If it shows them, it is the one document that they contain for the job.
-  pub told_part : (r whole : List ℕ) → v.bytes s.disk ≡ Some r → length whole ≡ len_at s.state j
+  pub told_part : (r whole : List ℕ) → shown_bytes v s ≡ Some r → length whole ≡ len_at s.state j
       → ((document : List ℕ) → HasDocument j document r → is_over s.state j ≡ false → document ≡ whole) → part ≡ take n (drop at whole) → IsPart v s j at n part
   told_part r whole told long holds is = record {
     document = whole;

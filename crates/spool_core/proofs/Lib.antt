@@ -1,6 +1,7 @@
 pub mod HistoryLaws
 pub mod ImageLaws
 pub mod ReadingLaws
+pub mod BatchLaws
 pub mod DocumentLaws
 pub mod IdleLaws
 pub mod ReadOn

@@ -3,7 +3,7 @@ use Rattle.std.specs.Prelude.{◌≡◌, ◌↔◌, ◌⊎◌, ℕ, false, List,
 use Rattle.spool_disk.specs.Disk.{DiskView, Blames, ChangesNothing}
 use Rattle.job_table.specs.Over.{is_over}
 use Rattle.spool_core.specs.Image.{HasDocument}
-use Rattle.spool_core.specs.OpenSpools.{OpenSpool, len_at}
+use Rattle.spool_core.specs.OpenSpools.{OpenSpool, len_at, shown_bytes}
 use Rattle.spool_core.specs.declared.reading.Unread.{Unread}
 use Rattle.spool_core.specs.declared.reading.Unread.TheVariants.{Memory, Disk}
 
@@ -12,15 +12,16 @@ pub record IsReading {D : Type 0} (device : DiskView D) (old : OpenSpool D) (Bro
   pub state : new.state ≡ old.state
   pub room : new.room ≡ old.room
   pub epoch : new.epoch ≡ old.epoch
+  pub held : new.held ≡ old.held
   pub disk : ChangesNothing device old.disk new.disk
   pub blames : Blames (device.failures old.disk) (device.failures new.disk) Broken
   pub dies : IsTrue new.dead ↔ (IsTrue old.dead ⊎ Broken)
 
 -- A job's document. It is as long as the table states. If the disk shows its bytes, it is the document that they contain for the
--- job, unless the job has ended.
+-- job, with the staged events, unless the job has ended.
 pub record IsDocument {D : Type 0} (device : DiskView D) (spool : OpenSpool D) (j : ℕ) (document : List ℕ) : Type 0 where
   pub long : length document ≡ len_at spool.state j
-  pub own : is_over spool.state j ≡ false → (bytes kept : List ℕ) → device.bytes spool.disk ≡ Some bytes → HasDocument j kept bytes → document ≡ kept
+  pub own : is_over spool.state j ≡ false → (bytes kept : List ℕ) → shown_bytes device spool ≡ Some bytes → HasDocument j kept bytes → document ≡ kept
 
 -- `count` bytes of a job's document, from offset `at` on.
 pub record IsPart {D : Type 0} (device : DiskView D) (spool : OpenSpool D) (j at count : ℕ) (part : List ℕ) : Type 0 where

@@ -187,4 +187,5 @@ pub record IsRead {D : Type 0} (v : DiskView D) (old new : Current D) : Type 0 w
   pub epoch : new.epoch ≡ old.epoch
   pub version : new.version ≡ old.version
   pub gate : new.gate ≡ old.gate
+  pub held : new.held ≡ old.held
   pub disk : ChangesNothing v old.disk new.disk

@@ -1,3 +1,4 @@
+pub mod Batch
 pub mod VersionNumbers
 pub mod History
 pub mod Image

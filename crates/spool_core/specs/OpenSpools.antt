@@ -11,17 +11,27 @@ use Rattle.job_table.specs.Step.{refusal_of, step}
 use Rattle.event_codec.specs.Spelling.{spelling, IsSpellable}
 use Rattle.gate_journal.specs.Appends.{kept_room}
 use Rattle.gate_journal.specs.Frame.{payload_of}
+use Rattle.gate_journal.specs.Staged.{shown}
 use Rattle.spool_core.specs.declared.spool.apply_fault.ApplyFault.{ApplyFault}
 use Rattle.spool_core.specs.declared.spool.apply_fault.ApplyFault.TheVariants.{Dead, Refused, Memory, Full, Disk}
 
--- The disk, the table, the number of bytes from the closed gate to the end of the area, the area's epoch, and whether the device
--- has failed.
+-- The disk, the table, the number of bytes from the place of the next record to the end of the area, the area's epoch, the closed
+-- gate in front of the staged events, if there are any, and whether the device has failed.
 pub record OpenSpool (D : Type 0) : Type 0 where
   pub disk : D
   pub state : State
   pub room : ℕ
   pub epoch : ℕ
+  pub held : Option ℕ
   pub dead : Bool
+
+-- Nothing is staged, or the device has failed.
+abbrev pub IsSettled : {D : Type 0} → OpenSpool D → Type 0
+IsSettled spool = spool.dead ≡ false → spool.held ≡ None
+
+-- The bytes that the disk reports, with the held gate open. They contain the staged events too.
+abbrev pub shown_bytes : {D : Type 0} → DiskView D → OpenSpool D → Option (List ℕ)
+shown_bytes v spool = shown spool.held (v.bytes spool.disk)
 
 -- The length in bytes of this event's record.
 abbrev pub record_len : Event → ℕ

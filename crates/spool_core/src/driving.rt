@@ -11,7 +11,7 @@ ghost use Rattle.job_table.specs.EventFold.{after_all, accepted};
 ghost use Rattle.job_table.specs.Ended.{HasEndedJob, IsKeptOrPurged, subject};
 ghost use Rattle.job_table.specs.Over.{HasOver, late_refusal};
 ghost use Rattle.spool_core.specs.Image.{HasTable, HasDocuments, HasBeforeOrAfterEvent, HasWholeBeforeOrAfterEvent, documents_after_one};
-ghost use Rattle.spool_core.specs.OpenSpools.{IsFull};
+ghost use Rattle.spool_core.specs.OpenSpools.{IsFull, IsSettled};
 ghost use Rattle.spool_core.specs.Driving.{replies_to, reach, room_after, HasPrefixTable, HasWholePrefix, IsEnding, IsAcknowledged, IsAcknowledgedWhole, KeepsImages, LeavesDocuments, IsOutcome};
 ghost use Rattle.spool_core.specs.RunEvents.{DrivesOne};
 
@@ -46,6 +46,8 @@ pub struct Driven {
 
 // Applies one event. A refusal counts as an answer; any other fault ends the run.
 fn drive_one<D: Disk>(spool: &mut Spool<D>, event: Event) -> Result<Result<Reply, Refusal>, Ending>
+    requires settled { IsSettled spool.old }
+    ensures settled { IsSettled spool.new }
     ensures driven { DrivesOne D.device spool.old event result spool.new }
     ensures blames { Blames (D.device.failures spool.old.disk) (D.device.failures spool.new.disk) (IsErrOf result Ending.Disk) }
     ensures fixed { D.device.size spool.new.disk ≡ D.device.size spool.old.disk }
@@ -70,6 +72,7 @@ fn drive_one<D: Disk>(spool: &mut Spool<D>, event: Event) -> Result<Result<Reply
 
 // States the images of a spool before any event is applied.
 fn look<D: Disk>(spool: &Spool<D>)
+    requires settled { IsSettled spool.now }
     ensures kept { spool.now.dead ≡ false → IsSome (D.device.bytes spool.now.disk) → KeepsImages D.device spool.now }
     ensures synced { spool.now.dead ≡ false → IsSynced D.device spool.now.disk }
 {
@@ -86,7 +89,9 @@ fn is_over<D: Disk>(spool: &Spool<D>, events: &Vec<Event>) -> bool
 
 // Applies the events up to the end of the run. Reserves room for each reply before its event is applied.
 fn drive_all<D: Disk>(alloc: Global, spool: &mut Spool<D>, events: Vec<Event>) -> Driven
-    ensures { IsOutcome D.device spool.old events.items result.replies.items result.ending spool.new }
+    requires settled { IsSettled spool.old }
+    ensures outcome { IsOutcome D.device spool.old events.items result.replies.items result.ending spool.new }
+    ensures settled { IsSettled spool.new }
 {
     let mut replies = Vec::new(alloc);
     look(spool);
@@ -110,8 +115,12 @@ fn drive_all<D: Disk>(alloc: Global, spool: &mut Spool<D>, events: Vec<Event>) -
     Driven { replies, ending }
 }
 
-/// Applies the events in order, and continues after a refusal. Stops at the first event that is not answered.
+/// Applies the events in order, and continues after a refusal. Stops at the first event that is not answered. Nothing may be staged,
+/// unless the device has failed.
 pub fn drive<D: Disk>(alloc: Global, spool: &mut Spool<D>, events: Vec<Event>) -> Driven
+    requires settled { IsSettled spool.old }
+    ensures settled { IsSettled spool.new }
+
     // The replies, and the table after the answered events.
     ensures replies { result.replies.items ≡ replies_to spool.old.state (take (length result.replies.items) events.items) }
     ensures table { spool.new.state ≡ after_all spool.old.state (take (length result.replies.items) events.items) }

@@ -2,7 +2,8 @@
 //!
 //! [`make`] makes a disk a spool, once, and [`Spool::open`] opens it at each start. A [`Spool`] owns the disk and keeps the table
 //! in memory. [`Spool::apply`] writes an event to the disk before it changes the table, and acknowledges the event only when a
-//! crash can no longer lose it. Documents are stored only on the disk; [`Spool::read_document`] reads them from there.
+//! crash can no longer lose it. [`Spool::stage`] does so without a sync, and [`Spool::settle`] makes all staged events durable
+//! together. Documents are stored only on the disk; [`Spool::read_document`] reads them from there.
 //!
 //! # The table of a disk
 //!
@@ -24,7 +25,9 @@
 //! 5. The version in the header of the area determines how its payloads are read (`number_of`). `HasTable` and the invariant of a
 //!    spool ensure that the table and its area have the same version.
 //!
-//! Callers see an open spool as its disk, table, room, epoch, and whether its device has failed (`OpenSpool`).
+//! Callers see an open spool as its disk, table, room, epoch, the gate in front of its staged events, and whether its device has
+//! failed (`OpenSpool`). The table shown has the staged events; the images do not have them yet. `shown_bytes` are the bytes of the
+//! disk with that gate open: they have the table shown, with its documents.
 //!
 //! # Promises
 //!
@@ -40,11 +43,19 @@
 //!   or the one after it, whatever the call returns (`any_moment`). The documents are those from before the event, or those with
 //!   the part that it sends (`documents`). After `Ok` every image has the table after the event and the part that was sent
 //!   (`kept`, `sent`), nothing is unsynced (`durable`), and the table shown and the reply are those of the event (`answer`).
-//!   Between calls each image has the table that [`Spool::table`] shows (`kept`, `synced`).
+//!   Between calls each image has the table that [`Spool::table`] shows (`kept`, `synced`), unless events are staged. Nothing may
+//!   be staged when `apply`, [`Spool::checkpoint`] or [`drive`] is called, unless the spool is dead (`settled`, `IsSettled`).
+//!   Each of them leaves it so, and [`Spool::is_settled`] tests it.
+//! - *CrashSafeApply* for many events: whatever it returns, a crash at any moment of [`Spool::stage`] leaves the table and the
+//!   documents that a crash before it leaves (`any_moment`, `documents`). Its results are those of `apply` (`answer`), and the
+//!   documents shown have the part that the event sends (`sent`). A crash at any moment of [`Spool::settle`] leaves the table
+//!   without the staged events or the one with all of them, each with its documents (`any_moment`, `documents`). After `Ok` every
+//!   image has the table shown, with its documents, and nothing is unsynced (`kept`, `sent`, `durable`).
 //! - *RightDocument*: [`Spool::read_document`] returns the bytes, from an offset on, of the document that the disk's bytes
-//!   contain for the job (`data`). The document is as long as the table states, unless the job has ended (`long`, `part`).
-//!   [`read_whole`] returns all of it, [`read_front`] its first bytes. The call changes neither the table nor the images (`same`,
-//!   `still`). It returns `Dead` exactly if the spool is dead (`dead`), and `Disk` only if the device failed (`blames`).
+//!   contain for the job, also in staged events (`data`). The document is as long as the table states, unless the job has ended
+//!   (`long`, `part`). [`read_whole`] returns all of it, [`read_front`] its first bytes. The call changes neither the table nor the
+//!   images (`same`, `still`). It returns `Dead` exactly if the spool is dead (`dead`), and `Disk` only if the device failed
+//!   (`blames`).
 //! - *CrashSafeCheckpoint*: unless the spool is dead, a crash at any moment of [`Spool::checkpoint`] leaves the table in its
 //!   version or in version 2, with its documents, whatever the call returns (`any_moment`, `documents`), and the table shown does
 //!   not change (`answer`). After `Ok` every image contains only the rows of the table's listing and no event, in version 2, with
@@ -117,6 +128,10 @@
 //! After a device failure it is unknown whether the event is on the device: the table does not change and the spool is dead,
 //! because the next record might follow an event that the table does not have. A failed read makes the spool dead as well.
 //!
+//! `stage` does the same without a sync: the record of the first staged event has a closed gate, and those of later ones have open
+//! gates, which count in no image before the first gate is open. After a failed `settle` the table still has the staged events,
+//! and the images have it or the table without them.
+//!
 //! `checkpoint` first allocates all its memory: for the new places of the documents, and for one block of rows. The block has
 //! room for the longest encoded row, which is below 2^19 bytes (`short` of `encode_row_onto`). So the first pass only adds up the
 //! lengths of all records, to check whether they fit. Then `checkpoint` fills the other area: it encodes the rows of the table
@@ -139,7 +154,8 @@
 //!    room for the record of a reopening.
 //! 2. The documents that the table has places for are between the header of the area and that gate.
 //! 3. Until a device call has failed, each image has the table that is in memory, and the documents are where its rows and events
-//!    have them (`IsOpenSpoolAt`). So no clause has this as a premise.
+//!    have them (`IsOpenSpoolAt`). So no clause has this as a premise. If events are staged, each image has one table, from which
+//!    they lead to the one in memory, and no document contains the gate in front of them (`IsStagedAt`).
 //! 4. The table has noted no new places of documents (`IsOpenSpool`). A checkpoint notes them and discards them before it
 //!    returns.
 //!

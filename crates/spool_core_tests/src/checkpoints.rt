@@ -1,7 +1,7 @@
 //! Number of device calls of a checkpoint.
 
 use crate::spelled::{QUEUE, events, push_event};
-use crate::spools::{Device, OPENING, closed, made, open};
+use crate::spools::{Device, OPENING, closed, made, open, settled};
 use spool_core::{CheckpointFault, Ending, Spool, drive};
 use spool_types::Event;
 use std::alloc::Global;
@@ -34,6 +34,7 @@ fn checkpoints(
     alloc: Global,
     spool: &mut Spool<Device>,
 ) -> Result<(usize, [Result<(), CheckpointFault>; 2]), Fail> {
+    settled(spool)?;
     let driven = drive(alloc, spool, many(alloc)?);
     if driven.ending == Ending::Memory {
         return Err("memory")?;

@@ -3,8 +3,8 @@ ghost use Rattle.std.specs.Prelude.{◌≡◌, ◌≤◌, IfOk, IsSome};
 ghost use Rattle.spool_types.specs.State.{job_at};
 ghost use Rattle.spool_core.specs.OpenSpools.{len_at};
 
-use crate::spelled::{CREATE, QUEUE};
-use crate::spools::{Device, OPENING, closed, drives, made, open};
+use crate::spelled::{CREATE, QUEUE, event};
+use crate::spools::{Device, OPENING, closed, drives, made, open, settled};
 use job_table::{Table, document_len};
 use spool_core::{CheckpointFault, Ending, ReadFault, Spool};
 use spool_disk::MemDisk;
@@ -84,14 +84,31 @@ fn fills(alloc: Global, spool: &mut Spool<Device>) -> Result<bool, Fail> {
     Ok(drives(alloc, spool, &FILLED)? == (4, Ending::End))
 }
 
+// Stages these events.
+fn stages(alloc: Global, spool: &mut Spool<Device>) -> Result<bool, Fail> {
+    for text in FILLED {
+        if spool.stage(event(alloc, text)?).is_err() {
+            return Ok(false);
+        }
+    }
+    Ok(!spool.is_settled())
+}
+
 fn dies(alloc: Global, spool: &mut Spool<Device>) -> Result<bool, Fail> {
     Ok(drives(alloc, spool, &["0a 00000001"])? == (0, Ending::Disk))
+}
+
+fn checkpoint(spool: &mut Spool<Device>) -> Result<Result<(), CheckpointFault>, Fail> {
+    settled(spool)?;
+    Ok(spool.checkpoint())
 }
 
 // A step of a test on a spool.
 #[derive(Clone, Copy)]
 enum Step {
     Fill,
+    Stage,
+    Settle,
     ReadWhole,
     ReadFirst,
     ReadOver,
@@ -107,6 +124,8 @@ enum Step {
 fn does(alloc: Global, spool: &mut Spool<Device>, step: Step) -> Result<bool, Fail> {
     match step {
         Step::Fill => fills(alloc, spool),
+        Step::Stage => stages(alloc, spool),
+        Step::Settle => Ok(spool.settle() == Ok(())),
         Step::ReadWhole => reads_whole(spool),
         Step::ReadFirst => reads_first(spool),
         Step::ReadOver => reads_over(spool),
@@ -115,8 +134,8 @@ fn does(alloc: Global, spool: &mut Spool<Device>, step: Step) -> Result<bool, Fa
         Step::FailToRead => fails_to_read(spool),
         Step::Die => dies(alloc, spool),
         Step::BeDead => is_dead(spool),
-        Step::Checkpoint => Ok(spool.checkpoint() == Ok(())),
-        Step::CheckpointDead => Ok(spool.checkpoint() == Err(CheckpointFault::Dead)),
+        Step::Checkpoint => Ok(checkpoint(spool)? == Ok(())),
+        Step::CheckpointDead => Ok(checkpoint(spool)? == Err(CheckpointFault::Dead)),
     }
 }
 
@@ -161,6 +180,23 @@ fn parts_are_read(rt: HostRuntime) -> Result<(), Fail> {
     let (second, disk) = after(rt.alloc(), disk, u64::MAX, &reads)?;
     let (third, _) = after(rt.alloc(), disk, u64::MAX, &reads)?;
     assert_eq!(rt; [filled, first, second, third], [1, 6, 6, 6]);
+    Ok(())
+}
+
+#[test]
+fn parts_of_staged_documents_are_read(rt: HostRuntime) -> Result<(), Fail> {
+    let steps = [
+        Step::Stage,
+        Step::ReadWhole,
+        Step::ReadOver,
+        Step::Settle,
+        Step::ReadWhole,
+        Step::Checkpoint,
+        Step::ReadWhole,
+    ];
+    let (done, disk) = after(rt.alloc(), made(rt.alloc(), 1_024)?, u64::MAX, &steps)?;
+    let (again, _) = after(rt.alloc(), disk, u64::MAX, &[Step::ReadWhole])?;
+    assert_eq!(rt; (done, again), (7, 1));
     Ok(())
 }
 

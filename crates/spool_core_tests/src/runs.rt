@@ -1,7 +1,7 @@
 //! Lists of events that are replayed, and driven on a spool.
 
 use crate::spelled::{CLOSE, CREATE, QUEUE, bytes_of, events, listing, lists, push_event};
-use crate::spools::{Device, OPENING, closed, driven, drives, made, open};
+use crate::spools::{Device, OPENING, closed, driven, drives, made, open, settled};
 use spool_core::{Driven, Ending, Spool, drive, replay};
 use spool_disk::{FuseDisk, MemDisk};
 use spool_types::Event;
@@ -279,6 +279,7 @@ fn canceled_jobs(alloc: Global) -> Result<Vec<Event>, Fail> {
 
 // Returns the number of these events that are answered.
 fn answered(alloc: Global, spool: &mut Spool<Device>) -> Result<usize, Fail> {
+    settled(spool)?;
     let driven = drive(alloc, spool, canceled_jobs(alloc)?);
     Ok(driven.replies.len())
 }

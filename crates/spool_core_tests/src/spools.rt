@@ -1,4 +1,6 @@
 //! Spools on disks in memory, with devices that fail after a number of calls.
+ghost use Rattle.std.specs.Prelude.{OnOk};
+ghost use Rattle.spool_core.specs.OpenSpools.{IsSettled};
 
 use crate::spelled::events;
 use spool_core::{Driven, Ending, Spool, drive, make};
@@ -43,8 +45,20 @@ pub fn closed(spool: Spool<Device>) -> MemDisk {
     spool.into_disk().into_disk()
 }
 
+/// Returns an error if events are staged.
+pub fn settled(spool: &Spool<Device>) -> Result<(), Fail>
+    ensures { OnOk result (IsSettled spool.now) }
+{
+    if spool.is_settled() {
+        Ok(())
+    } else {
+        Err(Fail::from("events are staged"))
+    }
+}
+
 /// Drives events on a spool.
 pub fn driven(alloc: Global, spool: &mut Spool<Device>, texts: &[&str]) -> Result<Driven, Fail> {
+    settled(spool)?;
     Ok(drive(alloc, spool, events(alloc, texts)?))
 }
 

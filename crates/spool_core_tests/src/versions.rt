@@ -4,7 +4,7 @@ use crate::indexes::apply;
 use crate::listings::{finished, take_bytes};
 use crate::runs::{finds, told};
 use crate::spelled::{CLOSE, CREATE, QUEUE, bytes_of, event, events, listing, lists};
-use crate::spools::{Device, closed, drives, made_old, open};
+use crate::spools::{Device, closed, drives, made_old, open, settled};
 use job_table::{Loading, PrepareFault, Table};
 use spool_core::{Ending, Spool, replay};
 use spool_types::{Refusal, Version};
@@ -30,6 +30,7 @@ fn goes_over<R: Abort>(rt: &R, alloc: Global, spool: &mut Spool<Device>) -> Resu
         "[Err(NeedsCheckpoint), Ok(Done), Ok(Number(JobId { number: 1 })), Ok(Done), Err(NeedsCheckpoint)] End"
     );
     assert!(rt; spool.table().version() == Version::One);
+    settled(spool)?;
     assert!(rt; spool.checkpoint() == Ok(()));
     assert!(rt; spool.table().version() == Version::Two);
     assert_eq!(rt;

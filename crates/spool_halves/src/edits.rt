@@ -52,6 +52,8 @@ pub fn set_queue<S: Disk, T: Disk + Drop>(
     change: &QueueChange,
     disk: T,
 ) -> Result<T, EditFault>
+    requires settled { whole.old.held ≡ None }
+
     // A crash leaves exactly the changed table, with the documents of the old disk.
     ensures changed { IfOk result (λ made. IsSome (T.device.bytes made) → (c : List ℕ) → T.device.image made c → HasTable (after_change name.now change.now whole.old.state) c) }
     ensures documents { IfOk result (λ made. (r : List ℕ) → S.device.bytes whole.old.disk ≡ Some r → IsSome (T.device.bytes made) → (c : List ℕ) → T.device.image made c →
@@ -80,6 +82,7 @@ pub fn remove_queue<S: Disk, T: Disk + Drop>(
     purge: bool,
     disk: T,
 ) -> Result<T, EditFault>
+    requires settled { whole.old.held ≡ None }
     ensures removed { IfOk result (λ made. IsSome (T.device.bytes made) → (c : List ℕ) → T.device.image made c → HasTable (after_removal name.now whole.old.state) c) }
     ensures documents { IfOk result (λ made. (r : List ℕ) → S.device.bytes whole.old.disk ≡ Some r → IsSome (T.device.bytes made) → (c : List ℕ) → T.device.image made c →
         KeepsAllDocuments whole.old.state r c) }

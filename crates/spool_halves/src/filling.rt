@@ -36,6 +36,7 @@ pub(crate) fn write_rows<S: Disk, T: Disk + Drop>(
     disk: T,
 ) -> Result<T, HalfFault>
     ensures state { whole.new.state ≡ whole.old.state }
+    ensures held { whole.new.held ≡ whole.old.held }
     ensures still { ChangesNothing S.device whole.old.disk whole.new.disk }
 {
     let mut writing = begin(alloc, disk)?;
@@ -58,6 +59,7 @@ fn put_rows<S: Disk, T: Disk + Drop>(
     requires may { MayWrite writing.old.areas writing.old.filler writing.old.end }
     ensures may { OnOk result (MayWrite writing.new.areas writing.new.filler writing.new.end) }
     ensures state { whole.new.state ≡ whole.old.state }
+    ensures held { whole.new.held ≡ whole.old.held }
     ensures still { ChangesNothing S.device whole.old.disk whole.new.disk }
 {
     writing.put_row(&Row::Head(whole.table().head()))?;
@@ -107,6 +109,7 @@ fn put_job<S: Disk, T: Disk + Drop>(
     requires may { MayWrite writing.old.areas writing.old.filler writing.old.end }
     ensures may { OnOk result (MayWrite writing.new.areas writing.new.filler writing.new.end) }
     ensures state { whole.new.state ≡ whole.old.state }
+    ensures held { whole.new.held ≡ whole.old.held }
     ensures still { ChangesNothing S.device whole.old.disk whole.new.disk }
 {
     match whole.table().job(job) {

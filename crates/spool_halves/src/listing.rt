@@ -1,5 +1,5 @@
 //! Making a half of a spool on a disk of its own.
-ghost use Rattle.std.specs.Prelude.{◌≡◌, List, ℕ, Some, IfOk, IsSome, OnOk, map};
+ghost use Rattle.std.specs.Prelude.{◌≡◌, List, ℕ, None, Some, IfOk, IsSome, OnOk, map};
 ghost use Rattle.spool_disk.specs.Disk.{ChangesNothing, IsSynced};
 ghost use Rattle.spool_halves.specs.Halves.{HasHalf, KeepsDocuments};
 
@@ -22,6 +22,8 @@ pub fn list_half<S: Disk, T: Disk + Drop>(
     half: Half<'_>,
     disk: T,
 ) -> Result<T, HalfFault>
+    requires settled { whole.old.held ≡ None }
+
     // A crash leaves the table of the half, with the documents of the whole spool's disk.
     ensures half { IfOk result (λ made. IsSome (T.device.bytes made) → (c : List ℕ) → T.device.image made c →
         HasHalf half.entry.named half.entry.names.now whole.old.state c) }
@@ -31,6 +33,7 @@ pub fn list_half<S: Disk, T: Disk + Drop>(
 
     // Nothing changes on the whole spool's disk.
     ensures state { whole.new.state ≡ whole.old.state }
+    ensures held { whole.new.held ≡ whole.old.held }
     ensures still { ChangesNothing S.device whole.old.disk whole.new.disk }
 {
     let written = write_rows(alloc, whole, Listed { half, row: None }, disk)?;
@@ -48,12 +51,15 @@ fn look_back<S: Disk, T: Disk>(
     part: &mut Spool<T>,
     half: Half<'_>,
 ) -> Result<(), HalfFault>
+    requires whole_settled { whole.old.held ≡ None }
+    requires part_settled { part.old.held ≡ None }
     ensures half { OnOk result (IsSome (T.device.bytes part.new.disk) → (c : List ℕ) → T.device.image part.new.disk c →
         HasHalf half.entry.named half.entry.names.now whole.old.state c) }
     ensures documents { OnOk result ((r : List ℕ) → S.device.bytes whole.old.disk ≡ Some r → IsSome (T.device.bytes part.new.disk) → (c : List ℕ) → T.device.image part.new.disk c →
         KeepsDocuments half.entry.named half.entry.names.now whole.old.state r c) }
     ensures synced { OnOk result (IsSynced T.device part.new.disk) }
     ensures state { whole.new.state ≡ whole.old.state }
+    ensures held { whole.new.held ≡ whole.old.held }
     ensures still { ChangesNothing S.device whole.old.disk whole.new.disk }
 {
     one_reading();

@@ -1,5 +1,5 @@
 //! Listing a spool with one row of a queue replaced.
-ghost use Rattle.std.specs.Prelude.{◌≡◌, List, ℕ, Some, IfOk, IsSome, OnOk};
+ghost use Rattle.std.specs.Prelude.{◌≡◌, List, ℕ, None, Some, IfOk, IsSome, OnOk};
 ghost use Rattle.spool_types.specs.State.{queue_at};
 ghost use Rattle.event_codec.specs.RowSpelling.{IsOrderedQueue};
 ghost use Rattle.spool_disk.specs.Disk.{ChangesNothing, IsSynced};
@@ -26,11 +26,13 @@ pub(crate) fn list_with_row<S: Disk, T: Disk + Drop>(
 ) -> Result<T, HalfFault>
     requires there { IsSome (queue_at whole.old.state row.now.name) }
     requires ordered { IsOrderedQueue row.now }
+    requires settled { whole.old.held ≡ None }
     ensures listed { IfOk result (λ made. IsSome (T.device.bytes made) → (c : List ℕ) → T.device.image made c → HasTable (with_row (Some row.now) whole.old.state) c) }
     ensures documents { IfOk result (λ made. (r : List ℕ) → S.device.bytes whole.old.disk ≡ Some r → IsSome (T.device.bytes made) → (c : List ℕ) → T.device.image made c →
         KeepsAllDocuments whole.old.state r c) }
     ensures synced { IfOk result (IsSynced T.device) }
     ensures state { whole.new.state ≡ whole.old.state }
+    ensures held { whole.new.held ≡ whole.old.held }
     ensures still { ChangesNothing S.device whole.old.disk whole.new.disk }
 {
     let all = Half {
@@ -58,11 +60,14 @@ fn look_back_with<S: Disk, T: Disk>(
 ) -> Result<(), HalfFault>
     requires there { IsSome (queue_at whole.old.state row.now.name) }
     requires ordered { IsOrderedQueue row.now }
+    requires whole_settled { whole.old.held ≡ None }
+    requires part_settled { part.old.held ≡ None }
     ensures listed { OnOk result (IsSome (T.device.bytes part.new.disk) → (c : List ℕ) → T.device.image part.new.disk c → HasTable (with_row (Some row.now) whole.old.state) c) }
     ensures documents { OnOk result ((r : List ℕ) → S.device.bytes whole.old.disk ≡ Some r → IsSome (T.device.bytes part.new.disk) → (c : List ℕ) → T.device.image part.new.disk c →
         KeepsAllDocuments whole.old.state r c) }
     ensures synced { OnOk result (IsSynced T.device part.new.disk) }
     ensures state { whole.new.state ≡ whole.old.state }
+    ensures held { whole.new.held ≡ whole.old.held }
     ensures still { ChangesNothing S.device whole.old.disk whole.new.disk }
 {
     one_reading();

@@ -1,5 +1,5 @@
 //! Changing over to the other area in steps: `begin`, `add_row` for each row, `write_rows`, `open_other`.
-ghost use Rattle.std.specs.Prelude.{◌≡◌, ◌≢◌, ◌<◌, ◌≤◌, ◌+◌, ◌^◌, ◌++◌, ◌∷◌, ◌↔◌, ◌⊎◌, [], List, ℕ, length, map, take, drop, Ok, Err, IfOk, OnOk, OnErr, IsErrOf, IsTrue, vec_len, vec_capacity};
+ghost use Rattle.std.specs.Prelude.{◌≡◌, ◌≢◌, ◌<◌, ◌≤◌, ◌+◌, ◌^◌, ◌++◌, ◌∷◌, ◌↔◌, ◌⊎◌, [], List, ℕ, length, map, take, drop, Ok, Err, IfOk, None, OnOk, OnErr, IsErrOf, IsTrue, vec_len, vec_capacity};
 ghost use Rattle.spool_disk.specs.Disk.{Blames, IsSynced, LeavesOnly, ChangesOnly};
 ghost use Rattle.gate_journal.specs.Appends.{kept_room};
 ghost use Rattle.gate_journal.specs.Entries.{records};
@@ -57,6 +57,7 @@ impl<D: Disk> Areas<D> {
         ensures blames { Blames (D.device.failures self.old.disk) (D.device.failures self.new.disk) (IsErrOf result AreaFault.Disk) }
         ensures dies { IsTrue self.new.dead ↔ (IsTrue self.old.dead ⊎ IsErrOf result AreaFault.Disk) }
         ensures same { (self.new.base ≡ self.old.base) × (self.new.end ≡ self.old.end) × (self.new.epoch ≡ self.old.epoch) × (self.new.gate ≡ self.old.gate) × (self.new.version ≡ self.old.version) }
+        ensures held { self.new.held ≡ self.old.held }
         ensures gate { IfOk result (λ gate. gate ≡ other_base self.old + header_len) }
         ensures more { OnOk result (self.old.epoch < last_epoch) }
         ensures least { OnOk result (least_area ≤ area_len self.old) }
@@ -99,6 +100,7 @@ impl<D: Disk> Areas<D> {
         ensures blames { Blames (D.device.failures self.old.disk) (D.device.failures self.new.disk) (IsErrOf result AreaFault.Disk) }
         ensures dies { IsTrue self.new.dead ↔ (IsTrue self.old.dead ⊎ IsErrOf result AreaFault.Disk) }
         ensures same { (self.new.base ≡ self.old.base) × (self.new.end ≡ self.old.end) × (self.new.epoch ≡ self.old.epoch) × (self.new.gate ≡ self.old.gate) × (self.new.version ≡ self.old.version) }
+        ensures held { self.new.held ≡ self.old.held }
         ensures place { IfOk result (λ next. next + length block.new.items ≡ gate + length block.old.items) }
         ensures behind { IfOk result (λ next. gate ≤ next) }
         ensures few { OnOk result (length block.new.items < block_len) }
@@ -132,6 +134,7 @@ impl<D: Disk> Areas<D> {
         ensures blames { Blames (D.device.failures self.old.disk) (D.device.failures self.new.disk) (IsErrOf result AreaFault.Disk) }
         ensures dies { IsTrue self.new.dead ↔ (IsTrue self.old.dead ⊎ IsErrOf result AreaFault.Disk) }
         ensures same { (self.new.base ≡ self.old.base) × (self.new.end ≡ self.old.end) × (self.new.epoch ≡ self.old.epoch) × (self.new.gate ≡ self.old.gate) × (self.new.version ≡ self.old.version) }
+        ensures held { self.new.held ≡ self.old.held }
         ensures place { IfOk result (λ next. next ≡ gate + length block.old.items) }
         ensures emptied { OnOk result (block.new.items ≡ []) }
         ensures spare { vec_capacity block.old ≤ vec_capacity block.new }
@@ -168,6 +171,7 @@ impl<D: Disk> Areas<D> {
         ensures dies { IsTrue self.new.dead ↔ (IsTrue self.old.dead ⊎ IsErrOf result AreaFault.Disk) }
         ensures held { OnErr result ((self.new.base ≡ self.old.base) × (self.new.end ≡ self.old.end) × (self.new.epoch ≡ self.old.epoch) × (self.new.gate ≡ self.old.gate) × (self.new.version ≡ self.old.version)) }
         ensures changed { OnOk result ((self.new.base ≡ other_base self.old) × (self.new.end ≡ other_base self.old + area_len self.old) × (self.new.epoch ≡ self.old.epoch + 1) × (self.new.version ≡ newest_version) × (self.new.gate ≡ gate)) }
+        ensures settled { OnOk result (self.new.held ≡ None) }
         ensures changes { ChangesOnly D.device self.old.disk self.new.disk (other_base self.old) (area_len self.old) }
         ensures added { OnOk result ((x : Change D) (rows : List (List ℕ)) → x.other ≡ other_base self.old → x.len ≡ area_len self.old → x.new_epoch ≡ self.old.epoch + 1 → Fills D.device x self.old.disk gate [] rows →
             KeepsPayloads D.device self.new rows) }

@@ -3,9 +3,11 @@ ghost use Rattle.std.specs.Prelude.{◌≡◌, ◌≤◌, ◌+◌, ◌↔◌, []
 ghost use Rattle.spool_types.specs.Limits.{greatest_number};
 ghost use Rattle.spool_disk.specs.Disk.{Blames, IsSynced, LeavesOnly};
 ghost use Rattle.spool_areas.specs.AreaFilling.{sum_of};
+ghost use Rattle.spool_areas.specs.AreaStages.{AreSettled};
 ghost use Rattle.job_table.specs.Contents.{AreSized, HasNoMoves, HasOwnPlaces};
 ghost use Rattle.job_table.specs.Legal.{IsLegal};
 ghost use Rattle.spool_core.specs.Image.{HasInEitherVersion, HasTable, HasDocuments};
+ghost use Rattle.spool_core.specs.OpenSpools.{IsSettled};
 ghost use Rattle.spool_core.specs.SpoolFields.{open_spool_at, IsOpenSpoolAt};
 ghost use Rattle.listing_rows.specs.RowFilling.{block_room};
 ghost use Rattle.spool_core.specs.ListingFilling.{HasMoveRoom};
@@ -22,10 +24,14 @@ use std::alloc::{AllocError, Global};
 
 impl<D: Disk> Spool<D> {
     /// Makes room for further events: lists the table in the other area, which becomes the current one, with the next epoch. The
-    /// table is as before, in the newest version of the format. The events that produced it are no longer on the disk.
+    /// table is as before, in the newest version of the format. The events that produced it are no longer on the disk. Nothing may be
+    /// staged, unless the device has failed.
     pub fn checkpoint(&mut self) -> Result<(), CheckpointFault>
+        requires settled { IsSettled self.old }
+
         // Each result, with its cause and its effect.
         ensures answer { IsCheckpoint D.device self.old result self.new }
+        ensures settled { IsSettled self.new }
         ensures blames { Blames (D.device.failures self.old.disk) (D.device.failures self.new.disk) (IsErrOf result CheckpointFault.Disk) }
         ensures fixed { D.device.size self.new.disk ≡ D.device.size self.old.disk }
         ensures told { IsSome (D.device.bytes self.new.disk) ↔ IsSome (D.device.bytes self.old.disk) }
@@ -57,7 +63,8 @@ fn change_areas<D: Disk>(
     areas: &mut Areas<D>,
     table: &mut Table,
 ) -> Result<(), CheckpointFault>
-    requires { IsOpenSpoolAt D.device areas.old table.old }
+    requires open_spool { IsOpenSpoolAt D.device areas.old table.old }
+    requires settled { AreSettled areas.old }
 
     ensures answer { IsCheckpoint D.device (open_spool_at areas.old table.old.state) result (open_spool_at areas.new table.new.state) }
     ensures blames { Blames (D.device.failures areas.old.disk) (D.device.failures areas.new.disk) (IsErrOf result CheckpointFault.Disk) }
@@ -70,6 +77,7 @@ fn change_areas<D: Disk>(
     ensures listed { OnOk result (IsSome (D.device.bytes areas.old.disk) → (c : List ℕ) → D.device.image areas.new.disk c → IsCheckpointed table.old.state areas.new.epoch c) }
     ensures same { OnErr result (table.new.state ≡ table.old.state) }
     ensures open_spool { IsOpenSpoolAt D.device areas.new table.new }
+    ensures settled { AreSettled areas.new }
     ensures durable { OnOk result (IsSynced D.device areas.new.disk) }
 {
     // Checked before memory is allocated.

@@ -1,6 +1,6 @@
 //! Filling the other area with a table's listing. The rows are encoded into one block, which is written whenever it is long
 //! enough. The new places of the documents are noted.
-ghost use Rattle.std.specs.Prelude.{◌≡◌, ◌<◌, ◌≤◌, ◌+◌, ◌^◌, ◌∷◌, [], ℕ, List, length, map, replicate, take, drop, false, Ok, Some, IsSome, OnOk, vec_len, vec_capacity};
+ghost use Rattle.std.specs.Prelude.{◌≡◌, ◌<◌, ◌≤◌, ◌+◌, ◌^◌, ◌∷◌, [], ℕ, List, length, map, replicate, take, drop, false, Ok, None, Some, IsSome, OnOk, vec_len, vec_capacity};
 ghost use Rattle.std.specs.FinMap as finite;
 ghost use Rattle.std.specs.List.{flat_map, AllByRecursion};
 ghost use Rattle.spool_types.specs.Limits.{longest_send};
@@ -47,6 +47,7 @@ pub(super) fn fill_other<D: Disk>(
     requires moves { HasMoveRoom table.old.state table.old.moves }
 
     ensures over { IsFilledOver D.device table.old areas.old areas.new result }
+    ensures settled { OnOk result (areas.new.held ≡ None) }
     ensures same { table.new.state ≡ table.old.state }
     ensures places { table.new.places ≡ table.old.places }
     ensures noted { OnOk result (AreDocumentsNoted table.old.state (other_base areas.old + header_len) table.new.moves) }

@@ -7,6 +7,7 @@ ghost use Rattle.job_table.specs.Step.{after};
 ghost use Rattle.spool_disk.specs.Disk.{Blames, IsSynced, LeavesOnly};
 ghost use Rattle.job_table.specs.Contents.{Contents, IsPrepared, HasPlace, AddsPlaces, KeepsPlaces};
 ghost use Rattle.spool_types.specs.Sent.{sent_by};
+ghost use Rattle.spool_areas.specs.AreaStages.{AreSettled};
 ghost use Rattle.spool_core.specs.Image.{HasDocuments, HasBeforeOrAfterEvent, HasWholeBeforeOrAfterEvent, IsReopeningFault, documents_after_one};
 ghost use Rattle.spool_core.specs.SpoolFields.{open_spool_at, IsOpenSpoolAt};
 ghost use Rattle.spool_core.specs.OpenSpools.{IsJournalled, IsFrameOf, record_len};
@@ -28,7 +29,8 @@ pub(super) fn journal<D: Disk>(
     frame: &mut Vec<u8>,
     event: &Event,
 ) -> Result<u64, ApplyFault>
-    requires { IsOpenSpoolAt D.device areas.old table.old }
+    requires open_spool { IsOpenSpoolAt D.device areas.old table.old }
+    requires settled { AreSettled areas.old }
 
     ensures answer { IsJournalled D.device (open_spool_at areas.old table.old.state) event.now result (open_spool_at areas.new table.old.state) }
     ensures same { table.new.state ≡ table.old.state }
@@ -39,6 +41,7 @@ pub(super) fn journal<D: Disk>(
     ensures later { D.device.failures areas.old.disk ≤ D.device.failures areas.new.disk }
     ensures counted { OnOk result (D.device.failures areas.new.disk ≡ D.device.failures areas.old.disk) }
     ensures epoch { areas.new.epoch ≡ areas.old.epoch }
+    ensures settled { AreSettled areas.new }
     ensures fixed { D.device.size areas.new.disk ≡ D.device.size areas.old.disk }
     ensures told { IsSome (D.device.bytes areas.new.disk) ↔ IsSome (D.device.bytes areas.old.disk) }
 
@@ -88,6 +91,7 @@ pub(super) fn journal_reopening<D: Disk>(
     frame: &mut Vec<u8>,
 ) -> Result<u64, OpenFault>
     requires open_spool { IsOpenSpoolAt D.device areas.old table.old }
+    requires settled { AreSettled areas.old }
     requires alive { areas.old.dead ≡ false }
     requires legal { IsLegal table.old.state }
     requires busy { ¬ (HasNoProcessing table.old.state) }
@@ -104,6 +108,7 @@ pub(super) fn journal_reopening<D: Disk>(
     ensures told { IsSome (D.device.bytes areas.new.disk) ↔ IsSome (D.device.bytes areas.old.disk) }
 
     ensures epoch { areas.new.epoch ≡ areas.old.epoch }
+    ensures settled { AreSettled areas.new }
 
     // The room that is left, less its record.
     ensures room { OnOk result (areas.new.end - areas.new.gate ≡ areas.old.end - areas.old.gate - record_len Event.Reopen) }
@@ -141,7 +146,7 @@ pub(super) fn journal_reopening<D: Disk>(
 }
 
 // Fills the frame of an event: four free bytes, the encoded event and one free byte.
-fn fill_frame(frame: &mut Vec<u8>, event: &Event) -> Result<(), AllocError>
+pub(super) fn fill_frame(frame: &mut Vec<u8>, event: &Event) -> Result<(), AllocError>
     ensures { OnOk result (IsFrameOf event.now frame.new.items) }
 {
     frame.clear();

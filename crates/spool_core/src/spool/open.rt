@@ -1,5 +1,5 @@
 //! Opening a spool.
-ghost use Rattle.std.specs.Prelude.{◌≡◌, ◌<◌, ◌≤◌, ◌-◌, ◌⊎◌, ◌↔◌, List, ℕ, Some, IsSome, IsTrue, false, IfOk, IfErr, OnOk, IsErrOf};
+ghost use Rattle.std.specs.Prelude.{◌≡◌, ◌<◌, ◌≤◌, ◌-◌, ◌⊎◌, ◌↔◌, List, ℕ, None, Some, IsSome, IsTrue, false, IfOk, IfErr, OnOk, IsErrOf};
 ghost use Rattle.job_table.specs.Attempts.{HasNoProcessing, reopened};
 ghost use Rattle.job_table.specs.Legal.{IsLegal};
 ghost use Rattle.spool_types.specs.State.{State};
@@ -8,7 +8,7 @@ ghost use Rattle.spool_disk.specs.Disk.{Blames, LeavesOnly, ChangesNothing};
 ghost use Rattle.gate_journal.specs.Appends.{kept_room};
 ghost use Rattle.spool_core.specs.Image.{HasTable, HasDocuments, HasRoom, HasBeforeOrAfterEvent, IsReopenedFrom, IsMidway, IsFaultOf, IsReopeningFault};
 ghost use Rattle.spool_core.specs.Checkpointing.{HasEpoch};
-ghost use Rattle.spool_core.specs.OpenSpools.{LeavesRoom, record_len};
+ghost use Rattle.spool_core.specs.OpenSpools.{IsSettled, LeavesRoom, record_len};
 
 use super::Spool;
 use super::journalling::journal_reopening;
@@ -32,6 +32,7 @@ impl<D: Disk> Spool<D> {
         ensures epoch { IfOk result (λ spool. (r : List ℕ) → D.device.bytes disk ≡ Some r → HasEpoch spool.epoch r) }
         ensures fault { IfErr result (λ e. (r : List ℕ) → D.device.bytes disk ≡ Some r → IsFaultOf r e.fault) }
         ensures alive { IfOk result (λ spool. spool.dead ≡ false) }
+        ensures settled { IfOk result (λ spool. spool.held ≡ None) }
         ensures counted { IfOk result (λ spool. D.device.failures spool.disk ≡ D.device.failures disk) }
         ensures blames { IfErr result (λ e. Blames (D.device.failures disk) (D.device.failures e.disk) (e.fault ≡ OpenFault.Disk)) }
         ensures size { IfOk result (λ spool. D.device.size spool.disk ≡ D.device.size disk) }
@@ -92,6 +93,7 @@ impl<D: Disk> Spool<D> {
         ensures epoch { IfOk result (λ spool. (r : List ℕ) → D.device.bytes disk ≡ Some r → HasEpoch spool.epoch r) }
         ensures fault { IfErr result (λ e. (r : List ℕ) → D.device.bytes disk ≡ Some r → IsFaultOf r e.fault) }
         ensures alive { IfOk result (λ spool. spool.dead ≡ false) }
+        ensures settled { IfOk result (λ spool. spool.held ≡ None) }
         ensures counted { IfOk result (λ spool. D.device.failures spool.disk ≡ D.device.failures disk) }
         ensures blames { IfErr result (λ e. Blames (D.device.failures disk) (D.device.failures e.disk) (e.fault ≡ OpenFault.Disk)) }
 
@@ -147,11 +149,13 @@ impl<D: Disk> Spool<D> {
 
     // Gives up each attempt that was running, as its queue's error policy specifies, and journals that.
     fn reopen(&mut self) -> Result<(), OpenFault>
+        requires settled { IsSettled self.old }
         requires alive { self.old.dead ≡ false }
         requires legal { IsLegal self.old.state }
         requires busy { ¬ (HasNoProcessing self.old.state) }
         ensures state { OnOk result ((self.new.state ≡ reopened self.old.state) × HasNoProcessing self.new.state) }
         ensures alive { OnOk result (self.new.dead ≡ false) }
+        ensures settled { IsSettled self.new }
         ensures fault { IfErr result IsReopeningFault }
         ensures unchanged { IsErrOf result OpenFault.Memory → self.new ≡ self.old }
         ensures blames { Blames (D.device.failures self.old.disk) (D.device.failures self.new.disk) (IsErrOf result OpenFault.Disk) }

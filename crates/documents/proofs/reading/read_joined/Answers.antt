@@ -46,10 +46,12 @@ loop-extent-preserved-then-skip-extent g c =
       epoch = old.epoch;
       gate = old.gate;
       version = old.version;
+      held = old.held;
       alive = old.alive;
       counted = old.counted;
       still = old.still;
       keeps = old.keeps;
+      staged = old.staged;
     }
 
 pub returns-then-into-done-clause-data : goal.returns-then-into-done-clause-data
@@ -112,8 +114,10 @@ loop-extent-preserved g c =
       epoch = step.same.2 ∙ old.epoch;
       gate = step.same.3 ∙ old.gate;
       version = step.same.4 ∙ old.version;
+      held = step.held ∙ old.held;
       alive = lives c.loop-extent.areas.dead c.read_extent-in-loop-extent.new.self.dead old.alive step.dies.0 (λ failed. cc (failed, c.in_ok-read_extent.was));
       counted = step.blames.counted (λ failed. cc (failed, c.in_ok-read_extent.was)) ∙ old.counted;
       still = twice_still g.D.Disk.device c.args.areas.now.disk c.loop-extent.areas.disk c.read_extent-in-loop-extent.new.self.disk g.met.D.Disk.lawful old.still step.still;
       keeps = λ payloads keeps. step.keeps payloads (old.keeps payloads keeps);
+      staged = λ payloads staged keeps. step.staged payloads staged (old.staged payloads staged keeps);
     }

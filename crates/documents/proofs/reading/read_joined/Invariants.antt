@@ -2,6 +2,7 @@ use Rattle.std.proofs.Common.{◌≡◌, ◌≤◌, ◌+◌, ◌-◌, ℕ, List,
 use Rattle.spool_disk.specs.Disk.{ChangesNothing}
 use Rattle.spool_areas.specs.Header.{header_len}
 use Rattle.spool_areas.specs.Current.{KeepsPayloads}
+use Rattle.spool_areas.specs.AreaStages.{KeepsStagedPayloads}
 use Rattle.extents.specs.Extents.{size_of}
 use Rattle.documents.specs.Documents.{joined, LieIn}
 use Rattle.documents.proofs.reading.read_joined.Given as goal
@@ -18,8 +19,10 @@ invariant-loop-extent g l = record {
   epoch : l.areas.epoch ≡ l.fn.areas.epoch;
   gate : l.areas.gate ≡ l.fn.areas.gate;
   version : l.areas.version ≡ l.fn.areas.version;
+  held : l.areas.held ≡ l.fn.areas.held;
   alive : l.areas.dead ≡ false;
   counted : g.D.Disk.device.failures l.areas.disk ≡ g.D.Disk.device.failures l.fn.areas.disk;
   still : ChangesNothing g.D.Disk.device l.fn.areas.disk l.areas.disk;
   keeps : (payloads : List (List ℕ)) → KeepsPayloads g.D.Disk.device l.fn.areas payloads → KeepsPayloads g.D.Disk.device l.areas payloads;
+  staged : (payloads staged : List (List ℕ)) → KeepsStagedPayloads g.D.Disk.device l.fn.areas payloads staged → KeepsStagedPayloads g.D.Disk.device l.areas payloads staged;
 }

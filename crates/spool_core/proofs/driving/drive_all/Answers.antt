@@ -18,10 +18,11 @@ loop-event-init g c = record {
       c.new-replies.result.items c.new-replies.ensures.items c.look.ensures.kept c.look.ensures.synced;
   so_many = ap length c.new-replies.ensures.items;
   lives = c.if-is_over.ensures.on refl;
+  settled = c.requires.settled;
 }
 
-pub returns-then-is_err : goal.returns-then-is_err
-returns-then-is_err g c =
+pub returns-then-is_err-clause-outcome : goal.returns-then-is_err-clause-outcome
+returns-then-is_err-clause-outcome g c =
     let replies = c.loop-event.replies.items in
     let events = sym c.into_iter-event-iterator.ensures.into_iter_gives.0 ∙ taken_front c.into_iter-event-iterator.result c.loop-event.yielded c.loop-event.event-iterator c.loop-event.yielded_by ∙ ap (λ (l : List Event). c.loop-event.yielded ++ l) c.in-Some.ensures.steps.0 in
     let next = next_of c.args.events.items c.loop-event.yielded (into_iter_items c.next.new.self) c.in-Some.event (length replies) c.loop-event.invariant.so_many events in
@@ -44,10 +45,11 @@ loop-event-preserved g c =
           (c.drive_one.ensures.blames.counted (λ is. cc (is, c.in-Ok.is)));
       so_many = omega (arith, ap length more, length-append replies (c.in-Ok.answer ∷ []), length-append c.loop-event.yielded (c.in-Some.event ∷ []), c.loop-event.invariant.so_many);
       lives = c.loop-event.invariant.lives;
+      settled = c.drive_one.ensures.settled;
     }
 
-pub returns-in-Err : goal.returns-in-Err
-returns-in-Err g c =
+pub returns-in-Err-clause-outcome : goal.returns-in-Err-clause-outcome
+returns-in-Err-clause-outcome g c =
     let replies = c.loop-event.replies.items in
     let events = sym c.into_iter-event-iterator.ensures.into_iter_gives.0 ∙ taken_front c.into_iter-event-iterator.result c.loop-event.yielded c.loop-event.event-iterator c.loop-event.yielded_by ∙ ap (λ (l : List Event). c.loop-event.yielded ++ l) c.in-Some.ensures.steps.0 in
     let next = next_of c.args.events.items c.loop-event.yielded (into_iter_items c.next.new.self) c.in-Some.event (length replies) c.loop-event.invariant.so_many events in
@@ -63,8 +65,8 @@ taken_count : {X A : Type 0} (s : IntoIter X A) (xs : List X) (t : IntoIter X A)
 taken_count s [] t y = omega (arith, ap into_iter_len y)
 taken_count s (x ∷ xs) t y = omega (arith, y.1.1, taken_count y.0 xs t y.2)
 
-pub returns : goal.returns
-returns g c =
+pub returns-clause-outcome : goal.returns-clause-outcome
+returns-clause-outcome g c =
     let given = taken_count c.into_iter-event-iterator.result c.loop-event.yielded c.loop-event.event-iterator c.loop-event.yielded_by in
     end_of_all g.D.Disk.device g.met.D.Disk.lawful c.args.spool.now c.args.events.items c.loop-event.replies.items c.loop-event.spool c.loop-event.invariant.driven
     (omega (arith, given, c.in-None.ensures.steps.0, c.into_iter-event-iterator.ensures.into_iter_gives.1, c.args.events.ok, c.loop-event.invariant.so_many))

@@ -6,6 +6,7 @@ pub loop-job-preserved : goal.loop-job-preserved
 loop-job-preserved g c = record {
   may = c.in_ok-put_job.ensures.may;
   state = c.put_job.ensures.state ∙ c.loop-job.invariant.state;
+  held = c.put_job.ensures.held ∙ c.loop-job.invariant.held;
   still = twice_still g.S.Disk.device c.args.whole.now.disk c.loop-job.whole.disk c.put_job.new.whole.disk g.met.S.Disk.lawful c.loop-job.invariant.still c.put_job.ensures.still;
 }
 

@@ -8,5 +8,6 @@ abbrev pub invariant-loop-job : goal.invariant-loop-job
 invariant-loop-job g l = record {
   may : MayWrite l.writing.areas l.writing.filler l.writing.end;
   state : l.whole.state ≡ l.fn.whole.state;
+  held : l.whole.held ≡ l.fn.whole.held;
   still : ChangesNothing g.S.Disk.device l.fn.whole.disk l.whole.disk;
 }

@@ -9,6 +9,8 @@ abbrev pub invariant-loop-job : goal.invariant-loop-job
 invariant-loop-job g l = record {
   whole_state : l.whole.state ≡ l.fn.whole.state;
   part_state : l.part.state ≡ l.fn.part.state;
+  whole_held : l.whole.held ≡ l.fn.whole.held;
+  part_held : l.part.held ≡ l.fn.part.held;
   whole_still : ChangesNothing g.S.Disk.device l.fn.whole.disk l.whole.disk;
   part_still : ChangesNothing g.T.Disk.device l.fn.part.disk l.part.disk;
   same : (r t : List ℕ) → g.S.Disk.device.bytes l.fn.whole.disk ≡ Some r → g.T.Disk.device.bytes l.fn.part.disk ≡ Some t

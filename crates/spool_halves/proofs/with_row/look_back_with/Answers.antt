@@ -22,7 +22,7 @@ numbers_in [] = refl
 numbers_in (row ∷ rows) = ap (λ (ns : List ℕ). row.job.id ∷ ns) (numbers_in rows)
 
 pub returns-clause-synced : goal.returns-clause-synced
-returns-clause-synced g c = c.table-table.ensures.synced (sym c.is_dead.ensures ∙ c.if-is_dead.false)
+returns-clause-synced g c = c.table-table.ensures.synced (sym c.is_dead.ensures ∙ c.if-is_dead.false) (c.are_same_documents.ensures.part_held ∙ c.requires.part_settled)
 
 pub returns-clause-documents : goal.returns-clause-documents
 returns-clause-documents g c = λ r tells told image now.
@@ -33,7 +33,7 @@ returns-clause-documents g c = λ r tells told image now.
     let disk = c.are_same_documents.new.part.disk in
     let there = some_of (w.bytes disk) told in
     let t = there.0 in
-    let is_image : image ≡ t = c.table-table.ensures.synced alive t there.1 image now in
+    let is_image : image ≡ t = c.table-table.ensures.synced alive (c.are_same_documents.ensures.part_held ∙ c.requires.part_settled) t there.1 image now in
     let changed : p ≡ with_row (Some c.args.row.now) s =
     sym c.table-part_table.ensures.table ∙ c.in_ok-has_rows.ensures c.if-not-has_rows.false ∙ ap (with_row (Some c.args.row.now)) c.table-whole_table.ensures.table in
     let legal_s = subst IsLegal c.table-whole_table.ensures.table c.jobs-whole_jobs.ensures.legal in
@@ -41,7 +41,7 @@ returns-clause-documents g c = λ r tells told image now.
     ∙ ap (map (λ (r : Job). r.id)) (c.jobs-part_jobs.ensures.rows ∙ ap (λ (x : State). finite.values x.jobs) c.table-part_table.ensures.table) in
     let same = subst (AllByRecursion (IsSameDocument s p r t)) c.deref.ensures.value
     (c.in_ok-has_documents.ensures.same c.if-not-has_documents.false r t tells (sym c.are_same_documents.ensures.part_still.bytes ∙ there.1)) in
-    let table = subst (λ (x : State). HasTable x t) c.are_same_documents.ensures.part_state (c.table-table.ensures.kept alive told t (g.met.T.Disk.lawful.reads_image disk t there.1)) in
+    let table = subst (λ (x : State). HasTable x t) c.are_same_documents.ensures.part_state (c.table-table.ensures.kept alive (c.are_same_documents.ensures.part_held ∙ c.requires.part_settled) told t (g.met.T.Disk.lawful.reads_image disk t there.1)) in
     let has = c.one_reading.ensures.documents p t table in
     subst (λ (bytes : List ℕ). KeepsAllDocuments s r bytes) (sym is_image)
     (keeps_all s p legal_s (ap (λ (x : State). x.jobs) changed) (ap (λ (x : State). x.highest) changed) r t c.in_ok-numbers.numbers.items numbered same has.0 has.1)

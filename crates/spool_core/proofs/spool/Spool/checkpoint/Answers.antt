@@ -2,10 +2,11 @@ use Rattle.std.proofs.Common.{◌≡◌, ◌+◌, List, ℕ, Some, false, subst,
 use Rattle.std.specs.Prelude.{IsSome, OnOk}
 use Rattle.spool_types.specs.State.{State}
 use Rattle.spool_disk.specs.Disk.{LeavesOnly}
-use Rattle.spool_core.specs.OpenSpools.{OpenSpool}
+use Rattle.spool_core.specs.OpenSpools.{OpenSpool, IsSettled}
 use Rattle.spool_core.specs.SpoolFields.{open_spool_at, open_spool_of}
 use Rattle.spool_core.specs.Image.{HasTable, HasDocuments}
 use Rattle.spool_core.specs.Checkpointing.{IsCheckpointed}
+use Rattle.spool_core.proofs.BatchLaws.{open_staged}
 use Rattle.spool_core.proofs.ChangeLaws.{next_epoch, still_shown}
 use Rattle.spool_core.proofs.ImageLaws.{go_on, stands_on}
 use Rattle.spool_core.proofs.spool.Spool.checkpoint.Goals as goal
@@ -38,7 +39,14 @@ pub invariant_of-self : goal.invariant_of-self
 invariant_of-self g c =
     let v = g.D.Disk.device in
     let areas = c.change_areas-changed.new.areas in
+    let stands = stands_on v areas areas c.change_areas-changed.new.table c.forget_moves.new.self (go_on v areas) c.forget_moves.ensures.same c.forget_moves.ensures.places c.change_areas-changed.ensures.open_spool in
     record {
-      stands = stands_on v areas areas c.change_areas-changed.new.table c.forget_moves.new.self (go_on v areas) c.forget_moves.ensures.same c.forget_moves.ensures.places c.change_areas-changed.ensures.open_spool;
+      stands = λ settled. stands;
+      staged = open_staged v g.met.D.Disk.lawful areas c.forget_moves.new.self c.change_areas-changed.ensures.settled stands;
       unmoved = c.forget_moves.ensures.none;
     }
+
+pub change_areas-changed-requires : goal.change_areas-changed-requires
+change_areas-changed-requires g c =
+    let settled = subst (λ (x : OpenSpool g.row.D.Denot). IsSettled x) (sym c.self.view_is) c.requires.settled in
+    record { open_spool = c.self.invariant.stands settled; settled = settled }

@@ -134,3 +134,9 @@ returns-in-Err-reopen-clause-size_back g c =
 
 pub returns-in-Err-clause-failed : goal.returns-in-Err-clause-failed
 returns-in-Err-clause-failed g c = inl c.in-Err.ensures.back.images
+
+pub reopen-requires-clause-settled : goal.reopen-requires-clause-settled
+reopen-requires-clause-settled g c = λ alive. c.in-Ok.ensures.settled
+
+pub returns-in-Ok-reopen-clause-settled : goal.returns-in-Ok-reopen-clause-settled
+returns-in-Ok-reopen-clause-settled g c = c.reopen.ensures.settled c.in-Ok-reopen.ensures.alive

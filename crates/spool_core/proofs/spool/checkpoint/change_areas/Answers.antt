@@ -20,52 +20,52 @@ pub returns-in-Err-clause-any_moment : goal.returns-in-Err-clause-any_moment
 returns-in-Err-clause-any_moment g c alive tells =
     let v = g.D.Disk.device in
     let a = c.args.areas.now in
-    still_table v g.met.D.Disk.lawful a c.args.table.now c.requires alive a.disk (no_change v a.disk g.met.D.Disk.lawful) tells
+    still_table v g.met.D.Disk.lawful a c.args.table.now c.requires.open_spool alive a.disk (no_change v a.disk g.met.D.Disk.lawful) tells
 
 pub returns-in-Err-clause-documents : goal.returns-in-Err-clause-documents
 returns-in-Err-clause-documents g c alive r documents tells has =
     let v = g.D.Disk.device in
     let a = c.args.areas.now in
-    still_documents v g.met.D.Disk.lawful a c.args.table.now c.requires alive a.disk (no_change v a.disk g.met.D.Disk.lawful) r documents tells has
+    still_documents v g.met.D.Disk.lawful a c.args.table.now c.requires.open_spool alive a.disk (no_change v a.disk g.met.D.Disk.lawful) r documents tells has
 
 pub returns-in-Err-prepare-clause-any_moment : goal.returns-in-Err-prepare-clause-any_moment
 returns-in-Err-prepare-clause-any_moment g c alive tells =
     let v = g.D.Disk.device in
     let a = c.args.areas.now in
-    still_table v g.met.D.Disk.lawful a c.args.table.now c.requires alive a.disk (no_change v a.disk g.met.D.Disk.lawful) tells
+    still_table v g.met.D.Disk.lawful a c.args.table.now c.requires.open_spool alive a.disk (no_change v a.disk g.met.D.Disk.lawful) tells
 
 pub returns-in-Err-prepare-clause-documents : goal.returns-in-Err-prepare-clause-documents
 returns-in-Err-prepare-clause-documents g c alive r documents tells has =
     let v = g.D.Disk.device in
     let a = c.args.areas.now in
-    still_documents v g.met.D.Disk.lawful a c.args.table.now c.requires alive a.disk (no_change v a.disk g.met.D.Disk.lawful) r documents tells has
+    still_documents v g.met.D.Disk.lawful a c.args.table.now c.requires.open_spool alive a.disk (no_change v a.disk g.met.D.Disk.lawful) r documents tells has
 
 pub returns-in-Err-prepare-clause-open_spool : goal.returns-in-Err-prepare-clause-open_spool
 returns-in-Err-prepare-clause-open_spool g c =
     let v = g.D.Disk.device in
     let a = c.args.areas.now in
     let t = c.prepare.new.table in
-    let stands = stands_on v a a c.args.table.now t (go_on v a) c.prepare.ensures.same c.prepare.ensures.places c.requires in
+    let stands = stands_on v a a c.args.table.now t (go_on v a) c.prepare.ensures.same c.prepare.ensures.places c.requires.open_spool in
     stands
 
 pub returns-in-Err-plan_by_sum-clause-any_moment : goal.returns-in-Err-plan_by_sum-clause-any_moment
 returns-in-Err-plan_by_sum-clause-any_moment g c alive tells =
     let v = g.D.Disk.device in
     let a = c.args.areas.now in
-    still_table v g.met.D.Disk.lawful a c.args.table.now c.requires alive a.disk (no_change v a.disk g.met.D.Disk.lawful) tells
+    still_table v g.met.D.Disk.lawful a c.args.table.now c.requires.open_spool alive a.disk (no_change v a.disk g.met.D.Disk.lawful) tells
 
 pub returns-in-Err-plan_by_sum-clause-documents : goal.returns-in-Err-plan_by_sum-clause-documents
 returns-in-Err-plan_by_sum-clause-documents g c alive r documents tells has =
     let v = g.D.Disk.device in
     let a = c.args.areas.now in
-    still_documents v g.met.D.Disk.lawful a c.args.table.now c.requires alive a.disk (no_change v a.disk g.met.D.Disk.lawful) r documents tells has
+    still_documents v g.met.D.Disk.lawful a c.args.table.now c.requires.open_spool alive a.disk (no_change v a.disk g.met.D.Disk.lawful) r documents tells has
 
 pub returns-in-Err-plan_by_sum-clause-open_spool : goal.returns-in-Err-plan_by_sum-clause-open_spool
 returns-in-Err-plan_by_sum-clause-open_spool g c =
     let v = g.D.Disk.device in
     let a = c.args.areas.now in
     let t = c.prepare.new.table in
-    let stands = stands_on v a a c.args.table.now t (go_on v a) c.prepare.ensures.same c.prepare.ensures.places c.requires in
+    let stands = stands_on v a a c.args.table.now t (go_on v a) c.prepare.ensures.same c.prepare.ensures.places c.requires.open_spool in
     stands
 
 pub returns-in-Err-plan_by_sum-clause-answer : goal.returns-in-Err-plan_by_sum-clause-answer
@@ -73,7 +73,7 @@ returns-in-Err-plan_by_sum-clause-answer g c =
     let v = g.D.Disk.device in
     let a = c.args.areas.now in
     let t = c.prepare.new.table in
-    let stands = stands_on v a a c.args.table.now t (go_on v a) c.prepare.ensures.same c.prepare.ensures.places c.requires in
+    let stands = stands_on v a a c.args.table.now t (go_on v a) c.prepare.ensures.same c.prepare.ensures.places c.requires.open_spool in
     let fault = c.in-Err-plan_by_sum.fault in
     let all = listed_payloads t.state (blank t.state) in
     let plan : plan_of a (map length all) ≡ Err fault = sym (c.plan_by_sum.ensures.exact all c.in-Ok-prepare.ensures.sum) ∙ c.in-Err-plan_by_sum.is in
@@ -86,7 +86,7 @@ returns-in-Err-plan_by_sum-clause-blames g c =
     let v = g.D.Disk.device in
     let a = c.args.areas.now in
     let t = c.prepare.new.table in
-    let stands = stands_on v a a c.args.table.now t (go_on v a) c.prepare.ensures.same c.prepare.ensures.places c.requires in
+    let stands = stands_on v a a c.args.table.now t (go_on v a) c.prepare.ensures.same c.prepare.ensures.places c.requires.open_spool in
     let fault = c.in-Err-plan_by_sum.fault in
     let all = listed_payloads t.state (blank t.state) in
     let plan : plan_of a (map length all) ≡ Err fault = sym (c.plan_by_sum.ensures.exact all c.in-Ok-prepare.ensures.sum) ∙ c.in-Err-plan_by_sum.is in
@@ -100,7 +100,7 @@ fill_other-requires-clause-alive g c =
     let v = g.D.Disk.device in
     let a = c.args.areas.now in
     let t = c.prepare.new.table in
-    let stands = stands_on v a a c.args.table.now t (go_on v a) c.prepare.ensures.same c.prepare.ensures.places c.requires in
+    let stands = stands_on v a a c.args.table.now t (go_on v a) c.prepare.ensures.same c.prepare.ensures.places c.requires.open_spool in
     let ok = c.in-Ok-prepare.ensures in
     let first = c.in-Ok-plan_by_sum.field-0 in
     let all = listed_payloads t.state (blank t.state) in
@@ -112,7 +112,7 @@ fill_other-requires-clause-stands g c =
     let v = g.D.Disk.device in
     let a = c.args.areas.now in
     let t = c.prepare.new.table in
-    let stands = stands_on v a a c.args.table.now t (go_on v a) c.prepare.ensures.same c.prepare.ensures.places c.requires in
+    let stands = stands_on v a a c.args.table.now t (go_on v a) c.prepare.ensures.same c.prepare.ensures.places c.requires.open_spool in
     stands
 
 pub fill_other-requires-clause-plan : goal.fill_other-requires-clause-plan
@@ -134,7 +134,7 @@ returns-in-Ok-fill_other-clause-answer g c =
     let v = g.D.Disk.device in
     let a = c.args.areas.now in
     let t = c.prepare.new.table in
-    let stands = stands_on v a a c.args.table.now t (go_on v a) c.prepare.ensures.same c.prepare.ensures.places c.requires in
+    let stands = stands_on v a a c.args.table.now t (go_on v a) c.prepare.ensures.same c.prepare.ensures.places c.requires.open_spool in
     let ok = c.in-Ok-prepare.ensures in
     let first = c.in-Ok-plan_by_sum.field-0 in
     let all = listed_payloads t.state (blank t.state) in
@@ -157,7 +157,7 @@ returns-in-Ok-fill_other-clause-any_moment g c alive tells =
     let v = g.D.Disk.device in
     let a = c.args.areas.now in
     let t = c.prepare.new.table in
-    let stands = stands_on v a a c.args.table.now t (go_on v a) c.prepare.ensures.same c.prepare.ensures.places c.requires in
+    let stands = stands_on v a a c.args.table.now t (go_on v a) c.prepare.ensures.same c.prepare.ensures.places c.requires.open_spool in
     let ok = c.in-Ok-prepare.ensures in
     let first = c.in-Ok-plan_by_sum.field-0 in
     let all = listed_payloads t.state (blank t.state) in
@@ -172,7 +172,7 @@ returns-in-Ok-fill_other-clause-documents g c alive r documents tells has =
     let v = g.D.Disk.device in
     let a = c.args.areas.now in
     let t = c.prepare.new.table in
-    let stands = stands_on v a a c.args.table.now t (go_on v a) c.prepare.ensures.same c.prepare.ensures.places c.requires in
+    let stands = stands_on v a a c.args.table.now t (go_on v a) c.prepare.ensures.same c.prepare.ensures.places c.requires.open_spool in
     let ok = c.in-Ok-prepare.ensures in
     let first = c.in-Ok-plan_by_sum.field-0 in
     let all = listed_payloads t.state (blank t.state) in
@@ -186,7 +186,7 @@ returns-in-Ok-fill_other-clause-listed g c tells image left =
     let v = g.D.Disk.device in
     let a = c.args.areas.now in
     let t = c.prepare.new.table in
-    let stands = stands_on v a a c.args.table.now t (go_on v a) c.prepare.ensures.same c.prepare.ensures.places c.requires in
+    let stands = stands_on v a a c.args.table.now t (go_on v a) c.prepare.ensures.same c.prepare.ensures.places c.requires.open_spool in
     let ok = c.in-Ok-prepare.ensures in
     let first = c.in-Ok-plan_by_sum.field-0 in
     let all = listed_payloads t.state (blank t.state) in
@@ -203,7 +203,7 @@ returns-in-Ok-fill_other-clause-open_spool g c =
     let v = g.D.Disk.device in
     let a = c.args.areas.now in
     let t = c.prepare.new.table in
-    let stands = stands_on v a a c.args.table.now t (go_on v a) c.prepare.ensures.same c.prepare.ensures.places c.requires in
+    let stands = stands_on v a a c.args.table.now t (go_on v a) c.prepare.ensures.same c.prepare.ensures.places c.requires.open_spool in
     let ok = c.in-Ok-prepare.ensures in
     let first = c.in-Ok-plan_by_sum.field-0 in
     let all = listed_payloads t.state (blank t.state) in
@@ -223,7 +223,7 @@ returns-in-Err-fill_other-clause-answer g c =
     let v = g.D.Disk.device in
     let a = c.args.areas.now in
     let t = c.prepare.new.table in
-    let stands = stands_on v a a c.args.table.now t (go_on v a) c.prepare.ensures.same c.prepare.ensures.places c.requires in
+    let stands = stands_on v a a c.args.table.now t (go_on v a) c.prepare.ensures.same c.prepare.ensures.places c.requires.open_spool in
     let ok = c.in-Ok-prepare.ensures in
     let first = c.in-Ok-plan_by_sum.field-0 in
     let all = listed_payloads t.state (blank t.state) in
@@ -237,7 +237,7 @@ returns-in-Err-fill_other-clause-any_moment g c alive tells =
     let v = g.D.Disk.device in
     let a = c.args.areas.now in
     let t = c.prepare.new.table in
-    let stands = stands_on v a a c.args.table.now t (go_on v a) c.prepare.ensures.same c.prepare.ensures.places c.requires in
+    let stands = stands_on v a a c.args.table.now t (go_on v a) c.prepare.ensures.same c.prepare.ensures.places c.requires.open_spool in
     let ok = c.in-Ok-prepare.ensures in
     let first = c.in-Ok-plan_by_sum.field-0 in
     let all = listed_payloads t.state (blank t.state) in
@@ -252,7 +252,7 @@ returns-in-Err-fill_other-clause-documents g c alive r documents tells has =
     let v = g.D.Disk.device in
     let a = c.args.areas.now in
     let t = c.prepare.new.table in
-    let stands = stands_on v a a c.args.table.now t (go_on v a) c.prepare.ensures.same c.prepare.ensures.places c.requires in
+    let stands = stands_on v a a c.args.table.now t (go_on v a) c.prepare.ensures.same c.prepare.ensures.places c.requires.open_spool in
     let ok = c.in-Ok-prepare.ensures in
     let first = c.in-Ok-plan_by_sum.field-0 in
     let all = listed_payloads t.state (blank t.state) in
@@ -266,9 +266,12 @@ returns-in-Err-fill_other-clause-open_spool g c =
     let v = g.D.Disk.device in
     let a = c.args.areas.now in
     let t = c.prepare.new.table in
-    let stands = stands_on v a a c.args.table.now t (go_on v a) c.prepare.ensures.same c.prepare.ensures.places c.requires in
+    let stands = stands_on v a a c.args.table.now t (go_on v a) c.prepare.ensures.same c.prepare.ensures.places c.requires.open_spool in
     let over = c.in-Err-fill_other.ensures.over in
     let b = c.fill_other.new.areas in
     stands_on v a b t c.fill_other.new.table
     (dead_on v a b over.held over.changes.size (told_before _ _ _ over.changes.bytes) over.dead)
     c.fill_other.ensures.same c.fill_other.ensures.places stands
+
+pub returns-in-Err-fill_other-clause-settled : goal.returns-in-Err-fill_other-clause-settled
+returns-in-Err-fill_other-clause-settled g c alive = let dead = c.in-Err-fill_other.ensures.over.dead in absurd (cc (dead, alive))

@@ -166,3 +166,9 @@ returns-in-Err-Disk-clause-kept g c =
     stands_on g.D.Disk.device c.args.areas.now c.append_kept.new.self c.args.table.now c.prepare-prepared.new.self
     (goes_on g.D.Disk.device g.met.D.Disk.lawful c.args.areas.now c.append_kept.new.self c.args.table.now _ _ c.append_kept.result c.requires.open_spool c.requires.alive payload c.append_kept.ensures (c.in-Err-Disk.is ∙ ap (λ (f : JournalFault). Err f) c.in-Err-Disk.field-0-is) c.in-Err-Disk.ensures.appends.held)
     c.prepare-prepared.ensures.same c.prepare-prepared.ensures.places c.requires.open_spool
+
+pub returns-in-Ok-append_kept-clause-settled : goal.returns-in-Ok-append_kept-clause-settled
+returns-in-Ok-append_kept-clause-settled g c alive = c.append_kept.ensures.appends.none ∙ c.requires.settled c.requires.alive
+
+pub returns-in-Err-Disk-clause-settled : goal.returns-in-Err-Disk-clause-settled
+returns-in-Err-Disk-clause-settled g c alive = c.append_kept.ensures.appends.none ∙ c.requires.settled c.requires.alive
