@@ -1,5 +1,5 @@
 -- The number of running children, and how many more of them a tick leaves.
-use Rattle.std.proofs.Common.{◌≡◌, ℕ, ◌+◌, ◌-◌, ◌≤◌, ◌<◌, Bool, ◌||◌, true, false, cond, ◌==◌, List, [], ◌∷◌, ◌++◌, length, map, Option, Some, None, IsSome, IsTrue, refl, sym, ap, subst, ◌∙◌, arith}
+use Rattle.std.proofs.Common.{◌≡◌, ℕ, ◌+◌, ◌-◌, ◌≤◌, ◌<◌, Bool, ◌||◌, true, false, cond, ◌==◌, List, [], ◌∷◌, ◌++◌, length, Option, Some, None, IsSome, IsTrue, refl, sym, ap, subst, ◌∙◌, arith}
 use Rattle.std.specs.FinMap as finite
 use Rattle.std.specs.FinMap.Entries.{below_all, find, is_sorted}
 use Rattle.std.specs.Cmp.{first_so, second_so}
@@ -17,7 +17,7 @@ use Rattle.print_rounds.specs.Finished.{AreDistinct}
 use Rattle.print_rounds.specs.RoundTicks.{count_running, running_jobs}
 use Rattle.print_rounds.specs.StageChecks.{Dropping, IsDropped, AreDroppings, has_child, idle_slots, is_kept, runs}
 use Rattle.print_rounds.proofs.BusyLaws.{part_distinct}
-use Rattle.print_rounds.proofs.EndLaws.{get_gone, in_head, none_ticketless, turned}
+use Rattle.print_rounds.proofs.EndLaws.{get_gone, in_head, none_ticketless}
 use Rattle.print_rounds.proofs.FreeLaws.{get_idle, resting_of}
 use Rattle.print_rounds.proofs.LookLaws.{above, all_jobs, dropped_same, found_first, found_later, jobs_to, keys, next_filtered, no_filtered, same_key, true_from}
 use Rattle.print_rounds.proofs.TickTickets.{fails_out}

@@ -1,5 +1,5 @@
 -- Happenings that were appended, one part after another.
-use Rattle.std.proofs.Common.{◌≡◌, ◌≤◌, ℕ, ◌+◌, Bool, true, false, cond, inl, inr, List, [], ◌∷◌, ◌++◌, length, Option, None, Some, Result, refl, sym, ap, subst, ◌∙◌, append_assoc, append-nil, arith}
+use Rattle.std.proofs.Common.{◌≡◌, ◌≤◌, ℕ, ◌+◌, Bool, true, false, cond, inl, inr, List, [], ◌∷◌, ◌++◌, length, Option, None, Some, Result, sym, ap, subst, ◌∙◌, append_assoc, append-nil, arith}
 use Rattle.std.proofs.lemmas.Grind.{flat_map-append}
 use Rattle.spool_disk.specs.Disk.{DiskView}
 use Rattle.spool_types.specs.declared.event.Event.{Event}
@@ -85,7 +85,7 @@ end_happened {D} capacity n es e before now then one two =
     (events_happened capacity n 1 before now then (ending_events es) (event e) one two)
 
 -- The pass alone.
-pub pass_alone : {D : Type 0} (Has : List Event → Type 0) (device : DiskView D) (place : Place) (waits : Bool) (start_room : Option StartRoom) (old new : RunState D) (result : Result Round RoundFault) (b : Bool)
+pub pass_alone : {D : Type 0} (Has : List Event → List (List ℕ) → Type 0) (device : DiskView D) (place : Place) (waits : Bool) (start_room : Option StartRoom) (old new : RunState D) (result : Result Round RoundFault) (b : Bool)
     → IsPassThat Has device place waits start_room old b new result → IsPassBy device place waits start_room old b new result
 pass_alone Has device place waits start_room old new result true (answer, same, has) = (answer, same)
 pass_alone Has device place waits start_room old new result false (inl (unbegun, has)) = inl unbegun

@@ -11,6 +11,7 @@ pub mod PlaceLaws
 pub mod FreeLaws
 pub mod LookLaws
 pub mod BlockLaws
+pub mod QueueTurns
 pub mod FinishLaws
 pub mod PrefixLaws
 pub mod PartLaws

@@ -17,6 +17,7 @@ use Rattle.print_rounds.specs.Passes.{unblocked, jobs_tended, jobs_left}
 use Rattle.print_rounds.specs.Happenings.{IsPassThat}
 use Rattle.spool_types.specs.declared.event.Event.{Event}
 use Rattle.print_rounds.specs.StartLimits.{AreChosen, rotated}
+use Rattle.print_rounds.specs.Turns.{AreInTurn}
 use Rattle.print_rounds.specs.declared.outcome.Round.{Round}
 use Rattle.print_rounds.specs.declared.outcome.RoundFault.{RoundFault}
 use Rattle.print_rounds.proofs.PlaceLaws.{in_turn_none}
@@ -37,8 +38,16 @@ queues_chosen start_room names slots now old same given flags are value is =
     subst (AreChosen start_room old slots) (sym (is ∙ ap (λ fs. unblocked fs (finite.keys old.queues)) are))
     (subst (λ (s : State). AreChosen start_room s slots (unblocked flags (finite.keys s.queues))) same value)
 
--- The slots are the retained ones. `Has` holds of the accepted events.
-module _ {D : Type 0} (Has : List Event → Type 0) (device : DiskView D) (place : Place) (waits : Bool) (start_room : Option StartRoom) (old : RunState D) (alive : old.spool.dead ≡ false) (slots : Slots) (stay : slots ≡ idle_slots old.spool.state old.slots)
+-- They are chosen in turn.
+pub turn_chosen : (turn next : ℕ) (names : List (List ℕ)) (slots idle : Slots) (now old : State) → now ≡ old → (given flags : List Bool) → given ≡ flags → slots ≡ idle
+    → AreInTurn turn next now slots (unblocked flags (finite.keys now.queues)) → names ≡ unblocked given (finite.keys old.queues) → AreInTurn turn next old idle names
+turn_chosen turn next names slots idle now old same given flags are stay value is =
+    subst (AreInTurn turn next old idle) (sym (is ∙ ap (λ fs. unblocked fs (finite.keys old.queues)) are))
+    (subst (λ m. AreInTurn turn next old m (unblocked flags (finite.keys old.queues))) stay
+    (subst (λ (s : State). AreInTurn turn next s slots (unblocked flags (finite.keys s.queues))) same value))
+
+-- The slots are the retained ones. `Has` holds of the accepted events and of the queues that were to start a job.
+module _ {D : Type 0} (Has : List Event → List (List ℕ) → Type 0) (device : DiskView D) (place : Place) (waits : Bool) (start_room : Option StartRoom) (old : RunState D) (alive : old.spool.dead ≡ false) (slots : Slots) (stay : slots ≡ idle_slots old.spool.state old.slots)
     (mid : OpenSpool D) (ts : List (Starting D)) (starts : AreStartings device old.spool ts mid) (queues : AreChosen start_room old.spool.state slots (map (λ t. t.queue) ts)) where
   abbrev idle : Slots
   idle = idle_slots old.spool.state old.slots
@@ -47,7 +56,7 @@ module _ {D : Type 0} (Has : List Event → Type 0) (device : DiskView D) (place
   queues_free = subst (λ m. AreChosen start_room old.spool.state m (map (λ t. t.queue) ts)) stay queues
 
   -- The device failed at a start.
-  pub failed_pass : mid.dead ≡ true → (result : Result Round RoundFault) → result ≡ result_of (record { started = 0; finished = 0 }) (starting_fault ts) → Has (starting_events old.spool ts ++ []) → IsPassThat Has device place waits start_room old old.spool.dead (run_state mid slots old.told) result
+  pub failed_pass : mid.dead ≡ true → (result : Result Round RoundFault) → result ≡ result_of (record { started = 0; finished = 0 }) (starting_fault ts) → Has (starting_events old.spool ts ++ []) (map (λ t. t.queue) ts) → IsPassThat Has device place waits start_room old old.spool.dead (run_state mid slots old.told) result
   failed_pass dead result answer has =
       subst (λ b. IsPassThat Has device place waits start_room old b (run_state mid slots old.told) result) (sym alive)
       (inr (
@@ -87,7 +96,7 @@ module _ {D : Type 0} (Has : List Event → Type 0) (device : DiskView D) (place
         → (looks : List Look) (looked : Option ChildTrace) → AreLooks waits slots' told' looks looked → map (λ l. l.job) looks ≡ js
         → (es : List (Ending D)) (ended : RunState D) → AreEndings device (run_state read slots' looked) es ended → map (λ e. e.job) es ≡ ripe_in looks
         → (ds : List Dropping) (new : RunState D) → AreDroppings waits ended.slots ended.told ds new.slots new.told → map (λ d. d.look.job) ds ≡ strays ended.spool.state ended.slots → new.spool ≡ ended.spool
-        → (result : Result Round RoundFault) → result ≡ result_of (counts_of ls es) (option_or (starting_fault ts) (stages_fault ls es)) → Has (starting_events old.spool ts ++ ending_events es) → IsPassThat Has device place waits start_room old old.spool.dead new result
+        → (result : Result Round RoundFault) → result ≡ result_of (counts_of ls es) (option_or (starting_fault ts) (stages_fault ls es)) → Has (starting_events old.spool ts ++ ending_events es) (map (λ t. t.queue) ts) → IsPassThat Has device place waits start_room old old.spool.dead new result
     whole_pass ls read slots' told' launches reads launched looks looked look seen es ended ends ripe ds new drops left spool result answer has =
         subst (λ b. IsPassThat Has device place waits start_room old b new result) (sym alive)
         (inr (

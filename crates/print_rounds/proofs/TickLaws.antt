@@ -29,7 +29,7 @@ use Rattle.print_rounds.specs.StartLimits.{HasStartRoomFor, IsRoomWithin, left_b
 use Rattle.print_rounds.specs.declared.start_room.TickLimits.{TickLimits}
 use Rattle.print_rounds.specs.Rounds.{HasSomeOf, HasSomeWhole, LeavesDocuments, RoundSteps, events_in, tried_in, fault_in}
 use Rattle.spool_types.specs.declared.event.Event.{Event}
-use Rattle.print_rounds.specs.Happenings.{IsPassThat, IsTickThat}
+use Rattle.print_rounds.specs.Happenings.{IsPassThat, IsTickWith}
 use Rattle.print_rounds.specs.RoundTicks.{IsTickOf, IsTickAsked, Finishing, AreFinishings, count_running}
 use Rattle.print_rounds.specs.StageHistory.{keys_in, IsBegunSlot, IsHeld, IsStageCall}
 use Rattle.print_rounds.specs.declared.outcome.Round.{Round}
@@ -315,12 +315,12 @@ module _ {D : Type 0} (device : DiskView D) (lawful : IsLawful device) (laws : L
     passed_most false (inr passed) = most_run device laws tickets place start_room old new passed.steps passed.made legal lawful limits within
 
     -- The same with what holds of the accepted events.
-    pub that_tick : (Has Told : List Event → Type 0) → ((es : List Event) → Has es → Told es) → (b : Bool) → old.spool.dead ≡ b → IsPassThat Has device place false start_room old b new result → IsTickThat Told device place limits old b new result
-    that_tick Has Told tells true died (answer, same, has) = (answer, same, tells [] has)
-    that_tick Has Told tells false alive (inl (unbegun, has)) = inl (unbegun, tells [] has)
+    pub that_tick : (Has Told : List Event → List (List ℕ) → Type 0) → ((es : List Event) (queues : List (List ℕ)) → Has es queues → Told es queues) → (b : Bool) → old.spool.dead ≡ b → IsPassThat Has device place false start_room old b new result → IsTickWith Told device place limits old b new result
+    that_tick Has Told tells true died (answer, same, has) = (answer, same, tells [] [] has)
+    that_tick Has Told tells false alive (inl (unbegun, has)) = inl (unbegun, tells [] [] has)
     that_tick Has Told tells false alive (inr (passed, has)) =
         let whole = whole_tick device laws tickets place start_room old new passed.steps passed.made legal lawful limits within kept alive always result passed.answer in
-        inr (whole.0, subst (λ (steps : PassSteps D). Told (events_in old steps.parts)) (sym whole.2) (tells (events_in old passed.steps.parts) has))
+        inr (whole.0, subst (λ (steps : PassSteps D). Told (events_in old steps.parts) (map (λ t. t.queue) steps.parts.startings)) (sym whole.2) (tells (events_in old passed.steps.parts) (map (λ t. t.queue) passed.steps.parts.startings) has))
 
     pub passed_tick : IsPassBy device place false start_room old old.spool.dead new result → IsTickAsked asked device place limits old old.spool.dead new result
     passed_tick pass = by_pass old.spool.dead refl pass

@@ -1,5 +1,5 @@
 -- Consecutive steps.
-use Rattle.std.proofs.Common.{◌≡◌, ℕ, ◌+◌, ◌<◌, List, [], ◌∷◌, ◌++◌, length, map, take, get_or, true, false, Option, None, Some, refl, sym, ap, subst, ◌∙◌, add-one}
+use Rattle.std.proofs.Common.{◌≡◌, ℕ, ◌+◌, ◌<◌, List, [], ◌∷◌, ◌++◌, length, map, take, get_or, Bool, true, false, Option, None, Some, refl, sym, ap, subst, ◌∙◌, add-one}
 use Rattle.std.proofs.Math.Seq.{take-suc}
 use Rattle.std.proofs.lemmas.List.{map-append}
 use Rattle.spool_disk.specs.Disk.{DiskView}
@@ -9,10 +9,11 @@ use Rattle.std.specs.Option.{option_or}
 use Rattle.std.proofs.lemmas.List.Sums.{fold-append}
 use Rattle.spool_types.specs.State.{State}
 use Rattle.filter_args.specs.declared.place.Place.{Place}
-use Rattle.spool_core.specs.OpenSpools.{OpenSpool}
+use Rattle.spool_core.specs.OpenSpools.{OpenSpool, IsSettled}
+use Rattle.job_table.specs.Attempts.{next_of}
 use Rattle.child_pipeline.specs.ChildTraces.{ChildTrace}
 use Rattle.child_pipeline.specs.StageSlots.{Slots, FinishesStage}
-use Rattle.print_rounds.specs.RunStates.{RunState, Starting, IsStarting, AreStartings, Launching, IsLaunch, AreLaunchings, IsReadFor, AreReads, Ending, IsEnding, IsEndingOf, AreEndings, IsReport, is_silent}
+use Rattle.print_rounds.specs.RunStates.{RunState, Answer, Starting, IsStarting, IsStartingOf, AreStartings, Launching, IsLaunch, AreLaunchings, IsReadFor, AreReads, Ending, IsEnding, IsEndingOf, AreEndings, IsReport, is_silent}
 use Rattle.print_rounds.specs.Counts.{first_fault}
 use Rattle.print_rounds.specs.declared.outcome.Report.{Report}
 use Rattle.print_rounds.specs.declared.outcome.Report.TheVariants as reports
@@ -35,6 +36,30 @@ module _ {D : Type 0} (device : DiskView D) where
   pub more_starts : (old mid : OpenSpool D) (ts : List (Starting D)) (t : Starting D) → AreStartings device old ts mid → IsStarting device mid t → AreStartings device old (ts ++ t ∷ []) t.next
   more_starts old mid [] t same is = (subst (λ s. IsStarting device s t) same is, refl)
   more_starts old mid (x ∷ ts) t starts is = (starts.0, more_starts x.next mid ts t starts.1 is)
+
+-- Nothing is staged after starts and ends of stages.
+module _ {D : Type 0} (device : DiskView D) where
+  start_settled : (old : OpenSpool D) (o : Option ℕ) (answer : Option Answer) (new : OpenSpool D) → IsSettled old → IsStartingOf device old o answer new → IsSettled new
+  start_settled old None answer new settled (none, same) = subst IsSettled (sym same) settled
+  start_settled old (Some j) None new settled is = absurd is
+  start_settled old (Some j) (Some a) new settled (accepted, is) = is.settled
+
+  pub starts_settled : (old : OpenSpool D) (ts : List (Starting D)) (new : OpenSpool D) → IsSettled old → AreStartings device old ts new → IsSettled new
+  starts_settled old [] new settled same = subst IsSettled (sym same) settled
+  starts_settled old (t ∷ ts) new settled (start, starts) = starts_settled t.next ts new (start_settled old (next_of old.state t.queue) t.answer t.next settled start) starts
+
+  report_settled : (old : RunState D) (j : ℕ) (r : Report) (new : RunState D) → IsSettled old.spool → IsReport device old j r new → IsSettled new.spool
+  report_settled old j reports.Silent new settled is = absurd is
+  report_settled old j reports.NoMemory new settled same = subst (λ (c : RunState D). IsSettled c.spool) (sym same) settled
+  report_settled old j (reports.Answered a) new settled (is, slots, told) = is.settled
+
+  end_settled : (old : RunState D) (b : Bool) (e : Ending D) → IsSettled old.spool → IsEndingOf device old b e → IsSettled e.next.spool
+  end_settled old true e settled (report, kept, next) = subst (λ (c : RunState D). IsSettled c.spool) (sym next) settled
+  end_settled old false e settled (finishes, same, report) = report_settled e.kept e.job e.report e.next (subst IsSettled (sym same) settled) report
+
+  pub ends_settled : (old : RunState D) (es : List (Ending D)) (new : RunState D) → IsSettled old.spool → AreEndings device old es new → IsSettled new.spool
+  ends_settled old [] new settled same = subst (λ (c : RunState D). IsSettled c.spool) (sym same) settled
+  ends_settled old (e ∷ es) new settled (end, ends) = ends_settled e.next es new (end_settled old (is_silent (finite.get old.slots e.job)) e settled end) ends
 
 pub more_launches : (place : Place) (s : State) (old mid : Slots) (told told' : Option ChildTrace) (ts : List Launching) (t : Launching) → AreLaunchings place s old told ts mid told' → IsLaunch place s mid told' t.job t.document t.launch t.slots t.told → AreLaunchings place s old told (ts ++ t ∷ []) t.slots t.told
 more_launches place s old mid told told' [] t (same, tells) is = (subst (λ m. IsLaunch place s m told t.job t.document t.launch t.slots t.told) same (subst (λ o. IsLaunch place s mid o t.job t.document t.launch t.slots t.told) tells is), (refl, refl))

@@ -11,6 +11,7 @@ pub mod Inputs
 pub mod Rounds
 pub mod StartLimits
 pub mod Passes
+pub mod Turns
 pub mod RoundTicks
 pub mod Happenings
 pub mod TickInputs

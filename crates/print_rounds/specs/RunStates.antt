@@ -13,7 +13,7 @@ use Rattle.job_table.specs.Attempts.{next_of}
 use Rattle.job_table.specs.DocumentLengths.{document_len}
 use Rattle.job_table.specs.Step.{refusal_of}
 use Rattle.spool_core.specs.Image.{HasDocument, HasDocuments, HasBeforeOrAfterEvent, HasWholeBeforeOrAfterEvent, documents_after_one}
-use Rattle.spool_core.specs.OpenSpools.{OpenSpool, IsAnswer}
+use Rattle.spool_core.specs.OpenSpools.{OpenSpool, IsAnswer, IsSettled}
 use Rattle.spool_core.specs.declared.spool.apply_fault.ApplyFault.{ApplyFault}
 use Rattle.filter_args.specs.declared.place.Place.{Place}
 use Rattle.child_pipeline.specs.ChildTraces.{ChildTrace}
@@ -41,7 +41,7 @@ abbrev pub Answer : Type 0
 Answer = Result Reply ApplyFault
 
 -- An event with its answer: the cause of the answer, and the result. Unless the device had failed before, a crash at any moment of it
--- leaves the table before the event or the one after it, with the documents of that moment.
+-- leaves the table before the event or the one after it, with the documents of that moment. Nothing is staged afterwards.
 pub record IsApplied {D : Type 0} (device : DiskView D) (old : OpenSpool D) (e : Event) (a : Answer) (new : OpenSpool D) : Type 0 where
   pub cause : IsAnswer device old e a new
   pub counted : device.failures old.disk ≤ device.failures new.disk
@@ -51,6 +51,7 @@ pub record IsApplied {D : Type 0} (device : DiskView D) (old : OpenSpool D) (e :
       LeavesOnly device old.disk new.disk (HasWholeBeforeOrAfterEvent old.state documents e)
   pub sent : OnOk a ((bytes : List ℕ) (documents : ℕ → List ℕ) → device.bytes old.disk ≡ Some bytes → HasDocuments old.state documents bytes →
       (c : List ℕ) → device.image new.disk c → HasDocuments new.state (documents_after_one old.state documents e) c)
+  pub settled : IsSettled new
 
 -- First, each queue's next job is started. A queue without one has no answer, and no start is refused.
 pub record Starting (D : Type 0) : Type 0 where
@@ -123,6 +124,7 @@ pub record IsReadFor {D : Type 0} (device : DiskView D) (old : OpenSpool D) (j :
   pub state : new.state ≡ old.state
   pub room : new.room ≡ old.room
   pub epoch : new.epoch ≡ old.epoch
+  pub held : new.held ≡ old.held
   pub disk : ChangesNothing device old.disk new.disk
   pub blames : Blames (device.failures old.disk) (device.failures new.disk) (launch ≡ Disk)
   pub dies : IsTrue new.dead ↔ (IsTrue old.dead ⊎ (launch ≡ Disk))

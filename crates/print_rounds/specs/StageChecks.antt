@@ -1,5 +1,5 @@
 -- Checks while children may be running: which slots stay, which queues may start a job, and whose ends are reported.
-use Rattle.std.specs.Prelude.{◌≡◌, ℕ, Bool, ◌&&◌, ◌||◌, not, true, false, cond, List, [], ◌∷◌, Option, None, Some}
+use Rattle.std.specs.Prelude.{◌≡◌, ℕ, Bool, ◌&&◌, ◌||◌, not, true, false, cond, List, [], ◌∷◌, map, Option, None, Some}
 use Rattle.std.specs.List.{filter, list_any}
 use Rattle.std.specs.FinMap as finite
 use Rattle.spool_types.specs.Busy.{is_of}
@@ -43,6 +43,10 @@ is_of_queue name (Some r) = is_of name r
 -- A child of the queue is running: that of its processing job, or of a job that has left its stage.
 abbrev pub is_blocked : State → Slots → List ℕ → Bool
 is_blocked s slots name = list_any (λ j. runs slots j && is_of_queue name (job_at s j)) (finite.keys slots)
+
+-- The same of each queue, in ascending order of name.
+abbrev pub blocked_flags : State → Slots → List Bool
+blocked_flags s slots = map (λ name. is_blocked s slots name) (finite.keys s.queues)
 
 -- The queues without a running child, in ascending order of name.
 abbrev pub free_queues : State → Slots → List (List ℕ)

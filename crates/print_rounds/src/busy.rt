@@ -4,7 +4,7 @@ ghost use Rattle.std.specs.FinMap as finite;
 ghost use Rattle.spool_types.specs.State.{Job, job_at};
 ghost use Rattle.job_table.specs.QueuePositions.{IsNameAt};
 ghost use Rattle.print_rounds.specs.Finished.{AreDistinct, AllRest};
-ghost use Rattle.print_rounds.specs.StageChecks.{free_queues, idle_among, tended_jobs};
+ghost use Rattle.print_rounds.specs.StageChecks.{blocked_flags, free_queues, idle_among, tended_jobs};
 ghost use Rattle.print_rounds.specs.Passes.{unblocked};
 
 use crate::slots::{has_child, is_stray};
@@ -30,6 +30,7 @@ pub(crate) fn mark_blocked<C: Children>(table: &Table, runner: &Runner<C>, block
     requires empty { blocked.old.items ≡ [] }
     requires room { length (finite.keys table.now.state.queues) ≤ vec_capacity blocked.old }
     ensures count { length blocked.new.items ≡ length (finite.keys table.now.state.queues) }
+    ensures flags { blocked.new.items ≡ blocked_flags table.now.state runner.now }
     ensures value { unblocked blocked.new.items (finite.keys table.now.state.queues) ≡ free_queues table.now.state runner.now }
 {
     for _ in 0..table.queues().len() {

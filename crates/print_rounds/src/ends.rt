@@ -3,6 +3,7 @@ ghost use Rattle.std.specs.Prelude.{◌≡◌, List, ℕ, length, map, nat_lt, v
 ghost use Rattle.std.specs.FinMap as finite;
 ghost use Rattle.child_pipeline.specs.StageSlots.{IsEnded, slot_in};
 ghost use Rattle.spool_types.specs.declared.event.StageEnd.{StageEnd as EndOf};
+ghost use Rattle.spool_core.specs.OpenSpools.{IsSettled};
 ghost use Rattle.print_rounds.specs.Counts.{acknowledged_by, ending_events, ending_fault, report_events, told_in};
 ghost use Rattle.print_rounds.specs.Happenings.{HaveHappened, happenings_of};
 ghost use Rattle.print_rounds.specs.RunStates.{RunState, run_state, Ending, IsApplied, IsEnding, AreEndings, is_silent, moved, moved_by};
@@ -60,6 +61,7 @@ fn stage(end: StageEnd) -> Event
 
 // Applies the event of a stage's end.
 fn apply_end<D: Disk>(spool: &mut Spool<D>, end: StageEnd) -> Result<Reply, ApplyFault>
+    requires settled { IsSettled spool.old }
     ensures { IsApplied D.device spool.old (Event.Stage end) result spool.new }
 {
     spool.apply(stage(end))
@@ -81,7 +83,8 @@ fn report<D: Disk, C: Children>(
     runner: &mut Runner<C>,
     end: StageEnd,
 ) -> Result<Reply, ApplyFault>
-    requires { IsEnded (finite.get runner.old end.job) }
+    requires ended { IsEnded (finite.get runner.old end.job) }
+    requires settled { IsSettled spool.old }
     ensures answer { IsApplied D.device spool.old (Event.Stage end) result spool.new }
     ensures slots { runner.new ≡ moved runner.old end.job result }
 {
@@ -98,6 +101,7 @@ fn end_stage<D: Disk, C: Children>(
     children: &mut C,
     job: JobId,
 ) -> Report
+    requires settled { IsSettled spool.old }
     ensures { (kept : RunState D) × IsEnding D.device (run_state spool.old runner.old (C.tells children.old))
         (record { job = job; kept = kept; report = result; next = run_state spool.new runner.new (C.tells children.new) }) }
 {
@@ -142,6 +146,7 @@ pub(crate) fn end_stages<D: Disk, C: Children>(
     jobs: &[JobId],
     happened: &mut Vec<Happening>,
 ) -> Ends
+    requires settled { IsSettled spool.old }
     ensures ends { (es : List (Ending D)) × AreEndings D.device (run_state spool.old runner.old (C.tells children.old)) es
         (run_state spool.new runner.new (C.tells children.new)) × (map (λ e. e.job) es ≡ jobs.now)
         × (result.told ≡ told_in es) × (result.fault ≡ ending_fault es)

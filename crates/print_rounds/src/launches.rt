@@ -4,6 +4,7 @@ ghost use Rattle.std.specs.FinMap as finite;
 ghost use Rattle.spool_types.specs.State.{Job, job_at, queue_at};
 ghost use Rattle.spool_types.specs.declared.rows.QueueRow.{QueueRow as QueueOf};
 ghost use Rattle.job_table.specs.Legal.{Fits};
+ghost use Rattle.spool_core.specs.OpenSpools.{IsSettled};
 ghost use Rattle.child_pipeline.specs.StageSlots.{IsDue, IsTicketless, slot_in};
 ghost use Rattle.print_rounds.specs.Choice.{readiness};
 ghost use Rattle.print_rounds.specs.Counts.{launching_fault, started_in};
@@ -150,7 +151,8 @@ fn launch<D: Disk, C: Children>(
     children: &mut C,
     job: JobId,
 ) -> Launch
-    requires { IsTicketless (finite.get runner.old job) }
+    requires rests { IsTicketless (finite.get runner.old job) }
+    requires settled { IsSettled spool.old }
     ensures { (document : Option (List ℕ)) × IsLaunch place.now spool.old.state runner.old (C.tells children.old) job document result runner.new (C.tells children.new)
         × IsReadFor D.device spool.old job document result spool.new }
 {
@@ -180,6 +182,7 @@ pub(crate) fn launch_all<D: Disk, C: Children>(
 ) -> Launches
     requires distinct { AreDistinct jobs.now }
     requires rest { AllRest runner.old jobs.now }
+    requires settled { IsSettled spool.old }
     ensures { (ts : List Launching) × AreLaunchings place.now spool.old.state runner.old (C.tells children.old) ts runner.new (C.tells children.new) × AreReads D.device spool.old ts spool.new × (map (λ t. t.job) ts ≡ jobs.now)
         × (result.started ≡ started_in ts) × (result.fault ≡ launching_fault ts) }
 {

@@ -35,6 +35,10 @@
 //!   the stages those of the processing jobs without one (`AreChosen`: `all`). Otherwise processing jobs come first, then queues with a
 //!   next job, as far as room is left (`few`, `full`). In any case a tick uses the room that its limits and the children leave
 //!   (`IsTickAsked`, `IsRoomBy`; of children that report the limits alone, `always`), and calls `start` at most that many times (`few`).
+//! - *Turn*: if there is room for fewer children than queues, the queues are chosen in the order from position `turn` on (`turn` of
+//!   [`tick`], `AreInTurn`). A queue that could start a job and was left out comes after each chosen one in that order (`later`), and
+//!   before each in the order of the next tick (`first`), where fewer queues come before it (`nearer`). So while the
+//!   queues are the same, one that can start a job in each tick is left out of fewer such ticks than there are queues.
 //! - *Limits*: if at most as many children run before a tick as may at once, at most as many run after it (`most`, `count_running`).
 //!   [`count_free`] returns how many more may run.
 //! - *Crash*: unless the device had failed before, a crash at any moment of a pass leaves the table after the first of the events that were
@@ -79,11 +83,9 @@
 //!
 //! # Not proved
 //!
-//! - Which queues start if there is room for fewer children than queues: the clause states how many (`AreChosen`), not which. That the
-//!   choice begins at `first` is read in the code.
 //! - How long a tick takes: a check and a start take as long as those of the launcher (`spool_runtime`).
 //! - The effect of out of memory on a pass: one refused allocation in a round hinders at most one queue, except those of the lists that a
-//!   pass reserves first (`tests/refused_scripts.py`).
+//!   pass reserves first (`tests/test_refused_scripts.py`).
 //!
 //! # Errors
 //!

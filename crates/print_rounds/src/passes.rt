@@ -1,7 +1,10 @@
 //! A pass over the queues, the common part of a round and a tick.
 ghost use Rattle.std.specs.Prelude.{◌≡◌, ◌≤◌, ◌+◌, [], length, vec_capacity, IfOk};
 ghost use Rattle.std.specs.FinMap as finite;
+ghost use Rattle.spool_core.specs.OpenSpools.{IsSettled};
 ghost use Rattle.print_rounds.specs.RunStates.{run_state};
+ghost use Rattle.print_rounds.specs.StageChecks.{idle_slots};
+ghost use Rattle.print_rounds.specs.Turns.{AreInTurn};
 ghost use Rattle.print_rounds.specs.Happenings.{HaveHappened, IsPassThat, happenings_of};
 
 use crate::busy::{list_idle, list_tended, mark_blocked};
@@ -73,8 +76,10 @@ pub(crate) fn pass<D: Disk, C: Children>(
     turn: &mut usize,
     happened: &mut Vec<Happening>,
 ) -> Result<Round, RoundFault>
-    ensures { IsPassThat (λ events. HaveHappened (vec_capacity happened.old) (length (finite.keys spool.old.state.queues) + length (finite.keys spool.old.state.queues)) happened.old.items happened.new.items (happenings_of events))
+    requires settled { IsSettled spool.old }
+    ensures pass { IsPassThat (λ events queues. AreInTurn turn.old turn.new spool.old.state (idle_slots spool.old.state runner.old) queues × HaveHappened (vec_capacity happened.old) (length (finite.keys spool.old.state.queues) + length (finite.keys spool.old.state.queues)) happened.old.items happened.new.items (happenings_of events))
         D.device place.now waits start_room (run_state spool.old runner.old (C.tells children.old)) spool.old.dead (run_state spool.new runner.new (C.tells children.new)) result }
+    ensures settled { IsSettled spool.new }
 {
     if spool.is_dead() {
         return Err(RoundFault::Dead);

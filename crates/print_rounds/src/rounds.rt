@@ -1,5 +1,6 @@
 //! A whole round.
 ghost use Rattle.std.specs.Prelude.{◌≡◌, ◌≤◌, ◌↔◌, List, ℕ, IsSome, Some, []};
+ghost use Rattle.spool_core.specs.OpenSpools.{IsSettled};
 ghost use Rattle.child_pipeline.specs.ChildTraces.{ChildTrace};
 ghost use Rattle.print_rounds.specs.RunStates.{run_state};
 ghost use Rattle.print_rounds.specs.Finished.{EachFinishedOnce, HasNoneRunning};
@@ -24,7 +25,8 @@ pub fn round<D: Disk, C: Children>(
     runner: &mut Runner<C>,
     children: &mut C,
 ) -> Result<Round, RoundFault>
-    requires { HasNoneRunning runner.old }
+    requires rest { HasNoneRunning runner.old }
+    requires settled { IsSettled spool.old }
 
     // The steps and the result. A crash at any moment leaves the table after the first of its events. If the children report, it is a call
     // of a StageHistory, and if nothing failed it is Script's round.
@@ -35,6 +37,7 @@ pub fn round<D: Disk, C: Children>(
     // Whatever failed, each child that was started is finished once, and every start came before the first finish.
     ensures finished { (t : ChildTrace) → C.tells children.old ≡ Some t → t.running ≡ [] → (js : List ℕ) × EachFinishedOnce t (C.tells children.new) js }
     ensures rest { HasNoneRunning runner.new }
+    ensures settled { IsSettled spool.new }
 {
     // The table is legal and stays legal.
     let _legal = spool.table().jobs();

@@ -1,8 +1,9 @@
 //! Which queues and jobs are chosen if the children have room for a few starts only.
 ghost use Rattle.std.specs.Prelude.{◌≡◌, ◌⊎◌, ◌≤◌, ◌<◌, ◌+◌, ◌-◌, ◌++◌, ℕ, true, false, [], None, IsSome, length, slice_index_or, vec_capacity};
 ghost use Rattle.std.specs.FinMap as finite;
-ghost use Rattle.print_rounds.specs.StageChecks.{free_queues};
+ghost use Rattle.print_rounds.specs.StageChecks.{blocked_flags, free_queues};
 ghost use Rattle.print_rounds.specs.Passes.{unblocked};
+ghost use Rattle.print_rounds.specs.Turns.{AreInTurn, IsTurnAfter};
 ghost use Rattle.print_rounds.specs.RoundTicks.{count_running};
 ghost use Rattle.print_rounds.specs.StartLimits.{AreChosen, IsRoomBy, IsRoomWithin, can_start, room_within, rotated, opened_in, waiting_jobs};
 
@@ -22,11 +23,11 @@ pub struct TickLimits {
     pub starts: usize,
 }
 
-/// How many children may be started, and the queue of the first choice.
+/// How many children may be started, and where the choice begins.
 #[derive(Clone, Copy)]
 pub struct StartRoom {
     pub count: usize,
-    /// The position of the first queue in the queue order, among the queues in ascending order of name, modulo their number.
+    /// The position of the first choice, modulo the number of choices.
     pub first: usize,
 }
 
@@ -72,11 +73,13 @@ pub(crate) fn room_of<C: Children>(
     Some(StartRoom { count, first })
 }
 
-// Returns the position after the last queue in the range that is not blocked, or `turn` if all are blocked.
-fn turn_in(blocked: &[bool], from: usize, to: usize, turn: usize) -> usize
-    requires { to ≤ length blocked.now }
+// Returns the position after the last queue in the range that is not blocked, or `before` if all are blocked.
+fn turn_in(blocked: &[bool], from: usize, to: usize, before: usize) -> usize
+    requires order { from ≤ to }
+    requires range { to ≤ length blocked.now }
+    ensures { IsTurnAfter blocked.now from to before result }
 {
-    let mut turn = turn;
+    let mut turn = before;
     for at in from..to {
         if !blocked[at] {
             turn = at + 1;
@@ -118,16 +121,20 @@ fn open_some(
     start_room: usize,
     closed: &mut Vec<bool>,
 ) -> usize
+    requires order { from ≤ to }
     requires range { to ≤ length (finite.keys table.now.state.queues) }
     requires blocked { length blocked.now ≡ length (finite.keys table.now.state.queues) }
     requires closed { length closed.old.items ≡ length (finite.keys table.now.state.queues) }
     requires ahead { (i : ℕ) → from ≤ i → i < to → slice_index_or closed.old.items i true ≡ true }
     ensures count { length closed.new.items ≡ length closed.old.items }
     ensures before { (i : ℕ) → i < from → slice_index_or closed.new.items i true ≡ slice_index_or closed.old.items i true }
+    ensures behind { (i : ℕ) → to ≤ i → slice_index_or closed.new.items i true ≡ slice_index_or closed.old.items i true }
     ensures opened { (i : ℕ) → slice_index_or closed.old.items i true ≡ false → slice_index_or closed.new.items i true ≡ false }
     ensures start { (i : ℕ) → slice_index_or closed.new.items i true ≡ false → (slice_index_or closed.old.items i true ≡ false) ⊎ (can_start table.now.state blocked.now i ≡ true) }
     ensures taken { opened_in closed.new.items + result ≡ opened_in closed.old.items + start_room }
     ensures less { result ≤ start_room }
+    ensures none { start_room ≡ 0 → closed.new.items ≡ closed.old.items }
+    ensures in_order { (i j : ℕ) → from ≤ j → j < i → i < to → can_start table.now.state blocked.now j ≡ true → slice_index_or closed.new.items j true ≡ true → slice_index_or closed.new.items i true ≡ true }
     ensures all { 0 < result → (i : ℕ) → from ≤ i → i < to → can_start table.now.state blocked.now i ≡ true → slice_index_or closed.new.items i true ≡ false }
 {
     let mut left = start_room;
@@ -141,7 +148,8 @@ fn open_some(
 }
 
 // Blocks the queues that have no room. If there is room for fewer starts than queues, the jobs that wait for a child come first,
-// then queues with a next job, from `first` on. It returns the position after the last of them, or `turn` if no queue was left out.
+// then queues with a next job, from `turn` on. It returns the position after the last of them, or `turn` if there is none, or room for
+// each queue.
 pub(crate) fn hold_back<C: Children>(
     start_room: Option<StartRoom>,
     turn: usize,
@@ -152,10 +160,12 @@ pub(crate) fn hold_back<C: Children>(
 ) -> usize
     requires count { length blocked.old.items ≡ length (finite.keys table.now.state.queues) }
     requires free { unblocked blocked.old.items (finite.keys table.now.state.queues) ≡ free_queues table.now.state runner.now }
+    requires flags { blocked.old.items ≡ blocked_flags table.now.state runner.now }
     requires empty { spare.old.items ≡ [] }
     requires room { length (finite.keys table.now.state.queues) ≤ vec_capacity spare.old }
     ensures count { length blocked.new.items ≡ length (finite.keys table.now.state.queues) }
     ensures chosen { AreChosen start_room table.now.state runner.now (unblocked blocked.new.items (finite.keys table.now.state.queues)) }
+    ensures turn { AreInTurn turn result table.now.state runner.now (unblocked blocked.new.items (finite.keys table.now.state.queues)) }
 {
     let Some(start_room) = start_room else {
         return turn;
@@ -167,15 +177,15 @@ pub(crate) fn hold_back<C: Children>(
     for _ in 0..queues {
         spare.push_reserved(true);
     }
-    let first = start_room.first % queues;
+    let first = turn % queues;
     let left = start_room
         .count
         .saturating_sub(count_waiting(table, runner));
     let left = open_some(table, blocked, first, queues, left, spare);
     open_some(table, blocked, 0, first, left, spare);
     mem::swap(blocked, spare);
-    let turn = turn_in(blocked, first, queues, turn);
-    turn_in(blocked, 0, first, turn)
+    let behind = turn_in(blocked, first, queues, turn);
+    turn_in(blocked, 0, first, behind)
 }
 
 // Lists the jobs that have room: all of them, or else `count` jobs from position `first` on and then from the beginning, in the order of

@@ -3,6 +3,7 @@ ghost use Rattle.std.specs.Prelude.{◌≡◌, ◌<◌, List, ℕ, IfSome, None,
 ghost use Rattle.std.specs.FinMap as finite;
 ghost use Rattle.job_table.specs.Attempts.{next_of};
 ghost use Rattle.job_table.specs.Step.{refusal_of};
+ghost use Rattle.spool_core.specs.OpenSpools.{IsSettled};
 ghost use Rattle.print_rounds.specs.Counts.{acknowledged_by, start_events, start_fault, starting_events, starting_fault};
 ghost use Rattle.print_rounds.specs.Happenings.{HaveHappened, happenings_of};
 ghost use Rattle.print_rounds.specs.RunStates.{Starting, AreStartings, IsApplied, IsStarting};
@@ -30,6 +31,7 @@ fn start_job<D: Disk>(
     job: JobId,
     happened: &mut Vec<Happening>,
 ) -> Result<Reply, ApplyFault>
+    requires settled { IsSettled spool.old }
     ensures answer { IsApplied D.device spool.old (Event.Start job) result spool.new }
     ensures noted { HaveHappened (vec_capacity happened.old) 1 happened.old.items happened.new.items (happenings_of (acknowledged_by (Event.Start job) result)) }
     ensures capacity { vec_capacity happened.new ≡ vec_capacity happened.old }
@@ -49,7 +51,8 @@ fn start_next<D: Disk>(
     at: usize,
     happened: &mut Vec<Happening>,
 ) -> Option<Result<Reply, ApplyFault>>
-    requires { at < length (finite.keys spool.old.state.queues) }
+    requires within { at < length (finite.keys spool.old.state.queues) }
+    requires settled { IsSettled spool.old }
     ensures start { (name : List ℕ) × (name ≡ slice_index_or (finite.keys spool.old.state.queues) at name)
         × IsStarting D.device spool.old (record { queue = name; answer = result; next = spool.new })
         × HaveHappened (vec_capacity happened.old) 1 happened.old.items happened.new.items (happenings_of (start_events (next_of spool.old.state name) result)) }
@@ -79,7 +82,8 @@ pub(crate) fn start_free<D: Disk>(
     blocked: &[bool],
     happened: &mut Vec<Happening>,
 ) -> Option<RoundFault>
-    requires { length blocked.now ≡ length (finite.keys spool.old.state.queues) }
+    requires count { length blocked.now ≡ length (finite.keys spool.old.state.queues) }
+    requires settled { IsSettled spool.old }
     ensures starts { (ts : List (Starting D)) × AreStartings D.device spool.old ts spool.new × (map (λ t. t.queue) ts ≡ unblocked blocked.now (finite.keys spool.old.state.queues))
         × (result ≡ starting_fault ts)
         × HaveHappened (vec_capacity happened.old) (length blocked.now) happened.old.items happened.new.items (happenings_of (starting_events spool.old ts)) }

@@ -1,12 +1,13 @@
 //! A tick: a round that waits for no child.
 ghost use Rattle.std.specs.Prelude.{◌≡◌, ◌≤◌, ◌↔◌, List, map, IfSome, IsSome, Some};
+ghost use Rattle.spool_core.specs.OpenSpools.{IsSettled};
 ghost use Rattle.child_pipeline.specs.Tickets.{HasTickets};
 ghost use Rattle.child_pipeline.specs.ChildTraces.{ChildTrace};
 ghost use Rattle.print_rounds.specs.RunStates.{run_state};
 ghost use Rattle.print_rounds.specs.Finished.{HasNoneRunning};
 ghost use Rattle.print_rounds.specs.RoundTicks.{AreFinishings, Finishing, IsFinishedOff, IsTickAsked, count_running, running_jobs};
 ghost use Rattle.print_rounds.specs.StartLimits.{IsRoomBy};
-ghost use Rattle.print_rounds.specs.Happenings.{IsTickThat, happenings_of};
+ghost use Rattle.print_rounds.specs.Happenings.{IsTickInTurn, IsTickThat, happenings_of};
 
 use crate::happenings::Happening;
 use crate::outcome::{Round, RoundFault};
@@ -35,11 +36,15 @@ pub fn tick<D: Disk, C: Children>(
     turn: &mut usize,
     happened: &mut Vec<Happening>,
 ) -> Result<Round, RoundFault>
+    requires settled { IsSettled spool.old }
     ensures tick { IsTickAsked (IsRoomBy (λ answer. (then : C) × C.rooms children.old answer then) limits (count_running runner.old) turn.old) D.device place.now limits (run_state spool.old runner.old (C.tells children.old)) spool.old.dead (run_state spool.new runner.new (C.tells children.new)) result }
     ensures later { D.device.failures spool.old.disk ≤ D.device.failures spool.new.disk }
     ensures told { IsSome (D.device.bytes spool.new.disk) ↔ IsSome (D.device.bytes spool.old.disk) }
+    ensures settled { IsSettled spool.new }
     // No more children run than may at once.
     ensures most { IfSome limits (λ l. count_running runner.old ≤ l.most → count_running runner.new ≤ l.most) }
+    // If queues were left out, they are first in the next tick. If nothing was done, the turn is the same.
+    ensures turn { IsTickInTurn turn.old turn.new D.device place.now limits (run_state spool.old runner.old (C.tells children.old)) spool.old.dead (run_state spool.new runner.new (C.tells children.new)) result }
     // The accepted events, by job and kind.
     ensures happened { IsTickThat (λ events. happened.new.items ≡ happenings_of events) D.device place.now limits (run_state spool.old runner.old (C.tells children.old)) spool.old.dead (run_state spool.new runner.new (C.tells children.new)) result }
 {

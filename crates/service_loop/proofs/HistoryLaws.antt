@@ -215,7 +215,7 @@ module _ {D L : Type 0} (device : DiskView D) (view : ConnectionView L) where
       by_known (Some x) None kept is = absurd kept
       by_known (Some x) (Some y) kept is = ap Some kept ∙ is
 
-  -- Each client that is there after the events was served apart.
+  -- Each client that is left after the events was served apart.
   pub served_right : (e : Engine D) (s : Slab (Client L)) (xs : List (LoopEvent L)) (e1 : Engine D) (s1 : Slab (Client L)) → HasServed device view e s xs e1 s1 →
       (key : ℕ) (c : Client L) → get s1 key ≡ Some c → IsServedRight device view xs c
   served_right e s xs e1 s1 gone key c there =

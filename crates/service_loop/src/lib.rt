@@ -168,7 +168,7 @@
 //!
 //! - That the loop requests the right decision, with the right values, at the right moment: a turn waits at most as long as `pause`
 //!   returns, makes a checkpoint when one is wanted, ends children, and sends watching clients what changed. That is read in the code.
-//!   `tests/service.py` shows it for the program: clients that stall, flood, never read, or are too many; slow children and children that
+//!   `tests/test_service_*.py` show it for the program: clients that stall, flood, never read, or are too many; slow children and children that
 //!   must end; kills; a requested end.
 //! - The sockets of the program report their rules and nothing else (`SocketConnection` of `spool_service`), so the clauses on connections
 //!   say nothing of their bytes and proofs. The code is the same.

@@ -10,7 +10,7 @@ ghost use Rattle.spool_engine.specs.Script.{closing_as, closing_line};
 ghost use Rattle.service_loop.specs.ClientActions.{closed_answer};
 ghost use Rattle.command_lines.specs.declared.reply.Answer.{Answer as AnswerOf};
 ghost use Rattle.print_rounds.specs.RoundTicks.{count_running};
-ghost use Rattle.print_rounds.specs.Happenings.{IsTickThat, happenings_of};
+ghost use Rattle.print_rounds.specs.Happenings.{IsTickInTurn, IsTickThat, happenings_of};
 ghost use Rattle.print_rounds.specs.declared.start_room.TickLimits.{TickLimits as LimitsOf};
 ghost use Rattle.job_table.specs.Attempts.{busy_of};
 ghost use Rattle.spool_types.specs.State.{State, job_at};
@@ -156,6 +156,8 @@ impl<D: Disk, C: Children> Shared<D, C> {
         // Exactly the accepted events are recorded.
         ensures recorded { (events : List Event) × (limits : Option LimitsOf) × IsTickThat (λ es. es ≡ events) D.device self.old.engine.place limits self.old.engine.run_state self.old.engine.run_state.spool.dead self.new.engine.run_state result
             × HasRecordedAll self.new.engine.run_state.spool.state self.old.records (map happened_deed (happenings_of events)) self.new.records }
+        // A queue that was left out is before each queue that was not in the next tick.
+        ensures turn { (limits : Option LimitsOf) × IsTickInTurn self.old.engine.turn self.new.engine.turn D.device self.old.engine.place limits self.old.engine.run_state self.old.engine.run_state.spool.dead self.new.engine.run_state result }
         ensures most { self.new.most ≡ self.old.most }
         ensures calls { GoesWithin D.device self.old.most self.old.engine self.new.most self.new.engine }
     {

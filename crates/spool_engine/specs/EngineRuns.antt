@@ -27,11 +27,12 @@ use Rattle.spool_engine.specs.Script.{Documents, Asked, ScriptState, meaning, ev
 use Rattle.spool_engine.specs.declared.fault.RunFault.{RunFault}
 use Rattle.spool_engine.specs.declared.fault.RunFault.TheVariants.{Read, Write, Memory}
 
--- An engine as its callers see it.
+-- An engine as its callers see it. `turn` is the position of the queue with which the next tick begins.
 pub record Engine (D : Type 0) : Type 0 where
   pub mime : Mime
   pub place : Place
   pub run_state : RunState D
+  pub turn : ℕ
 
 -- The way a command was answered: with a text or after at most one event, by rounds, or as a withheld purge of a job whose child runs.
 pub data How (D : Type 0) : Type 0 where

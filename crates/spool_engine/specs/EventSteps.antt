@@ -78,6 +78,7 @@ pub record IsStill {D : Type 0} (device : DiskView D) (old new : OpenSpool D) : 
   pub state : new.state ≡ old.state
   pub room : new.room ≡ old.room
   pub epoch : new.epoch ≡ old.epoch
+  pub held : new.held ≡ old.held
   pub dead : new.dead ≡ old.dead
   pub disk : ChangesNothing device old.disk new.disk
   pub counted : device.failures new.disk ≡ device.failures old.disk

@@ -12,7 +12,7 @@ ghost use Rattle.command_lines.specs.declared.command.Command.{Command};
 ghost use Rattle.filter_args.specs.declared.place.Place.{Place as PlaceOf};
 ghost use Rattle.print_rounds.specs.RunStates.{RunState, run_state};
 ghost use Rattle.spool_core.specs.DocumentReading.{IsFrontRead as IsReadUpTo};
-ghost use Rattle.spool_core.specs.OpenSpools.{len_at};
+ghost use Rattle.spool_core.specs.OpenSpools.{len_at, IsSettled as NoneStaged};
 ghost use Rattle.spool_core.specs.declared.spool.apply_fault.ApplyFault.{ApplyFault};
 ghost use Rattle.spool_core.specs.declared.spool.checkpoint_fault.CheckpointFault.{CheckpointFault};
 ghost use Rattle.spool_engine.specs.Mime.{Mime as MimeDatabase, IsEnough};
@@ -23,7 +23,7 @@ ghost use Rattle.spool_engine.specs.EventSteps.{setting, EventStep, IsKept};
 ghost use Rattle.spool_engine.specs.EventAnswers.{IsApplied, IsFrontRead, IsRelisted, Takes, event_line, checkpoint_line};
 ghost use Rattle.spool_engine.specs.EngineRounds.{IsRan};
 ghost use Rattle.spool_engine.specs.EngineTicks.{IsTicked};
-ghost use Rattle.print_rounds.specs.Happenings.{IsTickThat, happenings_of};
+ghost use Rattle.print_rounds.specs.Happenings.{IsTickInTurn, IsTickThat, happenings_of};
 ghost use Rattle.spool_types.specs.declared.event.Event.{Event as EventOf};
 
 use crate::answers::{checkpoint_answer, event_answer, fault_answer};
@@ -53,6 +53,7 @@ pub(crate) struct Executor<D: Disk> {
 
 impl<D: Disk> Model for Executor<D> {
     ghost use Rattle.spool_core.specs.OpenSpools.{OpenSpool};
+    ghost use Rattle.spool_core.specs.OpenSpools.{IsSettled as NoneStaged};
     ghost use Rattle.spool_engine.specs.EventSteps.{IsKept};
     ghost use Rattle.std.specs.Coded.{codes};
     ghost use Rattle.std.specs.FinMap as map;
@@ -63,12 +64,13 @@ impl<D: Disk> Model for Executor<D> {
 
     ghost view = { λ e. e.spool };
 
-    ghost invariant = { λ e. IsKept D.device e.spool };
+    ghost invariant = { λ e. IsKept D.device e.spool × NoneStaged e.spool };
 }
 
 impl<D: Disk> Executor<D> {
     /// Returns an executor over this spool.
     pub fn new(alloc: Global, spool: Spool<D>) -> Executor<D>
+        requires settled { NoneStaged spool }
         ensures { result ≡ spool }
     {
         // `table` states that a crash leaves this table, which is the executor's invariant.
@@ -329,6 +331,8 @@ impl<D: Disk> Executor<D> {
         ensures tick { (m : MimeDatabase) → (tried : List EventOf) × IsTicked (setting D.device m place.now)
             (run_state self.old runner.old (C.tells children.old))
             (record { limits = limits; next = run_state self.new runner.new (C.tells children.new); result = result; tried = tried }) }
+        ensures turn { IsTickInTurn turn.old turn.new D.device place.now limits
+            (run_state self.old runner.old (C.tells children.old)) self.old.dead (run_state self.new runner.new (C.tells children.new)) result }
         ensures happened { IsTickThat (λ events. happened.new.items ≡ happenings_of events) D.device place.now limits
             (run_state self.old runner.old (C.tells children.old)) self.old.dead (run_state self.new runner.new (C.tells children.new)) result }
     {

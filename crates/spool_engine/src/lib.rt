@@ -52,6 +52,8 @@
 //!   left. [`Engine::round`] has `IsRan`, [`Engine::tick`] `IsTicked`, and [`Engine::execute`] `TakesStep`: the text of its answer over the
 //!   table that it leaves is the reply of the step (`executed`). [`Engine::new`] sets the rules, the conversions and the `Place`, and no
 //!   call changes them (`mime`, `place`).
+//! - The engine has the turn of the queues (`turn`), and only a tick changes it: a queue that was left out for lack of children is before
+//!   each chosen one in the next tick (`IsTickInTurn`).
 //! - [`Engine::tick`] reports exactly its accepted events, by kind and job (`happened`, `IsTickThat`). [`Engine::closing_as`] returns the event
 //!   that closes a job as a type, and the answer that `close` would have (`closing_as`, `closing_line`).
 //! - *ExactScript* (`exact`): if a run returns Ok and every command was served, the bytes that it wrote are the replies of Script over
@@ -107,7 +109,7 @@
 //! # Not proved
 //!
 //! - When a reply is written: `IsRun` states the bytes, not the time. That each reply is written before the next command is taken, and
-//!   after its event was acknowledged, is read in the code (`Printer::answer`). `tests/syncs.py` observes it in the system calls.
+//!   after its event was acknowledged, is read in the code (`Printer::answer`). `tests/test_syncs.py` observes it in the system calls.
 //! - A call that a crash cuts off does not return, so no contract covers its orders. It counts as the same call on a device that fails from
 //!   that moment on. That the two agree until then is read in the code.
 //! - Whether memory had run out, or a reader or writer had failed: a body of `run` that always runs out of memory, or that reports a failed

@@ -1,12 +1,13 @@
 //! The printer: executes commands, each on the run state that it finds, and serves the commands of a text.
 ghost use Rattle.std.specs.Prelude.{◌≡◌, ◌-◌, ℕ, false, List, [], IfOk, IsNone, IsSome, IsTrue, OnOk};
 ghost use Rattle.std.specs.FinMap as finite;
+ghost use Rattle.spool_core.specs.OpenSpools.{IsSettled as NoneStaged};
 ghost use Rattle.spool_types.specs.declared.event.Event.{Event as EventOf};
 ghost use Rattle.command_lines.specs.declared.command.Command.{Command};
 ghost use Rattle.child_pipeline.specs.StageSlots.{Slots, IsRunning, IsTicketless, group_in};
 ghost use Rattle.print_rounds.specs.RoundTicks.{count_running};
 ghost use Rattle.print_rounds.specs.RunStates.{RunState, run_state};
-ghost use Rattle.print_rounds.specs.Happenings.{IsTickThat, happenings_of};
+ghost use Rattle.print_rounds.specs.Happenings.{IsTickInTurn, IsTickThat, happenings_of};
 ghost use Rattle.spool_types.specs.State.{State};
 ghost use Rattle.spool_types.specs.declared.event.Reply.{Reply};
 ghost use Rattle.spool_engine.specs.AnswerTexts.{answer_text};
@@ -46,8 +47,6 @@ pub(crate) struct Printer<D: Disk, C: Children> {
     executor: Executor<D>,
     runner: Runner<C>,
     children: C,
-    // The position of the queue that is first in the queue order of a tick.
-    turn: usize,
 }
 
 impl<D: Disk, C: Children> Model for Printer<D, C> {
@@ -65,6 +64,7 @@ impl<D: Disk, C: Children> Model for Printer<D, C> {
 impl<D: Disk, C: Children> Printer<D, C> {
     /// Returns a printer over this spool.
     pub fn new(alloc: Global, spool: Spool<D>, children: C) -> Printer<D, C>
+        requires settled { NoneStaged spool }
         ensures { result ≡ run_state spool finite.empty (C.tells children) }
     {
         Printer {
@@ -72,7 +72,6 @@ impl<D: Disk, C: Children> Printer<D, C> {
             executor: Executor::new(alloc, spool),
             runner: Runner::new(alloc),
             children,
-            turn: 0,
         }
     }
 
@@ -129,13 +128,14 @@ impl<D: Disk, C: Children> Printer<D, C> {
         &mut self,
         place: &Place,
         limits: Option<TickLimits>,
+        turn: &mut usize,
         happened: &mut Vec<Happening>,
     ) -> Result<Round, RoundFault>
         ensures tick { (m : MimeDatabase) → (tried : List EventOf) × IsTicked (setting D.device m place.now) self.old
             (record { limits = limits; next = self.new; result = result; tried = tried }) }
+        ensures turn { IsTickInTurn turn.old turn.new D.device place.now limits self.old self.old.spool.dead self.new result }
         ensures happened { IsTickThat (λ events. happened.new.items ≡ happenings_of events) D.device place.now limits self.old self.old.spool.dead self.new result }
     {
-        let turn = &mut self.turn;
         self.executor.tick(
             place,
             &mut self.runner,

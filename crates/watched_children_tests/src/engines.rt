@@ -1,6 +1,7 @@
 //! Engines over children in memory that are watched.
 ghost use Rattle.std.specs.Prelude.{◌≡◌, List, [], ◌∷◌, ◌++◌, Some};
 ghost use Rattle.job_table.specs.Attempts.{HasNoProcessing};
+ghost use Rattle.spool_core.specs.OpenSpools.{IsSettled};
 ghost use Rattle.job_table.specs.TableCalls.{AreOnce};
 ghost use Rattle.child_pipeline.specs.Tickets.{HasTickets};
 ghost use Rattle.child_pipeline.specs.ChildTraces.{ChildTrace};
@@ -32,6 +33,7 @@ pub fn watched_engine<'a, L: Log, D: Disk>(
     place: Place,
 ) -> Engine<D, WatchedChildren<'a, L, MemChildren>>
     requires idle { HasNoProcessing spool.state }
+    requires settled { IsSettled spool }
     requires quiet { children.running ≡ [] }
     ensures tells { result.run_state.told ≡ Some children }
     // Each later stage gets the output of the stage before it.

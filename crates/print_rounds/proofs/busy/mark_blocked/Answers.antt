@@ -56,3 +56,10 @@ returns-clause-value g c =
     let none : IsNextJob slots c.loop-job.behind None = subst (IsNextJob slots c.loop-job.behind) c.in_default.is c.next_job.ensures in
     ap (λ fs. unblocked fs names) (c.loop-job.invariant ∙ ap (λ js. flags_to s slots js names) (all_jobs slots c.loop-job.behind none))
     ∙ flags_free s slots
+
+pub returns-clause-flags : goal.returns-clause-flags
+returns-clause-flags g c =
+    let s = c.args.table.now.state in
+    let slots = c.args.runner.now in
+    let none : IsNextJob slots c.loop-job.behind None = subst (IsNextJob slots c.loop-job.behind) c.in_default.is c.next_job.ensures in
+    c.loop-job.invariant ∙ ap (λ js. flags_to s slots js (finite.keys s.queues)) (all_jobs slots c.loop-job.behind none)

@@ -11,4 +11,5 @@ returns g c = subst (λ (e : Event). IsApplied g.D.Disk.device c.args.spool.now 
   crash = c.apply.ensures.any_moment;
   whole = c.apply.ensures.documents;
   sent = c.apply.ensures.sent;
+  settled = c.apply.ensures.settled;
 })

@@ -3,12 +3,19 @@ use Rattle.std.specs.Prelude.{vec_capacity}
 use Rattle.spool_types.specs.declared.event.Event.TheVariants.{Stage}
 use Rattle.child_pipeline.specs.StageSlots.{end_in}
 use Rattle.std.specs.Option.{option_or}
-use Rattle.print_rounds.specs.Counts.{ending_events, ending_fault, report_events, report_fault, told_by, told_in}
+use Rattle.print_rounds.specs.Counts.{ending_fault, report_events, report_fault, told_by, told_in}
 use Rattle.print_rounds.specs.Happenings.{HaveHappened, happenings_of}
 use Rattle.print_rounds.proofs.HappenedLaws.{end_happened}
 use Rattle.print_rounds.specs.RunStates.{Ending, run_state}
-use Rattle.print_rounds.proofs.TraceLaws.{more_ends, one_count, one_fault, one_further}
+use Rattle.print_rounds.proofs.TraceLaws.{ends_settled, more_ends, one_count, one_fault, one_further}
 use Rattle.print_rounds.proofs.ends.end_stages.Goals as goal
+
+pub end_stage-report-requires : goal.end_stage-report-requires
+end_stage-report-requires g c =
+    let before = run_state c.args.spool.now c.args.runner.now (g.C.Children.tells c.args.children.now) in
+    let now = run_state c.loop-job.spool c.loop-job.runner (g.C.Children.tells c.loop-job.children) in
+    let (es, ends, jobs, count, fault, noted) = c.loop-job.invariant.ends in
+    record { settled = ends_settled g.D.Disk.device before es now c.requires.settled ends }
 
 pub loop-job-preserved : goal.loop-job-preserved
 loop-job-preserved g c =

@@ -36,7 +36,7 @@ returns-in-Ok g c =
     let output = has_output (slot_in own c.args.job).progress in
     let table : c.table-in-Ok.result.now.state ≡ c.args.spool.now.state = c.table-in-Ok.ensures.table ∙ document_state g.D.Disk.device c.args.spool.now c.args.job c.in-Ok.document c.document.new.spool output c.in-Ok.ensures in
     launched_from g.D.Disk.device g.met.D.Disk.lawful c.args.place.now c.args.spool.now c.document.new.spool c.args.runner.now (g.C.Children.tells c.args.children.now) c.args.job own c.in-Ok.document c.start.result c.start.new.runner (g.C.Children.tells c.start.new.children)
-    (sym c.is_dead.ensures ∙ c.if-is_dead.false) prepared output refl c.in-Ok.ensures
+    (sym c.is_dead.ensures ∙ c.if-is_dead.false) (c.requires.settled (sym c.is_dead.ensures ∙ c.if-is_dead.false)) prepared output refl c.in-Ok.ensures
     (λ r q row queue. c.start.ensures r q (ap (λ (s : State). job_at s c.args.job) table ∙ row) (ap (λ (s : State). queue_at s r.queue) table ∙ queue))
 
 pub returns-in-Err-Memory : goal.returns-in-Err-Memory

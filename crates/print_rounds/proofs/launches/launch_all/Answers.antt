@@ -4,16 +4,21 @@ use Rattle.spool_types.specs.State.{State, job_at}
 use Rattle.print_rounds.specs.Counts.{launch_fault, launching_fault, started_by, started_in}
 use Rattle.print_rounds.specs.RunStates.{Launching, IsLaunch}
 use Rattle.print_rounds.proofs.LaunchLaws.{HasNumbers, rests_on}
-use Rattle.print_rounds.proofs.ReadLaws.{reads_state}
+use Rattle.print_rounds.proofs.ReadLaws.{reads_settled, reads_state}
 use Rattle.print_rounds.proofs.TraceLaws.{more_launches, more_reads, one_count, one_fault, one_further}
 use Rattle.print_rounds.proofs.launches.launch_all.Goals as goal
 
-pub launch-launch-requires : goal.launch-launch-requires
-launch-launch-requires g c =
+pub launch-launch-requires-clause-rests : goal.launch-launch-requires-clause-rests
+launch-launch-requires-clause-rests g c =
     let (ts, launches, reads, jobs, count, fault) = c.loop-job.invariant.launches in
     let numbers : HasNumbers c.args.spool.now.state = λ j r there. (c.jobs-legal.ensures.legal.jobs j r (ap (λ (s : State). job_at s j) c.table.ensures.table ∙ there)).id in
     rests_on c.args.place.now c.args.spool.now.state numbers c.args.runner.now (g.C.Children.tells c.args.children.now) ts c.loop-job.runner (g.C.Children.tells c.loop-job.children) launches
     c.args.jobs.now c.requires.distinct c.requires.rest c.loop-job.job-index jobs c.loop-job-test.true c.job-item.result c.job-item.is
+
+pub launch-launch-requires-clause-settled : goal.launch-launch-requires-clause-settled
+launch-launch-requires-clause-settled g c =
+    let (ts, launches, reads, jobs, count, fault) = c.loop-job.invariant.launches in
+    reads_settled g.D.Disk.device c.args.spool.now ts c.loop-job.spool c.requires.settled reads
 
 pub loop-job-preserved : goal.loop-job-preserved
 loop-job-preserved g c =

@@ -1,4 +1,4 @@
-use Rattle.std.proofs.Common.{◌≡◌, ℕ, ◌-◌, true, false, cond, Some, arith, sym, ap, subst, ◌∙◌}
+use Rattle.std.proofs.Common.{ℕ, ◌-◌, cond, Some, arith, sym, ap, subst, ◌∙◌}
 use Rattle.child_pipeline.specs.StageSlots.{IsNextJob}
 use Rattle.print_rounds.proofs.CountLaws.{free_all, free_first, free_next}
 use Rattle.print_rounds.proofs.start_room.count_free.Goals.{then-has_child, else-has_child}

@@ -1,5 +1,5 @@
 use Rattle.std.proofs.Common.{inl, inr, ◌≡◌, ◌≤◌, ◌<◌, ◌+◌, true, false, length, get_or, set, arith, sym, ap, ◌∙◌}
-use Rattle.std.proofs.lemmas.Bool.{cases_eq}
+use Rattle.std.proofs.lemmas.Bool.{cases_eq, cases_lt}
 use Rattle.std.proofs.lemmas.List.{get_or-set_other, length-set}
 use Rattle.print_rounds.specs.StartLimits.{can_start, opened_in}
 use Rattle.print_rounds.proofs.PlaceLaws.{one_opened, opened_here, stays_open}
@@ -33,6 +33,14 @@ loop-at-preserved c =
             ];
             taken = ap (λ fs. opened_in fs + c.if-can_start.left) is ∙ taken;
             less = omega (arith, before.less, w.left-is);
+            none = λ empty. absurd (omega (arith, empty, before.less, w.if-left-gt0.true));
+            in_order = λ i j low less high able on. elim (cases_lt j at) [
+              | inl below ↦
+                  let was : get_or closed j true ≡ true = sym (ap (λ fs. get_or fs j true) is ∙ get_or-set_other closed at j false true (omega (arith, below))) ∙ on in
+                  let both : false ≡ true = sym (before.all w.if-left-gt0.true j low below able) ∙ was in
+                  absurd (cc)
+              | inr beyond ↦ absurd (omega (arith, beyond, less, high))
+            ];
             all = λ left i low high able. ap (λ fs. get_or fs i true) is ∙ elim (cases_eq i at) [
               | inl same ↦ opened_here closed at lt i same
               | inr apart ↦ stays_open closed at lt i (before.all (omega (arith, w.if-left-gt0.true)) i low (omega (arith, high, apart)) able)
@@ -48,6 +56,11 @@ loop-at-preserved c =
             start = λ i off. before.start i (sym (ap (λ fs. get_or fs i true) is) ∙ off);
             taken = ap (λ fs. opened_in fs + c.if-can_start.left) is ∙ ap (λ n. opened_in closed + n) w.left-is ∙ before.taken;
             less = omega (arith, before.less, w.left-is);
+            none = λ empty. is ∙ before.none empty;
+            in_order = λ i j low less high able on. ap (λ fs. get_or fs i true) is ∙ elim (cases_eq i at) [
+              | inl same ↦ ap (λ k. get_or closed k true) same ∙ before.behind at (omega arith) ∙ c.requires.ahead at from c.loop-at-test.true
+              | inr apart ↦ before.in_order i j low less (omega (arith, high, apart)) able (sym (ap (λ fs. get_or fs j true) is) ∙ on)
+            ];
             all = λ left i low high able. ap (λ fs. get_or fs i true) is ∙ elim (cases_eq i at) [
               | inl same ↦ elim w.else-can_start.branch [
                 | else-can_start-via-then-can_start+else-left-gt0 v ↦ absurd (omega (arith, left, v.if-left-gt0.false, w.left-is))

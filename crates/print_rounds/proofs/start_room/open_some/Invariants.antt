@@ -12,5 +12,7 @@ invariant-loop-at l = record {
   start : (i : ℕ) → get_or l.closed.items i true ≡ false → (get_or l.initial.closed.items i true ≡ false) ⊎ (can_start l.table.state l.blocked i ≡ true);
   taken : opened_in l.closed.items + l.left ≡ opened_in l.initial.closed.items + l.start_room;
   less : l.left ≤ l.start_room;
+  none : l.start_room ≡ 0 → l.closed.items ≡ l.initial.closed.items;
+  in_order : (i j : ℕ) → l.from ≤ j → j < i → i < l.at → can_start l.table.state l.blocked j ≡ true → get_or l.closed.items j true ≡ true → get_or l.closed.items i true ≡ true;
   all : 0 < l.left → (i : ℕ) → l.from ≤ i → i < l.at → can_start l.table.state l.blocked i ≡ true → get_or l.closed.items i true ≡ false;
 }

@@ -11,16 +11,21 @@ use Rattle.print_rounds.specs.RunStates.{Starting, AreStartings}
 use Rattle.print_rounds.specs.Passes.{unblocked}
 use Rattle.print_rounds.proofs.BlockLaws.{unblocked_more}
 use Rattle.print_rounds.proofs.StartLaws.{queue_count, starts_keys}
-use Rattle.print_rounds.proofs.TraceLaws.{more_starts, one_fault}
+use Rattle.print_rounds.proofs.TraceLaws.{more_starts, one_fault, starts_settled}
 use Rattle.print_rounds.proofs.starts.start_free.Goals as goal
 use Rattle.print_rounds.proofs.starts.start_free.Goals.{then-not-blocked-at, else-not-blocked-at}
 
-pub start_next-answer-requires : goal.start_next-answer-requires
-start_next-answer-requires g c =
+pub start_next-answer-requires-clause-within : goal.start_next-answer-requires-clause-within
+start_next-answer-requires-clause-within g c =
     let (ts, starts, queues, fault, noted) = c.loop-at.invariant.starts in
     let count = queue_count c.queues-at-end.result.now (finite.keys c.table.result.now.state.queues) c.queues-at-end.ensures.names in
     let same = ap (λ s. finite.keys s.queues) c.table.ensures.table ∙ sym (starts_keys g.D.Disk.device c.args.spool.now ts c.loop-at.spool starts) in
     subst (λ n. c.loop-at.at < n) (count ∙ ap length same) c.loop-at-test.true
+
+pub start_next-answer-requires-clause-settled : goal.start_next-answer-requires-clause-settled
+start_next-answer-requires-clause-settled g c =
+    let (ts, starts, queues, fault, noted) = c.loop-at.invariant.starts in
+    starts_settled g.D.Disk.device c.args.spool.now ts c.loop-at.spool c.requires.settled starts
 
 pub loop-at-preserved : goal.loop-at-preserved
 loop-at-preserved g c =
@@ -41,7 +46,7 @@ loop-at-preserved g c =
             starts = (
               ts ++ t ∷ [],
               subst (λ s. AreStartings g.D.Disk.device old (ts ++ t ∷ []) s) (sym w.spool-is) (more_starts g.D.Disk.device old c.loop-at.spool ts t starts is),
-              map-append (λ (t : Starting g.row.D.Denot). t.queue) ts (t ∷ []) ∙ ap (λ ns. ns ++ name ∷ []) queues ∙ sym (unblocked_more flags names at false false name c.requires lt (sym off) there_first),
+              map-append (λ (t : Starting g.row.D.Denot). t.queue) ts (t ∷ []) ∙ ap (λ ns. ns ++ name ∷ []) queues ∙ sym (unblocked_more flags names at false false name c.requires.count lt (sym off) there_first),
               w.fault-is ∙ w.or-fault.ensures ∙ ap (λ f. option_or f w.start_fault.result) fault ∙ ap (option_or (starting_fault ts)) w.start_fault.ensures ∙ sym (one_fault (λ (t : Starting g.row.D.Denot). start_fault t.answer) ts t),
               subst (λ list. HaveHappened (vec_capacity c.args.happened.now) (at + 1) c.args.happened.now.items list (happenings_of (starting_events old (ts ++ t ∷ [])))) (sym (ap (λ v. v.items) w.happened-is))
                   (start_happened g.D.Disk.device (vec_capacity c.args.happened.now) at old c.loop-at.spool ts t starts c.args.happened.now.items c.loop-at.happened.items w.start_next-answer.new.happened.items noted
@@ -55,7 +60,7 @@ loop-at-preserved g c =
             starts = (
               ts,
               subst (λ s. AreStartings g.D.Disk.device old ts s) (sym w.spool-is) starts,
-              queues ∙ sym (append-nil first) ∙ sym (unblocked_more flags names at true false (get_or names at []) c.requires lt (sym on) (get_or_default names at [] (get_or names at []) lt)),
+              queues ∙ sym (append-nil first) ∙ sym (unblocked_more flags names at true false (get_or names at []) c.requires.count lt (sym on) (get_or_default names at [] (get_or names at []) lt)),
               w.fault-is ∙ fault,
               subst (λ list. HaveHappened (vec_capacity c.args.happened.now) (at + 1) c.args.happened.now.items list (happenings_of (starting_events old ts))) (sym (ap (λ v. v.items) w.happened-is))
                   (with_room (vec_capacity c.args.happened.now) at (at + 1) c.args.happened.now.items c.loop-at.happened.items (happenings_of (starting_events old ts)) (omega arith) noted),

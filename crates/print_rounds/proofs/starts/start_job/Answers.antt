@@ -11,6 +11,7 @@ returns-in-Ok-clause-answer g c = record {
   crash = c.in-Ok.ensures.any_moment;
   whole = c.in-Ok.ensures.documents;
   sent = c.in-Ok.ensures.sent;
+  settled = c.in-Ok.ensures.settled;
 }
 
 pub returns-in-Err-clause-answer : goal.returns-in-Err-clause-answer
@@ -21,6 +22,7 @@ returns-in-Err-clause-answer g c = record {
   crash = c.in-Err.ensures.any_moment;
   whole = c.in-Err.ensures.documents;
   sent = c.in-Err.ensures.sent;
+  settled = c.in-Err.ensures.settled;
 }
 
 pub returns-in-Err-clause-noted : goal.returns-in-Err-clause-noted

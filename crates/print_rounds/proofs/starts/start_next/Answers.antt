@@ -9,7 +9,7 @@ use Rattle.print_rounds.proofs.StartLaws.{starting_at}
 use Rattle.print_rounds.proofs.starts.start_next.Goals as goal
 
 pub next_at-requires : goal.next_at-requires
-next_at-requires g c = subst (λ (s : State). c.args.at < length (finite.keys s.queues)) (sym c.table.ensures.table) c.requires
+next_at-requires g c = subst (λ (s : State). c.args.at < length (finite.keys s.queues)) (sym c.table.ensures.table) c.requires.within
 
 pub returns-in-Some-clause-start : goal.returns-in-Some-clause-start
 returns-in-Some-clause-start g c =

@@ -64,3 +64,12 @@ returns-in_default-clause-recorded g c =
       subst (λ (t : State). HasRecordedAll t c.args.self.now.records (map happened_deed (happenings_of events)) c.record_tick.new.self) c.table.ensures
           (subst (λ (xs : List Happening). HasRecordedAll c.table.result.now.state c.args.self.now.records (map happened_deed xs) c.record_tick.new.self) (c.deref.ensures.value ∙ is) c.record_tick.ensures),
     )
+
+pub returns-in-Ok-eq0-clause-turn : goal.returns-in-Ok-eq0-clause-turn
+returns-in-Ok-eq0-clause-turn g c = (_, c.tick-counts.ensures.turn)
+
+pub returns-in-Err-Full-clause-turn : goal.returns-in-Err-Full-clause-turn
+returns-in-Err-Full-clause-turn g c = (_, c.tick-counts.ensures.turn)
+
+pub returns-in_default-clause-turn : goal.returns-in_default-clause-turn
+returns-in_default-clause-turn g c = (_, c.tick-counts.ensures.turn)

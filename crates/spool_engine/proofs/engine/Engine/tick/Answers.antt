@@ -2,7 +2,7 @@
 use Rattle.std.proofs.Common.{◌≡◌, List, subst}
 use Rattle.std.specs.String.{string_bytes}
 use Rattle.spool_types.specs.declared.event.Event.{Event}
-use Rattle.print_rounds.specs.Happenings.{IsTickThat, happenings_of}
+use Rattle.print_rounds.specs.Happenings.{IsTickInTurn, IsTickThat, happenings_of}
 use Rattle.spool_engine.specs.EventSteps.{setting}
 use Rattle.spool_engine.specs.EngineRuns.{Engine}
 use Rattle.spool_engine.specs.EngineTicks.{IsTicked}
@@ -17,3 +17,8 @@ pub returns-clause-happened : goal.returns-clause-happened
 returns-clause-happened g c =
     subst (λ (e : Engine g.row.D.Denot). IsTickThat (λ (events : List Event). c.tick.new.happened.items ≡ happenings_of events) g.D.Disk.device e.place c.args.limits e.run_state e.run_state.spool.dead c.tick.new.self c.tick.result)
     c.self.view_is c.tick.ensures.happened
+
+pub returns-clause-turn : goal.returns-clause-turn
+returns-clause-turn g c =
+    subst (λ (e : Engine g.row.D.Denot). IsTickInTurn e.turn c.tick.new.turn g.D.Disk.device e.place c.args.limits e.run_state e.run_state.spool.dead c.tick.new.self c.tick.result)
+    c.self.view_is c.tick.ensures.turn

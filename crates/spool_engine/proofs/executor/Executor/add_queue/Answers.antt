@@ -21,8 +21,8 @@ returns-in-Err-BadUri g c = λ m p.
     let s = c.args.self.now in
     let q = c.args.queue in
     let is = no_queue_event m s.state q (ap is_device_uri (sym c.as_str.ensures.value) ∙ c.in-Err-BadUri.ensures.no_device (ap Err c.in-Err-BadUri.field-0-is)) in
-    said_told (codes "error uri\n") (setting g.D.Disk.device m p) s (Queue q) (codes "error uri\n") g.met.D.Disk.lawful.only_now (kept_as g.D.Disk.device _ _ c.self.view_is c.self.invariant) (λ o. tt) is refl
+    said_told (codes "error uri\n") (setting g.D.Disk.device m p) s (Queue q) (codes "error uri\n") g.met.D.Disk.lawful.only_now (kept_as g.D.Disk.device _ _ c.self.view_is c.self.invariant.0) (λ o. tt) is refl
 
 pub returns : goal.returns
 returns g c = λ m p.
-    unread_told (codes "error memory\n") (setting g.D.Disk.device m p) c.args.self.now (Queue c.args.queue) g.met.D.Disk.lawful.only_now (kept_as g.D.Disk.device _ _ c.self.view_is c.self.invariant) (λ o. tt) c.as_str.ensures.allowed refl
+    unread_told (codes "error memory\n") (setting g.D.Disk.device m p) c.args.self.now (Queue c.args.queue) g.met.D.Disk.lawful.only_now (kept_as g.D.Disk.device _ _ c.self.view_is c.self.invariant.0) (λ o. tt) c.as_str.ensures.allowed refl

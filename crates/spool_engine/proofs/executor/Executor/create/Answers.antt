@@ -26,8 +26,8 @@ returns-in-Ok-None g c = λ m p.
     let s = c.args.self.now in
     let n = c.args.creation in
     let is = no_create_event m s.state n (ap job_options (sym c.as_str.ensures.value) ∙ sym c.in-Ok-None.ensures.value ∙ c.in-Ok-None.field-0-is) in
-    said_told (codes "error options\n") (setting g.D.Disk.device m p) s (Create n) (codes "error options\n") g.met.D.Disk.lawful.only_now (kept_as g.D.Disk.device _ _ c.self.view_is c.self.invariant) (λ o. tt) is refl
+    said_told (codes "error options\n") (setting g.D.Disk.device m p) s (Create n) (codes "error options\n") g.met.D.Disk.lawful.only_now (kept_as g.D.Disk.device _ _ c.self.view_is c.self.invariant.0) (λ o. tt) is refl
 
 pub returns-in-Err : goal.returns-in-Err
 returns-in-Err g c = λ m p.
-    unread_told (codes "error memory\n") (setting g.D.Disk.device m p) c.args.self.now (Create c.args.creation) g.met.D.Disk.lawful.only_now (kept_as g.D.Disk.device _ _ c.self.view_is c.self.invariant) (λ o. tt) (subst (λ text. IsOk (reading text)) c.as_str.ensures.value c.in-Err.ensures.memory) refl
+    unread_told (codes "error memory\n") (setting g.D.Disk.device m p) c.args.self.now (Create c.args.creation) g.met.D.Disk.lawful.only_now (kept_as g.D.Disk.device _ _ c.self.view_is c.self.invariant.0) (λ o. tt) (subst (λ text. IsOk (reading text)) c.as_str.ensures.value c.in-Err.ensures.memory) refl

@@ -7,8 +7,11 @@ use Rattle.spool_engine.proofs.executor.Executor.relist.Goals as goal
 
 pub invariant_of-self : goal.invariant_of-self
 invariant_of-self g c =
-    (spool_relisted g.D.Disk.device c.self.inside.spool c.checkpoint.new.self c.checkpoint.result g.met.D.Disk.lawful c.checkpoint.ensures.answer c.checkpoint.ensures.blames.later c.checkpoint.ensures.told c.checkpoint.ensures.any_moment c.checkpoint.ensures.documents c.checkpoint.ensures.kept c.self.invariant).kept
+    ((spool_relisted g.D.Disk.device c.self.inside.spool c.checkpoint.new.self c.checkpoint.result g.met.D.Disk.lawful c.checkpoint.ensures.answer c.checkpoint.ensures.blames.later c.checkpoint.ensures.told c.checkpoint.ensures.any_moment c.checkpoint.ensures.documents c.checkpoint.ensures.kept c.self.invariant.0).kept, c.checkpoint.ensures.settled)
 
 pub returns : goal.returns
 returns g c = subst (λ (s : OpenSpool g.row.D.Denot). IsRelisted g.D.Disk.device s c.checkpoint.result c.checkpoint.new.self) c.self.view_is
-    (spool_relisted g.D.Disk.device c.self.inside.spool c.checkpoint.new.self c.checkpoint.result g.met.D.Disk.lawful c.checkpoint.ensures.answer c.checkpoint.ensures.blames.later c.checkpoint.ensures.told c.checkpoint.ensures.any_moment c.checkpoint.ensures.documents c.checkpoint.ensures.kept c.self.invariant)
+    (spool_relisted g.D.Disk.device c.self.inside.spool c.checkpoint.new.self c.checkpoint.result g.met.D.Disk.lawful c.checkpoint.ensures.answer c.checkpoint.ensures.blames.later c.checkpoint.ensures.told c.checkpoint.ensures.any_moment c.checkpoint.ensures.documents c.checkpoint.ensures.kept c.self.invariant.0)
+
+pub checkpoint-requires : goal.checkpoint-requires
+checkpoint-requires g c = record { settled = c.self.invariant.1 }

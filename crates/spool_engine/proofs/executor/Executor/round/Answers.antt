@@ -19,5 +19,8 @@ returns g c = λ m.
     let (fs, steps, jobs) = c.finish_children.ensures.steps in
     let settles = settled_of old s c.finish_children.new.runner (tells c.finish_children.new.children) fs refl steps jobs c.finish_children.ensures.rest c.finish_children.ensures.finished in
     subst (λ (s : OpenSpool g.row.D.Denot). (settled : RunState g.row.D.Denot) × (tried : List Event) × (documents : ℕ → List ℕ) × IsRan v (run_state s c.args.runner.now (tells c.args.children.now)) (record { settled = settled; next = new; result = c.round-ran.result; tried = tried; documents = documents })) c.self.view_is
-    (ran_of v s c.args.runner.now c.finish_children.new.runner (tells c.args.children.now) (tells c.finish_children.new.children) new c.round-ran.result s.dead refl settles g.met.D.Disk.lawful.only_now c.self.invariant c.table-table.ensures.kept
+    (ran_of v s c.args.runner.now c.finish_children.new.runner (tells c.args.children.now) (tells c.finish_children.new.children) new c.round-ran.result s.dead refl settles g.met.D.Disk.lawful.only_now c.self.invariant.0 (λ alive. c.table-table.ensures.kept alive (c.round-ran.ensures.settled alive))
     c.round-ran.ensures.later c.round-ran.ensures.told c.round-ran.ensures.finished c.round-ran.ensures.rest c.round-ran.ensures.round)
+
+pub invariant_of-self : goal.invariant_of-self
+invariant_of-self g c = ((λ alive. c.table-table.ensures.kept alive (c.round-ran.ensures.settled alive)), c.round-ran.ensures.settled)

@@ -1,7 +1,7 @@
 -- A tick of the executor, over an equal run state.
 use Rattle.std.proofs.Common.{◌≡◌, List, subst}
 use Rattle.spool_types.specs.declared.event.Event.{Event}
-use Rattle.print_rounds.specs.Happenings.{IsTickThat, happenings_of}
+use Rattle.print_rounds.specs.Happenings.{IsTickInTurn, IsTickThat, happenings_of}
 use Rattle.print_rounds.specs.RunStates.{RunState, run_state}
 use Rattle.spool_engine.specs.EventSteps.{setting}
 use Rattle.spool_engine.specs.EngineTicks.{IsTicked}
@@ -18,3 +18,8 @@ returns-clause-happened g c =
     let new = run_state c.tick.new.self c.tick.new.runner (g.C.Children.tells c.tick.new.children) in
     subst (λ (s : RunState g.row.D.Denot). IsTickThat (λ (events : List Event). c.tick.new.happened.items ≡ happenings_of events) g.D.Disk.device c.args.place.now c.args.limits s s.spool.dead new c.tick.result)
     c.self.view_is c.tick.ensures.happened
+
+pub returns-clause-turn : goal.returns-clause-turn
+returns-clause-turn g c =
+    let new = run_state c.tick.new.self c.tick.new.runner (g.C.Children.tells c.tick.new.children) in
+    subst (λ (s : RunState g.row.D.Denot). IsTickInTurn c.args.turn.now c.tick.new.turn g.D.Disk.device c.args.place.now c.args.limits s s.spool.dead new c.tick.result) c.self.view_is c.tick.ensures.turn
