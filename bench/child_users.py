@@ -1,18 +1,25 @@
 #!/usr/bin/env python3
-"""Measures what a user of its own costs a child: child_users.py [--service PROGRAM] [JOBS]
+"""Measures what a user of its own costs a child: child_users.py [--service PROGRAM] [JOBS], child_users.py --programs [ROUNDS]
 
 It prints JOBS jobs (default: 400) on one queue of two services, in turns of 20: one runs its children as itself, the other as four users
 (`--children-user`). The backend is /bin/true. The script prints the milliseconds per job of both, and the median of the differences of
 neighbouring turns. Only root can run it. It makes the users `cegmandi-b1` to `cegmandi-b4`, and removes them at the end.
+
+With `--programs` it needs no service. It runs the script of crates/spool_runtime/src/script.rt alone, with and without a user, ROUNDS times
+(default: 200), next to a C program that makes the same system calls and to the programs that the script needs (child_users.c). It prints
+the milliseconds of processor time that each adds to a child without a user, and the parts of what the user costs.
 """
+import ast
 import os
+import shutil
 import statistics
 import subprocess
 import sys
+import tempfile
 import time
 
-sys.path.insert(0, os.path.join(os.path.dirname(os.path.abspath(__file__)), "..", "tests"))
-from service_parts import BUILT, Client, Folder  # noqa: E402
+from harness.programs import SERVICE
+from harness.service import Client, Folder
 
 USERS = [f"cegmandi-b{number}" for number in range(1, 5)]
 TURN = 20
@@ -40,6 +47,36 @@ def turn(client):
     return (time.perf_counter() - began) * 1000 / TURN
 
 
+def script():
+    """The text of the script, from its source."""
+    source = os.path.join(os.path.dirname(os.path.abspath(__file__)), "..", "crates", "spool_runtime", "src", "script.rt")
+    with open(source) as file:
+        lines = file.read().split("const SCRIPT: &str = concat!(\n")[1].split("\n);\n")[0].splitlines()
+    return "".join(ast.literal_eval(line.strip().rstrip(",")) for line in lines)
+
+
+def programs(rounds):
+    user = USERS[0]
+    subprocess.run(["useradd", "--system", "--user-group", "--no-create-home", user], check=True, capture_output=True)
+    try:
+        with tempfile.TemporaryDirectory() as room:
+            os.chmod(room, 0o711)
+            text, place, floor = (os.path.join(room, name) for name in ("script", "place", "child_users"))
+            with open(text, "w") as file:
+                file.write(script())
+            os.mkdir(place, 0o700)
+            shutil.chown(place, user, user)
+            subprocess.run(["cc", "-O2", "-o", floor, os.path.join(os.path.dirname(os.path.abspath(__file__)), "child_users.c")], check=True)
+            uid = str(os.stat(place).st_uid)
+            ran = subprocess.run([floor, str(rounds), text, place, uid, "/bin/true"], stdout=subprocess.PIPE, check=True, text=True)
+    finally:
+        subprocess.run(["userdel", user], capture_output=True)
+    plain, more, calls, needed = (float(word) for word in ran.stdout.split())
+    more, calls, needed = more - plain, calls - plain, needed - plain
+    print(f"without a user {plain:.2f} ms; the user adds {more:.2f} ms, the system calls alone {calls:.2f} ms, the programs alone {needed:.2f} ms")
+    print(f"parts of what the user costs: system calls {calls / more:.2f}, programs {needed / more:.2f}")
+
+
 def main(program, jobs):
     for user in USERS:
         subprocess.run(["useradd", "--system", "--user-group", "--no-create-home", user], check=True, capture_output=True)
@@ -60,7 +97,10 @@ def main(program, jobs):
 
 if __name__ == "__main__":
     arguments = sys.argv[1:]
-    chosen = BUILT
+    if arguments[:1] == ["--programs"]:
+        programs(int(arguments[1]) if arguments[1:] else 200)
+        sys.exit()
+    chosen = SERVICE
     if arguments[:1] == ["--service"]:
         chosen, arguments = arguments[1], arguments[2:]
     main(chosen, int(arguments[0]) if arguments else 400)

@@ -1,5 +1,5 @@
 //! An edit of a queue, on any disks.
-ghost use Rattle.std.specs.Prelude.{◌≡◌, List, ℕ, Some, IfErr, IfOk, IsSome};
+ghost use Rattle.std.specs.Prelude.{◌≡◌, List, ℕ, None, Some, IfErr, IfOk, IsSome};
 ghost use Rattle.spool_disk.specs.Disk.{ChangesNothing, IsSynced};
 ghost use Rattle.spool_core.specs.Image.{HasTable};
 ghost use Rattle.spool_halves.specs.Edited.{KeepsAllDocuments};
@@ -41,6 +41,8 @@ pub fn list_edited<S: Disk, T: Disk + Drop>(
     edit: &QueueEdit,
     disk: T,
 ) -> Result<T, AdminFault>
+    requires settled { whole.old.held ≡ None }
+
     // A crash leaves exactly the edited table, with the documents of the old disk.
     ensures edited { IfOk result (λ made. IsSome (T.device.bytes made) → (c : List ℕ) → T.device.image made c → HasTable (after_edit name.now edit.now whole.old.state) c) }
     ensures documents { IfOk result (λ made. (r : List ℕ) → S.device.bytes whole.old.disk ≡ Some r → IsSome (T.device.bytes made) → (c : List ℕ) → T.device.image made c →

@@ -1,5 +1,5 @@
 //! Listing both halves of a spool.
-ghost use Rattle.std.specs.Prelude.{◌≡◌, IfOk, true, false};
+ghost use Rattle.std.specs.Prelude.{◌≡◌, IfOk, None, true, false};
 ghost use Rattle.spool_disk.specs.Disk.{ChangesNothing, IsSynced};
 ghost use Rattle.spool_admin.specs.HalfImages.{LeavesHalf};
 
@@ -26,6 +26,7 @@ pub fn list_halves<S: Disk, T: Disk + Drop>(
     names: &[QueueName],
     disks: Halves<T>,
 ) -> Result<Halves<T>, HalfFault>
+    requires settled { whole.old.held ≡ None }
     ensures part { IfOk result (λ made. LeavesHalf T.device true names.now whole.old.state (S.device.bytes whole.old.disk) made.part) }
     ensures rest { IfOk result (λ made. LeavesHalf T.device false names.now whole.old.state (S.device.bytes whole.old.disk) made.rest) }
     ensures synced { IfOk result (λ made. IsSynced T.device made.part × IsSynced T.device made.rest) }

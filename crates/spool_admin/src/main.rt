@@ -83,15 +83,15 @@
 //!
 //! # Not proved
 //!
-//! - That an edit is one step. `list_edited` is proved for every disk and every table. `tests/queue_set.py` shows that a kill at any
+//! - That an edit is one step. `list_edited` is proved for every disk and every table. `tests/test_admin_queues.py` shows that a kill at any
 //!   moment leaves the old file or the new one, and that the same command then ends with the new one.
 //! - That a split and a growth are one step each. `list_halves` is proved for every disk and every table, `list` for every disk.
-//!   No clause covers files, their names and the moments between their changes. The code of `split` and `tests/split.py` show:
+//!   No clause covers files, their names and the moments between their changes. The code of `split` and `tests/test_admin_split.py` show:
 //!   `part` is INTO's file and `rest` is FROM's; a kill at any moment leaves either the old spool, with none in INTO, or each job
-//!   in exactly one of the two files; the same command finishes or undoes what was begun.
+//!   in exactly one of the two files; the same command finishes or undoes it.
 //! - That the rows read back are those written, so that `list_half` never returns `Disk` on a sound disk: shown by tests.
 //! - That the bytes which `grow` copies have the table and the documents of the old disk, although the area is now at another
-//!   place and zeros follow it: shown by `tests/grow.py`.
+//!   place and zeros follow it: shown by `tests/test_admin_grow.py`.
 //! - That the calls succeed: a `list_halves` that always returns `Full`, a copy that always returns a fault of the device, and
 //!   calls on files that do nothing (`Folder`) meet their clauses. Both tests need each of these to work.
 //!

@@ -1,4 +1,6 @@
 //! Loading the spool of a folder.
+ghost use Rattle.std.specs.Prelude.{◌≡◌, IfOk, None};
+
 use crate::fault::AdminFault;
 use spool_core::Spool;
 use spool_disk::Disk;
@@ -10,7 +12,9 @@ use std::time::Clock;
 pub fn whole_spool<'r, R: Files<File = File> + Clock + AllocGlobal>(
     rt: &'r R,
     folder: &SpoolFolder<'_>,
-) -> Result<(Spool<NamedDisk<'r, R>>, u64), AdminFault> {
+) -> Result<(Spool<NamedDisk<'r, R>>, u64), AdminFault>
+    ensures settled { IfOk result (λ found. found.0.held ≡ None) }
+{
     let disk = folder.device_there(rt)?;
     let size = disk.len();
     match Spool::load(rt.alloc(), disk) {

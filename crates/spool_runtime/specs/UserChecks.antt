@@ -18,9 +18,10 @@ abbrev pub fault_of_code : Option ℤ → Option UserFault
 fault_of_code (Some (pos status)) = fault_of_status status
 fault_of_code code = Some Refused
 
--- The arguments of timeout(1), which runs a script as a user by setpriv(1), with no right that the user does not have.
+-- The arguments of timeout(1), which runs a script as a user by setpriv(1), with the rights of the user and CAP_SETPCAP.
 abbrev pub user_command_words : RunUser → List ℕ → List ℕ → List (List ℕ)
 user_command_words run script path =
     codes "-s" ∷ codes "KILL" ∷ codes "10" ∷ codes "/usr/bin/setpriv" ∷ codes "--reuid" ∷ decimal run.user.uid ∷ codes "--regid" ∷ decimal run.user.gid
-    ∷ codes "--clear-groups" ∷ codes "--no-new-privs" ∷ codes "--inh-caps=-all" ∷ codes "--ambient-caps=-all" ∷ codes "--bounding-set=-all"
+    ∷ codes "--clear-groups" ∷ codes "--no-new-privs" ∷ codes "--inh-caps=-all,+setpcap" ∷ codes "--ambient-caps=-all,+setpcap"
+    ∷ codes "--bounding-set=-all,+setpcap"
     ∷ codes "/bin/sh" ∷ codes "-c" ∷ script ∷ codes "sh" ∷ own_word run.is_own ∷ path ∷ []

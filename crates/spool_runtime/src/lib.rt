@@ -73,19 +73,19 @@
 //! # Not proved
 //!
 //! - The launcher's calls of the system. A launcher that starts no child, knows no end, waits in each poll or always
-//!   reports an end, or never has room for a start meets its clauses. `tests/children.py` shows that children are
+//!   reports an end, or never has room for a start meets its clauses. `tests/test_children.py` shows that children are
 //!   started, and that the script, the files and the sockets work.
 //! - The output of a real backend, and that an answer on a side channel reaches the client's socket.
 //! - That the launcher moves `first` on, and when it has room for fewer than four starts.
 //! - That a lock keeps a user for one child, what the script does, and that the system separates users.
-//!   `tests/hostile.py`
-//! - How long a poll and a start take. A poll asks the system once (`a_look_waits_for_nobody` of `program_tests`). The
+//!   `tests/test_hostile.py`
+//! - How long a poll and a start take. A poll asks the system once (`tests/test_service_children.py`). The
 //!   starts of a round try again for two seconds in all. A start of a tick does not wait.
-//! - That [`NamedDisk`] reads and writes its bytes: a body that does nothing meets its clauses. `tests/children.py`
+//! - That [`NamedDisk`] reads and writes its bytes: a body that does nothing meets its clauses. `tests/test_children.py`
 //!   shows that the file keeps its name.
 //! - That no other program writes the spool's file. The program locks the folder and `spool.lock` in it before it opens
-//!   any other file, and holds both locks until it ends. `tests/first_start.py` shows this for this program, and
-//!   `tests/failover.py` over two hosts. A program that takes no lock is not excluded. Over several hosts this is as
+//!   any other file, and holds both locks until it ends. `tests/test_first_start.py` shows this for this program, and
+//!   `tests/test_failover.py` over two hosts. A program that takes no lock is not excluded. Over several hosts this is as
 //!   good as the locks of the file system, and a host that is cut off must be fenced.
 //! - That `main` calls its helpers in their order.
 //!

@@ -30,13 +30,14 @@ use thiserror::Error;
 
 const TIMEOUT: &str = "/usr/bin/timeout";
 
-// The rights of a child: no other group, no capability, and no way to gain any.
+// The rights of the shell of a child's user ([`crate::script`]): no other group, only the capability by which no process
+// of the user can trace it, and no way to gain any.
 const RIGHTS: [&str; 5] = [
     "--clear-groups",
     "--no-new-privs",
-    "--inh-caps=-all",
-    "--ambient-caps=-all",
-    "--bounding-set=-all",
+    "--inh-caps=-all,+setpcap",
+    "--ambient-caps=-all,+setpcap",
+    "--bounding-set=-all,+setpcap",
 ];
 
 // Kills the processes of the user if it is of one child at a time, and searches a folder. The parameters are `own` or

@@ -54,11 +54,11 @@
 //! # Not proved
 //!
 //! - What sockets, clocks and signals do. `SocketConnection` reports nothing of its bytes and proofs, so the clauses of `service_loop` say
-//!   nothing of them. The code is the same as for connections that report. `tests/service.py` shows the program.
+//!   nothing of them. The code is the same as for connections that report. `tests/test_service_proof.py` shows the program.
 //! - That a connection came by the socket that it is counted to, that the folder of a challenge is removed before its owner is believed,
-//!   and that a challenge is random: `tests/service_proof.py` shows this.
+//!   and that a challenge is random: `tests/test_service_proof.py` shows this.
 //! - That the folder is locked before the spool is opened, and that the socket is created after both: this is read in the code of `run`.
-//!   `tests/service.py` runs two services on one folder.
+//!   `tests/test_service_words.py` runs two services on one folder.
 //! - That `main` calls its helpers in their order.
 //!
 //! # Errors
