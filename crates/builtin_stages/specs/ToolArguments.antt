@@ -60,12 +60,19 @@ pub data Request : Type 0 where
   filter : Filter → Printed → Request
   backend : Backend → Printed → Request
   device_line : Backend → Request
+  through : List ℕ → List (List ℕ) → Request
   side_end : List ℕ → Request
   version : Request
 
 abbrev pub backend_asked : Backend → List (List ℕ) → Option Request
 backend_asked tool [] = Some (device_line tool)
 backend_asked tool (word ∷ words) = option_map (backend tool) (document_of (word ∷ words))
+
+-- The file of a chain and a job, or the file alone, for no devices.
+abbrev pub through_asked : List (List ℕ) → Option Request
+through_asked [] = None
+through_asked (file ∷ []) = Some (through file [])
+through_asked (file ∷ word ∷ words) = option_map (λ document. through file (word ∷ words)) (document_of (word ∷ words))
 
 abbrev pub side_end_asked : List (List ℕ) → Option Request
 side_end_asked (socket ∷ []) = Some (side_end socket)
@@ -75,14 +82,15 @@ abbrev pub version_asked : List (List ℕ) → Option Request
 version_asked [] = Some version
 version_asked (word ∷ words) = None
 
--- A filter with its job, a backend with its job or alone, the end of a session, or the version.
+-- A filter with its job, a backend with its job or alone, a chain with its job or alone, the end of a session, or the version.
 abbrev pub asked_by : Option Filter → Option Backend → List ℕ → List (List ℕ) → Option Request
 asked_by (Some tool) other name words = option_map (filter tool) (document_of words)
 asked_by None (Some tool) name words = backend_asked tool words
 asked_by None None name words =
-    cond (bytes_eq name (codes "side-end")) (side_end_asked words)
+    cond (bytes_eq name (codes "through")) (through_asked words)
+    (cond (bytes_eq name (codes "side-end")) (side_end_asked words)
     (cond (bytes_eq name (codes "--version")) (version_asked words)
-    None)
+    None))
 
 abbrev pub asked_of : List (List ℕ) → Option Request
 asked_of (program ∷ name ∷ words) = asked_by (filter_of name) (backend_of name) name words

@@ -5,12 +5,15 @@ use Rattle.std.specs.Io.KnownBytes.{Appends, Keeps}
 use Rattle.whole_writes.specs.Writes.{WroteSome}
 use Rattle.builtin_stages.specs.Backends as backends
 use Rattle.builtin_stages.specs.Filters.{Filtered}
+use Rattle.program_pipes.specs.ChainEnds.{chain_status, report_of}
+use Rattle.builtin_stages.specs.declared.through.ThroughEnd.{ThroughEnd}
+use Rattle.builtin_stages.specs.declared.through.ThroughEnd.TheVariants.{Failed, NotStarted, Ran}
 use Rattle.builtin_stages.specs.ConnectionEnds.{connection_status, end_line}
 use Rattle.builtin_stages.specs.declared.connection_ends.ConnectionEnd.{ConnectionEnd}
 use Rattle.builtin_stages.specs.declared.network.Sending.{Sending}
-use Rattle.builtin_stages.specs.ToolArguments.{Printed, Request, filter, backend, device_line, side_end, version}
+use Rattle.builtin_stages.specs.ToolArguments.{Printed, Request, filter, backend, device_line, through, side_end, version}
 use Rattle.builtin_stages.specs.declared.fault.ToolFault.{ToolFault}
-use Rattle.builtin_stages.specs.declared.fault.ToolFault.TheVariants.{AfterLast, Connect, Device, Memory, Partner, Read, Reset, Side, WaitEof, Write}
+use Rattle.builtin_stages.specs.declared.fault.ToolFault.TheVariants.{AfterLast, Chain, Connect, Device, Memory, Partner, Read, Reset, Side, WaitEof, Write}
 use Rattle.builtin_stages.specs.declared.running.TheConstants.{VERSION_LINE}
 use Rattle.builtin_stages.specs.declared.words.Backend.{Backend}
 use Rattle.builtin_stages.specs.declared.words.Backend.TheVariants.{AppSocket, SpoolFile}
@@ -28,6 +31,7 @@ message Connect = codes "cannot connect"
 message Reset = codes "connection reset"
 message WaitEof = codes "waiteof is not true or false"
 message AfterLast = codes "afterlast is not done or retry"
+message Chain = codes "no chain of programs"
 message Memory = codes "out of memory"
 
 -- The line that reports a fault on standard error (filter(7)).
@@ -39,7 +43,7 @@ abbrev pub Tells : ToolFault → Option (List ℕ) → Option (List ℕ) → Typ
 Tells fault old new = Appends old new (error_line fault) ⊎ WroteSome old new (error_line fault)
 
 -- The exit status of a fault (backend(7)). If the printer cannot be reached, the job must be tried again later (6). If an option of the URI is
--- unknown, the queue stops until it is corrected, and the job waits (4).
+-- unknown, or a chain is none, the queue stops until it is corrected, and the job waits (4).
 abbrev pub fault_status : ToolFault → ℕ
 fault_status Connect = 6
 fault_status Read = 1
@@ -50,6 +54,7 @@ fault_status Partner = 1
 fault_status Reset = 1
 fault_status WaitEof = 4
 fault_status AfterLast = 4
+fault_status Chain = 4
 fault_status Memory = 1
 
 -- The requested status, or that of the fault.
@@ -93,6 +98,31 @@ pub record TellsConnection (old new : Option (List ℕ)) (status : ℕ) : Type 0
   pub ended : status ≡ connection_status end
   pub tells : TellsEnd end peer sent old new
 
+-- The line for a program that cannot be started.
+unfoldable pub unstarted_line : List ℕ → List ℕ
+unstarted_line name = codes "ERROR: cannot start " ++ name ++ 10 ∷ []
+
+-- The text was written, or as much of it as the writer accepted, or nothing if memory for it ran out.
+abbrev pub TellsText : List ℕ → Option (List ℕ) → Option (List ℕ) → Type 0
+TellsText text old new = Appends old new text ⊎ WroteSome old new text ⊎ Keeps old new
+
+-- All programs of a chain ran, their ends are reported, and the status is that of these ends. Or a program cannot be started, or there is
+-- another fault, and this is reported.
+abbrev pub ReportsThrough : ThroughEnd → Option (List ℕ) → Option (List ℕ) → ℕ → Type 0
+ReportsThrough (Ran end) old new status = (status ≡ chain_status end) × TellsText (report_of end) old new
+ReportsThrough (NotStarted name) old new status = (status ≡ 1) × TellsText (unstarted_line name.now) old new
+ReportsThrough (Failed fault) old new status = (status ≡ fault_status fault) × Tells fault old new
+
+-- Some such end is reported.
+pub record TellsThrough (old new : Option (List ℕ)) (status : ℕ) : Type 0 where
+  pub end : ThroughEnd
+  pub reports : ReportsThrough end old new status
+
+-- A chain without a job lists no devices.
+abbrev pub ThroughEnds : List (List ℕ) → Option (List ℕ) → Option (List ℕ) → ℕ → Type 0
+ThroughEnds [] old new status = (status ≡ 0) × Keeps old new
+ThroughEnds (word ∷ words) old new status = TellsThrough old new status
+
 -- Nothing is written on standard output. `spoolfile` and `appsocket` report their faults, the others do not.
 abbrev pub BackendEnds : Backend → Option (List ℕ) → Option (List ℕ) → ℕ → Type 0
 BackendEnds SpoolFile err_old err_new status = Keeps err_old err_new ⊎ ((status ≡ 1) × Tells Write err_old err_new)
@@ -112,6 +142,8 @@ Ends (Some (backend tool d)) input out_old out_new err_old err_new status =
     Keeps out_old out_new × BackendEnds tool err_old err_new status
 Ends (Some (device_line tool)) input out_old out_new err_old err_new status =
     LineEnds (backends.device_line tool) out_old out_new status × Keeps err_old err_new
+Ends (Some (through file words)) input out_old out_new err_old err_new status =
+    Keeps out_old out_new × ThroughEnds words err_old err_new status
 Ends (Some (side_end socket)) input out_old out_new err_old err_new status =
     (status ≤ 1) × Keeps out_old out_new × Keeps err_old err_new
 Ends (Some version) input out_old out_new err_old err_new status =

@@ -27,6 +27,8 @@ pub enum ToolFault {
     WaitEof,
     /// The option `afterlast` is neither `done` nor `retry`.
     AfterLast,
+    /// The file of a chain cannot be read, or is no chain.
+    Chain,
     /// Memory ran out.
     Memory,
 }
@@ -46,20 +48,21 @@ impl ToolFault {
             ToolFault::Reset => "ERROR: connection reset\n",
             ToolFault::WaitEof => "ERROR: waiteof is not true or false\n",
             ToolFault::AfterLast => "ERROR: afterlast is not done or retry\n",
+            ToolFault::Chain => "ERROR: no chain of programs\n",
             ToolFault::Memory => "ERROR: out of memory\n",
         }
     }
 }
 
 impl ToolFault {
-    /// Returns the exit status (backend(7)): 6 if a later attempt may reach the printer, 4 if an option of the URI must be corrected first,
-    /// otherwise 1.
+    /// Returns the exit status (backend(7)): 6 if a later attempt may reach the printer, 4 if an option of the URI or a chain must be corrected
+    /// first, otherwise 1.
     pub fn status(self) -> u8
         ensures { result ≡ fault_status self }
     {
         match self {
             ToolFault::Connect => 6,
-            ToolFault::WaitEof | ToolFault::AfterLast => 4,
+            ToolFault::WaitEof | ToolFault::AfterLast | ToolFault::Chain => 4,
             _ => 1,
         }
     }

@@ -12,6 +12,7 @@
 //! | `meet` | creates the device's file as a mark, unless it exists, and checks up to `turns` times, a second apart, for the file of the option `partner`; if it does not find it, it removes the mark; without `partner` it exits with 1 |
 //! | `sideask` | requests the device id on the side channel, and writes it to the device's file |
 //! | `appsocket` | sends the document to the network printer of the URI, closes its half of the connection and waits until the printer closes the other ([`network`]); how that ends decides about the status ([`connection_ends`]) |
+//! | `through FILE` | prints by the chain of programs in FILE ([`through`], `program_pipes`) |
 //! | `side-end SOCKET` | ends the session on the socket with the packet FF 00 00 00 |
 //!
 //! A file is printed COPIES times, a decimal number from 1 to 9,999, and standard input once. The device's file is the decoded path of the
@@ -19,6 +20,7 @@
 //! that URI, by default port 9100 ([`printer`]). The side channel is the Unix socket that the variable SPOOL_SIDE names.
 //!
 //! A backend without the arguments of a job prints its device line, `file TOOL "Unknown" "TOOL"`; the class of `appsocket` is `network`.
+//! `through` prints none.
 //!
 //! # Promises
 //!
@@ -37,20 +39,22 @@
 //!   [`end_line`] is the line that reports the end, and [`ConnectionEnd::status`] its status.
 //! - [`exit_of`], [`turns_of`], [`connect_seconds_of`] and [`end_seconds_of`] return the options' numbers or their defaults. If an option
 //!   is repeated, the last one counts (`last_value` of `device_options`).
+//! - `through` reports the end of each program of its chain, and exits with the status of these ends, or it reports a program that cannot be
+//!   started or another fault (`ReportsThrough`).
 //! - `report_end` returns the tool's status; after a fault this is 6 if a printer cannot be reached, 4 if an option is unknown, otherwise 1
 //!   (`fault_status`). `report_sending` returns the status of a connection's end (`connection_status`). `appsocket` reports the end of its
 //!   connection with the printer's address and the number of bytes, unless the document was printed, or it reports a fault (`BackendEnds`).
 //!   `spoolfile` exits with its option, by default 0.
 //! - A file that a backend may write ([`may_be_replaced`], [`may_be_written`]) is new, or a regular file of its own user. [`is_inside`]:
-//!   whether a folder is the spool's folder or below it; no backend writes there (`targets` is read for that, and `tests/tools.py` shows it).
+//!   whether a folder is the spool's folder or below it; no backend writes there (`targets` is read for that, and `tests/test_tools.py` shows it).
 //! - [`ask_id`] writes 04 00 00 00 and returns the first packet received. Only an answer with the status OK whose data are stored has an id
 //!   ([`id_in`]). [`end_session`] writes FF 00 00 00. `end_silently` returns 0 or 1.
 //!
 //! # Not proved
 //!
-//! - What files and sockets the tools reach, what `appsocket` sees of a connection, and how long they wait: `tests/tools.py` shows it.
+//! - What files, sockets and programs the tools reach, what `appsocket` sees of a connection, and how long they wait: `tests/test_tools.py` shows it.
 //! - These bodies meet their clauses: a document, a copy, a packet or a device line that is a fault at once, a `spoolfile` that exits with
-//!   0 or 1 and writes nothing, and an `appsocket` that exits with 0 and sends nothing.
+//!   0 or 1 and writes nothing, an `appsocket` that exits with 0 and sends nothing, and a `through` that reports another chain.
 //!
 //! # Errors
 //!
@@ -80,6 +84,7 @@ mod running;
 mod side;
 mod sources;
 mod targets;
+mod through;
 mod words;
 
 pub use connection_ends::{

@@ -16,12 +16,13 @@ use crate::filters::run_filter;
 use crate::network::{Sending, app_socket};
 use crate::results::Source;
 use crate::sources::DocumentFile;
+use crate::through::run_through;
 use crate::words::{Asked, Backend, Document, Filter, read_words};
 use program_version::with_version;
 use std::fs::{File, Files};
 use std::io::Write;
 use std::net::Net;
-use std::process::ExitCode;
+use std::process::{ExitCode, Processes};
 use std::rt::{Clock, Env};
 use whole_writes::write_whole;
 
@@ -30,7 +31,7 @@ const VERSION_LINE: &str = with_version!("spool_tools (Cegmandi) ", "\n");
 
 /// Runs the tool that the arguments name, and returns the exit status.
 pub fn run_words<
-    H: Files<File = File> + Env + Clock + Net + AllocGlobal,
+    H: Files<File = File> + Env + Clock + Net + Processes + AllocGlobal,
     I: Source,
     O: Write,
     E: Write,
@@ -45,13 +46,12 @@ pub fn run_words<
 }
 
 // Runs the tool.
-fn run<H: Files<File = File> + Env + Clock + Net + AllocGlobal, I: Source, O: Write, E: Write>(
-    rt: &H,
-    asked: Asked<'_>,
-    input: &I,
-    output: &mut O,
-    errors: &mut E,
-) -> ExitCode
+fn run<
+    H: Files<File = File> + Env + Clock + Net + Processes + AllocGlobal,
+    I: Source,
+    O: Write,
+    E: Write,
+>(rt: &H, asked: Asked<'_>, input: &I, output: &mut O, errors: &mut E) -> ExitCode
     ensures { Ends (Some (request asked.entry)) (I.known input.now)
         (O.contents output.old) (O.contents output.new) (E.contents errors.old) (E.contents errors.new) (exit_status result) }
 {
@@ -61,6 +61,7 @@ fn run<H: Files<File = File> + Env + Clock + Net + AllocGlobal, I: Source, O: Wr
             report_end(errors, ended)
         }
         Asked::Backend(tool, document) => run_backend(rt, tool, document, input, errors),
+        Asked::Through(file, job) => run_through(rt, file, job, errors),
         Asked::DeviceLine(tool) => end_silently(write_device_line(tool, output)),
         Asked::SideEnd(socket) => end_silently(side_end(rt, socket)),
         Asked::Version => end_silently(write_version(output)),

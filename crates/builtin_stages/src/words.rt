@@ -4,7 +4,7 @@ ghost use Rattle.std.specs.Option.{option_map};
 ghost use Rattle.std.specs.String.{string_bytes};
 ghost use Rattle.builtin_stages.specs.ToolNumbers.{ranged};
 ghost use Rattle.builtin_stages.specs.RequestFields.{printed, request};
-ghost use Rattle.builtin_stages.specs.ToolArguments.{asked_of, backend_asked, backend_of, document_of, filter_of, side_end_asked, version_asked};
+ghost use Rattle.builtin_stages.specs.ToolArguments.{asked_of, backend_asked, backend_of, document_of, filter_of, side_end_asked, through_asked, version_asked};
 
 use crate::numbers::ranged;
 
@@ -46,6 +46,9 @@ pub enum Asked<'a> {
     Backend(Backend, Document<'a>),
     /// The device line of the backend.
     DeviceLine(Backend),
+    /// To print by the chain of programs in the file of this name, with the five or six arguments of a job. Without them the chain lists its
+    /// devices, of which it has none.
+    Through(&'a str, &'a [String]),
     /// To end the session on the socket of this name.
     SideEnd(&'a str),
     /// The name and the version of the program.
@@ -97,6 +100,9 @@ pub fn read_words<'a>(words: &'a [String]) -> Option<Asked<'a>>
     if let Some(backend) = Backend::named(name) {
         return backend_words(backend, words);
     }
+    if name == "through" {
+        return through_words(words);
+    }
     if name == "side-end" {
         return side_end_words(words);
     }
@@ -115,6 +121,17 @@ fn backend_words<'a>(backend: Backend, words: &'a [String]) -> Option<Asked<'a>>
     }
     let document = read_document(words)?;
     Some(Asked::Backend(backend, document))
+}
+
+// Reads the arguments after `through`.
+fn through_words<'a>(words: &'a [String]) -> Option<Asked<'a>>
+    ensures { option_map request result ≡ through_asked (map string_bytes words.now) }
+{
+    let (file, words) = words.split_first()?;
+    if !words.is_empty() {
+        read_document(words)?;
+    }
+    Some(Asked::Through(file.as_str(), words))
 }
 
 // Reads the arguments after `side-end`.
