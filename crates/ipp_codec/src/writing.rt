@@ -19,6 +19,9 @@ use std::alloc::{AllocError, Global};
 /// The tag at the end of the attributes (RFC 8010, 3.5.1).
 const END_OF_ATTRIBUTES: u8 = 3;
 
+/// The length of a value without octets.
+const NO_OCTETS: [u8; 2] = [0, 0];
+
 fn put(out: &mut Vec<u8>, octets: &[u8]) -> Result<(), AllocError>
     ensures { OnOk result (out.new.items ≡ out.old.items ++ octets.now) }
 {
@@ -156,8 +159,8 @@ fn put_value_octets(out: &mut Vec<u8>, value: &Value) -> Result<(), AllocError>
     ensures legal { IsValue value.now }
 {
     match value {
-        Value::Unsupported | Value::Unknown | Value::NoValue => put_counted(out, &[]),
-        Value::BeginCollection | Value::EndCollection => put_counted(out, &[]),
+        Value::Unsupported | Value::Unknown | Value::NoValue => put(out, &NO_OCTETS),
+        Value::BeginCollection | Value::EndCollection => put(out, &NO_OCTETS),
         Value::Integer(number) | Value::Enum(number) => put_counted_integer(out, *number),
         Value::Boolean(flag) => put_counted(out, &[u8::from(*flag)]),
         Value::OctetString(octets) => put_octets(out, octets),
@@ -179,7 +182,7 @@ fn put_value_octets(out: &mut Vec<u8>, value: &Value) -> Result<(), AllocError>
     }
 }
 
-/// Appends a value under a name, which is empty for an additional value.
+/// Appends a value under a name.
 fn put_value(out: &mut Vec<u8>, name: &str, value: &Value) -> Result<(), AllocError>
     requires { length name.now < 2 ^ 16 }
     ensures written { OnOk result (out.new.items ≡ out.old.items ++ value_spelling name.now value.now) }
@@ -191,13 +194,23 @@ fn put_value(out: &mut Vec<u8>, name: &str, value: &Value) -> Result<(), AllocEr
     Ok(())
 }
 
+/// Appends an additional value. Its tag and the length of its name, which is 0, are appended together.
+fn put_additional(out: &mut Vec<u8>, value: &Value) -> Result<(), AllocError>
+    ensures written { OnOk result (out.new.items ≡ out.old.items ++ value_spelling [] value.now) }
+    ensures legal { OnOk result (IsValue value.now) }
+{
+    put(out, &[value.tag().number(), 0, 0])?;
+    put_value_octets(out, value)?;
+    Ok(())
+}
+
 /// Appends additional values.
 fn put_values(out: &mut Vec<u8>, values: &[Value]) -> Result<(), AllocError>
     ensures written { OnOk result (out.new.items ≡ out.old.items ++ flat_map (value_spelling []) values.now) }
     ensures legal { OnOk result (AllByRecursion IsValue values.now) }
 {
     for value in values {
-        put_value(out, "", value)?;
+        put_additional(out, value)?;
     }
     Ok(())
 }

@@ -11,7 +11,11 @@ use Rattle.ipp_values.specs.declared.message.Attribute.{Attribute}
 use Rattle.ipp_values.specs.declared.value.Value.{Value}
 use Rattle.ipp_values.specs.declared.value.Value.TheVariants.{Integer, Boolean, Enum, Keyword, Name, RangeOfInteger, Resolution, BeginCollection, MemberName, EndCollection, DateTime}
 use Rattle.ipp_options.specs.HoldValues.{hold_in, hold_time_in}
+use Rattle.requested_attributes.specs.AttributeGroups.{answered}
+use Rattle.requested_attributes.specs.declared.groups.Asked.{Asked}
+use Rattle.requested_attributes.specs.declared.groups.Asked.TheVariants.{All, JobIds, These}
 use Rattle.ipp_options.specs.JobSettings.{note, settings_of, is_refused}
+use Rattle.ipp_options.specs.StatedAttributes.{stated_rows}
 use Rattle.ipp_options.specs.declared.hold.Hold.TheVariants.{Free, Indefinite, Until}
 use Rattle.ipp_options.specs.declared.settings.Settings.{Settings}
 use Rattle.ipp_options.specs.declared.settings.Unsupported.{Unsupported}
@@ -147,3 +151,47 @@ MediaRows =
     map paper_of (
     paper 21000 29700 "stationery" ∷ paper 20950 29750 "stationery" ∷ paper 20949 29700 "stationery" ∷ paper 21000 29700 "labels" ∷ tray ∷ keyword "media" "a4" ∷ keyword "media" "iso_a4_210x297mm" ∷ [])
     ≡ ((text "media=iso_a4_210x297mm", false) ∷ (text "media=iso_a4_210x297mm", false) ∷ ([], true) ∷ (text "media=iso_a4_210x297mm", true) ∷ (text "media=iso_a4_210x297mm", true) ∷ (text "media=a4", false) ∷ (text "media=iso_a4_210x297mm", false) ∷ [])
+
+-- ## Back from the options
+
+abbrev pub stated : Asked → List (Bor Attribute) → List Attribute
+stated asked attributes = answered asked (stated_rows (settings attributes).options)
+
+abbrev pub values_now : List (Bor Attribute) → List Attribute
+values_now attributes = map (λ (a : Bor Attribute). a.now) attributes
+
+abbrev pub ranges : List (ℕ × ℕ) → Bor Attribute
+ranges list = attribute "page-ranges" (map (λ (p : ℕ × ℕ). RangeOfInteger (record { lower = pos p.0; upper = pos p.1 })) list)
+
+abbrev pub dots : ℕ → ℕ → Bor Attribute
+dots cross feed = attribute "printer-resolution" (Resolution (record { cross_feed = pos cross; feed = pos feed; units = 3 }) ∷ [])
+
+abbrev pub these : List String → Asked
+these words = These (record { ref_ptr = (0, 0); now = map (λ (word : String). Keyword (text word)) words })
+
+-- The attributes of `plain` and `many` that have a rule are returned as they came.
+abbrev pub StatedRows : Type 0
+StatedRows =
+    (stated All plain
+    ≡ values_now (enum "finishings" 3 ∷ keyword "media" "iso_a4_210x297mm" ∷ integer "number-up" 1 ∷ keyword "output-bin" "face-down" ∷ keyword "print-color-mode" "monochrome" ∷ keyword "sides" "one-sided" ∷ []))
+    × (stated All many
+    ≡ values_now
+    (enum "finishings" 3 ∷ keyword "media" "A4" ∷ integer "number-up" 2 ∷ ranges ((1, 3) ∷ (7, 7) ∷ []) ∷ enum "print-quality" 5 ∷ dots 600 600 ∷ keyword "sides" "two-sided-long-edge" ∷ []))
+    × (stated (these ("sides" ∷ "media" ∷ "copies" ∷ [])) many ≡ values_now (keyword "media" "A4" ∷ keyword "sides" "two-sided-long-edge" ∷ []))
+    × (stated (these ("job-description" ∷ [])) many ≡ []) × (stated JobIds many ≡ [])
+
+abbrev pub option : String → String → List ℕ × List ℕ
+option name value = (text name, text value)
+
+-- Options that did not come from attributes, such as those of spool(1).
+abbrev pub given : List (List ℕ × List ℕ) → List Attribute
+given options = answered All (stated_rows options)
+
+abbrev pub GivenRows : Type 0
+GivenRows =
+    (given (option "sides" "two sided" ∷ option "finishings" "4" ∷ option "orientation-requested" "03" ∷ option "copies" "2" ∷ option "printer-resolution" "600x300dpi" ∷ option "page-ranges" "2,5-5" ∷ [])
+    ≡ values_now (enum "finishings" 4 ∷ enum "orientation-requested" 3 ∷ ranges ((2, 2) ∷ (5, 5) ∷ []) ∷ dots 600 300 ∷ keyword "sides" "two sided" ∷ []))
+    × (map (λ (value : String). given (option "page-ranges" value ∷ [])) ("" ∷ "0-2" ∷ "3-2" ∷ "1-" ∷ "1,,2" ∷ "1,x" ∷ "1-2-3" ∷ []) ≡ ([] ∷ [] ∷ [] ∷ [] ∷ [] ∷ [] ∷ [] ∷ []))
+    × (map (λ (value : String). given (option "printer-resolution" value ∷ [])) ("600dpi" ∷ "600" ∷ "dpi" ∷ "600x" ∷ "600x600dpc" ∷ []) ≡ (values_now (dots 600 600 ∷ []) ∷ [] ∷ [] ∷ [] ∷ [] ∷ []))
+    × (map (λ (value : String). given (option "number-up" value ∷ [])) ("16" ∷ "2147483647" ∷ "2147483648" ∷ "-2" ∷ "" ∷ []) ≡ (values_now (integer "number-up" 16 ∷ []) ∷ values_now (integer "number-up" 2147483647 ∷ []) ∷ [] ∷ [] ∷ [] ∷ []))
+    × (given (option "media" "" ∷ []) ≡ [])

@@ -1,7 +1,9 @@
 //! Tests of job attributes.
-use ipp_options::{Hold, JobSettings, SettingsFault, read_settings};
+use filter_args::Options;
+use ipp_options::{Hold, JobSettings, SettingsFault, read_settings, stated_attributes};
 use ipp_printers::{Printer, PrinterList};
 use ipp_values::{Attribute, Keyword, NameString, RangeOfInteger, Resolution, Value, ValueFault};
+use requested_attributes::Asked;
 use spool_types::Moment;
 use std::alloc::{AllocError, Global};
 
@@ -100,4 +102,32 @@ fn attributes_become_settings(rt: HostRuntime) {
         return assert!(rt; false);
     };
     assert!(rt; matches!(is_as_asked(rt.alloc(), &printers), Ok(true)));
+}
+
+// Returns whether these are the attributes that `OPTIONS` states.
+fn are_stated(attributes: &[Attribute]) -> bool {
+    let [media, pages, resolution] = attributes else {
+        return false;
+    };
+    media.name.as_str() == "media"
+        && matches!(media.values.as_slice(), [Value::Keyword(word)] if word.as_str() == "A4")
+        && pages.name.as_str() == "page-ranges"
+        && matches!(pages.values.as_slice(), [Value::RangeOfInteger(range)] if range.lower == 2 && range.upper == 5)
+        && resolution.name.as_str() == "printer-resolution"
+        && matches!(resolution.values.as_slice(), [Value::Resolution(dots)] if dots.cross_feed == 600 && dots.feed == 600)
+}
+
+fn is_stated(alloc: Global, text: &str) -> bool {
+    let Ok(options) = Options::parse(alloc, text) else {
+        return false;
+    };
+    match stated_attributes(alloc, Asked::All, &options) {
+        Ok(attributes) => are_stated(attributes.as_slice()),
+        Err(_) => false,
+    }
+}
+
+#[test]
+fn options_become_attributes(rt: HostRuntime) {
+    assert!(rt; is_stated(rt.alloc(), OPTIONS));
 }

@@ -1,8 +1,8 @@
--- Each step keeps the hold that was asked for, and never takes back a refusal.
-use Rattle.std.proofs.Common.{◌≡◌, ◌⊎◌, ℕ, Bool, true, false, ◌||◌, ◌&&◌, cond, ◌==◌, List, [], ◌∷◌, codes, Option, None, Some, refl, ap, sym, subst, ◌∙◌, inl, inr, arith}
-use Rattle.std.specs.List.{AllByRecursion, list_any}
+-- Each step keeps the hold that was asked for, never takes back a refusal, and adds no option with a control character.
+use Rattle.std.proofs.Common.{◌≡◌, ◌⊎◌, ℕ, Bool, true, false, ◌||◌, ◌&&◌, not, cond, ◌==◌, List, [], ◌∷◌, codes, Option, None, Some, refl, ap, sym, subst, ◌∙◌, inl, inr, arith}
+use Rattle.std.specs.List.{AllByRecursion, list_all, list_any}
 use Rattle.std.specs.Cmp.Lexicographic.{bytes_decides}
-use Rattle.std.proofs.lemmas.Bool.{true≢false, eqb-true}
+use Rattle.std.proofs.lemmas.Bool.{true≢false, eqb-true, and_parts}
 use denote.Ref.{Bor}
 use Rattle.ipp_values.specs.declared.message.Attribute.{Attribute}
 use Rattle.ipp_printers.specs.declared.property.Property.{Property}
@@ -13,27 +13,35 @@ use Rattle.ipp_printers.specs.declared.kind.PropertyKind.TheVariants as kinds
 use Rattle.ipp_options.specs.AttributeWords.{same, integer_in}
 use Rattle.ipp_options.specs.PaperValues.{size_in, are_honored}
 use Rattle.ipp_options.specs.HoldValues.{hold_in, hold_time_in, is_free, same_hold}
-use Rattle.ipp_options.specs.OptionValues.{name_of, choice_named, choice_value, is_passed, other_value}
-use Rattle.ipp_options.specs.JobSettings.{ranged, with_unknown, with_refused, with_copies, with_priority, with_asked, with_hold, absent_names, must_be_none, are_none, with_none, with_option, with_size, with_media_col, with_passed, with_other, with_choice, with_attribute, with_all}
+use Rattle.ipp_options.specs.OptionValues.{name_of, choice_named, choice_value, is_passed, is_reserved, other_value}
+use Rattle.ipp_options.specs.JobSettings.{ranged, with_unknown, with_refused, with_copies, with_priority, with_asked, with_hold, absent_names, must_be_none, are_none, with_none, with_bad, with_value, no_settings, settings_of, with_option, with_size, with_media_col, with_passed, with_other, with_choice, with_attribute, with_all}
 use Rattle.ipp_options.specs.KeptHolds.{IsAsked, IsKept}
 use Rattle.ipp_options.specs.declared.hold.Hold.{Hold}
 use Rattle.ipp_options.specs.declared.hold.Hold.TheVariants.{Free, Indefinite, Until}
 use Rattle.ipp_options.specs.declared.choice.Choice.{Choice}
+use Rattle.ipp_options.specs.declared.choice.Choice.TheVariants.{Media, Sides, NumberUp, Orientation, PageRanges, Quality, ColorMode, Scaling, Resolution, OutputBin, Finishings, Handling}
+use Rattle.spool_types.specs.Values.{is_plain}
+use Rattle.filter_args.specs.Pairs.{Pair, is_option_name, put}
+use Rattle.ipp_options.proofs.PlainLaws.{ArePlain, put_plain}
 use Rattle.ipp_options.specs.declared.settings.Settings.{Settings}
 
--- A refusal stays, and a hold stays once there is one.
+-- A refusal stays, a hold stays once there is one, and options have no control characters.
 record Step (s t : Settings) : Type 0 where
   pub stays : t.refused ≡ false → s.refused ≡ false
   pub grows : (s.hold ≡ Free) ⊎ (t.hold ≡ s.hold)
+  pub plain : ArePlain s.options → ArePlain t.options
 
-idle : (s t : Settings) → t.refused ≡ s.refused → t.hold ≡ s.hold → Step s t
-idle s t r h = record { stays = λ e. sym r ∙ e; grows = inr h }
+same_options : (s t : Settings) → t.options ≡ s.options → ArePlain s.options → ArePlain t.options
+same_options s t o all = subst (λ (ps : List Pair). ArePlain ps) (sym o) all
 
-halts : (s t : Settings) → t.refused ≡ true → t.hold ≡ s.hold → Step s t
-halts s t r h = record { stays = λ e. absurd (true≢false (sym r ∙ e)); grows = inr h }
+idle : (s t : Settings) → t.refused ≡ s.refused → t.hold ≡ s.hold → t.options ≡ s.options → Step s t
+idle s t r h o = record { stays = λ e. sym r ∙ e; grows = inr h; plain = same_options s t o }
+
+halts : (s t : Settings) → t.refused ≡ true → t.hold ≡ s.hold → t.options ≡ s.options → Step s t
+halts s t r h o = record { stays = λ e. absurd (true≢false (sym r ∙ e)); grows = inr h; plain = same_options s t o }
 
 joined : {s t u : Settings} → Step s t → Step t u → Step s u
-joined {s} {t} {u} a b = record { stays = λ e. a.stays (b.stays e); grows = join a.grows b.grows }
+joined {s} {t} {u} a b = record { stays = λ e. a.stays (b.stays e); grows = join a.grows b.grows; plain = λ all. b.plain (a.plain all) }
   where
     join : (s.hold ≡ Free) ⊎ (t.hold ≡ s.hold) → (t.hold ≡ Free) ⊎ (u.hold ≡ t.hold) → (s.hold ≡ Free) ⊎ (u.hold ≡ s.hold)
     join (inl e) k = inl e
@@ -49,51 +57,77 @@ step_cond : (s x y : Settings) (v : Bool) → Step s x → Step s y → Step s (
 step_cond s x y true a b = a
 step_cond s x y false a b = b
 
+name_valid : (choice : Choice) → is_option_name (name_of choice) ≡ true
+name_valid Media = refl
+name_valid Sides = refl
+name_valid NumberUp = refl
+name_valid Orientation = refl
+name_valid PageRanges = refl
+name_valid Quality = refl
+name_valid ColorMode = refl
+name_valid Scaling = refl
+name_valid Resolution = refl
+name_valid OutputBin = refl
+name_valid Finishings = refl
+name_valid Handling = refl
+
 module _ (s : Settings) (a : Bor Attribute) where
   step_copies : (n : Option ℕ) → Step s (with_copies s a n)
-  step_copies None = idle s (with_copies s a None) refl refl
-  step_copies (Some n) = idle s (with_copies s a (Some n)) refl refl
+  step_copies None = idle s (with_copies s a None) refl refl refl
+  step_copies (Some n) = idle s (with_copies s a (Some n)) refl refl refl
 
   step_priority : (n : Option ℕ) → Step s (with_priority s a n)
-  step_priority None = idle s (with_priority s a None) refl refl
-  step_priority (Some n) = idle s (with_priority s a (Some n)) refl refl
+  step_priority None = idle s (with_priority s a None) refl refl refl
+  step_priority (Some n) = idle s (with_priority s a (Some n)) refl refl refl
 
   step_asked : (h : Hold) → Step s (with_asked s a h)
   step_asked h =
-      step_cond s s (cond (is_free s.hold) (record s { hold = h }) (with_refused s a)) (is_free h || same_hold h s.hold) (idle s s refl refl) (by (is_free s.hold) refl)
+      step_cond s s (cond (is_free s.hold) (record s { hold = h }) (with_refused s a)) (is_free h || same_hold h s.hold) (idle s s refl refl refl) (by (is_free s.hold) refl)
     where
       by : (v : Bool) → is_free s.hold ≡ v → Step s (cond v (record s { hold = h }) (with_refused s a))
-      by true e = record { stays = λ k. k; grows = inl (free_from s.hold e) }
-      by false e = halts s (with_refused s a) refl refl
+      by true e = record { stays = λ k. k; grows = inl (free_from s.hold e); plain = λ all. all }
+      by false e = halts s (with_refused s a) refl refl refl
 
   step_hold : (o : Option Hold) → Step s (with_hold s a o)
-  step_hold None = halts s (with_refused s a) refl refl
+  step_hold None = halts s (with_refused s a) refl refl refl
   step_hold (Some h) = step_asked h
 
   step_none : Step s (with_none s a)
-  step_none = step_cond s s (with_refused s a) (are_none a.now.values) (idle s s refl refl) (halts s (with_refused s a) refl refl)
+  step_none = step_cond s s (with_refused s a) (are_none a.now.values) (idle s s refl refl refl) (halts s (with_refused s a) refl refl refl)
 
-  step_option : (name : List ℕ) (o : Option (List ℕ)) → Step s (with_option s a name o)
-  step_option name None = idle s (with_option s a name None) refl refl
-  step_option name (Some value) = idle s (with_option s a name (Some value)) refl refl
+  step_value : (name value : List ℕ) (t : Settings) → is_option_name name ≡ true → Step s t → Step s (with_value s name value t)
+  step_value name value t valid other = by (list_all is_plain value) refl
+    where
+      by : (v : Bool) → list_all is_plain value ≡ v → Step s (cond v (record s { options = put s.options (name, value) }) t)
+      by true e = record { stays = λ k. k; grows = inr refl; plain = λ all. put_plain s.options (name, value) all (valid, e) }
+      by false e = other
+
+  step_option : (name : List ℕ) → is_option_name name ≡ true → (o : Option (List ℕ)) → Step s (with_option s a name o)
+  step_option name valid None = idle s (with_option s a name None) refl refl refl
+  step_option name valid (Some value) = step_value name value (with_bad s a) valid (idle s (with_bad s a) refl refl refl)
 
   step_size : (honored : Bool) (o : Option (List ℕ)) → Step s (with_size s a honored o)
-  step_size honored None = idle s (with_size s a honored None) refl refl
-  step_size true (Some size) = idle s (with_size s a true (Some size)) refl refl
-  step_size false (Some size) = idle s (with_size s a false (Some size)) refl refl
+  step_size honored None = idle s (with_size s a honored None) refl refl refl
+  step_size true (Some size) = step_option (codes "media") refl (Some size)
+  step_size false (Some size) =
+      let sized = with_option s a (codes "media") (Some size) in
+      joined (step_option (codes "media") refl (Some size)) (idle sized (with_bad sized a) refl refl refl)
 
-  step_passed : (o : Option (List ℕ)) → Step s (with_passed s a o)
-  step_passed None = idle s (with_passed s a None) refl refl
-  step_passed (Some value) = idle s (with_passed s a (Some value)) refl refl
+  step_passed : is_option_name a.now.name ≡ true → (o : Option (List ℕ)) → Step s (with_passed s a o)
+  step_passed valid None = idle s (with_passed s a None) refl refl refl
+  step_passed valid (Some value) = step_value a.now.name value (with_unknown s a) valid (idle s (with_unknown s a) refl refl refl)
 
   step_other : (fidelity : Bool) → Step s (with_other fidelity s a)
-  step_other true = idle s (with_unknown s a) refl refl
-  step_other false =
-      step_cond s (with_passed s a (other_value a.now.values)) (with_unknown s a) (is_passed a.now.name) (step_passed (other_value a.now.values)) (idle s (with_unknown s a) refl refl)
+  step_other true = idle s (with_unknown s a) refl refl refl
+  step_other false = by (is_passed a.now.name) refl
+    where
+      by : (v : Bool) → is_passed a.now.name ≡ v → Step s (cond v (with_passed s a (other_value a.now.values)) (with_unknown s a))
+      by true e = step_passed (and_parts (is_option_name a.now.name) (not (is_reserved a.now.name)) e).0 (other_value a.now.values)
+      by false e = idle s (with_unknown s a) refl refl refl
 
   step_choice : (printer : List Property) (fidelity : Bool) (o : Option Choice) → Step s (with_choice printer fidelity s a o)
   step_choice printer fidelity None = step_other fidelity
-  step_choice printer fidelity (Some choice) = step_option (name_of choice) (choice_value printer choice a.now.values)
+  step_choice printer fidelity (Some choice) = step_option (name_of choice) (name_valid choice) (choice_value printer choice a.now.values)
 
 module _ (printer : List Property) (fidelity : Bool) (now : ℕ) (s : Settings) (a : Bor Attribute) where
   -- The settings after the tests of the names that precede a name.
@@ -164,8 +198,12 @@ module _ (printer : List Property) (fidelity : Bool) (now : ℕ) (s : Settings) 
 
 module _ (printer : List Property) (fidelity : Bool) (now : ℕ) where
   steps : (s : Settings) (list : List (Bor Attribute)) → Step s (with_all printer fidelity now s list)
-  steps s [] = idle s s refl refl
+  steps s [] = idle s s refl refl refl
   steps s (a ∷ list) = joined (step printer fidelity now s a) (steps (with_attribute printer fidelity now s a) list)
+
+  -- No option has a control character.
+  pub plain : (list : List (Bor Attribute)) → ArePlain (settings_of printer fidelity now list).options
+  plain list = (steps no_settings list).plain tt
 
 asked_same : (h k : Hold) → same_hold h k ≡ true → h ≡ k
 asked_same Free Free e = refl

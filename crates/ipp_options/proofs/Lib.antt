@@ -1,1 +1,4 @@
 pub mod KeptLaws
+pub mod PlainLaws
+pub mod RangeLaws
+pub mod TakenLaws

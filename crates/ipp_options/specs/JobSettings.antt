@@ -4,6 +4,7 @@ use Rattle.std.specs.List.{list_all, list_any}
 use Rattle.std.specs.Option.{option_and_then}
 use denote.Ref.{Bor}
 use Rattle.filter_args.specs.Pairs.{put}
+use Rattle.spool_types.specs.Values.{is_plain}
 use Rattle.ipp_printers.specs.PrinterFacts as facts
 use Rattle.ipp_printers.specs.PrinterFacts.{property_of}
 use Rattle.ipp_printers.specs.declared.property.Property.{Property}
@@ -87,9 +88,13 @@ with_none s attribute = cond (are_none attribute.now.values) s (with_refused s a
 
 -- ## The options of a job
 
+-- The option, or else the other settings, if its value has a control character.
+abbrev pub with_value : Settings → List ℕ → List ℕ → Settings → Settings
+with_value s name value other = cond (list_all is_plain value) (record s { options = put s.options (name, value) }) other
+
 abbrev pub with_option : Settings → Bor Attribute → List ℕ → Option (List ℕ) → Settings
 with_option s attribute name None = with_bad s attribute
-with_option s attribute name (Some value) = record s { options = put s.options (name, value) }
+with_option s attribute name (Some value) = with_value s name value (with_bad s attribute)
 
 abbrev pub with_size : Settings → Bor Attribute → Bool → Option (List ℕ) → Settings
 with_size s attribute honored None = with_bad s attribute
@@ -102,7 +107,7 @@ with_media_col printer s attribute =
 
 abbrev pub with_passed : Settings → Bor Attribute → Option (List ℕ) → Settings
 with_passed s attribute None = with_unknown s attribute
-with_passed s attribute (Some value) = with_option s attribute attribute.now.name (Some value)
+with_passed s attribute (Some value) = with_value s attribute.now.name value (with_unknown s attribute)
 
 -- An attribute that no rule names: an option, but not with fidelity.
 abbrev pub with_other : Bool → Settings → Bor Attribute → Settings

@@ -1,9 +1,8 @@
 -- A hold and a banner are never dropped.
-use Rattle.std.specs.Prelude.{◌≡◌, ◌⊎◌, ℕ, Bool, true, false, List, codes, Option, Some, ⊤}
+use Rattle.std.specs.Prelude.{◌≡◌, ◌<◌, ◌⊎◌, ℕ, Bool, true, false, List, length, codes, Option, Some, ⊤}
 use Rattle.std.specs.List.{AllByRecursion}
 use denote.Ref.{Bor}
 use Rattle.filter_args.specs.Printing.{printed}
-use Rattle.spool_types.specs.Values.{is_options}
 use Rattle.ipp_values.specs.declared.message.Attribute.{Attribute}
 use Rattle.ipp_options.specs.HoldValues.{hold_in, hold_time_in}
 use Rattle.ipp_options.specs.JobSettings.{must_be_none, are_none, is_refused}
@@ -30,5 +29,5 @@ HoldKept now attributes hold = AllByRecursion (IsKept now hold) attributes
 -- Why the settings were refused.
 abbrev pub IsFault : SettingsFault → Bool → Settings → Type 0
 IsFault (Unsupported attributes) fidelity s = (is_refused fidelity s ≡ true) × (attributes ≡ s.unsupported)
-IsFault TooLong fidelity s = (is_refused fidelity s ≡ false) × (is_options (printed s.options) ≡ false)
+IsFault TooLong fidelity s = (is_refused fidelity s ≡ false) × (2048 < length (printed s.options))
 IsFault Memory fidelity s = ⊤

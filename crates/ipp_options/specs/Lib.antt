@@ -6,3 +6,4 @@ pub mod PaperValues
 pub mod OptionValues
 pub mod JobSettings
 pub mod KeptHolds
+pub mod StatedAttributes

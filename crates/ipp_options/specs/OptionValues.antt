@@ -3,7 +3,6 @@ use Rattle.std.specs.Prelude.{ℕ, pos, negsuc, Bool, true, false, ◌||◌, ◌
 use Rattle.std.specs.List.{list_all, list_any, starts_with}
 use Rattle.std.specs.Fmt.{decimal, signed_decimal}
 use Rattle.std.specs.Option.{option_map, option_and_then}
-use Rattle.spool_types.specs.Values.{is_plain}
 use Rattle.filter_args.specs.Pairs.{is_option_name}
 use Rattle.ipp_printers.specs.PrinterFacts as facts
 use Rattle.ipp_printers.specs.PrinterFacts.{property_of}
@@ -156,13 +155,10 @@ is_reserved name = starts_with nat_eq name (codes "job-") || same name (codes "s
 abbrev pub is_passed : List ℕ → Bool
 is_passed name = is_option_name name && not (is_reserved name)
 
-abbrev pub plain : List ℕ → Option (List ℕ)
-plain text = cond (list_all is_plain text) (Some text) None
-
 abbrev pub other_of : Value → Option (List ℕ)
-other_of (values.Keyword text) = plain text
-other_of (values.Name text) = plain text
-other_of (values.Text text) = plain text
+other_of (values.Keyword text) = Some text
+other_of (values.Name text) = Some text
+other_of (values.Text text) = Some text
 other_of (values.Integer n) = Some (signed_decimal n)
 other_of (values.Boolean flag) = Some (cond flag (codes "true") (codes "false"))
 other_of value = None

@@ -1,4 +1,4 @@
-//! Job attributes of the Internet Printing Protocol (IPP) as the words and the options of a job.
+//! Job attributes of the Internet Printing Protocol (IPP) as the words and the options of a job, and back.
 //!
 //! # The attributes
 //!
@@ -14,7 +14,8 @@
 //! - Any other attribute with one keyword, name, text, integer or boolean becomes an option, as those of a PPD file do, but not with
 //!   fidelity. An attribute whose name begins with `job-` does not, and `submission` does not, which is the spooler's own option.
 //!
-//! Any other attribute with a value that the printer does not support has no effect and is returned. With fidelity the request is refused.
+//! Any other attribute with a value that the printer does not support has no effect and is returned, and so is one whose value has a
+//! control character. With fidelity the request is refused.
 //!
 //! # Promises
 //!
@@ -28,12 +29,17 @@
 //!   a banner refuse the request.
 //! - *Fidelity*: a request is accepted exactly if nothing forbids it (`accepted`, `fault`, by `is_refused`). With fidelity that is any
 //!   attribute that the printer does not support.
+//! - *StatedOptions*: [`stated_attributes`] returns exactly the job template attributes that a client asks for and that the options of a
+//!   job state (`answered` of `requested_attributes`, over `stated_rows` of `specs/StatedAttributes.antt`). An option whose text is no value
+//!   of the attribute is absent. An attribute with a word or a single number becomes the same option if a client asks for it again
+//!   ([`stated_values_are_taken_again`]). `copies`, `job-priority` and the hold are words of the job, which `ipp_answers` returns.
 //! - [`hold_in`] and [`hold_time_in`] return exactly the hold of a value (`value`). [`Hold::keyword`] returns the word of a hold without a
 //!   moment (`value`), which is read as this hold again (`read_back`).
 //!
 //! # Errors
 //!
-//! [`SettingsFault`] lists them. A refused request changes nothing.
+//! [`SettingsFault`] lists them. A refused request changes nothing. `TooLong` is returned only for options whose text has more than 2,048
+//! bytes (`fault`). The only error of [`stated_attributes`] is out of memory.
 //!
 //! # Cost
 //!
@@ -43,13 +49,17 @@
 
 mod choice;
 mod hold;
+mod laws;
 mod moments;
 mod paper;
 mod read;
 mod settings;
+mod stated;
 mod values;
 mod words;
 
 pub use hold::{Hold, hold_in, hold_time_in};
+pub use laws::stated_values_are_taken_again;
 pub use read::{JobSettings, SettingsFault, read_settings};
 pub use settings::Unsupported;
+pub use stated::stated_attributes;

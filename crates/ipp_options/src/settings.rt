@@ -4,9 +4,10 @@ ghost use Rattle.std.specs.Option.{option_and_then, option_map};
 ghost use Rattle.std.specs.Cow.{cow_str_bytes};
 ghost use Rattle.std.specs.List.{list_all};
 ghost use Rattle.filter_args.specs.Pairs.{is_option_name};
+ghost use Rattle.spool_types.specs.Values.{is_plain};
 ghost use Rattle.ipp_options.specs.AttributeWords.{integer_in};
 ghost use Rattle.ipp_options.specs.OptionValues.{choice_named};
-ghost use Rattle.ipp_options.specs.JobSettings.{no_settings, with_note, with_refused, with_copies, with_priority, with_hold, with_none, must_be_none, is_none_word, are_none, with_media_col, with_other, with_choice, with_attribute, ranged};
+ghost use Rattle.ipp_options.specs.JobSettings.{no_settings, with_note, with_refused, with_copies, with_priority, with_hold, with_none, must_be_none, is_none_word, are_none, with_media_col, with_other, with_choice, with_value, with_attribute, ranged};
 
 use crate::choice::Choice;
 use crate::hold::{Hold, hold_in, hold_time_in};
@@ -174,8 +175,12 @@ impl<'a> Settings<'a> {
         let Some(size) = size_in(printer.media(), values) else {
             return self.note(attribute, true);
         };
-        self.options
-            .insert(Choice::Media.name(), CowStr::Borrowed(size))?;
+        self.add_value(
+            attribute,
+            Choice::Media.name(),
+            CowStr::Borrowed(size),
+            true,
+        )?;
         if are_honored(values) {
             Ok(())
         } else {
@@ -196,7 +201,7 @@ impl<'a> Settings<'a> {
             return self.add_other(alloc, fidelity, attribute);
         };
         match choice_value(alloc, printer, choice, attribute.values.as_slice())? {
-            Some(value) => self.options.insert(choice.name(), value),
+            Some(value) => self.add_value(attribute, choice.name(), value, true),
             None => self.note(attribute, true),
         }
     }
@@ -215,8 +220,26 @@ impl<'a> Settings<'a> {
             return self.note(attribute, false);
         }
         match other_value(alloc, attribute.values.as_slice())? {
-            Some(value) => self.options.insert(name, value),
+            Some(value) => self.add_value(attribute, name, value, false),
             None => self.note(attribute, false),
+        }
+    }
+
+    // Adds an option. If its value has a control character, the attribute is not supported.
+    fn add_value(
+        &mut self,
+        attribute: &'a Attribute,
+        name: &'a str,
+        value: CowStr<'a, Global>,
+        known: bool,
+    ) -> Result<(), AllocError>
+        requires { is_option_name name.now ≡ true }
+        ensures { OnOk result (self.new ≡ with_value self.old name.now (cow_str_bytes value.entry) (with_note self.old attribute.entry known)) }
+    {
+        if is_plain_text(value.as_str()) {
+            self.options.insert(name, value)
+        } else {
+            self.note(attribute, known)
         }
     }
 }
@@ -226,6 +249,19 @@ fn ranged_in<const LEAST: u32, const MOST: u32>(values: &[Value]) -> Option<Rang
     ensures { result ≡ option_and_then (ranged LEAST MOST) (integer_in values.now) }
 {
     Ranged::new(integer_in(values)?)
+}
+
+// Returns whether a text has no control characters.
+fn is_plain_text(text: &str) -> bool
+    ensures { result ≡ list_all is_plain text.now }
+{
+    text.bytes().all(|b| is_plain(b))
+}
+
+fn is_plain(b: u8) -> bool
+    ensures { result ≡ is_plain b }
+{
+    32 <= b && b != 127
 }
 
 // Returns whether an attribute is about a banner, or about a hold of a kind that the spooler does not have.

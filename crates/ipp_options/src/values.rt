@@ -4,10 +4,9 @@ ghost use Rattle.std.specs.Option.{option_map, option_and_then};
 ghost use Rattle.std.specs.List.{list_all, list_any};
 ghost use Rattle.std.specs.String.{string_bytes};
 ghost use Rattle.std.specs.Cow.{cow_str_bytes};
-ghost use Rattle.spool_types.specs.Values.{is_plain};
 ghost use Rattle.ipp_options.specs.AttributeWords.{only};
 ghost use Rattle.ipp_options.specs.TemplateChoices.{number_up, orientation, quality};
-ghost use Rattle.ipp_options.specs.OptionValues.{lent_value, choice_value, chosen, is_no_finishing, finishings_of, pages_in, pages_text, comma_after, page_ranges_of, resolutions, resolution_of, dots_of, is_reserved, is_passed, plain, other_of, other_value};
+ghost use Rattle.ipp_options.specs.OptionValues.{lent_value, choice_value, chosen, is_no_finishing, finishings_of, pages_in, pages_text, comma_after, page_ranges_of, resolutions, resolution_of, dots_of, is_reserved, is_passed, other_of, other_value};
 
 use crate::choice::Choice;
 use crate::words::{enum_in, enum_of, integer_in, natural_of, only, word_in};
@@ -275,34 +274,11 @@ fn other_of<'a>(alloc: Global, value: &'a Value) -> Result<Option<CowStr<'a, Glo
     ensures { IfOk result (λ text. option_map cow_str_bytes text ≡ other_of value.now) }
 {
     match value {
-        Value::Keyword(text) => Ok(lent(plain(text.as_str()))),
-        Value::Name(text) => Ok(lent(plain(text.as_str()))),
-        Value::Text(text) => Ok(lent(plain(text.as_str()))),
+        Value::Keyword(text) => Ok(lent(Some(text.as_str()))),
+        Value::Name(text) => Ok(lent(Some(text.as_str()))),
+        Value::Text(text) => Ok(lent(Some(text.as_str()))),
         Value::Integer(number) => Ok(owned(Some(number.to_string(alloc)?))),
         Value::Boolean(flag) => Ok(lent(Some(if *flag { "true" } else { "false" }))),
         _ => Ok(None),
     }
-}
-
-// Returns a text without control characters.
-fn plain(text: &str) -> Option<&str>
-    ensures { option_map (λ text. text.now) result ≡ plain text.now }
-{
-    if has_only_plain_bytes(text) {
-        Some(text)
-    } else {
-        None
-    }
-}
-
-fn has_only_plain_bytes(text: &str) -> bool
-    ensures { result ≡ list_all is_plain text.now }
-{
-    text.bytes().all(|b| is_plain(b))
-}
-
-fn is_plain(b: u8) -> bool
-    ensures { result ≡ is_plain b }
-{
-    32 <= b && b != 127
 }

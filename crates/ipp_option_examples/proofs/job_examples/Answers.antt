@@ -35,3 +35,11 @@ returns-clause-date c = refl
 pub returns-clause-media : goal.returns-clause-media
 unfolding encode_utf8 is_utf8 chars digits
 returns-clause-media c = refl
+
+pub returns-clause-stated : goal.returns-clause-stated
+unfolding encode_utf8 is_utf8 chars digits
+returns-clause-stated c = (refl, refl, refl, refl, refl)
+
+pub returns-clause-given : goal.returns-clause-given
+unfolding encode_utf8 is_utf8 chars digits
+returns-clause-given c = (refl, refl, refl, refl, refl)
