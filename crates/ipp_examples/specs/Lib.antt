@@ -1,3 +1,4 @@
 pub mod ClientMessages
 pub mod RequestExamples
 pub mod ExchangeExamples
+pub mod HttpExamples

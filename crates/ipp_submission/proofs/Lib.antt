@@ -1,0 +1,3 @@
+pub mod PairLaws
+pub mod StepLaws
+pub mod JobLaws

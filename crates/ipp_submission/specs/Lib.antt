@@ -1,0 +1,2 @@
+pub mod JobParts
+pub mod JobRuns
