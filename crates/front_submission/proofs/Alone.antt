@@ -8,9 +8,9 @@ use Rattle.front_submission.specs.declared.step.End.{End}
 use Rattle.front_submission.specs.declared.step.End.TheVariants.{Accepted, Unprintable, Refused, Unknown}
 use Rattle.front_submission.specs.declared.reply.Own.{Own}
 use Rattle.front_submission.specs.declared.reply.Reply.TheVariants.{Later, Denied}
-use Rattle.front_submission.specs.SubmissionSteps.{status, request, heard, lost, unread, deserted, own_found, after_send, after_measure, after_hold, after_close, after_check, after_cancel, accepted}
-use Rattle.front_submission.specs.Service.{JobFate, NotOwn, Arrives, Stopped, StoppedGone, Stands, StandsGone, Service, changed, grown, closed, stopped, purged, with_fate, served, arriving_at, arriving, found, sent_reply, shown_reply, held_reply, closed_reply, canceled_reply, reply_to, Other, Makes, Cancels, Purges, after_other}
-use Rattle.front_submission.specs.SubmissionRuns.{SubmissionRun, Event, Served, ServedUnheard, ServedUnclear, Lost, LeftUnclear, PutOff, TurnedDown, Reads, CannotRead, GivesUp, Meanwhile, read_at, happens, run, start, end_of}
+use Rattle.front_submission.specs.SubmissionSteps.{status, first_of, sent_first, request, heard, lost, unread, deserted, own_found, after_send, after_measure, after_hold, after_close, after_check, after_cancel, accepted}
+use Rattle.front_submission.specs.Service.{JobFate, Part, First, Second, part_of, last_bytes, served_part, reply_to_part, NotOwn, Arrives, Stopped, StoppedGone, Stands, StandsGone, Service, changed, grown, closed, stopped, purged, with_fate, served, arriving_at, arriving, found, sent_reply, shown_reply, held_reply, closed_reply, canceled_reply, reply_to, Other, Makes, Cancels, Purges, after_other}
+use Rattle.front_submission.specs.SubmissionRuns.{SubmissionRun, Event, Served, ServedUnheard, ServedUnclear, PartServed, PartServedUnheard, PartServedUnclear, Lost, LeftUnclear, PutOff, TurnedDown, Reads, CannotRead, GivesUp, Meanwhile, read_at, happens, run, start, end_of}
 use Rattle.front_submission.proofs.Keeping.{by_test, unclear_lost}
 
 -- The job is not incoming.
@@ -208,9 +208,13 @@ found_owns z (one ∷ (two ∷ others)) fresh e = tt
 
 -- ## A request that is executed
 
+first_owns : (z : Service) (job size count new : ℕ) → IsAlone z.fate job → Owns z (sent_first job size count new)
+first_owns z job size count new h = by_test (Owns z) (new == size + first_of count) _ _ (λ _. h) (λ _. tt)
+
 sent_owns : (z : Service) (job size count tries : ℕ) (piece : List ℕ) (s : JobFate) → IsAlone z.fate job → Owns z (after_send job size count tries (sent_reply piece s))
 sent_owns z job size count tries piece NotOwn h = tt
-sent_owns z job size count tries piece (Arrives bytes) h = by_test (Owns z) (length (bytes ++ piece) == size + count) _ _ (λ _. h) (λ _. tt)
+sent_owns z job size count tries piece (Arrives bytes) h =
+    by_test (Owns z) (length (bytes ++ piece) == size + count) _ _ (λ _. h) (λ _. first_owns z job size count (length (bytes ++ piece)) h)
 sent_owns z job size count tries piece Stopped h = tt
 sent_owns z job size count tries piece StoppedGone h = tt
 sent_owns z job size count tries piece Stands h = tt
@@ -219,7 +223,8 @@ sent_owns z job size count tries piece StandsGone h = tt
 measure_owns : (z : Service) (job size count : ℕ) (prints : Bool) (s : JobFate) → IsAlone z.fate job → Owns z (after_measure job size count (shown_reply prints s))
 measure_owns z job size count prints NotOwn h = tt
 measure_owns z job size count prints (Arrives bytes) h =
-    by_test (Owns z) (length bytes == size) _ _ (λ _. h) (λ _. by_test (Owns z) (length bytes == size + count) _ _ (λ _. h) (λ _. tt))
+    by_test (Owns z) (length bytes == size) _ _ (λ _. h)
+    (λ _. by_test (Owns z) (length bytes == size + count) _ _ (λ _. h) (λ _. first_owns z job size count (length bytes) h))
 measure_owns z job size count prints Stopped h = tt
 measure_owns z job size count prints StoppedGone h = tt
 measure_owns z job size count true Stands h = tt
@@ -284,7 +289,7 @@ served_fresh z piece (Creating tries) h = record { beyond = (fresh_made z h).bey
 served_fresh z piece Finding h = h
 served_fresh z piece (Clearing job) h = fresh_changed z job stopped stopped_still h
 served_fresh z piece (Reading job size) h = h
-served_fresh z piece (Sending job size count tries) h = fresh_changed z job (grown piece) (grown_still piece) h
+served_fresh z piece (Sending job size count tries) h = fresh_changed z job (grown (last_bytes count piece)) (grown_still (last_bytes count piece)) h
 served_fresh z piece (Measuring job size count) h = h
 served_fresh z piece (Holding job size tries) h = h
 served_fresh z piece (Closing job size tries again) h = record { beyond = (fresh_changed z job closed closed_still h).beyond }
@@ -298,8 +303,9 @@ heard_owns z piece Finding h = found_owns z (arriving z.fate z.given) h.fresh re
 heard_owns z piece (Clearing job) h = tt
 heard_owns z piece (Reading job size) h = h.owns
 heard_owns z piece (Sending job size count tries) h =
-    sent_owns (with_fate z (changed z.fate job (grown piece))) job size count tries piece (z.fate job)
-    (alone_changed z.fate job job (grown piece) (grown_still piece) h.owns)
+    let bytes = last_bytes count piece in
+    sent_owns (with_fate z (changed z.fate job (grown bytes))) job size count tries bytes (z.fate job)
+    (alone_changed z.fate job job (grown bytes) (grown_still bytes) h.owns)
 heard_owns z piece (Measuring job size count) h = measure_owns z job size count z.prints (z.fate job) h.owns
 heard_owns z piece (Holding job size tries) h = held_owns z job size tries (z.fate job) h.owns
 heard_owns z piece (Closing job size tries again) h = close_owns z piece job size tries again (z.fate job) h.owns
@@ -312,13 +318,61 @@ lost_owns z piece (Creating tries) h = tt
 lost_owns z piece Finding h = tt
 lost_owns z piece (Clearing job) h = tt
 lost_owns z piece (Reading job size) h = h.owns
-lost_owns z piece (Sending job size count tries) h = alone_changed z.fate job job (grown piece) (grown_still piece) h.owns
+lost_owns z piece (Sending job size count tries) h =
+    alone_changed z.fate job job (grown (last_bytes count piece)) (grown_still (last_bytes count piece)) h.owns
 lost_owns z piece (Measuring job size count) h = h.owns
 lost_owns z piece (Holding job size tries) h = h.owns
 lost_owns z piece (Closing job size tries again) h = alone_changed z.fate job job closed closed_still h.owns
 lost_owns z piece (Checking job size) h = h.owns
 lost_owns z piece (Canceling job cause) h = tt
 lost_owns z piece (Ended end) h = h.owns
+
+-- ## One command of a piece
+
+part_fresh : (z : Service) (part : Part) (piece : List ℕ) (step : Step) → IsFresh z → IsFresh (served_part z part piece (request step))
+part_fresh z part piece (Creating tries) h = h
+part_fresh z part piece Finding h = h
+part_fresh z part piece (Clearing job) h = h
+part_fresh z part piece (Reading job size) h = h
+part_fresh z part piece (Sending job size count tries) h =
+    let bytes = part_of part (last_bytes count piece) in fresh_changed z job (grown bytes) (grown_still bytes) h
+part_fresh z part piece (Measuring job size count) h = h
+part_fresh z part piece (Holding job size tries) h = h
+part_fresh z part piece (Closing job size tries again) h = h
+part_fresh z part piece (Checking job size) h = h
+part_fresh z part piece (Canceling job cause) h = h
+part_fresh z part piece (Ended end) h = h
+
+heard_part_owns : (z : Service) (part : Part) (piece : List ℕ) (step : Step) → Owns z step →
+    Owns (served_part z part piece (request step)) (heard step (reply_to_part z part piece (request step)))
+heard_part_owns z part piece (Creating tries) h = tt
+heard_part_owns z part piece Finding h = tt
+heard_part_owns z part piece (Clearing job) h = tt
+heard_part_owns z part piece (Reading job size) h = h
+heard_part_owns z part piece (Sending job size count tries) h =
+    let bytes = part_of part (last_bytes count piece) in
+    sent_owns (with_fate z (changed z.fate job (grown bytes))) job size count tries bytes (z.fate job)
+    (alone_changed z.fate job job (grown bytes) (grown_still bytes) h)
+heard_part_owns z part piece (Measuring job size count) h = h
+heard_part_owns z part piece (Holding job size tries) h = h
+heard_part_owns z part piece (Closing job size tries again) h = h
+heard_part_owns z part piece (Checking job size) h = h
+heard_part_owns z part piece (Canceling job cause) h = tt
+heard_part_owns z part piece (Ended end) h = h
+
+lost_part_owns : (z : Service) (part : Part) (piece : List ℕ) (step : Step) → Owns z step → Owns (served_part z part piece (request step)) (lost step)
+lost_part_owns z part piece (Creating tries) h = tt
+lost_part_owns z part piece Finding h = tt
+lost_part_owns z part piece (Clearing job) h = tt
+lost_part_owns z part piece (Reading job size) h = h
+lost_part_owns z part piece (Sending job size count tries) h =
+    let bytes = part_of part (last_bytes count piece) in alone_changed z.fate job job (grown bytes) (grown_still bytes) h
+lost_part_owns z part piece (Measuring job size count) h = h
+lost_part_owns z part piece (Holding job size tries) h = h
+lost_part_owns z part piece (Closing job size tries again) h = h
+lost_part_owns z part piece (Checking job size) h = h
+lost_part_owns z part piece (Canceling job cause) h = tt
+lost_part_owns z part piece (Ended end) h = h
 
 -- ## A request that is not executed
 
@@ -451,6 +505,14 @@ happens_owns w ServedUnclear h =
     record {
       fresh = served_fresh w.service w.piece w.step h.fresh;
       owns = subst (Owns (served w.service w.piece (request w.step))) (sym (unclear_lost w.step)) (lost_owns w.service w.piece w.step h);
+    }
+happens_owns w (PartServed part) h = record { fresh = part_fresh w.service part w.piece w.step h.fresh; owns = heard_part_owns w.service part w.piece w.step h.owns }
+happens_owns w (PartServedUnheard part) h =
+    record { fresh = part_fresh w.service part w.piece w.step h.fresh; owns = lost_part_owns w.service part w.piece w.step h.owns }
+happens_owns w (PartServedUnclear part) h =
+    record {
+      fresh = part_fresh w.service part w.piece w.step h.fresh;
+      owns = subst (Owns (served_part w.service part w.piece (request w.step))) (sym (unclear_lost w.step)) (lost_part_owns w.service part w.piece w.step h.owns);
     }
 happens_owns w Lost h = record { fresh = h.fresh; owns = unserved_owns w.service w.step h.owns }
 happens_owns w LeftUnclear h = record { fresh = h.fresh; owns = subst (Owns w.service) (sym (unclear_lost w.step)) (unserved_owns w.service w.step h.owns) }

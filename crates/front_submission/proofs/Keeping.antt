@@ -1,15 +1,16 @@
 -- The invariant of a submission at each step.
-use Rattle.std.proofs.Common.{◌≡◌, ℕ, ◌+◌, ◌≤◌, ◌<◌, zero, suc, ◌⊎◌, inl, inr, Bool, true, false, cond, ◌==◌, List, [], ◌∷◌, ◌++◌, length, refl, ap, sym, ◌∙◌, subst, arith, eq-eqb, length-append, append_assoc, append-nil}
-use Rattle.std.proofs.lemmas.Bool.{eqb-true}
+use Rattle.std.proofs.Common.{◌≡◌, ℕ, ◌+◌, ◌-◌, ◌≤◌, ◌<◌, zero, suc, ◌⊎◌, inl, inr, Bool, true, false, cond, ◌==◌, List, [], ◌∷◌, ◌++◌, drop, length, min, take, refl, ap, sym, ◌∙◌, subst, arith, eq-eqb, length-append, length-drop, append_assoc, append-nil}
+use Rattle.std.proofs.lemmas.List.{drop-drop, length-take, take-append-drop, take_all}
+use Rattle.std.proofs.lemmas.Bool.{cases_lt, eqb-true}
 use Rattle.front_submission.specs.declared.step.Step.{Step}
 use Rattle.front_submission.specs.declared.step.Step.TheVariants.{Creating, Finding, Clearing, Reading, Sending, Measuring, Holding, Closing, Checking, Canceling, Ended}
 use Rattle.front_submission.specs.declared.step.End.{End}
 use Rattle.front_submission.specs.declared.step.End.TheVariants.{Accepted, Unprintable, Refused, Unknown}
 use Rattle.front_submission.specs.declared.reply.Own.{Own}
 use Rattle.front_submission.specs.declared.reply.Reply.TheVariants.{Later, Denied, Unclear}
-use Rattle.front_submission.specs.SubmissionSteps.{status, request, heard, lost, unread, deserted, taken, own_found, measured, after_send, after_measure, after_hold, after_close, after_check, after_cancel, accepted}
-use Rattle.front_submission.specs.Service.{JobFate, NotOwn, Arrives, Stopped, StoppedGone, Stands, StandsGone, Service, changed, grown, closed, stopped, purged, with_close, with_fate, served, arriving_at, arriving, found, sent_reply, shown_reply, held_reply, closed_reply, canceled_reply, reply_to, Other, Makes, Cancels, Purges, after_other}
-use Rattle.front_submission.specs.SubmissionRuns.{SubmissionRun, Event, Served, ServedUnheard, ServedUnclear, Lost, LeftUnclear, PutOff, TurnedDown, Reads, CannotRead, GivesUp, Meanwhile, read_at, happens, run, ArePieces, joined, start, end_of}
+use Rattle.front_submission.specs.SubmissionSteps.{status, first_of, sent_first, most_tries, request, heard, lost, unread, deserted, taken, own_found, measured, after_send, after_measure, after_hold, after_close, after_check, after_cancel, accepted}
+use Rattle.front_submission.specs.Service.{JobFate, Part, First, Second, part_of, last_bytes, served_part, reply_to_part, NotOwn, Arrives, Stopped, StoppedGone, Stands, StandsGone, Service, changed, grown, closed, stopped, purged, with_close, with_fate, served, arriving_at, arriving, found, sent_reply, shown_reply, held_reply, closed_reply, canceled_reply, reply_to, Other, Makes, Cancels, Purges, after_other}
+use Rattle.front_submission.specs.SubmissionRuns.{SubmissionRun, Event, Served, ServedUnheard, ServedUnclear, PartServed, PartServedUnheard, PartServedUnclear, Lost, LeftUnclear, PutOff, TurnedDown, Reads, CannotRead, GivesUp, Meanwhile, read_at, happens, run, ArePieces, most_piece, joined, start, end_of}
 
 -- ## Statements about a job
 
@@ -22,10 +23,14 @@ Opens sent StoppedGone = Unit {0}
 Opens sent Stands = ⊥
 Opens sent StandsGone = ⊥
 
--- If the job is incoming, it has one of these two contents. It was not closed.
+-- The bytes are those that were sent, and after them none, all, or one part of a piece.
+abbrev pub IsOneOf : List ℕ → List ℕ → List ℕ → Type 0
+IsOneOf sent more bytes = (bytes ≡ sent) ⊎ ((bytes ≡ sent ++ more) ⊎ ((part : Part) × (bytes ≡ sent ++ part_of part more)))
+
+-- If the job is incoming, it has one of these contents. It was not closed.
 abbrev pub OpensEither : List ℕ → List ℕ → JobFate → Type 0
 OpensEither sent more NotOwn = Unit {0}
-OpensEither sent more (Arrives bytes) = (bytes ≡ sent) ⊎ (bytes ≡ more)
+OpensEither sent more (Arrives bytes) = IsOneOf sent more bytes
 OpensEither sent more Stopped = Unit {0}
 OpensEither sent more StoppedGone = Unit {0}
 OpensEither sent more Stands = ⊥
@@ -110,9 +115,17 @@ purged_closed StandsGone h = tt
 purged_gently : IsGentle purged
 purged_gently = record { opens = purged_opens; either = purged_either; closed = purged_closed }
 
-grown_either : (sent piece : List ℕ) (s : JobFate) → Opens sent s → OpensEither sent (sent ++ piece) (grown piece s)
+grown_part : (sent piece : List ℕ) (part : Part) (s : JobFate) → Opens sent s → OpensEither sent piece (grown (part_of part piece) s)
+grown_part sent piece part NotOwn h = tt
+grown_part sent piece part (Arrives bytes) h = inr (inr (part, ap (λ (b : List ℕ). b ++ part_of part piece) h))
+grown_part sent piece part Stopped h = tt
+grown_part sent piece part StoppedGone h = tt
+grown_part sent piece part Stands h = h
+grown_part sent piece part StandsGone h = h
+
+grown_either : (sent piece : List ℕ) (s : JobFate) → Opens sent s → OpensEither sent piece (grown piece s)
 grown_either sent piece NotOwn h = tt
-grown_either sent piece (Arrives bytes) h = inr (ap (λ (b : List ℕ). b ++ piece) h)
+grown_either sent piece (Arrives bytes) h = inr (inl (ap (λ (b : List ℕ). b ++ piece) h))
 grown_either sent piece Stopped h = tt
 grown_either sent piece StoppedGone h = tt
 grown_either sent piece Stands h = h
@@ -145,6 +158,7 @@ pub record IsSending (document sent : List ℕ) (size : ℕ) (piece : List ℕ) 
   pub sent_is : length sent ≡ size
   pub piece_is : length piece ≡ count
   pub some : 0 < count
+  pub short : count ≤ most_piece
   pub pieces : ArePieces rest
 
 -- No job was closed, or this job was closed with the whole document.
@@ -163,9 +177,9 @@ Keeps document piece rest z Finding = (z.closes ≡ []) × IsLeft document [] 0 
 Keeps document piece rest z (Clearing job) = (z.closes ≡ []) × IsLeft document [] 0 rest
 Keeps document piece rest z (Reading job size) = (sent : List ℕ) × ((z.closes ≡ []) × Opens sent (z.fate job) × IsLeft document sent size rest)
 Keeps document piece rest z (Sending job size count tries) =
-    (sent : List ℕ) × ((z.closes ≡ []) × Opens sent (z.fate job) × IsSending document sent size piece count rest)
+    (sent : List ℕ) × ((z.closes ≡ []) × Opens sent (z.fate job) × IsSending document sent size (last_bytes count piece) count rest)
 Keeps document piece rest z (Measuring job size count) =
-    (sent : List ℕ) × ((z.closes ≡ []) × OpensEither sent (sent ++ piece) (z.fate job) × IsSending document sent size piece count rest)
+    (sent : List ℕ) × ((z.closes ≡ []) × OpensEither sent (last_bytes count piece) (z.fate job) × IsSending document sent size (last_bytes count piece) count rest)
 Keeps document piece rest z (Holding job size tries) = (z.closes ≡ []) × Opens document (z.fate job)
 Keeps document piece rest z (Closing job size tries again) = (z.closes ≡ []) × Opens document (z.fate job)
 Keeps document piece rest z (Checking job size) = MayBeClosed document z job
@@ -206,16 +220,63 @@ sent_left : (document sent : List ℕ) (size : ℕ) (piece : List ℕ) (count : 
     IsSending document sent size piece count rest → IsLeft document (sent ++ piece) new rest
 sent_left document sent size piece count rest new e g = record { all = g.all; sent_is = e; pieces = g.pieces }
 
--- A non-empty piece makes the sent bytes longer.
-longer : (sent piece : List ℕ) (size count : ℕ) → length sent ≡ size → length piece ≡ count → 0 < count → length (sent ++ piece) ≡ size → ⊥
-longer sent piece size count a b some e = let l : length (sent ++ piece) ≡ length sent + length piece = length-append sent piece in absurd (omega arith)
-
-not_longer : (sent : List ℕ) (size count : ℕ) → length sent ≡ size → 0 < count → length sent ≡ size + count → ⊥
-not_longer sent size count a some e = absurd (omega arith)
-
 no_bytes : (bytes : List ℕ) → length bytes ≡ 0 → bytes ≡ []
 no_bytes [] e = refl
 no_bytes (b ∷ bs) e = absurd (omega arith)
+
+-- ## The two commands of a piece
+
+-- The test found the numbers different.
+differ : (a b : ℕ) → (a == b) ≡ false → a ≡ b → ⊥
+differ a b test e = let same : (a == b) ≡ true = eq-eqb a b e in absurd (cc)
+
+length_first : (piece : List ℕ) (count : ℕ) → length piece ≡ count → length (part_of First piece) ≡ first_of count
+length_first piece count e = length-take 65536 piece ∙ ap (λ n. min 65536 n) e ∙ least_either_way 65536 count
+  where
+    least_either_way : (a b : ℕ) → min a b ≡ min b a
+    least_either_way a b = omega arith
+
+length_second : (piece : List ℕ) (count : ℕ) → length piece ≡ count → length (part_of Second piece) ≡ count - 65536
+length_second piece count e = length-drop 65536 piece ∙ ap (λ n. n - 65536) e
+
+-- The first command has all bytes if it has as many.
+first_is_all : (piece : List ℕ) (count : ℕ) → length piece ≡ count → first_of count ≡ count → part_of First piece ≡ piece
+first_is_all piece count e all = let short : length piece ≤ 65536 = omega arith in take_all 65536 piece short
+
+-- The second command has no bytes if its length is 0.
+second_is_none : (sent piece : List ℕ) → length (part_of Second piece) ≡ 0 → sent ++ part_of Second piece ≡ sent
+second_is_none sent piece none = ap (λ (l : List ℕ). sent ++ l) (no_bytes (part_of Second piece) none) ∙ append-nil sent
+
+-- The bytes after those of the first command are the last ones of the piece.
+last_of_last : (piece : List ℕ) (count : ℕ) → length (last_bytes count piece) ≡ count → first_of count < count →
+    part_of Second (last_bytes count piece) ≡ last_bytes (count - first_of count) piece
+last_of_last piece count e two =
+    let whole : length (last_bytes count piece) ≡ length piece - (length piece - count) = length-drop (length piece - count) piece in
+    let skips : (length piece - count) + 65536 ≡ length piece - (count - first_of count) = omega arith in
+    drop-drop 65536 (length piece - count) piece ∙ ap (λ n. drop n piece) skips
+
+-- After the first command of a piece the bytes of the second one remain.
+first_left : (document sent : List ℕ) (size : ℕ) (piece : List ℕ) (count : ℕ) (rest : List (List ℕ)) (new : ℕ) →
+    IsSending document sent size (last_bytes count piece) count rest → first_of count < count → new ≡ size + first_of count →
+    IsSending document (sent ++ part_of First (last_bytes count piece)) new (last_bytes (count - first_of count) piece) (count - first_of count) rest
+first_left document sent size piece count rest new g two e =
+    let bytes = last_bytes count piece in
+    let second = last_of_last piece count g.piece_is two in
+    let sizes : length (sent ++ part_of First bytes) ≡ length sent + length (part_of First bytes) = length-append sent (part_of First bytes) in
+    let first_is = length_first bytes count g.piece_is in
+    let sent_is = g.sent_is in
+    let short = g.short in
+    let second_is = sym (ap length second) ∙ length_second bytes count g.piece_is in
+    record {
+      all = ap (λ (l : List ℕ). ((sent ++ part_of First bytes) ++ l) ++ joined rest) (sym second)
+          ∙ ap (λ (l : List ℕ). l ++ joined rest) (append_assoc sent (part_of First bytes) (part_of Second bytes) ∙ ap (λ (l : List ℕ). sent ++ l) (take-append-drop 65536 bytes))
+          ∙ g.all;
+      sent_is = omega arith;
+      piece_is = omega arith;
+      some = omega arith;
+      short = omega arith;
+      pieces = g.pieces;
+    }
 
 module _ (document piece : List ℕ) (rest : List (List ℕ)) (z : Service) where
   -- The job that was found.
@@ -231,46 +292,133 @@ module _ (document piece : List ℕ) (rest : List (List ℕ)) (z : Service) wher
   found_keeps (one ∷ []) all h = taken_keeps one all.0 all.1 all.2 h
   found_keeps (one ∷ (two ∷ others)) all h = h
 
-  -- A piece that is sent.
-  sent_keeps : (job size count tries : ℕ) (s : JobFate) → z.fate job ≡ s → (sent : List ℕ) → z.closes ≡ [] → Opens sent s →
-      IsSending document sent size piece count rest →
-      Keeps document piece rest (with_fate z (changed z.fate job (grown piece))) (after_send job size count tries (sent_reply piece s))
-  sent_keeps job size count tries NotOwn is sent none o g = none
-  sent_keeps job size count tries (Arrives bytes) is sent none o g =
-      by_test (Keeps document piece rest (with_fate z (changed z.fate job (grown piece)))) (length (bytes ++ piece) == size + count) _ _
+  -- If only the first command was executed, the other bytes are sent.
+  first_keeps : (job size count new : ℕ) (sent : List ℕ) → z.closes ≡ [] → Opens (sent ++ part_of First (last_bytes count piece)) (z.fate job) →
+      IsSending document sent size (last_bytes count piece) count rest → (new ≡ size + count → ⊥) → Keeps document piece rest z (sent_first job size count new)
+  first_keeps job size count new sent none o g other =
+      by_test (Keeps document piece rest z) (new == size + first_of count) _ _
       (λ e. (
-        sent ++ piece,
+        sent ++ part_of First (last_bytes count piece),
         (
           none,
-          changed_own (Opens (sent ++ piece)) z.fate job (grown piece) (subst (λ (s : JobFate). Opens (sent ++ piece) (grown piece s)) (sym is) (ap (λ (b : List ℕ). b ++ piece) o)),
-          sent_left document sent size piece count rest (length (bytes ++ piece)) (ap (λ (b : List ℕ). length (b ++ piece)) (sym o)) g,
+          o,
+          first_left document sent size piece count rest new g (two (eqb-true new (size + first_of count) e)) (eqb-true new (size + first_of count) e),
         ),
       ))
-      (λ e. none)
-  sent_keeps job size count tries Stopped is sent none o g = none
-  sent_keeps job size count tries StoppedGone is sent none o g = none
-  sent_keeps job size count tries Stands is sent none o g = none
-  sent_keeps job size count tries StandsGone is sent none o g = none
+      (λ _. none)
+    where
+      two : new ≡ size + first_of count → first_of count < count
+      two e = by_case (cases_lt (first_of count) count)
+        where
+          by_case : (first_of count < count) ⊎ (count ≤ first_of count) → first_of count < count
+          by_case (inl lt) = lt
+          by_case (inr le) = let all : new ≡ size + count = omega arith in absurd (other all)
+
+  -- No size of another state is that after the first command.
+  not_first : (job size count new : ℕ) → z.closes ≡ [] → (new ≡ size + first_of count → ⊥) → Keeps document piece rest z (sent_first job size count new)
+  not_first job size count new none other =
+      by_test (Keeps document piece rest z) (new == size + first_of count) _ _ (λ e. absurd (other (eqb-true new (size + first_of count) e))) (λ _. none)
+
+  -- The whole piece was sent.
+  whole_keeps : (job size count : ℕ) (sent : List ℕ) → z.closes ≡ [] → Opens (sent ++ last_bytes count piece) (z.fate job) →
+      IsSending document sent size (last_bytes count piece) count rest → (new : ℕ) → length (sent ++ last_bytes count piece) ≡ new → Keeps document piece rest z (Reading job new)
+  whole_keeps job size count sent none o g new e = (sent ++ last_bytes count piece, (none, o, sent_left document sent size (last_bytes count piece) count rest new e g))
+
+  -- The size of a job that has the whole piece.
+  all_sent_keeps : (job size count new : ℕ) (sent : List ℕ) → z.closes ≡ [] → Opens (sent ++ last_bytes count piece) (z.fate job) →
+      IsSending document sent size (last_bytes count piece) count rest → new ≡ length (sent ++ last_bytes count piece) →
+      Keeps document piece rest z (cond (new == size + count) (Reading job new) (sent_first job size count new))
+  all_sent_keeps job size count new sent none o g e =
+      by_test (Keeps document piece rest z) (new == size + count) _ _ (λ _. whole_keeps job size count sent none o g new (sym e)) (λ test. absurd (differ new (size + count) test is))
+    where
+      is : new ≡ size + count
+      is = let sizes : length (sent ++ last_bytes count piece) ≡ length sent + length (last_bytes count piece) = length-append sent (last_bytes count piece) in
+          let sent_is = g.sent_is in let piece_is = g.piece_is in omega arith
+
+  -- The size of a job that has one part of the piece.
+  part_sent_keeps : (job size count new : ℕ) (part : Part) (sent : List ℕ) → z.closes ≡ [] → Opens (sent ++ part_of part (last_bytes count piece)) (z.fate job) →
+      IsSending document sent size (last_bytes count piece) count rest → new ≡ length (sent ++ part_of part (last_bytes count piece)) →
+      Keeps document piece rest z (cond (new == size + count) (Reading job new) (sent_first job size count new))
+  part_sent_keeps job size count new First sent none o g e =
+      by_test (Keeps document piece rest z) (new == size + count) _ _
+      (λ test. whole (eqb-true new (size + count) test))
+      (λ test. first_keeps job size count new sent none o g (differ new (size + count) test))
+    where
+      bytes : List ℕ
+      bytes = last_bytes count piece
+
+      is : new ≡ size + first_of count
+      is = let sizes : length (sent ++ part_of First bytes) ≡ length sent + length (part_of First bytes) = length-append sent (part_of First bytes) in
+          let first_is = length_first bytes count g.piece_is in let sent_is = g.sent_is in omega arith
+
+      whole : new ≡ size + count → Keeps document piece rest z (Reading job new)
+      whole test =
+          let at = is in
+          let all : first_of count ≡ count = omega arith in
+          let same = first_is_all bytes count g.piece_is all in
+          whole_keeps job size count sent none (subst (λ (l : List ℕ). Opens (sent ++ l) (z.fate job)) same o) g new (sym (e ∙ ap (λ (l : List ℕ). length (sent ++ l)) same))
+  part_sent_keeps job size count new Second sent none o g e =
+      by_test (Keeps document piece rest z) (new == size + count) _ _
+      (λ test. absurd (not_whole (eqb-true new (size + count) test)))
+      (λ _. not_first job size count new none not_as_first)
+    where
+      bytes : List ℕ
+      bytes = last_bytes count piece
+
+      is : new ≡ size + (count - 65536)
+      is = let sizes : length (sent ++ part_of Second bytes) ≡ length sent + length (part_of Second bytes) = length-append sent (part_of Second bytes) in
+          let second_is = length_second bytes count g.piece_is in let sent_is = g.sent_is in omega arith
+
+      not_whole : new ≡ size + count → ⊥
+      not_whole test = let at = is in let some = g.some in absurd (omega arith)
+
+      not_as_first : new ≡ size + first_of count → ⊥
+      not_as_first test = let at = is in let some = g.some in let short = g.short in absurd (omega arith)
 
   -- The state of a job after a piece may have been sent.
   measured_keeps : (job size count : ℕ) (bytes : List ℕ) → z.fate job ≡ Arrives bytes → (sent : List ℕ) → z.closes ≡ [] →
-      (bytes ≡ sent) ⊎ (bytes ≡ sent ++ piece) → IsSending document sent size piece count rest →
+      IsOneOf sent (last_bytes count piece) bytes → IsSending document sent size (last_bytes count piece) count rest →
       Keeps document piece rest z (measured job size count (length bytes))
   measured_keeps job size count bytes is sent none (inl o) g =
       by_test (Keeps document piece rest z) (length bytes == size) _ _
-      (λ e. (sent, (none, subst (Opens sent) (sym is) o, g)))
-      (λ _. by_test (Keeps document piece rest z) (length bytes == size + count) _ _
-      (λ e. absurd (not_longer sent size count g.sent_is g.some (ap length (sym o) ∙ eqb-true (length bytes) (size + count) e)))
-      (λ _. none))
-  measured_keeps job size count bytes is sent none (inr o) g =
+      (λ _. (sent, (none, subst (Opens sent) (sym is) o, g)))
+      (λ test. absurd (differ (length bytes) size test (ap length o ∙ g.sent_is)))
+  measured_keeps job size count bytes is sent none (inr (inl o)) g =
       by_test (Keeps document piece rest z) (length bytes == size) _ _
-      (λ e. absurd (longer sent piece size count g.sent_is g.piece_is g.some (ap length (sym o) ∙ eqb-true (length bytes) size e)))
-      (λ _. by_test (Keeps document piece rest z) (length bytes == size + count) _ _
-      (λ e. (sent ++ piece, (none, subst (Opens (sent ++ piece)) (sym is) o, sent_left document sent size piece count rest (length bytes) (ap length (sym o)) g)))
-      (λ _. none))
+      (λ test. absurd (longer (eqb-true (length bytes) size test)))
+      (λ _. all_sent_keeps job size count (length bytes) sent none (subst (Opens (sent ++ last_bytes count piece)) (sym is) o) g (ap length o))
+    where
+      longer : length bytes ≡ size → ⊥
+      longer test =
+          let sizes : length (sent ++ last_bytes count piece) ≡ length sent + length (last_bytes count piece) = length-append sent (last_bytes count piece) in
+          let same : length bytes ≡ length (sent ++ last_bytes count piece) = ap length o in
+          let sent_is = g.sent_is in let piece_is = g.piece_is in let some = g.some in absurd (omega arith)
+  measured_keeps job size count bytes is sent none (inr (inr (First, o))) g =
+      by_test (Keeps document piece rest z) (length bytes == size) _ _
+      (λ test. absurd (longer (eqb-true (length bytes) size test)))
+      (λ _. part_sent_keeps job size count (length bytes) First sent none (subst (Opens (sent ++ part_of First (last_bytes count piece))) (sym is) o) g (ap length o))
+    where
+      longer : length bytes ≡ size → ⊥
+      longer test =
+          let part = part_of First (last_bytes count piece) in
+          let sizes : length (sent ++ part) ≡ length sent + length part = length-append sent part in
+          let same : length bytes ≡ length (sent ++ part) = ap length o in
+          let first_is = length_first (last_bytes count piece) count g.piece_is in
+          let sent_is = g.sent_is in let some = g.some in absurd (omega arith)
+  measured_keeps job size count bytes is sent none (inr (inr (Second, o))) g =
+      by_test (Keeps document piece rest z) (length bytes == size) _ _
+      (λ test. (sent, (none, subst (Opens sent) (sym is) (o ∙ second_is_none sent (last_bytes count piece) (nothing (eqb-true (length bytes) size test))), g)))
+      (λ _. part_sent_keeps job size count (length bytes) Second sent none (subst (Opens (sent ++ part_of Second (last_bytes count piece))) (sym is) o) g (ap length o))
+    where
+      nothing : length bytes ≡ size → length (part_of Second (last_bytes count piece)) ≡ 0
+      nothing test =
+          let part = part_of Second (last_bytes count piece) in
+          let sizes : length (sent ++ part) ≡ length sent + length part = length-append sent part in
+          let same : length bytes ≡ length (sent ++ part) = ap length o in
+          let sent_is = g.sent_is in omega arith
 
-  measure_keeps : (job size count : ℕ) (s : JobFate) → z.fate job ≡ s → (sent : List ℕ) → z.closes ≡ [] → OpensEither sent (sent ++ piece) s →
-      IsSending document sent size piece count rest → Keeps document piece rest z (after_measure job size count (shown_reply z.prints s))
+  measure_keeps : (job size count : ℕ) (s : JobFate) → z.fate job ≡ s → (sent : List ℕ) → z.closes ≡ [] → OpensEither sent (last_bytes count piece) s →
+      IsSending document sent size (last_bytes count piece) count rest → Keeps document piece rest z (after_measure job size count (shown_reply z.prints s))
   measure_keeps job size count NotOwn is sent none o g = none
   measure_keeps job size count (Arrives bytes) is sent none o g = measured_keeps job size count bytes is sent none o g
   measure_keeps job size count Stopped is sent none o g = none
@@ -344,6 +492,41 @@ module _ (document piece : List ℕ) (rest : List (List ℕ)) (z : Service) wher
   unheard_keeps job size tries again Stands is o none = absurd o
   unheard_keeps job size tries again StandsGone is o none = absurd o
 
+module _ (document piece : List ℕ) (rest : List (List ℕ)) (z : Service) where
+  -- The service after these bytes were appended to a job.
+  abbrev appended : ℕ → List ℕ → Service
+  appended job bytes = with_fate z (changed z.fate job (grown bytes))
+
+  opens_appended : (job : ℕ) (bytes more sent : List ℕ) → z.fate job ≡ Arrives bytes → bytes ≡ sent → Opens (sent ++ more) ((appended job more).fate job)
+  opens_appended job bytes more sent is o =
+      changed_own (Opens (sent ++ more)) z.fate job (grown more) (subst (λ (s : JobFate). Opens (sent ++ more) (grown more s)) (sym is) (ap (λ (b : List ℕ). b ++ more) o))
+
+  -- A piece that is sent.
+  sent_keeps : (job size count tries : ℕ) (s : JobFate) → z.fate job ≡ s → (sent : List ℕ) → z.closes ≡ [] → Opens sent s →
+      IsSending document sent size (last_bytes count piece) count rest →
+      Keeps document piece rest (appended job (last_bytes count piece)) (after_send job size count tries (sent_reply (last_bytes count piece) s))
+  sent_keeps job size count tries NotOwn is sent none o g = none
+  sent_keeps job size count tries (Arrives bytes) is sent none o g =
+      all_sent_keeps document piece rest (appended job (last_bytes count piece)) job size count (length (bytes ++ last_bytes count piece)) sent none
+      (opens_appended job bytes (last_bytes count piece) sent is o) g (ap (λ (b : List ℕ). length (b ++ last_bytes count piece)) o)
+  sent_keeps job size count tries Stopped is sent none o g = none
+  sent_keeps job size count tries StoppedGone is sent none o g = none
+  sent_keeps job size count tries Stands is sent none o g = none
+  sent_keeps job size count tries StandsGone is sent none o g = none
+
+  -- Only one command of a piece is executed.
+  part_keeps : (job size count tries : ℕ) (part : Part) (s : JobFate) → z.fate job ≡ s → (sent : List ℕ) → z.closes ≡ [] → Opens sent s →
+      IsSending document sent size (last_bytes count piece) count rest →
+      Keeps document piece rest (appended job (part_of part (last_bytes count piece))) (after_send job size count tries (sent_reply (part_of part (last_bytes count piece)) s))
+  part_keeps job size count tries part NotOwn is sent none o g = none
+  part_keeps job size count tries part (Arrives bytes) is sent none o g =
+      part_sent_keeps document piece rest (appended job (part_of part (last_bytes count piece))) job size count (length (bytes ++ part_of part (last_bytes count piece))) part sent none
+      (opens_appended job bytes (part_of part (last_bytes count piece)) sent is o) g (ap (λ (b : List ℕ). length (b ++ part_of part (last_bytes count piece))) o)
+  part_keeps job size count tries part Stopped is sent none o g = none
+  part_keeps job size count tries part StoppedGone is sent none o g = none
+  part_keeps job size count tries part Stands is sent none o g = none
+  part_keeps job size count tries part StandsGone is sent none o g = none
+
 module _ (document piece : List ℕ) (rest : List (List ℕ)) where
   closing_keeps : (z : Service) (job size tries : ℕ) (again : Bool) (s : JobFate) → z.fate job ≡ s → Opens document s → z.closes ≡ [] →
       Keeps document piece rest (served z piece (request (Closing job size tries again))) (after_close job size tries again (closed_reply z.prints s))
@@ -376,13 +559,45 @@ module _ (document piece : List ℕ) (rest : List (List ℕ)) where
   lost_keeps z (Clearing job) h = h
   lost_keeps z (Reading job size) h = h
   lost_keeps z (Sending job size count tries) h =
-      (h.0, (h.1.0, changed_own (OpensEither h.0 (h.0 ++ piece)) z.fate job (grown piece) (grown_either h.0 piece (z.fate job) h.1.1), h.1.2))
+      let bytes = last_bytes count piece in
+      (h.0, (h.1.0, changed_own (OpensEither h.0 bytes) z.fate job (grown bytes) (grown_either h.0 bytes (z.fate job) h.1.1), h.1.2))
   lost_keeps z (Measuring job size count) h = h
   lost_keeps z (Holding job size tries) h = h
   lost_keeps z (Closing job size tries again) h = unheard_keeps document piece rest z job size tries again (z.fate job) refl h.1 h.0
   lost_keeps z (Checking job size) h = h
   lost_keeps z (Canceling job cause) h = h
   lost_keeps z (Ended end) h = h
+
+  -- ## One command of a piece
+
+  heard_part_keeps : (z : Service) (part : Part) (step : Step) → Keeps document piece rest z step →
+      Keeps document piece rest (served_part z part piece (request step)) (heard step (reply_to_part z part piece (request step)))
+  heard_part_keeps z part (Creating tries) h = h
+  heard_part_keeps z part Finding h = h
+  heard_part_keeps z part (Clearing job) h = h
+  heard_part_keeps z part (Reading job size) h = h
+  heard_part_keeps z part (Sending job size count tries) h = part_keeps document piece rest z job size count tries part (z.fate job) refl h.0 h.1.0 h.1.1 h.1.2
+  heard_part_keeps z part (Measuring job size count) h = h
+  heard_part_keeps z part (Holding job size tries) h = h
+  heard_part_keeps z part (Closing job size tries again) h = inl h
+  heard_part_keeps z part (Checking job size) h = h
+  heard_part_keeps z part (Canceling job cause) h = h
+  heard_part_keeps z part (Ended end) h = h
+
+  lost_part_keeps : (z : Service) (part : Part) (step : Step) → Keeps document piece rest z step → Keeps document piece rest (served_part z part piece (request step)) (lost step)
+  lost_part_keeps z part (Creating tries) h = h
+  lost_part_keeps z part Finding h = h
+  lost_part_keeps z part (Clearing job) h = h
+  lost_part_keeps z part (Reading job size) h = h
+  lost_part_keeps z part (Sending job size count tries) h =
+      let bytes = last_bytes count piece in
+      (h.0, (h.1.0, changed_own (OpensEither h.0 bytes) z.fate job (grown (part_of part bytes)) (grown_part h.0 bytes part (z.fate job) h.1.1), h.1.2))
+  lost_part_keeps z part (Measuring job size count) h = h
+  lost_part_keeps z part (Holding job size tries) h = h
+  lost_part_keeps z part (Closing job size tries again) h = inl h
+  lost_part_keeps z part (Checking job size) h = h
+  lost_part_keeps z part (Canceling job cause) h = h
+  lost_part_keeps z part (Ended end) h = h
 
   -- ## A request that is not executed
 
@@ -391,7 +606,7 @@ module _ (document piece : List ℕ) (rest : List (List ℕ)) where
   unserved_keeps z Finding h = h
   unserved_keeps z (Clearing job) h = h
   unserved_keeps z (Reading job size) h = h
-  unserved_keeps z (Sending job size count tries) h = (h.0, (h.1.0, opens_either h.0 (h.0 ++ piece) (z.fate job) h.1.1, h.1.2))
+  unserved_keeps z (Sending job size count tries) h = (h.0, (h.1.0, opens_either h.0 (last_bytes count piece) (z.fate job) h.1.1, h.1.2))
   unserved_keeps z (Measuring job size count) h = h
   unserved_keeps z (Holding job size tries) h = h
   unserved_keeps z (Closing job size tries again) h = inl h
@@ -468,7 +683,7 @@ module _ (document piece : List ℕ) (rest : List (List ℕ)) where
   gentle_keeps z job change gentle (Sending own size count tries) h =
       (h.0, (h.1.0, changed_keeps (Opens h.0) z.fate job change own (gentle.opens h.0) h.1.1, h.1.2))
   gentle_keeps z job change gentle (Measuring own size count) h =
-      (h.0, (h.1.0, changed_keeps (OpensEither h.0 (h.0 ++ piece)) z.fate job change own (gentle.either h.0 (h.0 ++ piece)) h.1.1, h.1.2))
+      (h.0, (h.1.0, changed_keeps (OpensEither h.0 (last_bytes count piece)) z.fate job change own (gentle.either h.0 (last_bytes count piece)) h.1.1, h.1.2))
   gentle_keeps z job change gentle (Holding own size tries) h = (h.0, changed_keeps (Opens document) z.fate job change own (gentle.opens document) h.1)
   gentle_keeps z job change gentle (Closing own size tries again) h = (h.0, changed_keeps (Opens document) z.fate job change own (gentle.opens document) h.1)
   gentle_keeps z job change gentle (Checking own size) h = may_be_closed h
@@ -522,10 +737,21 @@ unclear_lost (Ended end) = refl
 
 -- ## The document
 
+-- All bytes of a piece are its last ones.
+all_bytes : (piece : List ℕ) → last_bytes (length piece) piece ≡ piece
+all_bytes piece = let none : length piece - length piece ≡ 0 = omega arith in ap (λ n. drop n piece) none
+
 pieces_more : (document sent : List ℕ) (size : ℕ) (piece : List ℕ) (rest : List (List ℕ)) → IsLeft document sent size (piece ∷ rest) →
-    IsSending document sent size piece (length piece) rest
+    IsSending document sent size (last_bytes (length piece) piece) (length piece) rest
 pieces_more document sent size piece rest left =
-    record { all = append_assoc sent piece (joined rest) ∙ left.all; sent_is = left.sent_is; piece_is = refl; some = left.pieces.0; pieces = left.pieces.1 }
+    subst (λ (l : List ℕ). IsSending document sent size l (length piece) rest) (sym (all_bytes piece)) (record {
+      all = append_assoc sent piece (joined rest) ∙ left.all;
+      sent_is = left.sent_is;
+      piece_is = refl;
+      some = left.pieces.0;
+      short = left.pieces.1;
+      pieces = left.pieces.2;
+    })
 
 all_sent : (document sent : List ℕ) (size : ℕ) → IsLeft document sent size [] → sent ≡ document
 all_sent document sent size left = sym (append-nil sent) ∙ left.all
@@ -559,6 +785,10 @@ happens_keeps document w Served h = heard_keeps document w.piece w.rest w.servic
 happens_keeps document w ServedUnheard h = lost_keeps document w.piece w.rest w.service w.step h
 happens_keeps document w ServedUnclear h =
     subst (Keeps document w.piece w.rest (served w.service w.piece (request w.step))) (sym (unclear_lost w.step)) (lost_keeps document w.piece w.rest w.service w.step h)
+happens_keeps document w (PartServed part) h = heard_part_keeps document w.piece w.rest w.service part w.step h
+happens_keeps document w (PartServedUnheard part) h = lost_part_keeps document w.piece w.rest w.service part w.step h
+happens_keeps document w (PartServedUnclear part) h =
+    subst (Keeps document w.piece w.rest (served_part w.service part w.piece (request w.step))) (sym (unclear_lost w.step)) (lost_part_keeps document w.piece w.rest w.service part w.step h)
 happens_keeps document w Lost h = unserved_keeps document w.piece w.rest w.service w.step h
 happens_keeps document w LeftUnclear h =
     subst (Keeps document w.piece w.rest w.service) (sym (unclear_lost w.step)) (unserved_keeps document w.piece w.rest w.service w.step h)

@@ -1,5 +1,6 @@
 -- A service that executes each request completely or not at all, as one submission observes it: the effect of a request, and its reply.
-use Rattle.std.specs.Prelude.{ℕ, zero, suc, Bool, cond, ◌==◌, List, [], ◌∷◌, ◌++◌, length, None, Some}
+use Rattle.std.specs.Prelude.{ℕ, zero, suc, ◌-◌, Bool, cond, ◌==◌, List, [], ◌∷◌, ◌++◌, drop, length, take, None, Some}
+use Rattle.front_submission.specs.SubmissionSteps.{most_sent}
 use Rattle.front_submission.specs.declared.step.Request.{Request}
 use Rattle.front_submission.specs.declared.step.Request.TheVariants.{Create, Find, Read, Send, Show, Hold, Close, Cancel, Nothing}
 use Rattle.front_submission.specs.declared.reply.Own.{Own}
@@ -61,11 +62,15 @@ with_close fate closes = closes
 abbrev pub with_fate : Service → (ℕ → JobFate) → Service
 with_fate z fate = record { fate = fate; given = z.given; closes = z.closes; prints = z.prints }
 
--- `piece` is the piece of a `send`.
+-- The last bytes of a piece, of this number, are those of a `send`.
+abbrev pub last_bytes : ℕ → List ℕ → List ℕ
+last_bytes count piece = drop (length piece - count) piece
+
+-- `piece` is the piece that was read last.
 abbrev pub served : Service → List ℕ → Request → Service
 served z piece Create =
     record { fate = changed z.fate z.given (λ fate. Arrives []); given = suc z.given; closes = z.closes; prints = z.prints }
-served z piece (Send job size count) = with_fate z (changed z.fate job (grown piece))
+served z piece (Send job size count) = with_fate z (changed z.fate job (grown (last_bytes count piece)))
 served z piece (Close job) =
     record { fate = changed z.fate job closed; given = z.given; closes = with_close (z.fate job) z.closes; prints = z.prints }
 served z piece (Cancel job) = with_fate z (changed z.fate job stopped)
@@ -74,6 +79,27 @@ served z piece (Read size) = z
 served z piece (Show job) = z
 served z piece (Hold job) = z
 served z piece Nothing = z
+
+-- The two commands of a `send`. The second one has no bytes if the first one has all.
+pub data Part : Type 0 where
+  First : Part
+  Second : Part
+
+abbrev pub part_of : Part → List ℕ → List ℕ
+part_of First bytes = take most_sent bytes
+part_of Second bytes = drop most_sent bytes
+
+-- Only this command of a `send` is executed. Other requests have one command.
+abbrev pub served_part : Service → Part → List ℕ → Request → Service
+served_part z part piece (Send job size count) = with_fate z (changed z.fate job (grown (part_of part (last_bytes count piece))))
+served_part z part piece Create = z
+served_part z part piece Find = z
+served_part z part piece (Read size) = z
+served_part z part piece (Show job) = z
+served_part z part piece (Hold job) = z
+served_part z part piece (Close job) = z
+served_part z part piece (Cancel job) = z
+served_part z part piece Nothing = z
 
 -- ## The reply to a request
 
@@ -119,12 +145,24 @@ abbrev pub reply_to : Service → List ℕ → Request → Reply
 reply_to z piece Create = Created z.given
 reply_to z piece Find = Jobs (found (arriving z.fate z.given))
 reply_to z piece (Read size) = Unclear
-reply_to z piece (Send job size count) = sent_reply piece (z.fate job)
+reply_to z piece (Send job size count) = sent_reply (last_bytes count piece) (z.fate job)
 reply_to z piece (Show job) = shown_reply z.prints (z.fate job)
 reply_to z piece (Hold job) = held_reply (z.fate job)
 reply_to z piece (Close job) = closed_reply z.prints (z.fate job)
 reply_to z piece (Cancel job) = canceled_reply (z.fate job)
 reply_to z piece Nothing = Unclear
+
+-- The reply to one command of a `send`, if the other one was not executed.
+abbrev pub reply_to_part : Service → Part → List ℕ → Request → Reply
+reply_to_part z part piece (Send job size count) = sent_reply (part_of part (last_bytes count piece)) (z.fate job)
+reply_to_part z part piece Create = Unclear
+reply_to_part z part piece Find = Unclear
+reply_to_part z part piece (Read size) = Unclear
+reply_to_part z part piece (Show job) = Unclear
+reply_to_part z part piece (Hold job) = Unclear
+reply_to_part z part piece (Close job) = Unclear
+reply_to_part z part piece (Cancel job) = Unclear
+reply_to_part z part piece Nothing = Unclear
 
 -- ## Actions of others
 

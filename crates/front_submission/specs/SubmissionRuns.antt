@@ -1,10 +1,10 @@
 -- Whole runs: a document, a submission, a service, and everything that may happen to them.
-use Rattle.std.specs.Prelude.{ℕ, ◌<◌, Bool, List, [], ◌∷◌, ◌++◌, length}
+use Rattle.std.specs.Prelude.{ℕ, ◌<◌, ◌≤◌, Bool, List, [], ◌∷◌, ◌++◌, length}
 use Rattle.front_submission.specs.declared.step.Step.{Step}
 use Rattle.front_submission.specs.declared.step.Step.TheVariants.{Creating, Reading}
 use Rattle.front_submission.specs.declared.reply.Reply.TheVariants.{Later, Denied, Unclear}
 use Rattle.front_submission.specs.SubmissionSteps.{most_tries, request, heard, lost, supplied, unread, deserted}
-use Rattle.front_submission.specs.Service.{NotOwn, Service, served, reply_to, Other, after_other}
+use Rattle.front_submission.specs.Service.{NotOwn, Part, Service, served, served_part, reply_to, reply_to_part, Other, after_other}
 
 pub record SubmissionRun : Type 0 where
   pub service : Service
@@ -20,6 +20,10 @@ pub data Event : Type 0 where
   Served : Event
   ServedUnheard : Event
   ServedUnclear : Event
+  -- Only one command of a `send` is executed, and the reply is received, lost or unclear.
+  PartServed : Part → Event
+  PartServedUnheard : Part → Event
+  PartServedUnclear : Part → Event
   -- The request is not executed: its connection is lost, or the reply is unclear, puts it off, or refuses it.
   Lost : Event
   LeftUnclear : Event
@@ -43,6 +47,9 @@ undone w step = with_step w w.service step
 abbrev pub done : SubmissionRun → Step → SubmissionRun
 done w step = with_step w (served w.service w.piece (request w.step)) step
 
+abbrev pub partly_done : SubmissionRun → Part → Step → SubmissionRun
+partly_done w part step = with_step w (served_part w.service part w.piece (request w.step)) step
+
 -- The next piece is read if it is needed. After the last piece follows one of 0 bytes.
 abbrev pub read_at : SubmissionRun → Step → List (List ℕ) → SubmissionRun
 read_at w (Reading job size) [] = record { service = w.service; step = supplied (Reading job size) 0 w.holds; piece = []; rest = []; holds = w.holds }
@@ -54,6 +61,9 @@ abbrev pub happens : SubmissionRun → Event → SubmissionRun
 happens w Served = done w (heard w.step (reply_to w.service w.piece (request w.step)))
 happens w ServedUnheard = done w (lost w.step)
 happens w ServedUnclear = done w (heard w.step Unclear)
+happens w (PartServed part) = partly_done w part (heard w.step (reply_to_part w.service part w.piece (request w.step)))
+happens w (PartServedUnheard part) = partly_done w part (lost w.step)
+happens w (PartServedUnclear part) = partly_done w part (heard w.step Unclear)
 happens w Lost = undone w (lost w.step)
 happens w LeftUnclear = undone w (heard w.step Unclear)
 happens w PutOff = undone w (heard w.step Later)
@@ -67,10 +77,14 @@ abbrev pub run : List Event → SubmissionRun → SubmissionRun
 run [] w = w
 run (event ∷ events) w = run events (happens w event)
 
--- No piece is empty.
+-- The greatest length of a piece: the second of two commands has fewer bytes than the first one.
+abbrev pub most_piece : ℕ
+most_piece = 131071
+
+-- No piece is empty or too long.
 abbrev pub ArePieces : List (List ℕ) → Type 0
 ArePieces [] = Unit {0}
-ArePieces (piece ∷ rest) = (0 < length piece) × ArePieces rest
+ArePieces (piece ∷ rest) = (0 < length piece) × (length piece ≤ most_piece) × ArePieces rest
 
 -- The document.
 abbrev pub joined : List (List ℕ) → List ℕ

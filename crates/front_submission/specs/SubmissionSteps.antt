@@ -1,5 +1,5 @@
 -- The requests and transitions of a submission: a row for each step, and for each step and reply.
-use Rattle.std.specs.Prelude.{ℕ, ◌+◌, ◌-◌, Bool, true, false, cond, ◌==◌, Option, None, Some}
+use Rattle.std.specs.Prelude.{ℕ, ◌+◌, ◌-◌, min, Bool, true, false, cond, ◌==◌, Option, None, Some}
 use Rattle.front_submission.specs.declared.step.Step.{Step}
 use Rattle.front_submission.specs.declared.step.Step.TheVariants.{Creating, Finding, Clearing, Reading, Sending, Measuring, Holding, Closing, Checking, Canceling, Ended}
 use Rattle.front_submission.specs.declared.step.Request.{Request}
@@ -18,6 +18,14 @@ use Rattle.front_submission.specs.declared.reply.Reply.TheVariants.{Created, Sen
 -- How many times a request is repeated if the service puts it off.
 abbrev pub most_tries : ℕ
 most_tries = 20
+
+-- A piece is sent by one command or by two. The first command has at most this many bytes, and the second one fewer.
+abbrev pub most_sent : ℕ
+most_sent = 65536
+
+-- The bytes of the first command.
+abbrev pub first_of : ℕ → ℕ
+first_of piece = min piece most_sent
 
 -- ## Outcomes
 
@@ -95,20 +103,24 @@ after_find NotIncoming = without_job Declined
 after_find Denied = without_job Declined
 after_find reply = Finding
 
+-- Only the first command of a piece was executed, so its other bytes are sent next. Any other size is wrong.
+abbrev pub sent_first : ℕ → ℕ → ℕ → ℕ → Step
+sent_first job size piece new = cond (new == size + first_of piece) (Sending job new (piece - first_of piece) most_tries) (Canceling job OtherSize)
+
 -- After `send`. The job's size must be the number of bytes sent.
 abbrev pub after_send : ℕ → ℕ → ℕ → ℕ → Reply → Step
-after_send job size piece tries (Sent new) = cond (new == size + piece) (Reading job new) (Canceling job OtherSize)
+after_send job size piece tries (Sent new) = cond (new == size + piece) (Reading job new) (sent_first job size piece new)
 after_send job size piece tries Later = again_or tries (Sending job size piece) (Canceling job Declined)
 after_send job size piece tries NotIncoming = Canceling job Declined
 after_send job size piece tries Denied = Canceling job Declined
 after_send job size piece tries reply = Measuring job size piece
 
--- The piece was not sent, or it was sent.
+-- The piece was not sent, or it was sent, or its first command was executed.
 abbrev pub measured : ℕ → ℕ → ℕ → ℕ → Step
 measured job size piece new =
     cond (new == size) (Sending job size piece most_tries)
     (cond (new == size + piece) (Reading job new)
-    (Canceling job OtherSize))
+    (sent_first job size piece new))
 
 -- After `job`, if the reply to a `send` was lost.
 abbrev pub after_measure : ℕ → ℕ → ℕ → Reply → Step

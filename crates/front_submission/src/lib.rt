@@ -1,14 +1,17 @@
 //! The decisions of a submission, which turns one document into exactly one job over connections that may be lost at any moment.
 //!
-//! A job is submitted in steps: `create`, a `send` for each piece of the document, and `close`. Nothing is printed before `close`. If a
+//! A job is submitted in steps: `create`, one `send` or two for each piece of the document, and `close`. Nothing is printed before `close`. If a
 //! reply is lost, the submission first determines the state of the job on a new connection, and only then repeats a request. [`Step`] is a
 //! state machine without a socket or a document. Its caller does what [`Step::request`] returns, and passes the result to the machine.
 //!
 //! | Lost reply to | Query | Next step |
 //! |---|---|---|
 //! | `create` | which incoming jobs have the token | continue with the job that has it, or repeat `create` |
-//! | `send` | `job N` | continue at SIZE, which is the size before or after the send |
+//! | `send` | `job N` | continue at SIZE, which is the size before the piece, after it, or after its first command |
 //! | `close` | `job N` | repeat `close` if the job is still incoming; otherwise the reply states how the job ended |
+//!
+//! The two commands of a piece are sent together. The first one has up to 65,536 bytes and the second one fewer, so the size of the job tells
+//! which of them were executed. If it was only the second one, the job is canceled.
 //!
 //! Any other reply, or a job that someone else has ended, ends the submission. Its job is canceled first if it may still be incoming.
 //!
@@ -16,9 +19,9 @@
 //!
 //! - [`Step`]: its transitions are exactly the rows of the tables in `SubmissionSteps` (`request`, `heard`, `lost`, `supplied`, `unread`,
 //!   `deserted`), and [`End::status`] is the program's exit status (`status`).
-//! - [`acts_once`] holds for every sequence of events (`SubmissionRuns`): each request is executed or not, its reply is received, lost or
-//!   unclear, it is put off or refused, a piece cannot be read, no service is reachable, and others cancel, purge and create jobs
-//!   meanwhile. No two jobs of the submission are ever closed (`at_most_once`). With status 0 exactly one was closed, with the document's
+//! - [`acts_once`] holds for every sequence of events (`SubmissionRuns`): each request is executed or not, or only one command of a piece is
+//!   executed, its reply is received, lost or unclear, it is put off or refused, a piece cannot be read, no service is reachable, and others cancel, purge and create jobs
+//!   meanwhile. No piece has more than 131,071 bytes. No two jobs of the submission are ever closed (`at_most_once`). With status 0 exactly one was closed, with the document's
 //!   bytes, and filters convert it for the printer (`accepted`). With status 4 the same holds for a job that no filters convert
 //!   (`unprintable`). With either status no job of the submission is left incoming (`alone`). With status 1 no job was ever closed
 //!   (`refused`).

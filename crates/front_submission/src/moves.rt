@@ -1,12 +1,15 @@
 //! The requests and transitions of a submission.
 ghost use Rattle.std.specs.Prelude.{◌≡◌, ◌+◌, Some, None, false, IsTrue, ◌↔◌};
-ghost use Rattle.front_submission.specs.SubmissionSteps.{most_tries, status, refused, unknown, accepted, request, heard, lost, supplied, unread, deserted, own_found, after_create, after_find, after_send, measured, after_measure, after_hold, after_close, shown_closed, after_check, after_cancel};
+ghost use Rattle.front_submission.specs.SubmissionSteps.{most_tries, status, first_of, sent_first, refused, unknown, accepted, request, heard, lost, supplied, unread, deserted, own_found, after_create, after_find, after_send, measured, after_measure, after_hold, after_close, shown_closed, after_check, after_cancel};
 
 use crate::reply::{Found, Own, Reply, Shown};
 use crate::step::{Cause, End, Request, Step};
 
 /// How many times a request is repeated if the service puts it off.
 const MOST_TRIES: u8 = 20;
+
+/// The greatest length of the first command of a piece, in bytes.
+const MOST_SENT: u32 = 65_536;
 
 impl End {
     /// Returns the exit status of the program: 0 accepted, 1 refused, 3 unknown, 4 accepted and unprintable.
@@ -250,6 +253,29 @@ fn is_behind(new: u64, size: u64, piece: u32) -> bool
     size <= new && new - size == u64::from(piece)
 }
 
+// Returns how many bytes of a piece its first command has. The other bytes are sent by a second command.
+fn first_of(piece: u32) -> u32
+    ensures { result ≡ first_of piece }
+{
+    piece.min(MOST_SENT)
+}
+
+// Returns the step if only the first command of a piece was executed, or the size is wrong.
+fn sent_first(job: u32, size: u64, piece: u32, new: u64) -> Step
+    ensures { result ≡ sent_first job size piece new }
+{
+    let first = first_of(piece);
+    if !is_behind(new, size, first) {
+        return odd(job);
+    }
+    Step::Sending {
+        job,
+        size: new,
+        piece: piece - first,
+        tries: MOST_TRIES,
+    }
+}
+
 // Returns the step after a reply to `send`.
 fn sent(job: u32, size: u64, piece: u32, tries: u8, reply: Reply) -> Step
     ensures { result ≡ after_send job size piece tries reply }
@@ -259,7 +285,7 @@ fn sent(job: u32, size: u64, piece: u32, tries: u8, reply: Reply) -> Step
             job,
             size: new,
         },
-        Reply::Sent { .. } => odd(job),
+        Reply::Sent { size: new } => sent_first(job, size, piece, new),
         Reply::Later if tries != 0 => Step::Sending {
             job,
             size,
@@ -303,7 +329,7 @@ fn measured_at(job: u32, size: u64, piece: u32, new: u64) -> Step
     if is_behind(new, size, piece) {
         return Step::Reading { job, size: new };
     }
-    odd(job)
+    sent_first(job, size, piece, new)
 }
 
 // Returns the step after a reply to `hold`.

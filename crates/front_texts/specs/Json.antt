@@ -67,7 +67,23 @@ moments_data c =
     (member (codes "not_before") (moment_data c.not_before)
     no_members)))
 
--- The members, each inserted at its key.
+-- The members of these objects, each inserted at its key.
+abbrev pub with_job : JobLine → Members → Members
+with_job j ms =
+    put (codes "title") (string j.title) (put (codes "pages") (number (unsigned j.pages)) (put (codes "size") (number (unsigned j.size)) (put (codes "user") (string j.user)
+    (put (codes "reason") (text_data j.reason) (put (codes "state") (string (job_state_word j.state)) (put (codes "queue") (string j.queue)
+    (put (codes "number") (number (unsigned j.number)) ms)))))))
+
+abbrev pub with_asked : JobAsked → Members → Members
+with_asked a ms =
+    put (codes "priority") (number (unsigned a.priority)) (put (codes "copies") (number (unsigned a.copies)) (put (codes "options") (string a.options)
+    (put (codes "title") (string a.title) (put (codes "user") (string a.user) (put (codes "queue") (string a.queue)
+    (put (codes "number") (number (unsigned a.number)) ms))))))
+
+abbrev pub with_moments : JobStatus → Members → Members
+with_moments c ms =
+    put (codes "not_before") (moment_data c.not_before) (put (codes "hold_until") (moment_data c.hold_until) (put (codes "by") (moment_data c.by) ms))
+
 abbrev pub with_counts : JobStatus → Members → Members
 with_counts c ms =
     put (codes "attempts") (number (unsigned c.attempts)) (put (codes "pages") (number (unsigned c.pages)) (put (codes "size") (number (unsigned c.size)) ms))
@@ -99,6 +115,16 @@ times_data t =
     (member (codes "ended") (time_data t.ended)
     (member (codes "started") (time_data t.started)
     no_members))))
+
+abbrev pub with_times : JobTimes → Members → Members
+with_times t ms =
+    put (codes "ended") (time_data t.ended) (put (codes "started") (time_data t.started) (put (codes "closed") (time_data t.closed)
+    (put (codes "created") (time_data t.created) ms)))
+
+abbrev pub with_shown : JobShown → Option (List ℕ) → Members → Members
+with_shown j why ms =
+    put (codes "why") (text_data why) (put (codes "times") (times_data j.times) (put (codes "course") (job_status_data j.job_status)
+    (put (codes "asked") (asked_data j.asked) ms)))
 
 -- A job, and why it does not print.
 abbrev pub shown_data : JobShown → Option (List ℕ) → Data

@@ -1,11 +1,12 @@
 //! Jobs and queues as JSON.
-ghost use Rattle.std.specs.Prelude.{◌≡◌, IfOk, OnOk, false, option_copied, string_bytes};
+ghost use Rattle.std.specs.Prelude.{◌≡◌, IfOk, OnOk, codes, false, option_copied, string_bytes};
 ghost use Rattle.std.specs.Option.{option_map};
 ghost use Rattle.serde_json.specs.View.{view, members_view};
+ghost use Rattle.serde_json.specs.Data.{put as with_member, string};
 ghost use Rattle.clean_texts.specs.CleanTexts.{is_steered};
 ghost use Rattle.clean_texts.specs.JsonEscapes.{clean_json};
 ghost use Rattle.serde_json.specs.Written.{has_float, compact_text};
-ghost use Rattle.front_texts.specs.Json.{text_data, text_item, texts_data, job_data, jobs_data, queue_data, queues_data, with_queue_state, with_queue_rules, with_queue_notes, with_counts, with_state_and_reason, with_waits, asked_data, job_status_data, shown_data, moment_data, moments_data, shown_time_data, stage_data, time_data, times_data};
+ghost use Rattle.front_texts.specs.Json.{text_data, text_item, texts_data, job_data, jobs_data, queue_data, queues_data, with_queue_state, with_queue_rules, with_queue_notes, with_counts, with_state_and_reason, with_waits, with_job, with_asked, with_times, with_moments, with_shown, asked_data, job_status_data, shown_data, moment_data, moments_data, shown_time_data, stage_data, time_data, times_data};
 
 use crate::job_line::JobLine;
 use crate::job_shown::{JobAsked, JobShown, JobStatus, StageShown};
@@ -18,6 +19,41 @@ use std::alloc::{AllocError, Global};
 
 // The members of an object.
 type JsonMembers = Map<String, Value>;
+
+// Adds a member that is a text.
+fn put_text(
+    members: &mut JsonMembers,
+    alloc: Global,
+    key: &str,
+    text: &str,
+) -> Result<(), AllocError>
+    ensures { OnOk result (members_view members.new.entries ≡ with_member key.now (string text.now) (members_view members.old.entries)) }
+{
+    put(members, alloc, key, text_json(alloc, text)?)
+}
+
+// Adds a member that is a time, the text `unknown` or null.
+fn put_time(
+    members: &mut JsonMembers,
+    alloc: Global,
+    key: &str,
+    time: Option<TimeShown>,
+) -> Result<(), AllocError>
+    ensures { OnOk result (members_view members.new.entries ≡ with_member key.now (time_data time) (members_view members.old.entries)) }
+{
+    put(members, alloc, key, time_json(alloc, time)?)
+}
+
+// Adds a member that is a reason or null.
+fn put_reason(
+    members: &mut JsonMembers,
+    alloc: Global,
+    reason: Option<&Reason>,
+) -> Result<(), AllocError>
+    ensures { OnOk result (members_view members.new.entries ≡ with_member (codes "reason") (text_data (option_copied reason.entry)) (members_view members.old.entries)) }
+{
+    put(members, alloc, "reason", reason_json(alloc, reason)?)
+}
 
 /// Returns the text of a value, with an escape for each character that steers a terminal.
 pub fn json_text(alloc: Global, value: &Value) -> Result<String, AllocError>
@@ -32,17 +68,22 @@ pub fn json_text(alloc: Global, value: &Value) -> Result<String, AllocError>
 pub fn job_json(alloc: Global, job: &JobLine) -> Result<Value, AllocError>
     ensures value { IfOk result (λ object. view object ≡ job_data job.now) }
 {
-    let reason = reason_json(alloc, job.reason.as_ref())?;
-    json!(in alloc; {
-        "number": job.number.get(),
-        "queue": job.queue.as_str(),
-        "state": job.state.word(),
-        "reason": &reason,
-        "user": job.user.as_str(),
-        "size": job.size,
-        "pages": job.pages,
-        "title": job.title.as_str()
-    })
+    let mut members = Map::new(alloc);
+    put_job(&mut members, alloc, job)?;
+    Ok(Value::Object(members))
+}
+
+fn put_job(members: &mut JsonMembers, alloc: Global, job: &JobLine) -> Result<(), AllocError>
+    ensures { OnOk result (members_view members.new.entries ≡ with_job job.now (members_view members.old.entries)) }
+{
+    put(members, alloc, "number", Value::from(job.number.get()))?;
+    put_text(members, alloc, "queue", job.queue.as_str())?;
+    put_text(members, alloc, "state", job.state.word())?;
+    put_reason(members, alloc, job.reason.as_ref())?;
+    put_text(members, alloc, "user", job.user.as_str())?;
+    put(members, alloc, "size", Value::from(job.size))?;
+    put(members, alloc, "pages", Value::from(job.pages))?;
+    put_text(members, alloc, "title", job.title.as_str())
 }
 
 // Returns a reason or null.
@@ -84,18 +125,8 @@ fn put_queue_state(
 ) -> Result<(), AllocError>
     ensures { OnOk result (members_view members.new.entries ≡ with_queue_state queue.now (members_view members.old.entries)) }
 {
-    put(
-        members,
-        alloc,
-        "name",
-        text_json(alloc, queue.name.as_str())?,
-    )?;
-    put(
-        members,
-        alloc,
-        "state",
-        text_json(alloc, queue.state.word())?,
-    )?;
+    put_text(members, alloc, "name", queue.name.as_str())?;
+    put_text(members, alloc, "state", queue.state.word())?;
     put(members, alloc, "accepting", Value::Bool(queue.accepting))
 }
 
@@ -106,12 +137,7 @@ fn put_queue_rules(
 ) -> Result<(), AllocError>
     ensures { OnOk result (members_view members.new.entries ≡ with_queue_rules queue.now (members_view members.old.entries)) }
 {
-    put(
-        members,
-        alloc,
-        "policy",
-        text_json(alloc, queue.policy.word())?,
-    )?;
+    put_text(members, alloc, "policy", queue.policy.word())?;
     put(
         members,
         alloc,
@@ -128,24 +154,14 @@ fn put_queue_notes(
 ) -> Result<(), AllocError>
     ensures { OnOk result (members_view members.new.entries ≡ with_queue_notes queue.now (members_view members.old.entries)) }
 {
-    put(
-        members,
-        alloc,
-        "type",
-        text_json(alloc, queue.target.as_str())?,
-    )?;
+    put_text(members, alloc, "type", queue.target.as_str())?;
     put(
         members,
         alloc,
         "reasons",
         reasons_json(alloc, queue.reasons.as_slice())?,
     )?;
-    put(
-        members,
-        alloc,
-        "message",
-        text_json(alloc, queue.message.as_str())?,
-    )
+    put_text(members, alloc, "message", queue.message.as_str())
 }
 
 fn reasons_json(alloc: Global, reasons: &[Reason]) -> Result<Value, AllocError>
@@ -179,11 +195,28 @@ pub fn queues_json(alloc: Global, queues: &[QueueLine]) -> Result<Value, AllocEr
 pub fn job_shown_json(alloc: Global, job: &JobShown, why: Option<&str>) -> Result<Value, AllocError>
     ensures value { IfOk result (λ object. view object ≡ shown_data job.now (option_map (λ text. text.now) why.entry)) }
 {
-    let asked = asked_json(alloc, &job.asked)?;
-    let job_status = job_status_json(alloc, &job.job_status)?;
-    let times = times_json(alloc, job.times)?;
-    let why = why_json(alloc, why)?;
-    json!(in alloc; {"asked": &asked, "course": &job_status, "times": &times, "why": &why})
+    let mut members = Map::new(alloc);
+    put_shown(&mut members, alloc, job, why)?;
+    Ok(Value::Object(members))
+}
+
+fn put_shown(
+    members: &mut JsonMembers,
+    alloc: Global,
+    job: &JobShown,
+    why: Option<&str>,
+) -> Result<(), AllocError>
+    ensures { OnOk result (members_view members.new.entries ≡ with_shown job.now (option_map (λ text. text.now) why.entry) (members_view members.old.entries)) }
+{
+    put(members, alloc, "asked", asked_json(alloc, &job.asked)?)?;
+    put(
+        members,
+        alloc,
+        "course",
+        job_status_json(alloc, &job.job_status)?,
+    )?;
+    put(members, alloc, "times", times_json(alloc, job.times)?)?;
+    put(members, alloc, "why", why_json(alloc, why)?)
 }
 
 // Returns a sentence or null.
@@ -199,11 +232,18 @@ fn why_json(alloc: Global, why: Option<&str>) -> Result<Value, AllocError>
 fn times_json(alloc: Global, times: JobTimes) -> Result<Value, AllocError>
     ensures { IfOk result (λ object. view object ≡ times_data times) }
 {
-    let created = time_json(alloc, times.created)?;
-    let closed = time_json(alloc, times.closed)?;
-    let started = time_json(alloc, times.started)?;
-    let ended = time_json(alloc, times.ended)?;
-    json!(in alloc; {"created": &created, "closed": &closed, "started": &started, "ended": &ended})
+    let mut members = Map::new(alloc);
+    put_times(&mut members, alloc, times)?;
+    Ok(Value::Object(members))
+}
+
+fn put_times(members: &mut JsonMembers, alloc: Global, times: JobTimes) -> Result<(), AllocError>
+    ensures { OnOk result (members_view members.new.entries ≡ with_times times (members_view members.old.entries)) }
+{
+    put_time(members, alloc, "created", times.created)?;
+    put_time(members, alloc, "closed", times.closed)?;
+    put_time(members, alloc, "started", times.started)?;
+    put_time(members, alloc, "ended", times.ended)
 }
 
 // Returns a moment, the text `unknown` or null.
@@ -228,15 +268,26 @@ fn shown_time_json(alloc: Global, time: TimeShown) -> Result<Value, AllocError>
 fn asked_json(alloc: Global, asked: &JobAsked) -> Result<Value, AllocError>
     ensures { IfOk result (λ object. view object ≡ asked_data asked.now) }
 {
-    json!(in alloc; {
-        "number": asked.number.get(),
-        "queue": asked.queue.as_str(),
-        "user": asked.user.as_str(),
-        "title": asked.title.as_str(),
-        "options": asked.options.as_str(),
-        "copies": asked.copies.get(),
-        "priority": asked.priority.get()
-    })
+    let mut members = Map::new(alloc);
+    put_asked(&mut members, alloc, asked)?;
+    Ok(Value::Object(members))
+}
+
+fn put_asked(members: &mut JsonMembers, alloc: Global, asked: &JobAsked) -> Result<(), AllocError>
+    ensures { OnOk result (members_view members.new.entries ≡ with_asked asked.now (members_view members.old.entries)) }
+{
+    put(members, alloc, "number", Value::from(asked.number.get()))?;
+    put_text(members, alloc, "queue", asked.queue.as_str())?;
+    put_text(members, alloc, "user", asked.user.as_str())?;
+    put_text(members, alloc, "title", asked.title.as_str())?;
+    put_text(members, alloc, "options", asked.options.as_str())?;
+    put(members, alloc, "copies", Value::from(asked.copies.get()))?;
+    put(
+        members,
+        alloc,
+        "priority",
+        Value::from(asked.priority.get()),
+    )
 }
 
 fn job_status_json(alloc: Global, job_status: &JobStatus) -> Result<Value, AllocError>
@@ -274,18 +325,8 @@ fn put_state_and_reason(
         "type",
         media_json(alloc, job_status.media.as_ref())?,
     )?;
-    put(
-        members,
-        alloc,
-        "state",
-        text_json(alloc, job_status.state.word())?,
-    )?;
-    put(
-        members,
-        alloc,
-        "reason",
-        reason_json(alloc, job_status.reason.as_ref())?,
-    )
+    put_text(members, alloc, "state", job_status.state.word())?;
+    put_reason(members, alloc, job_status.reason.as_ref())
 }
 
 fn put_waits(
@@ -307,14 +348,31 @@ fn put_waits(
 fn moments_json(alloc: Global, job_status: &JobStatus) -> Result<Value, AllocError>
     ensures { IfOk result (λ object. view object ≡ moments_data job_status.now) }
 {
-    let by = moment_json(job_status.by);
-    let hold_until = moment_json(job_status.hold_until);
-    let not_before = moment_json(job_status.not_before);
-    json!(in alloc; {
-        "by": &by,
-        "hold_until": &hold_until,
-        "not_before": &not_before
-    })
+    let mut members = Map::new(alloc);
+    put_moments(&mut members, alloc, job_status)?;
+    Ok(Value::Object(members))
+}
+
+fn put_moments(
+    members: &mut JsonMembers,
+    alloc: Global,
+    job_status: &JobStatus,
+) -> Result<(), AllocError>
+    ensures { OnOk result (members_view members.new.entries ≡ with_moments job_status.now (members_view members.old.entries)) }
+{
+    put(members, alloc, "by", moment_json(job_status.by))?;
+    put(
+        members,
+        alloc,
+        "hold_until",
+        moment_json(job_status.hold_until),
+    )?;
+    put(
+        members,
+        alloc,
+        "not_before",
+        moment_json(job_status.not_before),
+    )
 }
 
 // Returns a media type or null.

@@ -25,6 +25,7 @@ is_simple form_is.QueueDisable = refl
 is_simple form_is.Devices = refl
 is_simple form_is.Check = refl
 is_simple form_is.Page = refl
+is_simple form_is.Say = refl
 is_simple form_is.Lp = refl
 is_simple form_is.Lpr = refl
 is_simple form_is.Lpstat = refl

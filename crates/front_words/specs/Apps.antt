@@ -8,7 +8,7 @@ use Rattle.front_words.specs.declared.commands.Base.TheVariants.{Task, Program, 
 use Rattle.front_words.specs.declared.forms.Form.{Form}
 use Rattle.front_words.specs.declared.forms.Form.TheVariants.{Submit, Status, Queues, Watch, Cancel, Hold, Release, Purge, End}
 use Rattle.front_words.specs.declared.forms.Form.TheVariants.{QueueShow, QueueAdd, QueueSet, QueueAccept, QueueReject, QueueEnable, QueueDisable}
-use Rattle.front_words.specs.declared.forms.Form.TheVariants.{Devices, Check, Page, Lp, Lpr, Lpstat, CancelJobs, Lpq, Lprm, Other}
+use Rattle.front_words.specs.declared.forms.Form.TheVariants.{Devices, Check, Page, Say, Lp, Lpr, Lpstat, CancelJobs, Lpq, Lprm, Other}
 use Rattle.front_words.specs.declared.forms.Form.TheVariants.{Lpoptions, Lpmove, CupsEnable, CupsDisable, CupsAccept, CupsReject}
 
 -- ---- the tasks of `spool`
@@ -23,11 +23,11 @@ with_document app =
     with_rule (with_rule (with_rule (with_rule (with_rule (with_titles app) (text_rule (codes "copies"))) (text_rule (codes "priority")))
     (text_rule (codes "pages"))) (text_rule (codes "type"))) (several (letter_rule 111 (codes "option")))
 
--- `[--hold] [--at MOMENT] [--by MOMENT] [--wait] [--quiet]`
+-- `[--hold] [--at MOMENT] [--by MOMENT] [--wait] [--quiet] [--json]`
 abbrev pub with_handling : App → App
 with_handling app =
-    with_rule (with_rule (with_rule (with_rule (with_rule app
-    (flag_rule (codes "hold"))) (text_rule (codes "at"))) (text_rule (codes "by"))) (flag_rule (codes "wait"))) (flag_rule (codes "quiet"))
+    with_rule (with_rule (with_rule (with_rule (with_rule (with_rule app
+    (flag_rule (codes "hold"))) (text_rule (codes "at"))) (text_rule (codes "by"))) (flag_rule (codes "wait"))) (flag_rule (codes "quiet"))) (flag_rule (codes "json"))
 
 -- `spool submit QUEUE FILE..`
 abbrev pub submit_words : App
@@ -36,14 +36,21 @@ submit_words = with_rule (with_rule (task_app (codes "spool submit")) (needed (w
 abbrev pub submit_app : App
 submit_app = with_handling (with_document submit_words)
 
--- `spool status [JOB] [-q QUEUE] [--json]`
-abbrev pub status_app : App
-status_app =
+-- `spool status [JOB] [-q QUEUE] [--json] [--watch]`
+abbrev pub status_words : App
+status_words =
     with_rule (with_rule (with_rule (task_app (codes "spool status")) (word_rule (codes "job"))) (letter_rule 113 (codes "queue"))) (flag_rule (codes "json"))
+
+abbrev pub status_app : App
+status_app = with_rule status_words (flag_rule (codes "watch"))
+
+-- `spool TASK [--json]`
+abbrev pub json_app : Text → App
+json_app name = with_rule (task_app name) (flag_rule (codes "json"))
 
 -- `spool queues [--json]`
 abbrev pub queues_app : App
-queues_app = with_rule (task_app (codes "spool queues")) (flag_rule (codes "json"))
+queues_app = json_app (codes "spool queues")
 
 -- `NAME JOB..`
 abbrev pub jobs_app : Text → App
@@ -61,6 +68,10 @@ hold_app = with_rule (jobs_app (codes "spool hold")) (text_rule (codes "until"))
 abbrev pub queue_app : Text → App
 queue_app name = with_rule (task_app name) (needed (word_rule (codes "name")))
 
+-- `spool queue show NAME [--json]`
+abbrev pub show_app : App
+show_app = with_rule (queue_app (codes "spool queue show")) (flag_rule (codes "json"))
+
 -- `spool queue add NAME URI [--media TYPE] [--policy POLICY] [--interval SECONDS] [--limit N]`
 abbrev pub add_app : App
 add_app =
@@ -74,6 +85,10 @@ set_app = with_rule (with_rule (queue_app (codes "spool queue set")) (text_rule 
 -- `spool page FILE [--follow]`
 abbrev pub page_app : App
 page_app = with_rule (with_rule (task_app (codes "spool page")) (needed (word_rule (codes "file")))) (flag_rule (codes "follow"))
+
+-- `spool say [COMMAND].. [--until-end]`
+abbrev pub say_app : App
+say_app = with_rule (with_rule (task_app (codes "spool say")) (several (word_rule (codes "command")))) (flag_rule (codes "until-end"))
 
 -- `spool [--version]`
 abbrev pub spool_app : Text → App
@@ -234,6 +249,7 @@ name_of QueueDisable = codes "spool queue disable"
 name_of Devices = codes "spool devices"
 name_of Check = codes "spool check"
 name_of Page = codes "spool page"
+name_of Say = codes "spool say"
 name_of Lp = codes "lp"
 name_of Lpr = codes "lpr"
 name_of Lpstat = codes "lpstat"
@@ -258,13 +274,13 @@ abbrev pub app_for : Form → App
 app_for Submit = submit_app
 app_for Status = status_app
 app_for Queues = queues_app
-app_for Watch = task_app (codes "spool watch")
+app_for Watch = json_app (codes "spool watch")
 app_for Cancel = stop_app
 app_for Hold = hold_app
 app_for Release = jobs_app (codes "spool release")
 app_for Purge = jobs_app (codes "spool purge")
 app_for End = jobs_app (codes "spool end")
-app_for QueueShow = queue_app (codes "spool queue show")
+app_for QueueShow = show_app
 app_for QueueAdd = add_app
 app_for QueueSet = set_app
 app_for QueueAccept = queue_app (codes "spool queue accept")
@@ -272,8 +288,9 @@ app_for QueueReject = queue_app (codes "spool queue reject")
 app_for QueueEnable = queue_app (codes "spool queue enable")
 app_for QueueDisable = queue_app (codes "spool queue disable")
 app_for Devices = task_app (codes "spool devices")
-app_for Check = task_app (codes "spool check")
+app_for Check = json_app (codes "spool check")
 app_for Page = page_app
+app_for Say = say_app
 app_for Lp = lp_app
 app_for Lpr = lpr_app
 app_for Lpstat = lpstat_app

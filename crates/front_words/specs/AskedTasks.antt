@@ -24,6 +24,7 @@ use Rattle.front_words.specs.declared.asked.NewQueue.{NewQueue}
 use Rattle.front_words.specs.declared.asked.QueueAct.{QueueAct}
 use Rattle.front_words.specs.declared.asked.QueueAct.TheVariants as queue_is
 use Rattle.front_words.specs.declared.asked.Removal.{Removal}
+use Rattle.front_words.specs.declared.asked.Saying.{Saying}
 use Rattle.front_words.specs.declared.asked.Status.{Status}
 use Rattle.front_words.specs.declared.asked.Submission.{Submission}
 use Rattle.front_words.specs.declared.asked.Task.{Task}
@@ -93,6 +94,7 @@ pub record IsSubmission (form : Form) (found : List Row) (s : Submission) : Type
   pub by : moment_or_none (first_of (codes "by") found) ≡ Some s.by
   pub wait : s.wait ≡ is_told (first_of (codes "wait") found)
   pub quiet : s.quiet ≡ is_quiet form found
+  pub json : s.json ≡ is_told (first_of (codes "json") found)
   pub remove : s.remove ≡ is_told (first_of (codes "remove") found)
   pub raw : s.raw ≡ is_told (first_of (codes "literal") found)
   pub filled : s.filled ≡ is_filled form
@@ -159,15 +161,17 @@ pub record IsStatus (found : List Row) (s : Status) : Type 0 where
   pub job : job_or_none (first_of (codes "job") found) ≡ Some s.job
   pub queue : option_map (λ text. text.now) s.queue ≡ first_of (codes "queue") found
   pub json : s.json ≡ is_told (first_of (codes "json") found)
+  pub watch : s.watch ≡ is_told (first_of (codes "watch") found)
 
 abbrev pub IsStatusTask : List Row → Task → Type 0
 IsStatusTask found (task_is.Status s) = IsStatus found s
 IsStatusTask found other = ⊥
 
--- JOB is a job, and is not combined with -q.
+-- JOB is a job, and is not combined with -q or --watch.
 abbrev pub FitStatus : List Row → Type 0
 FitStatus found =
-    IsSome (job_or_none (first_of (codes "job") found)) × ((is_some (first_of (codes "job") found) && is_some (first_of (codes "queue") found)) ≡ false)
+    IsSome (job_or_none (first_of (codes "job") found))
+    × ((is_some (first_of (codes "job") found) && (is_some (first_of (codes "queue") found) || is_told (first_of (codes "watch") found))) ≡ false)
 
 -- The action applies to the jobs, in their order.
 abbrev pub IsJobs : Option JobAct → List Row → Task → Type 0
@@ -356,12 +360,20 @@ IsSet found (queue_is.Set info location) =
 IsSet found act = ⊥
 
 abbrev pub IsShow : List Row → Task → Type 0
-IsShow found (task_is.ShowQueue name) = first_of (codes "name") found ≡ Some name.now
+IsShow found (task_is.ShowQueue name json) = (first_of (codes "name") found ≡ Some name.now) × (json ≡ is_told (first_of (codes "json") found))
 IsShow found other = ⊥
 
 abbrev pub IsPage : List Row → Task → Type 0
 IsPage found (task_is.Page file follow) = (first_of (codes "file") found ≡ Some file.now) × (follow ≡ is_told (first_of (codes "follow") found))
 IsPage found other = ⊥
+
+pub record IsSaying (found : List Row) (s : Saying) : Type 0 where
+  pub commands : map (λ text. text.now) s.commands.items ≡ all_in (codes "command") found
+  pub until_end : s.until_end ≡ is_told (first_of (codes "until-end") found)
+
+abbrev pub IsSay : List Row → Task → Type 0
+IsSay found (task_is.Say s) = IsSaying found s
+IsSay found other = ⊥
 
 -- ---- all tasks
 
@@ -370,7 +382,7 @@ abbrev pub IsTask : Form → List Row → Task → Type 0
 IsTask form_is.Submit found asked = IsSubmit form_is.Submit found asked
 IsTask form_is.Status found asked = IsStatusTask found asked
 IsTask form_is.Queues found asked = asked ≡ task_is.Queues (is_told (first_of (codes "json") found))
-IsTask form_is.Watch found asked = asked ≡ task_is.Watch
+IsTask form_is.Watch found asked = asked ≡ task_is.Watch (is_told (first_of (codes "json") found))
 IsTask form_is.Cancel found asked = IsStop found asked
 IsTask form_is.Hold found asked = IsJobs (until_of found) found asked
 IsTask form_is.Release found asked = IsJobs (Some act_is.Release) found asked
@@ -384,8 +396,9 @@ IsTask form_is.QueueReject found asked = IsQueue (λ act. act ≡ queue_is.Rejec
 IsTask form_is.QueueEnable found asked = IsQueue (λ act. act ≡ queue_is.Enable) found asked
 IsTask form_is.QueueDisable found asked = IsQueue (λ act. act ≡ queue_is.Disable) found asked
 IsTask form_is.Devices found asked = asked ≡ task_is.Devices
-IsTask form_is.Check found asked = asked ≡ task_is.Check
+IsTask form_is.Check found asked = asked ≡ task_is.Check (is_told (first_of (codes "json") found))
 IsTask form_is.Page found asked = IsPage found asked
+IsTask form_is.Say found asked = IsSay found asked
 IsTask form_is.Lp found asked = IsLp found asked
 IsTask form_is.Lpr found asked = IsSubmit form_is.Lpr found asked
 IsTask form_is.Lpstat found asked = IsLpstatTask found asked
@@ -421,6 +434,7 @@ FitTask form_is.QueueDisable found = FitQueue found
 FitTask form_is.Devices found = ⊤
 FitTask form_is.Check found = ⊤
 FitTask form_is.Page found = IsSome (first_of (codes "file") found)
+FitTask form_is.Say found = ⊤
 FitTask form_is.Lp found = FitLp found
 FitTask form_is.Lpr found = FitSubmission found
 FitTask form_is.Lpstat found = FitLpstat found

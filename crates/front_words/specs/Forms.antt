@@ -6,7 +6,7 @@ use Rattle.front_words.specs.ArgumentValues.{last_part}
 use Rattle.front_words.specs.declared.forms.Form.{Form}
 use Rattle.front_words.specs.declared.forms.Form.TheVariants.{Submit, Status, Queues, Watch, Cancel, Hold, Release, Purge, End}
 use Rattle.front_words.specs.declared.forms.Form.TheVariants.{QueueShow, QueueAdd, QueueSet, QueueAccept, QueueReject, QueueEnable, QueueDisable}
-use Rattle.front_words.specs.declared.forms.Form.TheVariants.{Devices, Check, Page, Lp, Lpr, Lpstat, CancelJobs, Lpq, Lprm, Other}
+use Rattle.front_words.specs.declared.forms.Form.TheVariants.{Devices, Check, Page, Say, Lp, Lpr, Lpstat, CancelJobs, Lpq, Lprm, Other}
 use Rattle.front_words.specs.declared.forms.Form.TheVariants.{Lpoptions, Lpmove, CupsEnable, CupsDisable, CupsAccept, CupsReject}
 
 -- A program's name: the part after the last slash of its path.
@@ -50,7 +50,8 @@ form_of_task task =
     else (if bytes_eq task (codes "devices") then Devices
     else (if bytes_eq task (codes "check") then Check
     else (if bytes_eq task (codes "page") then Page
-    else Other)))))))))))
+    else (if bytes_eq task (codes "say") then Say
+    else Other))))))))))))
 
 -- The tasks of two words: `queue` and an action.
 abbrev pub form_of_act : Text → Form

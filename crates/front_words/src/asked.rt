@@ -20,7 +20,9 @@ pub enum Task<'a> {
         json: bool,
     },
     /// Print a line for each change.
-    Watch,
+    Watch {
+        json: bool,
+    },
     /// Apply the same action to each of these jobs.
     Jobs {
         act: JobAct,
@@ -48,16 +50,21 @@ pub enum Task<'a> {
     /// Show one queue with all its fields.
     ShowQueue {
         name: &'a str,
+        json: bool,
     },
     /// List the devices that the backends find.
     Devices,
     /// Check whether the services can print.
-    Check,
+    Check {
+        json: bool,
+    },
     /// Write the queues and jobs as a page to a file.
     Page {
         file: &'a str,
         follow: bool,
     },
+    /// Send commands and print the replies.
+    Say(Saying<'a>),
     /// Print what lpstat prints.
     Lpstat(Lpstat<'a>),
     /// Print what lpq prints.
@@ -93,6 +100,8 @@ pub struct Submission<'a> {
     pub wait: bool,
     /// Whether nothing is printed for an accepted job.
     pub quiet: bool,
+    /// Whether the output is JSON.
+    pub json: bool,
     /// Whether a file is removed once its job is accepted.
     pub remove: bool,
     /// Whether the option `raw` follows the options.
@@ -150,6 +159,17 @@ pub struct Status<'a> {
     pub queue: Option<&'a str>,
     /// Whether the output is JSON.
     pub json: bool,
+    /// Whether the jobs are shown again whenever one changes. `job` is then `None`.
+    pub watch: bool,
+}
+
+/// Commands of the protocol.
+#[derive(Drop)]
+pub struct Saying<'a> {
+    /// The commands. If there are none, they are read from standard input.
+    pub commands: Vec<&'a str>,
+    /// Whether the program waits until the service has ended.
+    pub until_end: bool,
 }
 
 /// An action on a queue.

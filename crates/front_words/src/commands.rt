@@ -27,6 +27,7 @@ const TASKS: &str = "Tasks:
   devices                 name the command that lists devices
   check                   check the service, its programs and its queues
   page FILE               write the queues and jobs as an HTML page
+  say [COMMAND]..         send commands of the protocol and print the replies
 
 `spool TASK --help` lists the options of a task.
 Called as lp, lpr, lpstat, cancel, lpq, lprm, lpoptions, cupsenable, cupsdisable, cupsaccept or
@@ -36,6 +37,10 @@ const DEVICES: &str = "Name the command that lists the devices that backends fin
 
 const CHECK: &str =
     "Check whether the service is running, its programs can be run and each queue can print";
+
+const SAY: &str = "Send commands to the service and print the replies
+
+The commands are those of cegmandi_protocol(5). Without COMMAND they are read from standard input. The status is 1 if a reply is an error.";
 
 const QUEUE_SET: &str = "Set the description and the location of a queue
 
@@ -115,6 +120,7 @@ fn name_and_purpose<'a>(form: Form) -> (&'a str, &'a str)
         Form::Devices => ("spool devices", DEVICES),
         Form::Check => ("spool check", CHECK),
         Form::Page => ("spool page", "Write the queues and jobs as an HTML page"),
+        Form::Say => ("spool say", SAY),
         Form::Lp => ("lp", "Print files"),
         Form::Lpr => ("lpr", "Print files"),
         Form::Lpstat => ("lpstat", "Show queues and jobs"),
@@ -139,13 +145,13 @@ fn outline_of<'a>(form: Form) -> (Base, &'a [Parameter<'a>])
         Form::Submit => (Base::Task, &tables::SUBMIT),
         Form::Status => (Base::Task, &tables::STATUS),
         Form::Queues => (Base::Task, &tables::QUEUES),
-        Form::Watch => (Base::Task, &[]),
+        Form::Watch => (Base::Task, &tables::WATCH),
         Form::Cancel => (Base::Task, &tables::CANCEL_TASK),
         Form::Hold => (Base::Task, &tables::HOLD),
         Form::Release => (Base::Task, &tables::JOBS),
         Form::Purge => (Base::Task, &tables::JOBS),
         Form::End => (Base::Task, &tables::JOBS),
-        Form::QueueShow => (Base::Task, &tables::QUEUE),
+        Form::QueueShow => (Base::Task, &tables::QUEUE_SHOW),
         Form::QueueAdd => (Base::Task, &tables::QUEUE_ADD),
         Form::QueueSet => (Base::Task, &tables::QUEUE_SET),
         Form::QueueAccept => (Base::Task, &tables::QUEUE),
@@ -153,8 +159,9 @@ fn outline_of<'a>(form: Form) -> (Base, &'a [Parameter<'a>])
         Form::QueueEnable => (Base::Task, &tables::QUEUE),
         Form::QueueDisable => (Base::Task, &tables::QUEUE),
         Form::Devices => (Base::Task, &[]),
-        Form::Check => (Base::Task, &[]),
+        Form::Check => (Base::Task, &tables::CHECK),
         Form::Page => (Base::Task, &tables::PAGE),
+        Form::Say => (Base::Task, &tables::SAY),
         Form::Lp => (Base::Program, &tables::LP),
         Form::Lpr => (Base::Program, &tables::LPR),
         Form::Lpstat => (Base::Program, &tables::LPSTAT),

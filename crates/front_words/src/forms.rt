@@ -27,6 +27,7 @@ pub enum Form {
     Devices,
     Check,
     Page,
+    Say,
     Lp,
     Lpr,
     Lpstat,
@@ -178,6 +179,8 @@ fn form_of_task(task: &str) -> Form
         Form::Check
     } else if task == "page" {
         Form::Page
+    } else if task == "say" {
+        Form::Say
     } else {
         Form::Other
     }

@@ -45,7 +45,7 @@ mod tables;
 mod words;
 
 pub use asked::{
-    Asked, Clear, Hold, JobAct, Lpq, Lpstat, Moment, NewQueue, QueueAct, Removal, Status,
+    Asked, Clear, Hold, JobAct, Lpq, Lpstat, Moment, NewQueue, QueueAct, Removal, Saying, Status,
     Submission, Task, Which,
 };
 pub use fault::WordsFault;

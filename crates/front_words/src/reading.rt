@@ -4,11 +4,11 @@ ghost use Rattle.std.specs.Option.{option_map};
 ghost use Rattle.clap.specs.Words.{first_of, found_of, rows_of};
 ghost use Rattle.front_words.specs.ArgumentValues.{all_in};
 ghost use Rattle.front_words.specs.AskedTasks.{Fit, FitAltered, FitCaller, FitHold, FitJobs, FitLp, FitNew, FitQueue, FitStatus, FitSubmission, FitTask};
-ghost use Rattle.front_words.specs.AskedTasks.{IsAdd, IsAltered, IsAskedIn, IsJobs, IsLp, IsPage, IsQueue, IsSet, IsShow, IsStatusTask, IsStop, IsSubmit, IsTask};
+ghost use Rattle.front_words.specs.AskedTasks.{IsAdd, IsAltered, IsAskedIn, IsJobs, IsLp, IsPage, IsQueue, IsSay, IsSet, IsShow, IsStatusTask, IsStop, IsSubmit, IsTask};
 ghost use Rattle.front_words.specs.AskedTasks.{begins_with, change_in, handling_of, has_more, has_numbers, has_texts, hold_of, host_part, is_immediate, is_indefinite, is_filled, is_near, is_path, is_policy, is_quiet, until_of};
 ghost use Rattle.front_words.specs.WordFaults.{BlamesOnly};
 
-use crate::asked::{Asked, Hold, JobAct, NewQueue, QueueAct, Status, Submission, Task};
+use crate::asked::{Asked, Hold, JobAct, NewQueue, QueueAct, Saying, Status, Submission, Task};
 use crate::fault::Wrong;
 use crate::forms::Form;
 use crate::given::{
@@ -107,7 +107,9 @@ fn task_in<'a>(alloc: Global, form: Form, matches: &ArgMatches<'a>) -> Result<Ta
         Form::Queues => Ok(Task::Queues {
             json: flag_given(matches, "json"),
         }),
-        Form::Watch => Ok(Task::Watch),
+        Form::Watch => Ok(Task::Watch {
+            json: flag_given(matches, "json"),
+        }),
         Form::Cancel => stop_in(alloc, matches),
         Form::Hold => hold_in(alloc, matches),
         Form::Release => jobs_in(alloc, JobAct::Release, matches),
@@ -121,8 +123,11 @@ fn task_in<'a>(alloc: Global, form: Form, matches: &ArgMatches<'a>) -> Result<Ta
         Form::QueueEnable => queue_in(QueueAct::Enable, matches),
         Form::QueueDisable => queue_in(QueueAct::Disable, matches),
         Form::Devices => Ok(Task::Devices),
-        Form::Check => Ok(Task::Check),
+        Form::Check => Ok(Task::Check {
+            json: flag_given(matches, "json"),
+        }),
         Form::Page => page_in(matches),
+        Form::Say => say_in(alloc, matches),
         Form::Lpstat => lpstat_in(alloc, matches),
         Form::CancelJobs => cancel_in(alloc, matches),
         Form::Lpq => lpq_in(alloc, matches),
@@ -171,6 +176,7 @@ fn submit_in<'a>(alloc: Global, form: Form, matches: &ArgMatches<'a>) -> Result<
         by,
         wait: flag_given(matches, "wait"),
         quiet: is_quiet(form, matches),
+        json: flag_given(matches, "json"),
         remove: flag_given(matches, "remove"),
         raw: flag_given(matches, "literal"),
         filled: is_filled(form),
@@ -318,11 +324,17 @@ fn status_in<'a>(matches: &ArgMatches<'a>) -> Result<Task<'a>, Wrong>
 {
     let job = job_given(matches, "job")?;
     let queue = text_given(matches, "queue");
-    if text_given(matches, "job").is_some() && queue.is_some() {
-        return Err(Wrong::Value("JOB and -q cannot be used together"));
+    let watch = flag_given(matches, "watch");
+    if text_given(matches, "job").is_some() && (queue.is_some() || watch) {
+        return Err(Wrong::Value("JOB cannot be used together with -q or --watch"));
     }
     let json = flag_given(matches, "json");
-    Ok(Task::Status(Status { job, queue, json }))
+    Ok(Task::Status(Status {
+        job,
+        queue,
+        json,
+        watch,
+    }))
 }
 
 fn jobs_in<'a>(alloc: Global, act: JobAct, matches: &ArgMatches<'a>) -> Result<Task<'a>, Wrong>
@@ -364,7 +376,10 @@ fn show_in<'a>(matches: &ArgMatches<'a>) -> Result<Task<'a>, Wrong>
     ensures fit { MatchResult result (λ _. FitQueue (rows_of (found_of matches.now))) (BlamesOnly (FitQueue (rows_of (found_of matches.now)))) }
 {
     let name = text_needed(matches, "name")?;
-    Ok(Task::ShowQueue { name })
+    Ok(Task::ShowQueue {
+        name,
+        json: flag_given(matches, "json"),
+    })
 }
 
 fn add_in<'a>(matches: &ArgMatches<'a>) -> Result<Task<'a>, Wrong>
@@ -432,4 +447,15 @@ fn page_in<'a>(matches: &ArgMatches<'a>) -> Result<Task<'a>, Wrong>
         file,
         follow: flag_given(matches, "follow"),
     })
+}
+
+fn say_in<'a>(alloc: Global, matches: &ArgMatches<'a>) -> Result<Task<'a>, Wrong>
+    ensures asked { IfOk result (IsSay (rows_of (found_of matches.now))) }
+    ensures fit { MatchResult result (λ _. ⊤) (BlamesOnly ⊤) }
+{
+    let commands = texts_given(alloc, matches, "command")?;
+    Ok(Task::Say(Saying {
+        commands,
+        until_end: flag_given(matches, "until-end"),
+    }))
 }

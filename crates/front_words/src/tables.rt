@@ -4,7 +4,7 @@ use crate::parameters::Parameter::{
     Word, Words,
 };
 
-pub static SUBMIT: [Parameter<'static>; 14] = [
+pub static SUBMIT: [Parameter<'static>; 15] = [
     NeededWord("queue", "QUEUE", "The queue"),
     NeededWords("file", "FILE", "The files; `-` is standard input"),
     Text(
@@ -47,14 +47,23 @@ pub static SUBMIT: [Parameter<'static>; 14] = [
         "Cancel the job if it has not started by then",
     ),
     Flag("wait", "Wait until the job has ended"),
-    Flag("quiet", "Print nothing for an accepted job"),
+    Flag(
+        "quiet",
+        "Print nothing for an accepted job, and show no progress",
+    ),
+    Flag("json", "Print JSON: one line for each accepted job"),
 ];
 
-pub static STATUS: [Parameter<'static>; 3] = [
+pub static STATUS: [Parameter<'static>; 4] = [
     Word("job", "JOB", "Show only this job"),
     Letter('q', "queue", "QUEUE", "Show only the jobs of this queue"),
     Flag("json", "Print JSON"),
+    Flag("watch", "Show the jobs again whenever one changes"),
 ];
+
+pub static WATCH: [Parameter<'static>; 1] = [Flag("json", "Print JSON: one line for each change")];
+
+pub static CHECK: [Parameter<'static>; 1] = [Flag("json", "Print JSON")];
 
 pub static QUEUES: [Parameter<'static>; 1] = [Flag("json", "Print JSON")];
 
@@ -82,6 +91,11 @@ pub static HOLD: [Parameter<'static>; 2] = [
 ];
 
 pub static QUEUE: [Parameter<'static>; 1] = [NeededWord("name", "NAME", "The queue")];
+
+pub static QUEUE_SHOW: [Parameter<'static>; 2] = [
+    NeededWord("name", "NAME", "The queue"),
+    Flag("json", "Print JSON"),
+];
 
 pub static QUEUE_ADD: [Parameter<'static>; 6] = [
     NeededWord("name", "NAME", "The queue"),
@@ -117,6 +131,15 @@ pub static QUEUE_SET: [Parameter<'static>; 3] = [
 pub static PAGE: [Parameter<'static>; 2] = [
     NeededWord("file", "FILE", "The file to write"),
     Flag("follow", "Rewrite the file every five seconds"),
+];
+
+pub static SAY: [Parameter<'static>; 2] = [
+    Words(
+        "command",
+        "COMMAND",
+        "The commands, each as one argument [default: the lines of standard input]",
+    ),
+    Flag("until-end", "Wait until the service has ended"),
 ];
 
 pub static TASK: [Parameter<'static>; 1] = [NeededWords("task", "TASK", "One of the tasks below")];

@@ -119,6 +119,7 @@ fn refuses(rt: HostRuntime) -> Result<(), Fail> {
     assert!(rt; is_refused(&rt, &["spool", "cancel", "x"])?);
     assert!(rt; is_refused(&rt, &["spool", "cancel", "1", "0"])?);
     assert!(rt; is_refused(&rt, &["spool", "status", "1", "-q", "x"])?);
+    assert!(rt; is_refused(&rt, &["spool", "status", "1", "--watch"])?);
     assert!(rt; is_refused(&rt, &["spool", "queue", "add", "a", "b", "--policy", "c"])?);
     assert!(rt; is_refused(&rt, &["spool", "queue"])?);
     assert!(rt; is_refused(&rt, &["cancel", "-U", "ann", "1"])?);
@@ -266,10 +267,14 @@ fn tells(rt: HostRuntime) -> Result<(), Fail> {
     assert!(rt;
         asked.queue == Some("office") && asked.jobs.as_slice() == [3].as_slice() && !asked.all
     );
-    let Task::Status(asked) = task_of(&rt, &["spool", "status", "--json"])? else {
+    let Task::Status(asked) = task_of(&rt, &["spool", "status", "--json", "--watch"])? else {
         return Err("another task")?;
     };
-    assert!(rt; asked.json && asked.job.is_none() && asked.queue.is_none());
+    assert!(rt; asked.json && asked.watch && asked.job.is_none() && asked.queue.is_none());
+    let Task::Say(asked) = task_of(&rt, &["spool", "say", "jobs", "--until-end", "queues"])? else {
+        return Err("another task")?;
+    };
+    assert!(rt; asked.commands.as_slice() == ["jobs", "queues"].as_slice() && asked.until_end);
     let Task::Page { file, follow } = task_of(&rt, &["spool", "page", "x.html", "--follow"])? else {
         return Err("another task")?;
     };
@@ -303,9 +308,13 @@ fn sets_queues(rt: HostRuntime) -> Result<(), Fail> {
         return Err("another task")?;
     };
     assert!(rt; name == "office" && matches!(act, QueueAct::Reject));
-    let Task::ShowQueue { name } = task_of(&rt, &["spool", "queue", "show", "office"])? else {
+    let Task::ShowQueue { name, json } = task_of(
+        &rt,
+        &["spool", "queue", "show", "office", "--json"],
+    )?
+    else {
         return Err("another task")?;
     };
-    assert!(rt; name == "office");
+    assert!(rt; name == "office" && json);
     Ok(())
 }

@@ -8,7 +8,7 @@ use Rattle.front_submission.specs.declared.reply.Reply.TheVariants.{Created, Sen
 use Rattle.front_submission.specs.declared.reply.Shown.{Shown}
 use Rattle.front_submission.specs.declared.reply.Shown.TheVariants.{Arriving, WasClosed, NoFilters, NeverClosed}
 use Rattle.front_submission.specs.declared.step.Cause.{Cause}
-use Rattle.front_submission.specs.SubmissionSteps.{heard, lost, deserted, unread, supplied, after_create, after_find, own_found, one_of, after_send, after_measure, after_cancel}
+use Rattle.front_submission.specs.SubmissionSteps.{heard, lost, deserted, unread, supplied, after_create, after_find, own_found, one_of, first_of, sent_first, after_send, after_measure, after_cancel}
 use Rattle.front_submission.specs.SubmissionSteps.{request}
 use Rattle.front_submission.specs.declared.step.Request.TheVariants.{Read}
 use Rattle.spool_front.specs.Submissions.{IsAnswered, IsSupplied, is_behind}
@@ -30,13 +30,16 @@ found : (reply : Reply) → is_behind (after_find reply) ≡ false
 found (Jobs jobs) = one jobs.own jobs.another
 found reply = refl
 
+first : (job size piece new : ℕ) → is_behind (sent_first job size piece new) ≡ false
+first job size piece new = either (new == size + first_of piece) _ _ refl refl
+
 sent : (job size piece tries : ℕ) (reply : Reply) → is_behind (after_send job size piece tries reply) ≡ false
-sent job size piece tries (Sent new) = either (new == size + piece) _ _ refl refl
+sent job size piece tries (Sent new) = either (new == size + piece) _ _ refl (first job size piece new)
 sent job size piece tries Later = either (tries == 0) _ _ refl refl
 sent job size piece tries reply = refl
 
 shown : (job size piece : ℕ) (told : Shown) → is_behind (after_measure job size piece (Job told)) ≡ false
-shown job size piece (Arriving new) = either (new == size) _ _ refl (either (new == size + piece) _ _ refl refl)
+shown job size piece (Arriving new) = either (new == size) _ _ refl (either (new == size + piece) _ _ refl (first job size piece new))
 shown job size piece told = refl
 
 measured : (job size piece : ℕ) (reply : Reply) → is_behind (after_measure job size piece reply) ≡ false
@@ -103,7 +106,7 @@ reads (Ended end) size is h = cc
 reads step size is h = cc
 
 pub read_behind : (P : Type 0) (step next : Step) (size count : ℕ) (holds : Bool) → request step ≡ Read size → IsSupplied step count holds next
-    → (count < 65536 → (next ≡ unread step) ⊎ P) → is_behind next ≡ true → P
+    → (count < 131071 → (next ≡ unread step) ⊎ P) → is_behind next ≡ true → P
 read_behind P step next size count holds reading (inr is) at_end h = absurd (reads step size reading (unread_behind step (ap is_behind (sym is) ∙ h)))
 read_behind P step next size count holds reading (inl is) at_end h =
     elim (supplied_behind step count holds (ap is_behind (sym is) ∙ h)) [

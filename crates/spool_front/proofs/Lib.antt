@@ -1,1 +1,3 @@
 pub mod Behind
+pub mod Shares
+pub mod MirrorLaws

@@ -1,5 +1,5 @@
 -- Whether a queue can print.
-use Rattle.std.specs.Prelude.{Bool, true, false, Option, None, Some, is_none}
+use Rattle.std.specs.Prelude.{ℕ, Bool, true, false, List, ◌++◌, codes, Option, None, Some, is_none}
 use Rattle.std.specs.List.{list_any}
 use Rattle.front_texts.specs.declared.queue_line.QueueLine.{QueueLine}
 use Rattle.front_texts.specs.declared.states.PrinterState.{PrinterState}
@@ -19,3 +19,10 @@ hindrance_of true state true = None
 -- The queue can print and accepts jobs.
 abbrev pub prints : Chains → QueueLine → Bool
 prints chains queue = is_none (hindrance_of (list_any (leads chains.convs queue.target) chains.kinds.items) queue.state queue.accepting)
+
+-- Why a queue with this type cannot print, as a message.
+abbrev pub why_not : List ℕ → Option Hindrance → Option (List ℕ)
+why_not target None = None
+why_not target (Some found.NoChain) = Some (codes "cannot print: no chain of filters converts to " ++ target)
+why_not target (Some found.Stopped) = Some (codes "is stopped")
+why_not target (Some found.Rejecting) = Some (codes "rejects jobs")

@@ -17,3 +17,5 @@ pub mod EnvironmentValues
 pub mod Proofs
 pub mod DeniedCommands
 pub mod DocumentRoom
+pub mod JsonLines
+pub mod ProgressLines

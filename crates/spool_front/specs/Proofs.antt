@@ -3,8 +3,9 @@ use Rattle.std.specs.Prelude.{Bool, true, not, is_some, Option, None, Some, Resu
 use Rattle.front_proof.specs.ProofReplies.{name_of}
 use Rattle.front_proof.specs.Standings.{standing_of}
 use Rattle.front_proof.specs.declared.caller.Caller.{Caller}
+use Rattle.spool_front.specs.declared.client.Answer.{Answer}
 use Rattle.spool_front.specs.declared.connection.Connection.{Connection}
-use Rattle.spool_front.specs.declared.connection.ConnectionFault.{ConnectionFault}
+use Rattle.service_client.specs.declared.connection.ConnectionFault.{ConnectionFault}
 
 -- The identity of the client, over the connection that is open.
 abbrev pub caller_of : Option Connection → Option Caller
@@ -12,6 +13,6 @@ caller_of None = None
 caller_of (Some connection) = connection.caller
 
 -- The service removes the folder only if it takes the proof.
-abbrev pub is_left : Result Caller ConnectionFault → Bool
-is_left (Ok caller) = not (is_some (name_of (standing_of caller)))
+abbrev pub is_left : Result (Caller × Answer) ConnectionFault → Bool
+is_left (Ok claimed) = not (is_some (name_of (standing_of claimed.0)))
 is_left (Err fault) = true

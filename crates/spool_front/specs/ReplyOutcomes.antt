@@ -1,5 +1,5 @@
 -- The outcome of a reply.
-use Rattle.std.specs.Prelude.{ℕ, Bool, true, false, cond, List, ◌++◌, codes, string_bytes, Option, Some, Result, Ok, Err, Vec}
+use Rattle.std.specs.Prelude.{ℕ, Bool, true, false, cond, List, [], ◌∷◌, ◌++◌, map, codes, string_bytes, Option, Some, Result, Ok, Err, Vec}
 use Rattle.std.specs.Global.{Global}
 use Rattle.std.specs.List.{flat_map}
 use Rattle.front_texts.specs.ReplyLines.{Last, done, last_line}
@@ -18,6 +18,10 @@ is_done line = says_done (last_line line)
 -- A refusal is reported with its last line.
 abbrev pub accepted : Answer → Result Answer Fault
 accepted answer = cond (is_done (string_bytes answer.last)) (Ok answer) (Err (Refused answer.last))
+
+-- The lines of a reply: its rows and its last line.
+abbrev pub answer_lines : Answer → List (List ℕ)
+answer_lines answer = map (λ row. row.items) answer.rows.items ++ string_bytes answer.last ∷ []
 
 abbrev pub row_text : Vec ℕ Global → List ℕ
 row_text row = row.items ++ codes "\n"

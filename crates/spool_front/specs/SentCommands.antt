@@ -1,5 +1,5 @@
 -- The commands that are sent to a service.
-use Rattle.std.specs.Prelude.{ℕ, Bool, ◌||◌, nat_lt, ◌==◌, List, [], ◌++◌, length, cond, codes, String, string_bytes, Option, None, Some, unwrap_or}
+use Rattle.std.specs.Prelude.{ℕ, Bool, ◌||◌, nat_lt, ◌==◌, List, [], ◌++◌, cond, codes, String, string_bytes, Option, None, Some, unwrap_or}
 use Rattle.std.specs.Global.{Global}
 use Rattle.std.specs.Fmt.{decimal}
 use Rattle.command_lines.specs.Replies.{quoted}
@@ -40,9 +40,6 @@ names d owner = text_word (string_bytes d.queue) ++ text_word owner ++ text_word
 
 abbrev pub create_line : Draft → List ℕ → List ℕ
 create_line d owner = create_word d.by ++ names d owner ++ ranks d ++ text_word (string_bytes d.options) ++ moment_word d.by ++ codes "\n"
-
-abbrev pub send_line : ℕ → List ℕ → List ℕ
-send_line job piece = codes "send " ++ decimal job ++ codes " " ++ decimal (length piece) ++ codes "\n" ++ piece ++ codes "\n"
 
 abbrev pub media_word : Option (String Global) → List ℕ
 media_word None = []

@@ -14,6 +14,8 @@ use Rattle.front_submission.specs.declared.step.Step.{Step}
 use Rattle.front_submission.specs.declared.step.Step.TheVariants.{Holding, Closing, Checking, Ended}
 use Rattle.spool_front.specs.FoundJobs.{with_job}
 use Rattle.spool_front.specs.declared.commands.Draft.{Draft}
+use Rattle.spool_front.specs.declared.printing.Told.{Told}
+use Rattle.spool_front.specs.declared.printing.Told.TheVariants.{Nothing, Json, Text}
 
 -- Why a service denies a document, from whether the user has named the owner.
 abbrev pub denied_text : Bool → List ℕ
@@ -58,6 +60,10 @@ is_refusal Later = true
 is_refusal Gone = true
 is_refusal reply = false
 
+-- The reply to a piece from the replies to its two commands. Only if the second command was refused, and so not executed, the first one decides.
+abbrev pub joined_reply : Reply → Reply → Reply
+joined_reply first second = cond (is_refusal second) first second
+
 -- The step after a request: its reply was received, it was lost, or the submission was given up.
 abbrev pub IsAnswered : Step → Step → Type 0
 IsAnswered step next =
@@ -84,6 +90,10 @@ is_behind (Closing job size tries again) = true
 is_behind (Checking job size) = true
 is_behind (Ended end) = was_closed end
 is_behind step = false
+
+-- How an accepted job is reported, from --quiet and --json.
+abbrev pub told_of : Bool → Bool → Told
+told_of quiet json = cond quiet Nothing (cond json Json Text)
 
 -- A document without a byte is refused if the program takes none.
 abbrev pub is_refused : Bool → Option ℕ → Bool

@@ -6,8 +6,8 @@ use Rattle.std.specs.declared.env.VarError.{VarError}
 use Rattle.std.specs.declared.env.VarError.TheVariants as told
 use Rattle.std.specs.declared.io.ErrorKind.{ErrorKind}
 use Rattle.std.specs.declared.io.ErrorKind.TheVariants.{OutOfMemory, NotFound, ConnectionRefused, PermissionDenied}
-use Rattle.spool_front.specs.declared.connection.ConnectionFault.{ConnectionFault}
-use Rattle.spool_front.specs.declared.connection.ConnectionFault.TheVariants as connection
+use Rattle.service_client.specs.declared.connection.ConnectionFault.{ConnectionFault}
+use Rattle.service_client.specs.declared.connection.ConnectionFault.TheVariants as connection
 use Rattle.spool_front.specs.declared.fault.Fault.{Fault}
 use Rattle.spool_front.specs.declared.fault.Fault.TheVariants.{Memory, Nobody, Busy, Gone, Unknown, Write, File}
 

@@ -1,17 +1,18 @@
 //! The check of programs, services and queues.
-ghost use Rattle.std.specs.Prelude.{◌≡◌, ◌⊎◌, IfOk};
+ghost use Rattle.std.specs.Prelude.{◌≡◌, ◌⊎◌, IfOk, string_bytes};
+ghost use Rattle.std.specs.Option.{option_map};
 ghost use Rattle.std.specs.List.{list_all, list_any};
 ghost use Rattle.spool_front.specs.ReachableTypes.{leads};
-ghost use Rattle.spool_front.specs.Checks.{hindrance_of, prints};
+ghost use Rattle.spool_front.specs.Checks.{hindrance_of, prints, why_not};
 
 use crate::chains::{Chains, read_chains};
 use crate::fault::Fault;
+use crate::json_lines::{print_json, printing_json, running_json};
 use crate::programs::report_programs;
 use crate::services::{Services, queues_at};
 use clean_texts::clean;
 use front_texts::{PrinterState, QueueLine};
-use std::alloc::AllocError;
-use std::io;
+use std::alloc::{AllocError, Global};
 
 /// Why a queue cannot print documents.
 #[derive(Clone, Copy)]
@@ -26,12 +27,12 @@ pub enum Hindrance {
 
 /// Prints each program that cannot be run, each service that is running, and whether each queue can print. The status is 0 if there is no
 /// problem, and otherwise 1.
-pub fn check(rt: &HostRuntime, services: Services<'_, '_>) -> Result<u8, Fault>
+pub fn check(rt: &HostRuntime, services: Services<'_, '_>, json: bool) -> Result<u8, Fault>
     ensures { IfOk result (λ status. (status ≡ 0) ⊎ (status ≡ 1)) }
 {
-    let run = report_programs(rt)?;
+    let run = report_programs(rt, json)?;
     let chains = read_chains(rt)?;
-    let print = report_services(rt, services, &chains);
+    let print = report_services(rt, services, &chains, json);
     drop(chains);
     if print? && run { Ok(0) } else { Ok(1) }
 }
@@ -41,10 +42,11 @@ fn report_services(
     rt: &HostRuntime,
     services: Services<'_, '_>,
     chains: &Chains,
+    json: bool,
 ) -> Result<bool, Fault> {
     let mut all = true;
     for socket in services.sockets {
-        let printing = report_service(rt, services, socket, chains)?;
+        let printing = report_service(rt, services, socket, chains, json)?;
         all = all && printing;
     }
     Ok(all)
@@ -55,26 +57,35 @@ fn report_service(
     services: Services<'_, '_>,
     socket: &str,
     chains: &Chains,
+    json: bool,
 ) -> Result<bool, Fault> {
     let queues = queues_at(rt, services, socket)?;
-    let all = report_queues(rt, socket, chains, &queues);
+    report_running(rt, socket, json)?;
+    let all = report_queues(rt, chains, &queues, json);
     drop(queues);
     all
 }
 
+fn report_running(rt: &HostRuntime, socket: &str, json: bool) -> Result<(), Fault> {
+    if json {
+        return print_json(rt, running_json(rt.alloc(), socket)?);
+    }
+    println!(rt; "service {} is running", clean(socket))?;
+    Ok(())
+}
+
 fn report_queues(
     rt: &HostRuntime,
-    socket: &str,
     chains: &Chains,
     queues: &[QueueLine],
+    json: bool,
 ) -> Result<bool, Fault>
     ensures { IfOk result (λ all. all ≡ list_all (prints chains.now) queues.now) }
 {
-    println!(rt; "service {} is running", clean(socket))?;
     let mut all = true;
     for queue in queues {
         let hindrance = hindrance_of(chains, queue)?;
-        report_queue(rt, queue, hindrance)?;
+        report_queue(rt, queue, hindrance, json)?;
         all = all && hindrance.is_none();
     }
     Ok(all)
@@ -99,14 +110,39 @@ fn report_queue(
     rt: &HostRuntime,
     queue: &QueueLine,
     hindrance: Option<Hindrance>,
-) -> io::Result<()> {
+    json: bool,
+) -> Result<(), Fault> {
     let name = queue.name.as_str();
     let target = queue.target.as_str();
-    let (says, target) = match hindrance {
-        None => ("prints ", target),
-        Some(Hindrance::NoChain) => ("cannot print: no chain of filters converts to ", target),
-        Some(Hindrance::Stopped) => ("is stopped", ""),
-        Some(Hindrance::Rejecting) => ("rejects jobs", ""),
+    if json {
+        let why = why_not(rt.alloc(), target, hindrance)?;
+        let why = why.as_ref().map(|why| why.as_str());
+        return print_json(rt, printing_json(rt.alloc(), name, why)?);
+    }
+    match why_not(rt.alloc(), target, hindrance)? {
+        Some(why) => println!(rt; "queue {name} {why}")?,
+        None => println!(rt; "queue {name} prints {target}")?,
+    }
+    Ok(())
+}
+
+// Returns why a queue with this type cannot print.
+fn why_not(
+    alloc: Global,
+    target: &str,
+    hindrance: Option<Hindrance>,
+) -> Result<Option<String>, AllocError>
+    ensures { IfOk result (λ why. option_map string_bytes why ≡ why_not target.now hindrance) }
+{
+    let Some(hindrance) = hindrance else {
+        return Ok(None);
     };
-    println!(rt; "queue {name} {says}{target}")
+    let text = match hindrance {
+        Hindrance::NoChain => {
+            format!(in alloc; "cannot print: no chain of filters converts to {target}")?
+        }
+        Hindrance::Stopped => String::from_str(alloc, "is stopped")?,
+        Hindrance::Rejecting => String::from_str(alloc, "rejects jobs")?,
+    };
+    Ok(Some(text))
 }

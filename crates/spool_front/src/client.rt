@@ -1,13 +1,14 @@
 //! The client of a service, which sends a command and reads the complete reply.
-ghost use Rattle.std.specs.Prelude.{◌≡◌, ◌*◌, ◌↔◌, true, false, IfErr, IfNone, IfOk, IfSome, IsSome, IsTrue, IsUtf8, MatchResult, None, codes, filter_map, option_copied, string_bytes};
+ghost use Rattle.std.specs.Prelude.{◌≡◌, ◌*◌, ◌↔◌, ◌&&◌, true, false, IfErr, IfOk, IsSome, IsTrue, MatchResult, OnOk, ℕ, None, codes, filter_map, is_none, option_copied, string_bytes};
 ghost use Rattle.spool_front.specs.Proofs.{caller_of};
 ghost use Rattle.command_lines.specs.CommandGrammar.{is_word};
 ghost use Rattle.front_texts.specs.JobPage.{shown_job};
 ghost use Rattle.front_texts.specs.JobRows.{job_row};
 ghost use Rattle.front_texts.specs.QueueRows.{queue_row};
-ghost use Rattle.front_texts.specs.ReplyLines.{last_line};
 ghost use Rattle.spool_front.specs.ServiceMoments.{moment_in};
-ghost use Rattle.spool_front.specs.ReplyOutcomes.{accepted, is_done, rows_text};
+ghost use Rattle.service_client.specs.Mirrors.{job_at, known};
+ghost use Rattle.service_client.specs.Notices.{jobs_after, known_after_all};
+ghost use Rattle.spool_front.specs.ReplyOutcomes.{accepted, answer_lines, is_done, rows_text};
 ghost use Rattle.spool_front.specs.TaskFaults.{IsBusyAt, IsNobodyAt};
 
 use crate::commands::{job_line, name_line};
@@ -23,6 +24,7 @@ use front_texts::{
     JobLine, JobShown, LastLine, QueueLine, read_job_line, read_job_shown, read_last_line,
     read_queue_line,
 };
+use service_client::Mirror;
 use std::alloc::{AllocError, Global};
 use std::os::unix::net::UnixStream;
 use std::time::Duration;
@@ -64,6 +66,16 @@ impl Answer {
         ensures { result ≡ is_word (string_bytes self.now.last) (codes "error syntax") }
     {
         self.last.as_str() == "error syntax"
+    }
+
+    /// Passes each line to a mirror.
+    #[tactic(auto, using(crate::proofs::MirrorLaws::jobs_more, crate::proofs::MirrorLaws::known_more))]
+    pub fn tell(&self, mirror: &mut Mirror) -> Result<(), AllocError>
+        ensures jobs { OnOk result ((job : ℕ) → job_at mirror.new job ≡ jobs_after (answer_lines self.now) job (job_at mirror.old job)) }
+        ensures known { OnOk result (known mirror.new ≡ known_after_all (answer_lines self.now) (known mirror.old)) }
+    {
+        mirror.tell_all(&self.rows)?;
+        mirror.tell(self.last.as_str().as_bytes())
     }
 
     /// Returns the rows, each with its line feed.
@@ -177,6 +189,47 @@ impl<'a> Client<'a> {
         answer
     }
 
+    /// Sends two commands together and returns their replies, in the same order. After a fault the connection is closed.
+    pub fn exchange_both(
+        &mut self,
+        first: &[u8],
+        second: &[u8],
+    ) -> Result<(Answer, Answer), ConnectionFault>
+        ensures over { IfErr result (λ _. self.new.connection ≡ None) }
+        ensures kept { self.new ≡ record self.old { connection = self.new.connection } }
+    {
+        let answers = self.both(first, second);
+        if answers.is_err() {
+            self.connection = None;
+        }
+        answers
+    }
+
+    // Over a new connection the client proves who it is before the second command.
+    fn both(&mut self, first: &[u8], second: &[u8]) -> Result<(Answer, Answer), ConnectionFault>
+        ensures { self.new ≡ record self.old { connection = self.new.connection } }
+    {
+        if self.must_prove() {
+            let answer = self.send_and_read(first)?;
+            return match self.send_and_read(second) {
+                Ok(next) => Ok((answer, next)),
+                Err(fault) => Err(fault),
+            };
+        }
+        let alloc = self.rt.alloc();
+        match &mut self.connection {
+            Some(connection) => connection.exchange_both(alloc, first, second),
+            None => Err(ConnectionFault::Lost),
+        }
+    }
+
+    // Returns whether the client has not proved who it is over this connection.
+    fn must_prove(&self) -> bool
+        ensures { result ≡ (self.now.proves && is_none (caller_of self.now.connection)) }
+    {
+        self.proves && self.caller().is_none()
+    }
+
     fn send_and_read(&mut self, text: &[u8]) -> Result<Answer, ConnectionFault>
         ensures { self.new ≡ record self.old { connection = self.new.connection } }
     {
@@ -187,7 +240,7 @@ impl<'a> Client<'a> {
         if self.proves && connection.caller().is_none() {
             return first_exchange(rt, connection, text);
         }
-        exchange(rt.alloc(), connection, text)
+        connection.exchange(rt.alloc(), text)
     }
 
     /// Returns the identity of the client for the service, if this connection has one.
@@ -200,11 +253,10 @@ impl<'a> Client<'a> {
         }
     }
 
-    /// Returns the next line that the service sends without a request.
-    pub fn read_line(&mut self) -> Result<Vec<u8>, ConnectionFault> {
-        let alloc = self.rt.alloc();
+    /// Returns the next lines that the service sends without a command. After a fault the connection must be closed.
+    pub fn receive_lines(&mut self) -> Result<Vec<Vec<u8>>, ConnectionFault> {
         match &mut self.connection {
-            Some(connection) => connection.read_line(alloc),
+            Some(connection) => connection.receive_lines(),
             None => Err(ConnectionFault::Lost),
         }
     }
@@ -266,7 +318,8 @@ impl<'a> Client<'a> {
         }
     }
 
-    fn nobody(&self) -> Result<Fault, AllocError>
+    /// Returns the fault if no connection can be made.
+    pub fn nobody(&self) -> Result<Fault, AllocError>
         ensures { IfOk result (IsNobodyAt self.now.socket.now) }
     {
         let why = unreached(self.rt, self.socket)?;
@@ -342,43 +395,6 @@ impl<'a> Client<'a> {
         let queues = queues_in(self.rt.alloc(), &answer.rows);
         drop(answer);
         Ok(queues?)
-    }
-}
-
-/// Sends a command over a connection and reads its reply.
-pub fn exchange(
-    alloc: Global,
-    connection: &mut Connection,
-    text: &[u8],
-) -> Result<Answer, ConnectionFault> {
-    connection.send(text)?;
-    read_answer(alloc, connection)
-}
-
-/// Reads a reply.
-pub fn read_answer(alloc: Global, connection: &mut Connection) -> Result<Answer, ConnectionFault> {
-    let mut rows = Vec::new(alloc);
-    for _ in 0..u64::MAX {
-        let row = connection.read_line(alloc)?;
-        if let Some(last) = last_line(alloc, &row)? {
-            return Ok(Answer { rows, last });
-        }
-        rows.push(row)?;
-    }
-    Err(ConnectionFault::Lost)
-}
-
-// Returns the line as text if it is the last one of a reply.
-fn last_line(alloc: Global, line: &[u8]) -> Result<Option<String>, AllocError>
-    ensures last { IfOk result (λ last. IfSome last (λ text. (string_bytes text ≡ line.now) × IsSome (last_line line.now))) }
-    ensures row { IfOk result (λ last. IfNone last (IsUtf8 line.now → last_line line.now ≡ None)) }
-{
-    let Ok(text) = std::str::from_utf8(line) else {
-        return Ok(None);
-    };
-    match read_last_line(text) {
-        Some(_) => Ok(Some(String::from_str(alloc, text)?)),
-        None => Ok(None),
     }
 }
 

@@ -3,7 +3,7 @@ ghost use Rattle.std.specs.Prelude.{◌≡◌, ◌++◌, IfOk, OnOk};
 ghost use Rattle.std.specs.List.{list_any};
 ghost use Rattle.std.specs.Option.{option_map};
 ghost use Rattle.front_proof.specs.Standings.{standing_of};
-ghost use Rattle.spool_front.specs.SentCommands.{close_line, create_line, create_word, find_line, hold_line, identified_user, info_line, is_control, job_line, job_user, media_word, moment_word, name_line, names, queue_line, ranks, send_line, text_word};
+ghost use Rattle.spool_front.specs.SentCommands.{close_line, create_line, create_word, find_line, hold_line, identified_user, info_line, is_control, job_line, job_user, media_word, moment_word, name_line, names, queue_line, ranks, text_word};
 
 use command_lines::push_quoted;
 use front_proof::Caller;
@@ -126,18 +126,6 @@ fn push_moment(line: &mut Vec<u8>, moment: Option<u64>) -> Result<(), AllocError
         return Ok(());
     };
     write!(line, " {moment}").map_err(|_| AllocError)
-}
-
-/// Returns `send` and the piece.
-pub fn send_line(alloc: Global, job: u32, piece: &[u8]) -> Result<Vec<u8>, AllocError>
-    ensures { IfOk result (λ line. line.items ≡ send_line job piece.now) }
-{
-    let mut line = Vec::new(alloc);
-    let count = piece.len();
-    write!(line, "send {job} {count}\n").map_err(|_| AllocError)?;
-    line.extend_from_slice(piece)?;
-    line.extend_from_slice(b"\n")?;
-    Ok(line)
 }
 
 /// Returns `close`, with the media type if the draft has one.

@@ -1,55 +1,28 @@
-//! A connection to a service, which sends bytes and reads lines.
-ghost use Rattle.std.specs.Prelude.{◌≡◌, ◌≢◌, ◌<◌, ℕ, IfOk, Some, length, option_copied, slice_index};
+//! A connection to a service over its socket.
+ghost use Rattle.std.specs.Prelude.{◌≡◌, ◌≤◌, IfOk, Some, length, option_copied, string_bytes};
 ghost use Rattle.std.specs.IoError.{error_kind};
 ghost use Rattle.spool_front.specs.TaskFaults.{lost_by};
 
+use crate::client::Answer;
 use front_proof::Caller;
-use std::alloc::{AllocError, AllocFailed, Global};
-use std::io::{BufRead, BufReader, ErrorKind, Read, Write};
+pub use service_client::ConnectionFault;
+use service_client::{Reply, Session};
+use std::alloc::Global;
+use std::fs;
+use std::io::{self, ErrorKind, Read, Write};
 use std::os::unix::fs::MetadataExt;
 use std::os::unix::net::UnixStream;
-use std::{fs, io};
 
-// The longest line that is read, in bytes.
-const LONGEST_LINE: u64 = 65_536;
+// The bytes of one read.
+const PIECE: usize = 8_192;
 
-/// Why sending or reading fails.
-#[derive(Clone, Copy)]
-pub enum ConnectionFault {
-    /// The connection is lost.
-    Lost,
-    /// Out of memory.
-    Memory,
-}
-
-impl From<AllocError> for ConnectionFault {
-    ghost use Rattle.spool_front.specs.declared.connection.ConnectionFault.TheVariants.{Memory};
-
-    ghost from_gives = { λ _ fault. fault ≡ Memory };
-
-    fn from(_error: AllocError) -> ConnectionFault {
-        ConnectionFault::Memory
-    }
-}
-
-impl<T: Drop> From<AllocFailed<T>> for ConnectionFault {
-    ghost use Rattle.spool_front.specs.declared.connection.ConnectionFault.TheVariants.{Memory};
-
-    ghost from_gives = { λ _ fault. fault ≡ Memory };
-
-    fn from(_error: AllocFailed<T>) -> ConnectionFault {
-        ConnectionFault::Memory
-    }
-}
-
-impl From<io::Error> for ConnectionFault {
-    ghost from_gives = { λ error fault. fault ≡ lost_by (error_kind error) };
-
-    fn from(error: io::Error) -> ConnectionFault {
-        match error.kind() {
-            ErrorKind::OutOfMemory => ConnectionFault::Memory,
-            _ => ConnectionFault::Lost,
-        }
+// Returns the fault of a failed call on the socket.
+fn lost_by(error: io::Error) -> ConnectionFault
+    ensures { result ≡ lost_by (error_kind error) }
+{
+    match error.kind() {
+        ErrorKind::OutOfMemory => ConnectionFault::Memory,
+        _ => ConnectionFault::Lost,
     }
 }
 
@@ -61,9 +34,53 @@ fn owner_of(rt: &HostRuntime, socket: &str) -> Option<u32> {
     }
 }
 
+/// The socket of a service, which reports nothing of its bytes.
+#[derive(Drop)]
+pub struct Socket {
+    stream: UnixStream,
+    buffer: Vec<u8>,
+}
+
+impl service_client::Connection for Socket {
+    ghost use Rattle.std.specs.Prelude.{None};
+
+    ghost sent = { λ _. None };
+
+    ghost came = { λ _. None };
+
+    fn send(&mut self, text: &[u8]) -> Result<(), ConnectionFault> {
+        match self.stream.write_all(text) {
+            Ok(()) => Ok(()),
+            Err(error) => Err(lost_by(error)),
+        }
+    }
+
+    fn receive(&mut self, piece: &mut Vec<u8>) -> Result<(), ConnectionFault> {
+        let count = read_some(&mut self.stream, &mut self.buffer)?;
+        piece.extend_from_slice(&self.buffer[..count])?;
+        Ok(())
+    }
+}
+
+// Reads the bytes that have come, at least one. An interrupted read is repeated.
+fn read_some(stream: &mut UnixStream, buffer: &mut [u8]) -> Result<usize, ConnectionFault>
+    ensures { IfOk result (λ count. count ≤ length buffer.new) }
+{
+    for _ in 0..u32::MAX {
+        match stream.read(buffer) {
+            Ok(0) => return Err(ConnectionFault::Lost),
+            Ok(count) => return Ok(count),
+            Err(error) if error.kind() == ErrorKind::Interrupted => {}
+            Err(error) => return Err(lost_by(error)),
+        }
+    }
+    Err(ConnectionFault::Lost)
+}
+
+/// A connection to a service.
 #[derive(Drop)]
 pub struct Connection {
-    reader: BufReader<UnixStream>,
+    session: Session<Socket, ()>,
     // The owner of the socket.
     owner: Option<u32>,
     // The identity of the client for the service. `None`: the service was not asked.
@@ -73,13 +90,15 @@ pub struct Connection {
 impl Connection {
     pub fn open(rt: &HostRuntime, socket: &str) -> Result<Connection, ConnectionFault> {
         let owner = owner_of(rt, socket);
-        let stream = UnixStream::connect(rt, socket)?;
-        let reader = BufReader::new(rt.alloc(), stream)?;
-        Ok(Connection {
-            reader,
-            owner,
-            caller: None,
-        })
+        let buffer = vec![in rt.alloc(); 0; PIECE]?;
+        match UnixStream::connect(rt, socket) {
+            Ok(stream) => Ok(Connection {
+                session: Session::new(rt.alloc(), Socket { stream, buffer }),
+                owner,
+                caller: None,
+            }),
+            Err(error) => Err(lost_by(error)),
+        }
     }
 
     /// Returns the owner of the service's socket.
@@ -96,6 +115,14 @@ impl Connection {
         self.caller.as_ref()
     }
 
+    /// Sends a command and returns its reply. After an error the connection must be given up.
+    pub fn exchange(&mut self, alloc: Global, text: &[u8]) -> Result<Answer, ConnectionFault> {
+        if !self.session.is_settled() {
+            return Err(ConnectionFault::Lost);
+        }
+        answer_of(alloc, self.session.exchange((), text)?)
+    }
+
     /// Stores the identity of the client for the service.
     pub fn note_caller(&mut self, caller: Caller)
         ensures { self.new ≡ record self.old { caller = Some caller } }
@@ -103,25 +130,44 @@ impl Connection {
         self.caller = Some(caller);
     }
 
-    /// Sends all of these bytes.
-    pub fn send(&mut self, text: &[u8]) -> Result<(), ConnectionFault> {
-        let mut stream = self.reader.get_ref();
-        stream.write_all(text)?;
-        Ok(())
+    /// Sends two commands together and returns their replies, in the same order. After an error the connection must be given up.
+    pub fn exchange_both(
+        &mut self,
+        alloc: Global,
+        first: &[u8],
+        second: &[u8],
+    ) -> Result<(Answer, Answer), ConnectionFault> {
+        let mut answers = Vec::new(alloc);
+        self.session.send((), first, &mut answers)?;
+        self.session.send((), second, &mut answers)?;
+        self.session.settle(&mut answers)?;
+        let (Some(last), Some(before)) = (answers.pop(), answers.pop()) else {
+            return Err(ConnectionFault::Lost);
+        };
+        let before = answer_of(alloc, before.reply)?;
+        let last = answer_of(alloc, last.reply)?;
+        Ok((before, last))
     }
 
-    /// Reads the next line and returns it without its line feed. If it is too long or incomplete, the connection counts as lost.
-    pub fn read_line(&mut self, alloc: Global) -> Result<Vec<u8>, ConnectionFault>
-        ensures { IfOk result (λ line. (i : ℕ) → i < length line.items → slice_index line.items i ≢ 10) }
-    {
-        let mut line = Vec::new(alloc);
-        self.reader
-            .by_ref()
-            .take(LONGEST_LINE)
-            .read_until(b'\n', &mut line)?;
-        match line.pop() {
-            Some(b'\n') => Ok(line),
-            _ => Err(ConnectionFault::Lost),
+    /// Waits for lines that the service sends without a command.
+    pub fn receive_lines(&mut self) -> Result<Vec<Vec<u8>>, ConnectionFault> {
+        if !self.session.is_settled() {
+            return Err(ConnectionFault::Lost);
         }
+        self.session.receive_lines()
+    }
+}
+
+// Returns a reply with its last line as text. A last line that is no text is no reply.
+fn answer_of(alloc: Global, reply: Reply) -> Result<Answer, ConnectionFault>
+    ensures { IfOk result (λ answer. (answer.rows ≡ reply.rows) × (string_bytes answer.last ≡ reply.last.items)) }
+{
+    let Reply { rows, last } = reply;
+    match std::str::from_utf8(&last) {
+        Ok(text) => Ok(Answer {
+            rows,
+            last: String::from_str(alloc, text)?,
+        }),
+        Err(_) => Err(ConnectionFault::Lost),
     }
 }

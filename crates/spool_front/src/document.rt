@@ -6,8 +6,8 @@ use std::alloc::{AllocError, Global};
 use std::io;
 use std::io::Read;
 
-// The greatest length of a piece, in bytes.
-const PIECE: usize = 65_536;
+// The greatest length of a piece, in bytes. It is sent by two commands, and the second one has fewer bytes than the first one.
+const PIECE: usize = 131_071;
 
 /// A document. Its last piece is stored until the next one is read, so that it can be sent again.
 #[derive(Drop)]
@@ -15,8 +15,8 @@ pub struct Document<S> {
     source: S,
     buffer: Vec<u8>,
     filled: usize,
-    ghost room: { length buffer.items ≡ 65536 },
-    ghost in_buffer: { filled ≤ 65536 },
+    ghost room: { length buffer.items ≡ 131071 },
+    ghost in_buffer: { filled ≤ 131071 },
 }
 
 impl<S: Read + Drop> Document<S> {
@@ -45,7 +45,7 @@ impl<S: Read + Drop> Document<S> {
     pub fn next_piece(&mut self) -> io::Result<u32>
         ensures bytes { IfOk result (λ count. Consumes (S.remaining self.old.source) (S.remaining self.new.source) (piece_of self.new)) }
         ensures count { IfOk result (λ count. count ≡ length (piece_of self.new)) }
-        ensures end { IfOk result (λ count. count < 65536 → IsAtEnd (S.remaining self.new.source)) }
+        ensures end { IfOk result (λ count. count < 131071 → IsAtEnd (S.remaining self.new.source)) }
     {
         self.filled = fill(&mut self.source, &mut self.buffer)?;
         Ok(self.filled as u32)

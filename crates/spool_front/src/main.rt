@@ -19,18 +19,21 @@
 //!
 //! # Modules
 //!
-//! - [`connection`]: bytes and lines over a socket. [`client`]: commands and replies over a connection, and reconnecting.
+//! - [`connection`]: the socket of a service, over which `service_client` speaks the protocol. [`client`]: commands and replies over a
+//!   connection, and reconnecting.
 //! - [`proving`]: the proof of the user. [`denials`]: explanations of denied commands.
 //! - [`commands`], [`replies`]: the bytes of each command, and the meaning of each reply (`SentCommands`, `ServiceReplies`).
 //! - [`submit`]: submits one document as one job, by the decisions of `front_submission`. [`document`]: the pieces of a document.
-//!   [`draft`]: the fields of its job. [`moments`]: moments by the time of the service. [`printing`]: printing files.
-//! - [`tasks`]: the other tasks of `spool`. [`check`], [`programs`] and [`chains`]: whether a queue can print. [`web_page`]: the page.
+//!   [`draft`]: the fields of its job. [`moments`]: moments by the time of the service. [`printing`]: printing files. [`progress`]: the line
+//!   that shows how much was sent.
+//! - [`tasks`]: the other tasks of `spool`. [`live_table`]: the jobs whenever one changes. [`say`]: commands of the protocol. [`json_lines`]:
+//!   JSON. [`check`], [`programs`] and [`chains`]: whether a queue can print. [`web_page`]: the page.
 //!   [`cups_forms`]: lpstat and lpq. [`canceling`]: cancel and lprm. [`defaults`]: the default queue. [`output`]: standard output.
 //!   [`services`]: the choice of services and queues. [`reasons`]: the system's reasons.
 //!
 //! # Promises
 //!
-//! - Commands: the bytes of each command are exact, with each text in quotes (`create_line`, `send_line`, `close_line`, `find_line`,
+//! - Commands: the bytes of each command are exact, with each text in quotes (`create_line`, `close_line`, `find_line`,
 //!   `hold_line`, `job_line`, `name_line`, `info_line`, `queue_line`). A text with a control character, which could end its line, is detected
 //!   (`has_control`). An action on a job or a queue is sent as the command for that action (`act_line`, `act_text`).
 //! - Owners: a job belongs to the user whom the service has identified, unless the user has named the owner or is an operator (`job_user`).
@@ -39,8 +42,12 @@
 //! - Older services: `cancel` and `end` replace `stop` exactly if the service does not know it (`is_stop`, `is_unknown`).
 //! - Replies: `reply_in` returns the meaning of a reply for a submission. After `error disk`, `error dead` or `error busy` it is unknown
 //!   whether the command was executed, so such a reply is never taken for a refusal (`failed_as`). `shown_as` returns the state of a job.
-//! - Pieces: a piece of a document consists of the bytes that were read last, up to 65,536 bytes, and fewer only at the document's end
-//!   (`next_piece`, `piece`).
+//! - Pieces: a piece of a document consists of the bytes that were read last, up to 131,071 bytes, and fewer only at the document's end
+//!   (`next_piece`, `piece`). Its last bytes that are not known to have been sent (`last_bytes`) are sent by one command of up to 65,536 bytes,
+//!   or by two (`parts_of`), and the reply to the piece follows from the replies to both (`joined_reply`).
+//! - Progress: the line has exactly the amount, the speed, and a bar if the length of the document is known (`progress_line`).
+//! - The live table: the mirror is told each line of a listing, in order (`tell`).
+//! - JSON: each object has exactly these members (`accepted_json`, `running_json`, `printing_json`, `unfit_json`, `news_json`, `put_field`).
 //! - System errors are reported by their kind (`lost_by`, `unwritten_by`, `unread`, `no_words`).
 //! - Moments: a relative moment counts from the time that the service reports, and so does the next time of a day. An absolute one is shifted
 //!   by the difference from the system's clock if that is more than two seconds (`second_of`, `until_day`, `shifted`, `moment_in`). A service that does not know `now` has the
@@ -63,8 +70,7 @@
 //!   piece it is that of its bytes, or of a document that cannot be read (`read_piece`). A submission is reported as accepted or
 //!   unprintable only if the end of the document was read (`submit`), for a reader that reports what is left. Files and standard input use
 //!   the same code.
-//! - Connections: a line from the service contains no line feed (`read_line`). A connection is closed after a fault (`exchange`) and after
-//!   an unclear reply (`after`), and the client knows whether a connection is open (`connect`, `is_connected`). A client changes only its
+//! - Connections: a connection is closed after a fault (`exchange`, `exchange_both`) and after an unclear reply (`after`), and the client knows whether a connection is open (`connect`, `is_connected`). A client changes only its
 //!   connection (`kept`).
 //! - `spool check`: `lead_to` returns whether filters convert from a type in the file of types, or from that of an unknown document, to a
 //!   printer's type (`leads`), by the least chain of `mime_costs`. `kinds_in` returns these types.
@@ -76,7 +82,7 @@
 //!
 //! - That the program sends what the decisions ask for, with the piece that was read last; that it passes them the reply that it received,
 //!   and no other; that it reports a lost connection as lost; and that the service executes each request completely or not at all. This was
-//!   read in the code. `tests/front.py` tests it with services that are simulated and killed, and refuses each allocation in turn.
+//!   read in the code. `tests/test_front.py` tests it with services that are simulated and killed, and refuses each allocation in turn.
 //! - What a file, a socket, the clock or the environment returns, and what is printed. So the contracts allow: a listing of the queues or
 //!   jobs of all services that is empty, fails at once, asks no service, or reports none of its faults (`show_lpstat`, `show_lpq`,
 //!   `write_page`); a `variable` that is never set; a wait that ends at once with another status; a status for several files, jobs or
@@ -84,7 +90,7 @@
 //!   request, or has another piece (`request`); a service that is never reachable (`is_connected`); jobs that are not inspected (`look`); a
 //!   queue that is refused although it exists (`queue_of`); a command with other text, or sent twice (`exchange`, `ask`); job lines that
 //!   are not read (`shown_in`); a proof that is not attempted, or attempted more than once, and a folder that is not made (`first_exchange`);
-//!   and a search of the jobs that uses neither question (`find`). `tests/front_roles.py` tests the proof with a simulated service.
+//!   and a search of the jobs that uses neither question (`find`). `tests/test_front_roles.py` tests the proof with a simulated service.
 //! - A command other than a submission that runs out of memory while reading its reply ends with 1, like a command that was not sent,
 //!   though it may have been executed.
 //!
@@ -122,14 +128,18 @@ mod draft;
 mod fault;
 mod files;
 mod host;
+mod json_lines;
+mod live_table;
 mod moments;
 mod output;
 mod printing;
 mod programs;
+mod progress;
 mod proving;
 mod reasons;
 mod replies;
 mod room;
+mod say;
 mod services;
 mod submit;
 mod tasks;
@@ -274,7 +284,7 @@ fn run_task(
         Task::Submit(asked) => printing::print_files(rt, services, asked, screen),
         Task::Status(asked) => tasks::show_status(rt, services, *asked, screen),
         Task::Queues { json } => tasks::show_queues(rt, services, *json, screen),
-        Task::Watch => tasks::watch(rt, services),
+        Task::Watch { json } => tasks::watch(rt, services, *json),
         Task::Jobs { act, jobs } => tasks::act_on_jobs(rt, services, *act, jobs.as_slice()),
         Task::Clear(asked) => canceling::clear(rt, services, asked),
         Task::Remove(asked) => canceling::remove_jobs(rt, services, asked),
@@ -283,11 +293,12 @@ fn run_task(
             tasks::switch_queues(rt, services, names.as_slice(), *act, *clears)
         }
         Task::Default { queue } => defaults::store_queue(rt, services, queue),
-        Task::ShowQueue { name } => tasks::show_queue(rt, services, name, screen),
+        Task::ShowQueue { name, json } => tasks::show_queue(rt, services, name, *json, screen),
         Task::Devices => Err(Fault::Words(
             "the service does not list devices; use `spool_shell --devices`",
         )),
-        Task::Check => check::check(rt, services),
+        Task::Check { json } => check::check(rt, services, *json),
+        Task::Say(asked) => say::say(rt, services, asked),
         Task::Page { file, follow } => web_page::write_page(rt, services, file, *follow),
         Task::Lpstat(asked) => cups_forms::show_lpstat(rt, services, asked),
         Task::Lpq(asked) => cups_forms::show_lpq(rt, services, asked),

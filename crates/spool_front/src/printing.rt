@@ -3,7 +3,7 @@ ghost use Rattle.std.specs.Prelude.{◌≡◌, IsTrue};
 ghost use Rattle.std.specs.Io.KnownBytes.{IsAtEnd};
 ghost use Rattle.spool_front.specs.JobDrafts.{IsLastPart};
 ghost use Rattle.spool_front.specs.ServiceReplies.{status_at};
-ghost use Rattle.spool_front.specs.Submissions.{is_refused, is_removed, was_closed};
+ghost use Rattle.spool_front.specs.Submissions.{is_refused, is_removed, told_of, was_closed};
 
 use crate::client::{Client, pause};
 use crate::commands::Draft;
@@ -11,6 +11,7 @@ use crate::document::Document;
 use crate::draft::draft_of;
 use crate::fault::{Fault, first_failure};
 use crate::host::Screen;
+use crate::json_lines::{accepted_json, print_json};
 use crate::moments::{Clocks, clocks_for_job};
 use crate::reasons::reason_of;
 use crate::services::{Services, client_at, queue_of};
@@ -36,6 +37,10 @@ pub fn print_files(
     asked: &Submission<'_>,
     screen: Screen,
 ) -> Result<u8, Fault> {
+    let screen = Screen {
+        shows: screen.shows && !asked.quiet,
+        width: screen.width,
+    };
     let (socket, queue) = queue_of(rt, services, asked.queue)?;
     let mut client = client_at(rt, services, socket);
     let status = print_all(rt, &mut client, asked, queue.as_str(), screen);
@@ -187,7 +192,7 @@ fn print_document<S: Read + Drop>(
 ) -> Result<u8, Fault> {
     let mut document = Document::new(rt.alloc(), source)?;
     let submitting = Submitting::new(rt, draft, size, screen);
-    let end = submit(rt, client, asked.quiet, submitting, &mut document);
+    let end = submit(rt, client, told_of(asked), submitting, &mut document);
     drop(document);
     match end {
         End::Accepted { job } if asked.wait => Ok(wait_for(rt, client, job, screen)),
@@ -195,11 +200,31 @@ fn print_document<S: Read + Drop>(
     }
 }
 
+// How an accepted job is reported.
+#[derive(Clone, Copy)]
+enum Told {
+    Nothing,
+    Json,
+    Text,
+}
+
+fn told_of(asked: &Submission<'_>) -> Told
+    ensures { result ≡ told_of asked.now.quiet asked.now.json }
+{
+    if asked.quiet {
+        Told::Nothing
+    } else if asked.json {
+        Told::Json
+    } else {
+        Told::Text
+    }
+}
+
 // Submits a document and reports the outcome.
 fn submit<S: Read + Drop>(
     rt: &HostRuntime,
     client: &mut Client<'_>,
-    quiet: bool,
+    told: Told,
     submitting: Submitting<'_>,
     document: &mut Document<S>,
 ) -> End
@@ -208,19 +233,16 @@ fn submit<S: Read + Drop>(
     let mut submitting = submitting;
     let end = submitting.submit(client, document);
     submitting.end_line();
-    report(rt, quiet, submitting.queue(), end, &submitting);
+    report(rt, told, submitting.queue(), end, &submitting);
     drop(submitting);
     end
 }
 
 // Reports the outcome of a submission. A report that cannot be written does not change the status.
-fn report(rt: &HostRuntime, quiet: bool, queue: &str, end: End, submitting: &Submitting<'_>) {
+fn report(rt: &HostRuntime, told: Told, queue: &str, end: End, submitting: &Submitting<'_>) {
     let queue = clean(queue);
     match end {
-        End::Accepted { .. } if quiet => {}
-        End::Accepted { job } => {
-            let _ = println!(rt; "request id is {queue}-{job} (1 file(s))");
-        }
+        End::Accepted { job } => report_accepted(rt, told, submitting.queue(), job),
         End::Unprintable { job } => {
             let _ = eprintln!(rt;
                 "spool: job {job} cannot be printed: no chain of filters converts it for {queue}"
@@ -234,6 +256,23 @@ fn report(rt: &HostRuntime, quiet: bool, queue: &str, end: End, submitting: &Sub
             cause,
             canceled,
         } => report_refused(rt, job, submitting.cause_text(cause), canceled),
+    }
+}
+
+fn report_accepted(rt: &HostRuntime, told: Told, queue: &str, job: u32) {
+    match told {
+        Told::Nothing => {}
+        Told::Json => {
+            if let Ok(object) = accepted_json(rt.alloc(), queue, job) {
+                let _ = print_json(rt, object);
+            }
+        }
+        Told::Text => {
+            let _ = println!(rt;
+                "request id is {queue}-{job} (1 file(s))",
+                queue = clean(queue)
+            );
+        }
     }
 }
 

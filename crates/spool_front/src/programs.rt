@@ -3,9 +3,9 @@
 use crate::fault::Fault;
 use crate::files::file_text;
 use crate::host::variable_or;
+use crate::json_lines::{print_json, unfit_json};
 use program_fitness::obstacle_of_program;
 use program_lists::{ListFault, ListedProgram, ProgramList};
-use std::io;
 
 // The environment variable that names the file, and the default file.
 const VARIABLE: &str = "SPOOL_PROGRAMS";
@@ -13,11 +13,11 @@ const VARIABLE: &str = "SPOOL_PROGRAMS";
 const USUAL_PROGRAMS: &str = "/etc/cegmandi/programs";
 
 /// Prints each program in the service's file that cannot be run. Returns whether all can be run.
-pub fn report_programs(rt: &HostRuntime) -> Result<bool, Fault> {
+pub fn report_programs(rt: &HostRuntime, json: bool) -> Result<bool, Fault> {
     let list = list_of_file(rt)?;
-    let all = report_list(rt, &list);
+    let all = report_list(rt, &list, json);
     drop(list);
-    Ok(all?)
+    all
 }
 
 fn list_of_file(rt: &HostRuntime) -> Result<ProgramList, Fault> {
@@ -29,18 +29,18 @@ fn list_of_file(rt: &HostRuntime) -> Result<ProgramList, Fault> {
     }
 }
 
-fn report_list(rt: &HostRuntime, list: &ProgramList) -> io::Result<bool> {
+fn report_list(rt: &HostRuntime, list: &ProgramList, json: bool) -> Result<bool, Fault> {
     let mut all = true;
     for filter in list.filters() {
-        let runs = report_program(rt, "filter", filter.name.as_str(), &filter.program)?;
+        let runs = report_program(rt, "filter", filter.name.as_str(), &filter.program, json)?;
         all = all && runs;
     }
     for backend in list.backends() {
-        let runs = report_program(rt, "backend", backend.name.as_str(), &backend.program)?;
+        let runs = report_program(rt, "backend", backend.name.as_str(), &backend.program, json)?;
         all = all && runs;
     }
     if let Some(side) = list.side() {
-        let runs = report_program(rt, "side", "program", side)?;
+        let runs = report_program(rt, "side", "program", side, json)?;
         all = all && runs;
     }
     Ok(all)
@@ -52,8 +52,14 @@ fn report_program(
     kind: &str,
     name: &str,
     program: &ListedProgram,
-) -> io::Result<bool> {
+    json: bool,
+) -> Result<bool, Fault> {
     match obstacle_of_program(rt, program) {
+        Some(obstacle) if json => {
+            let why = format!(in rt.alloc(); "{obstacle}")?;
+            print_json(rt, unfit_json(rt.alloc(), kind, name, why.as_str())?)?;
+            Ok(false)
+        }
         Some(obstacle) => {
             println!(rt; "{kind} {name} cannot be run: {obstacle}")?;
             Ok(false)

@@ -2,7 +2,7 @@
 ghost use Rattle.std.specs.Prelude.{◌≡◌};
 ghost use Rattle.spool_front.specs.Proofs.{is_left};
 
-use crate::client::{Answer, exchange, read_answer};
+use crate::client::Answer;
 use crate::connection::{Connection, ConnectionFault};
 use front_proof::{Caller, ProofPath, Step};
 use std::alloc::Global;
@@ -20,7 +20,7 @@ pub fn first_exchange(
     text: &[u8],
 ) -> Result<Answer, ConnectionFault> {
     let alloc = rt.alloc();
-    let offer = exchange(alloc, connection, b"i-am\n")?;
+    let offer = connection.exchange(alloc, b"i-am\n")?;
     if offer.is_busy() {
         return Ok(offer);
     }
@@ -31,7 +31,7 @@ pub fn first_exchange(
         step => {
             drop(step);
             connection.note_caller(Caller::Unproved);
-            exchange(alloc, connection, text)
+            connection.exchange(alloc, text)
         }
     }
 }
@@ -100,29 +100,29 @@ fn claim(
         remove_folder(rt, path.as_str());
     }
     drop(path);
-    connection.note_caller(claimed?);
-    read_answer(rt.alloc(), connection)
+    let (caller, answer) = claimed?;
+    connection.note_caller(caller);
+    Ok(answer)
 }
 
+// Sends `made` and the command together. Returns the identity of the client, and the reply to the command.
 fn send_claim(
     alloc: Global,
     connection: &mut Connection,
     text: &[u8],
-) -> Result<Caller, ConnectionFault> {
-    connection.send(b"made\n")?;
-    connection.send(text)?;
-    let answer = read_answer(alloc, connection)?;
-    let caller = Caller::from_reply(alloc, answer.last.as_bytes());
-    drop(answer);
-    Ok(caller?)
+) -> Result<(Caller, Answer), ConnectionFault> {
+    let (made, answer) = connection.exchange_both(alloc, b"made\n", text)?;
+    let caller = Caller::from_reply(alloc, made.last.as_bytes());
+    drop(made);
+    Ok((caller?, answer))
 }
 
 // Returns whether the folder is left: the service removes it only if it takes the proof.
-fn is_left(claimed: &Result<Caller, ConnectionFault>) -> bool
+fn is_left(claimed: &Result<(Caller, Answer), ConnectionFault>) -> bool
     ensures { result ≡ is_left claimed.now }
 {
     match claimed {
-        Ok(caller) => !caller.is_proved(),
+        Ok((caller, _)) => !caller.is_proved(),
         Err(_) => true,
     }
 }

@@ -1,5 +1,5 @@
 //! Submitting a document as exactly one job.
-ghost use Rattle.std.specs.Prelude.{◌≡◌, ◌<◌, ◌↔◌, ◌⊎◌, IfOk, IsSome, IsTrue, None, Some, cond, false, is_some, length, string_bytes};
+ghost use Rattle.std.specs.Prelude.{◌≡◌, ◌<◌, ◌↔◌, ◌⊎◌, IfOk, IsSome, IsTrue, None, Some, cond, drop, false, is_some, length, string_bytes, take};
 ghost use Rattle.std.specs.Io.KnownBytes.{IsAtEnd};
 ghost use Rattle.std.specs.Option.{option_map};
 ghost use Rattle.std.specs.Str.Iter.{HasSubslice};
@@ -8,24 +8,32 @@ ghost use Rattle.spool_front.specs.FoundJobs.{found_one, may_be_own, own_job, to
 ghost use Rattle.spool_front.specs.SentCommands.{job_user};
 ghost use Rattle.spool_front.specs.DocumentPieces.{piece_of};
 ghost use Rattle.spool_front.specs.ServiceReplies.{reply_in, shown_of};
-ghost use Rattle.spool_front.specs.Submissions.{IsAnswered, IsLooked, IsSupplied, cause_text, denied_text, is_refusal, refusal_text, lost_after, one_more, was_closed};
+ghost use Rattle.spool_front.specs.Submissions.{IsAnswered, IsLooked, IsSupplied, cause_text, denied_text, is_refusal, joined_reply, refusal_text, lost_after, one_more, was_closed};
+ghost use Rattle.front_submission.specs.Service.{First, Second, last_bytes, part_of};
 ghost use Rattle.front_submission.specs.SubmissionSteps.{deserted, heard, lost, unread};
 ghost use Rattle.front_submission.specs.declared.step.Step.{Step};
 
 use crate::client::{Answer, Client, pause};
-use crate::commands::{
-    Draft, close_line, create_line, find_line, hold_line, job_line, job_user, send_line,
-};
+use crate::commands::{Draft, close_line, create_line, find_line, hold_line, job_line, job_user};
 use crate::connection::ConnectionFault;
 use crate::document::Document;
 use crate::host::Screen;
+use crate::progress::progress_line;
 use crate::replies::{has_reason, reply_in, shown_of};
 use crate::room::lacking_text;
 use front_proof::Caller;
 use front_submission::{Cause, End, Found, Own, Reply, Request, Shown, Step};
 use front_texts::{JobLine, JobShown, read_job_line, read_job_shown};
+use service_client::send_text;
 use std::alloc::{AllocError, Global};
 use std::io::Read;
+use std::time::Instant;
+
+// The greatest length of the first of two commands that send a piece, in bytes.
+const MOST_SENT: usize = 65_536;
+
+// The time after which the progress is shown, in milliseconds.
+const LONG: u64 = 300;
 
 const NO_JOBS: Found = Found {
     own: None,
@@ -46,6 +54,8 @@ pub struct Submitting<'a> {
     memory: bool,
     // The number of replies that were lost or unclear since the document last made progress.
     lost: u64,
+    // When the submission began, if the clock can be read.
+    started: Option<Instant>,
 }
 
 impl<'a> Submitting<'a> {
@@ -70,6 +80,7 @@ impl<'a> Submitting<'a> {
             refusal: None,
             memory: false,
             lost: 0,
+            started: Instant::now(rt).ok(),
         }
     }
 
@@ -124,20 +135,43 @@ impl<'a> Submitting<'a> {
         self.draft.queue.as_str()
     }
 
-    /// Ends the line that shows the progress.
+    /// Removes the line that shows the progress.
     pub fn end_line(&self) {
         if self.screen.shows {
-            let _ = eprint!(self.rt; "\r");
+            let _ = eprint!(self.rt; "\r\u{1b}[K");
+        }
+    }
+
+    // Shows how much was sent, unless the submission has just begun.
+    fn show_progress(&self, sent: u64) {
+        let millis = self.millis();
+        if !self.screen.shows || millis < LONG {
+            return;
+        }
+        if let Ok(line) = progress_line(self.rt.alloc(), sent, self.size, millis) {
+            let _ = eprint!(self.rt; "\r{line}\u{1b}[K");
+        }
+    }
+
+    // Returns the milliseconds since the submission began.
+    fn millis(&self) -> u64 {
+        let Some(started) = self.started else {
+            return 0;
+        };
+        match started.elapsed(self.rt) {
+            Ok(passed) => {
+                let seconds = passed.as_secs().saturating_mul(1_000);
+                seconds.saturating_add(u64::from(passed.subsec_millis()))
+            }
+            Err(_) => 0,
         }
     }
 
     fn read_piece<S: Read + Drop>(&self, step: Step, document: &mut Document<S>, size: u64) -> Step
         ensures step { IsSupplied step (length (piece_of document.new)) (is_some self.now.draft.now.hold) result }
-        ensures end { length (piece_of document.new) < 65536 → (result ≡ unread step) ⊎ IsAtEnd (S.remaining document.new.source) }
+        ensures end { length (piece_of document.new) < 131071 → (result ≡ unread step) ⊎ IsAtEnd (S.remaining document.new.source) }
     {
-        if self.screen.shows {
-            let _ = eprint!(self.rt; "\rspool: {size} bytes sent ");
-        }
+        self.show_progress(size);
         match document.next_piece() {
             Ok(piece) => step.supplied(piece, self.draft.hold.is_some()),
             Err(_) => step.unread(),
@@ -222,7 +256,11 @@ impl<'a> Submitting<'a> {
             Request::Find => self.find(client),
             Request::Show { job } => self.show(client, job),
             Request::Create => self.create(client),
-            Request::Send { job, .. } => self.order(client, &send_line(alloc, job, piece)?),
+            Request::Send {
+                job,
+                piece: count,
+                ..
+            } => self.send(client, job, last_bytes(piece, count)),
             Request::Close { job } => self.order(client, &close_line(alloc, job, self.draft)?),
             Request::Cancel { job } => self.cancel(client, job),
             Request::Hold { job } => match self.draft.hold {
@@ -267,6 +305,26 @@ impl<'a> Submitting<'a> {
         self.order(client, &line)
     }
 
+    // Sends a piece. If it is long, two commands are sent together.
+    fn send(
+        &mut self,
+        client: &mut Client<'_>,
+        job: u32,
+        piece: &[u8],
+    ) -> Result<Reply, ConnectionFault> {
+        let alloc = self.rt.alloc();
+        let (first, second) = parts_of(piece);
+        let line = send_text(alloc, job, first)?;
+        if second.is_empty() {
+            return self.order(client, &line);
+        }
+        let last = send_text(alloc, job, second)?;
+        let (first, second) = client.exchange_both(&line, &last)?;
+        let first = self.reply_of(first);
+        let second = self.reply_of(second);
+        Ok(joined_reply(first, second))
+    }
+
     // Cancels the job. A refusal of `cancel` is not stored, since the message reports that of the document.
     fn cancel(&mut self, client: &mut Client<'_>, job: u32) -> Result<Reply, ConnectionFault> {
         let line = job_line(self.rt.alloc(), "cancel", job)?;
@@ -284,10 +342,7 @@ impl<'a> Submitting<'a> {
         ensures refusal { self.new ≡ record self.old { refusal = cond (is_refusal result) (Some answer.last) self.old.refusal } }
     {
         let reply = reply_in(answer.last.as_str());
-        if matches!(
-            reply,
-            Reply::Denied | Reply::NotIncoming | Reply::Later | Reply::Gone
-        ) {
+        if is_refusal(reply) {
             self.refusal = Some(answer.last);
         }
         reply
@@ -405,6 +460,50 @@ impl<'a> Submitting<'a> {
             Err(reply) => Ok(Err(reply)),
         }
     }
+}
+
+// Returns the last bytes of a piece, of this number.
+fn last_bytes(piece: &[u8], count: u32) -> &[u8]
+    ensures { result.now ≡ last_bytes count piece.now }
+{
+    &piece[piece.len().saturating_sub(count as usize)..]
+}
+
+// Returns the bytes of the two commands that send a piece. The second one has no bytes if the first one has all.
+fn parts_of(piece: &[u8]) -> (&[u8], &[u8])
+    ensures first { result.0.now ≡ part_of First piece.now }
+    ensures second { result.1.now ≡ part_of Second piece.now }
+{
+    parts_at(piece, MOST_SENT)
+}
+
+// Returns at most this number of bytes, and the others.
+#[tactic(auto, using(std::proofs::lemmas::List::take_all, std::proofs::lemmas::List::drop_all))]
+fn parts_at(piece: &[u8], most: usize) -> (&[u8], &[u8])
+    ensures first { result.0.now ≡ take most piece.now }
+    ensures second { result.1.now ≡ drop most piece.now }
+{
+    if piece.len() <= most {
+        return (piece, &[]);
+    }
+    piece.split_at(most)
+}
+
+// Returns the reply to a piece from the replies to its two commands. Only if the second command was refused, the first one decides: the other
+// replies state the size after both commands, or leave it unknown.
+fn joined_reply(first: Reply, second: Reply) -> Reply
+    ensures { result ≡ joined_reply first second }
+{
+    if is_refusal(second) { first } else { second }
+}
+
+fn is_refusal(reply: Reply) -> bool
+    ensures { result ≡ is_refusal reply }
+{
+    matches!(
+        reply,
+        Reply::Denied | Reply::NotIncoming | Reply::Later | Reply::Gone
+    )
 }
 
 // Returns the number of the job in a row if it is incoming and has the draft's queue and this owner.

@@ -10,16 +10,17 @@ use crate::commands::{Until, hold_line, info_line, job_line, name_line, queue_li
 use crate::denials::{explain_job, explain_queue};
 use crate::fault::{Fault, first_failure};
 use crate::host::Screen;
+use crate::json_lines::{fields_json, news_json, print_json};
+use crate::live_table::watch_jobs;
 use crate::moments::{Clocks, clocks_for_act};
 use crate::output::print_lines;
 use crate::services::{Services, all_jobs, all_queues, client_at, only_socket, socket_of};
 use clean_texts::clean_bytes;
 use front_texts::{
-    JobLine, JobShown, QueueLine, job_page, job_shown_json, jobs_json, jobs_table, json_text,
-    queue_page, queues_json, queues_table,
+    JobLine, JobShown, QueueLine, job_page, job_shown_json, jobs_json, jobs_table, queue_page,
+    queues_json, queues_table,
 };
 use front_words::{JobAct, QueueAct, Status};
-use serde_json::Value;
 use std::alloc::{AllocError, Global};
 
 /// Shows one job, the jobs of a queue, or all jobs.
@@ -34,6 +35,9 @@ pub fn show_status(
     if let Some(job) = asked.job {
         return show_job(rt, services, job, asked.json, screen);
     }
+    if asked.watch {
+        return watch_jobs(rt, services, asked, screen);
+    }
     let mut jobs = all_jobs(rt, services)?;
     keep_of(&mut jobs, asked.queue);
     let shown = print_jobs(rt, &jobs, asked.json, screen);
@@ -42,7 +46,13 @@ pub fn show_status(
     Ok(0)
 }
 
-fn print_jobs(rt: &HostRuntime, jobs: &[JobLine], json: bool, screen: Screen) -> Result<(), Fault> {
+/// Prints jobs as a table or as JSON.
+pub fn print_jobs(
+    rt: &HostRuntime,
+    jobs: &[JobLine],
+    json: bool,
+    screen: Screen,
+) -> Result<(), Fault> {
     let alloc = rt.alloc();
     if json {
         return print_json(rt, jobs_json(alloc, jobs)?);
@@ -51,16 +61,8 @@ fn print_jobs(rt: &HostRuntime, jobs: &[JobLine], json: bool, screen: Screen) ->
     Ok(())
 }
 
-fn print_json(rt: &HostRuntime, value: Value) -> Result<(), Fault> {
-    let text = json_text(rt.alloc(), &value);
-    drop(value);
-    let text = text?;
-    println!(rt; "{text}")?;
-    Ok(())
-}
-
-// Retains the jobs of the queue, or all if no queue is named.
-fn keep_of(jobs: &mut Vec<JobLine>, queue: Option<&str>)
+/// Retains the jobs of the queue, or all if no queue is named.
+pub fn keep_of(jobs: &mut Vec<JobLine>, queue: Option<&str>)
     ensures { jobs.new.items ≡ filter (is_of (option_map (λ name. name.now) queue.entry)) jobs.old.items }
 {
     jobs.retain(|job| is_of(queue, job));
@@ -196,13 +198,14 @@ pub fn show_queue(
     rt: &HostRuntime,
     services: Services<'_, '_>,
     name: &str,
+    json: bool,
     screen: Screen,
 ) -> Result<u8, Fault>
     ensures { IfOk result (λ status. status ≡ 0) }
 {
     let socket = socket_of(rt, services, name)?;
     let mut client = client_at(rt, services, socket);
-    let shown = show_queue_of(rt, &mut client, name, screen);
+    let shown = show_queue_of(rt, &mut client, name, json, screen);
     drop(client);
     shown?;
     Ok(0)
@@ -212,18 +215,27 @@ fn show_queue_of(
     rt: &HostRuntime,
     client: &mut Client<'_>,
     name: &str,
+    json: bool,
     screen: Screen,
 ) -> Result<(), Fault> {
     let Some(answer) = client.queue(name)? else {
-        return show_row(rt, client, name, screen);
+        return show_row(rt, client, name, json, screen);
     };
-    let printed = print_fields(rt, &answer, screen);
+    let printed = print_fields(rt, &answer, json, screen);
     drop(answer);
     printed
 }
 
-fn print_fields(rt: &HostRuntime, answer: &Answer, screen: Screen) -> Result<(), Fault> {
+fn print_fields(
+    rt: &HostRuntime,
+    answer: &Answer,
+    json: bool,
+    screen: Screen,
+) -> Result<(), Fault> {
     let alloc = rt.alloc();
+    if json {
+        return print_json(rt, fields_json(alloc, answer.rows.as_slice())?);
+    }
     print_lines(
         rt,
         &queue_page(alloc, answer.rows.as_slice(), screen.width.max(1))?,
@@ -236,6 +248,7 @@ fn show_row(
     rt: &HostRuntime,
     client: &mut Client<'_>,
     name: &str,
+    json: bool,
     screen: Screen,
 ) -> Result<(), Fault> {
     let mut queues = client.queues()?;
@@ -243,30 +256,49 @@ fn show_row(
     let shown = if queues.is_empty() {
         Err(Fault::Words("no such queue"))
     } else {
-        print_queues(rt, &queues, false, screen)
+        print_queues(rt, &queues, json, screen)
     };
     drop(queues);
     shown
 }
 
-/// Prints each line that the service sends about a change, clean, until the connection is lost.
-pub fn watch(rt: &HostRuntime, services: Services<'_, '_>) -> Result<u8, Fault>
+/// Prints each line that the service sends about a change, clean or as JSON, until the connection is lost.
+pub fn watch(rt: &HostRuntime, services: Services<'_, '_>, json: bool) -> Result<u8, Fault>
     ensures { IfOk result (λ status. status ≡ 0) }
 {
     let mut client = client_at(rt, services, only_socket(services)?);
-    let ended = watch_by(rt, &mut client);
+    let ended = watch_by(rt, &mut client, json);
     drop(client);
     ended?;
     Ok(0)
 }
 
-fn watch_by(rt: &HostRuntime, client: &mut Client<'_>) -> Result<(), Fault> {
+fn watch_by(rt: &HostRuntime, client: &mut Client<'_>, json: bool) -> Result<(), Fault> {
     drop(client.ask(b"watch\n")?);
     for _ in 0..u64::MAX {
-        let line = client.read_line()?;
-        let shown = clean_bytes(rt.alloc(), line.as_slice())?;
-        println!(rt; "{shown}")?;
+        let lines = client.receive_lines()?;
+        let printed = print_news(rt, &lines, json);
+        drop(lines);
+        printed?;
     }
+    Ok(())
+}
+
+fn print_news(rt: &HostRuntime, lines: &[Vec<u8>], json: bool) -> Result<(), Fault> {
+    for line in lines {
+        if json {
+            print_json(rt, news_json(rt.alloc(), line.as_slice())?)?;
+        } else {
+            print_clean(rt, line.as_slice())?;
+        }
+    }
+    Ok(())
+}
+
+/// Prints a line of the service, clean.
+pub fn print_clean(rt: &HostRuntime, line: &[u8]) -> Result<(), Fault> {
+    let shown = clean_bytes(rt.alloc(), line)?;
+    println!(rt; "{shown}")?;
     Ok(())
 }
 

@@ -58,6 +58,9 @@ returns-in-Check c = rw c.in-Check.is refl
 pub returns-in-Page : goal.returns-in-Page
 returns-in-Page c = rw c.in-Page.is refl
 
+pub returns-in-Say : goal.returns-in-Say
+returns-in-Say c = rw c.in-Say.is refl
+
 pub returns-in-Lp : goal.returns-in-Lp
 returns-in-Lp c = rw c.in-Lp.is refl
 

@@ -1,0 +1,7 @@
+pub mod Streams
+pub mod Orders
+pub mod Growth
+pub mod DocumentLaws
+pub mod RowLaws
+pub mod ReplyLaws
+pub mod ExchangeLaws

@@ -1,0 +1,11 @@
+pub mod Lines
+pub mod Replies
+pub mod HeldBytes
+pub mod Pipelines
+pub mod PipelineRuns
+pub mod Traces
+pub mod Faults
+pub mod Notices
+pub mod NoticeWords
+pub mod Mirrors
+pub mod DocumentSends
