@@ -1,5 +1,5 @@
 -- Examples of a device's bytes: entries of a journal, and the areas of a spool.
-use Rattle.std.specs.Prelude.{◌≡◌, ℕ, ◌+◌, true, false, List, [], ◌∷◌, ◌++◌, map, codes, nat_lt, Ok, Err}
+use Rattle.std.specs.Prelude.{◌≡◌, ℕ, ◌+◌, true, false, List, [], ◌∷◌, ◌++◌, map, codes, nat_lt, Ok, Err, None}
 use Rattle.spool_disk.specs.Disk.{overwritten}
 use Rattle.gate_journal.specs.declared.entry.Found.TheVariants.{Entry, End, Damaged}
 use Rattle.gate_journal.specs.FoundEntries.{entry_at}
@@ -83,7 +83,7 @@ HeaderFaultRows = map current_area (
 
 -- A spool at this epoch with this current area. Its disk does not matter.
 abbrev pub areas_at : ℕ → ℕ → ℕ → Current ℕ
-areas_at base end epoch = record { disk = 0; base = base; end = end; epoch = epoch; version = 2; gate = base + 16; dead = false }
+areas_at base end epoch = record { disk = 0; base = base; end = end; epoch = epoch; version = 2; gate = base + 16; held = None; dead = false }
 
 -- In an area of 131 bytes the rows leave room for one Reopen, in one of 130 they do not. Then the place of the rows, in both areas in turn.
 abbrev pub PlanRows : Type 0

@@ -1,23 +1,11 @@
-//! Tests of the crates that read texts and streams: words, lines, files of rules, URIs, options, programs, commands and
-//! packets.
+//! Tests of the crates that read device URIs, device lines and packets.
 //!
-//! Each public function that allocates memory is called with enough memory. Readers and writers are slow, fail, and
-//! stop at any byte. The meaning of the texts is shown by the examples of `text_examples`.
+//! Each public function that allocates memory is called with enough memory, and its answer is compared. The meaning of the texts is shown
+//! by the examples of `text_examples`. The stored scripts call all other functions that read texts: words, lines, commands, replies, files
+//! of rules and of conversions, and standard error.
 #![tactic(auto)]
 
 #[cfg(test)]
-mod commands;
-#[cfg(test)]
-mod files;
-#[cfg(test)]
-mod reports;
-#[cfg(test)]
 mod sessions;
 #[cfg(test)]
-mod slow;
-#[cfg(test)]
 mod uris;
-#[cfg(test)]
-mod walks;
-#[cfg(test)]
-mod words;

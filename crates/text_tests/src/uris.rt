@@ -1,43 +1,9 @@
 //! Tests of device URIs, their options, and the lines that backends print for devices.
-use device_options::{last_value, options_or_none};
 use device_uri::{
     DeviceLine, DeviceOption, DeviceUri, Field, LineFault, OptionsFault, UriFault, read_device_line,
 };
 use std::alloc::{AllocError, Global};
 use std::test::Fail;
-
-// Adds a piece `count` times.
-fn push_times(text: &mut String, piece: &str, count: usize) -> Result<(), AllocError> {
-    for _ in 0..count {
-        text.push_str(piece)?;
-    }
-    Ok(())
-}
-
-fn push_padded(
-    text: &mut String,
-    front: &str,
-    piece: &str,
-    count: usize,
-    end: &str,
-) -> Result<(), AllocError> {
-    text.push_str(front)?;
-    push_times(text, piece, count)?;
-    text.push_str(end)
-}
-
-// Returns a front, a piece `count` times, and an end.
-fn padded(
-    alloc: Global,
-    front: &str,
-    piece: &str,
-    count: usize,
-    end: &str,
-) -> Result<String, AllocError> {
-    let mut text = String::new(alloc);
-    push_padded(&mut text, front, piece, count, end)?;
-    Ok(text)
-}
 
 // Adds an option after a vertical bar.
 fn push_option(text: &mut String, option: &DeviceOption) -> Result<(), AllocError> {
@@ -124,69 +90,6 @@ fn a_uri_keeps_its_text(rt: HostRuntime) -> Result<(), Fail> {
     Ok(())
 }
 
-// Returns the length of the text that is shown for a URI with a piece `count` times: `bad uri`, or a path and options.
-fn shown_len(alloc: Global, front: &str, piece: &str, count: usize) -> Result<usize, AllocError> {
-    let uri = padded(alloc, front, piece, count, "")?;
-    Ok(shown(alloc, uri.as_str())?.len())
-}
-
-#[test]
-fn a_uri_has_at_most_1023_bytes_and_64_options(rt: HostRuntime) -> Result<(), Fail> {
-    assert!(rt; shown_len(rt.alloc(), "usb:/", "x", 1_018)? == 1_023);
-    assert!(rt; shown_len(rt.alloc(), "usb:/", "x", 1_019)? == 7);
-    assert!(rt; shown_len(rt.alloc(), "usb:/x?", "&a=1", 64)? == 262);
-    assert!(rt; shown_len(rt.alloc(), "usb:/x?", "&a=1", 65)? == 17);
-    Ok(())
-}
-
-// Returns the options that a backend takes from a URI.
-fn options_of(alloc: Global, text: &str) -> Result<Vec<DeviceOption>, Fail> {
-    let uri = DeviceUri::parse(alloc, text)?;
-    Ok(options_or_none(alloc, &uri)?)
-}
-
-// Returns whether there are `count` options, and the last one of this name has this value. A hyphen represents no
-// value.
-fn has_last(alloc: Global, uri: &str, name: &str, count: usize, want: &str) -> Result<bool, Fail> {
-    let options = options_of(alloc, uri)?;
-    Ok(options.len() == count && last_value(&options, name).unwrap_or("-") == want)
-}
-
-// A URI, the number of its options, and the last value of `exit`.
-const LAST: [(&str, usize, &str); 6] = [
-    ("spoolfile:/out?exit=6", 1, "6"),
-    ("spoolfile:/out?exit=6&turns=2&exit=7", 3, "7"),
-    ("spoolfile:/out?exit=6&exit=", 2, ""),
-    ("spoolfile:/out?EXIT=6&exits=7", 2, "-"),
-    ("spoolfile:/out", 0, "-"),
-    ("spoolfile:/out?exit=6&=7", 0, "-"),
-];
-
-// The same for a URI with this number of options.
-fn has_last_of(alloc: Global, pieces: usize, count: usize, want: &str) -> Result<bool, Fail> {
-    let uri = padded(alloc, "usb:/x?", "&a=1", pieces, "")?;
-    has_last(alloc, uri.as_str(), "a", count, want)
-}
-
-#[test]
-fn the_last_value_counts(rt: HostRuntime) -> Result<(), Fail> {
-    for (uri, count, want) in LAST {
-        assert!(rt; has_last(rt.alloc(), uri, "exit", count, want)?, "{uri}");
-    }
-    assert!(rt;
-        has_last(
-            rt.alloc(),
-            "spoolfile:/out?id=MFG%3AX%3B",
-            "id",
-            1,
-            "MFG:X;"
-        )?
-    );
-    assert!(rt; has_last_of(rt.alloc(), 64, 64, "1")?);
-    assert!(rt; has_last_of(rt.alloc(), 65, 0, "-")?);
-    Ok(())
-}
-
 // Adds a field after a vertical bar, or a hyphen if it is missing.
 fn push_field(text: &mut Vec<u8>, field: Option<&Field>) -> Result<(), AllocError> {
     text.push(b'|')?;
@@ -266,18 +169,10 @@ const LINES: [(&str, &str); 21] = [
     ("direct usb:/x \"A\" \"B\" \"C\" \"D\" \"E\"", "bad"),
 ];
 
-// Returns whether a line with a field of this number of bytes is a device line.
-fn is_line_of(alloc: Global, count: usize) -> Result<bool, AllocError> {
-    let line = padded(alloc, "direct usb:/x \"A\" \"", "\\\"", count, "\"")?;
-    Ok(fields_shown(alloc, line.as_str())?.as_slice() != b"bad".as_slice())
-}
-
 #[test]
 fn device_lines_have_four_to_six_fields(rt: HostRuntime) -> Result<(), Fail> {
     for (line, want) in LINES {
         assert!(rt; has_fields(rt.alloc(), line, want)?, "{line}");
     }
-    assert!(rt; is_line_of(rt.alloc(), 1_023)?);
-    assert!(rt; !is_line_of(rt.alloc(), 1_024)?);
     Ok(())
 }
