@@ -14,7 +14,7 @@ sed "s|@libdir@/cegmandi/spool_tools|$spool_tools|" "$here/programs" > "$folder/
     --programs "$folder/programs" --children 6 --quiet &
 service=$!
 socket=$folder/spool/spool.sock
-sed "s|DEVICE|spoolfile:$folder|" "$here/queues.spool" | "$here/say.py" "$socket"
-"$here/say.py" "$socket" < "$here/letters.spool"
-"$here/say.py" --until-end "$socket" shutdown
+sed "s|DEVICE|spoolfile:$folder|" "$here/queues.spool" | "$spool" say --socket "$socket"
+"$spool" say --socket "$socket" < "$here/letters.spool"
+"$spool" say --until-end --socket "$socket" shutdown
 wait "$service"
