@@ -16,8 +16,7 @@ import sys
 import tempfile
 import time
 
-here = os.path.dirname(os.path.abspath(__file__))
-shell = os.path.join(here, "..", "crates", "spool_shell", "out", "spool_shell")
+from harness.programs import SHELL
 
 CLOSES = 500
 CHAIN = 15
@@ -63,7 +62,7 @@ def seconds(folder, convs, closes):
     for _ in range(3):
         start = time.perf_counter()
         run = subprocess.run(
-            [shell, "--types", "types", "--convs", "convs"], cwd=folder, input=script(closes), stdout=subprocess.PIPE, check=True
+            [SHELL, "--types", "types", "--convs", "convs"], cwd=folder, input=script(closes), stdout=subprocess.PIPE, check=True
         )
         took = time.perf_counter() - start
         best = took if best is None else min(best, took)
@@ -75,7 +74,7 @@ def seconds(folder, convs, closes):
 
 
 def main():
-    if not os.path.exists(shell):
+    if not os.path.exists(SHELL):
         sys.exit("no program: run `rt run` in crates/spool_shell first")
     with tempfile.TemporaryDirectory() as folder:
         with open(os.path.join(folder, "types"), "w") as file:

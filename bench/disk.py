@@ -18,10 +18,10 @@ import sys
 import tempfile
 import time
 
-from opening import rows, spool
+from harness.programs import SHELL
+from harness.written_spools import rows, spool
 
 here = os.path.dirname(os.path.abspath(__file__))
-shell = os.path.join(here, "..", "crates", "spool_shell", "out", "spool_shell")
 
 QUEUE = b"queue lab spoolfile:/out application/octet-stream abort-job\n"
 CREATE = b'create lab ann "A title" 1 50 ""\n'
@@ -42,7 +42,7 @@ def run(root, script, *words):
         os.fsync(file.fileno())
         file.seek(0)
         start = time.perf_counter()
-        done = subprocess.run([shell, "--root", ".", *words], cwd=root, stdin=file, stdout=subprocess.PIPE, check=True)
+        done = subprocess.run([SHELL, "--root", ".", *words], cwd=root, stdin=file, stdout=subprocess.PIPE, check=True)
         took = time.perf_counter() - start
     if b"error" in done.stdout:
         sys.exit("a reply was an error")
@@ -137,7 +137,7 @@ def checkpoints(folder):
 
 
 def main():
-    if not os.path.exists(shell):
+    if not os.path.exists(SHELL):
         sys.exit("no program: run `rt run` in crates/spool_shell first")
     with tempfile.TemporaryDirectory(dir=sys.argv[1] if len(sys.argv) > 1 else ".") as folder:
         events(folder)

@@ -14,11 +14,10 @@ import os
 import sys
 import time
 
-here = os.path.dirname(os.path.abspath(__file__))
-sys.path.insert(0, os.path.join(here, "..", "tests"))
-
-from opening import rows, spool
-from service_parts import BUILT, Client, Folder, same, until
+from harness.checks import same, until
+from harness.programs import SERVICE
+from harness.service import Client, Folder
+from harness.written_spools import rows, spool
 
 COUNTS = (10, 1_000, 100_000, 1_000_000)
 TURNS = 10
@@ -77,7 +76,7 @@ def measured(count):
 
 
 def main():
-    Folder.service = os.path.abspath(sys.argv[1]) if len(sys.argv) > 1 else BUILT
+    Folder.service = os.path.abspath(sys.argv[1]) if len(sys.argv) > 1 else SERVICE
     if not os.path.exists(Folder.service):
         sys.exit("no program: run `rt run` in crates/spool_service first")
     first = None

@@ -5,20 +5,25 @@ It runs crates/ipp_codec_tests/out/ipp_codec_tests (built by `rt run` in that cr
 200 attributes: those that cupsd(8) answered, in `data` of that crate, and some of them again under other names. It prints how many such
 answers are decoded and encoded a second of processor time, and the octets. The time of a run with one call is subtracted.
 
-The aim is 100,000 a second. Decoding misses it by far, and encoding by half: the answer has 1,227 values, and `decode` examines each of its
-819 names and texts and copies it to memory of its own. Times depend on the machine. No test checks them.
+In the same run libcups (Debian's package libcups2-dev) reads and writes the answer, and a plain program does so with one copy of each name
+and text and no tests, as a floor (ipp_messages.c). Each mode is run in turn with the others, so that other programs on the machine slow
+all of them down alike. The ratios say how much faster than the program the others are.
+
+The aim is 100,000 a second. The answer has 1,227 values, and `decode` examines each of its 819 names and texts and copies it to memory of
+its own, which the floor does too. Times depend on the machine. No test checks them.
 """
 import os
 import resource
 import subprocess
 import sys
+import tempfile
 
 here = os.path.dirname(os.path.abspath(__file__))
 CRATE = os.path.join(here, "..", "crates", "ipp_codec_tests")
 PROGRAM = os.path.join(CRATE, "out", "ipp_codec_tests")
 
 ATTRIBUTES = 200
-CALLS = 20_000
+CALLS = 5_000
 
 
 def field(octets, at):
@@ -59,24 +64,47 @@ def answer():
 
 
 def seconds(program, mode, calls, octets):
-    """The shortest processor time of three runs."""
-    times = []
-    for _ in range(3):
-        before = resource.getrusage(resource.RUSAGE_CHILDREN)
-        subprocess.run([program, mode, str(calls)], input=octets, check=True)
-        after = resource.getrusage(resource.RUSAGE_CHILDREN)
-        times.append(after.ru_utime - before.ru_utime + after.ru_stime - before.ru_stime)
-    return min(times)
+    """The processor time of a run."""
+    before = resource.getrusage(resource.RUSAGE_CHILDREN)
+    subprocess.run([program, mode, str(calls)], input=octets, check=True)
+    after = resource.getrusage(resource.RUSAGE_CHILDREN)
+    return after.ru_utime - before.ru_utime + after.ru_stime - before.ru_stime
+
+
+def compared(folder):
+    """The program of ipp_messages.c, if libcups and its header are installed."""
+    program = os.path.join(folder, "ipp_messages")
+    words = ["cc", "-O2", "-o", program, os.path.join(here, "ipp_messages.c"), "-lcups"]
+    built = subprocess.run(words, stderr=subprocess.DEVNULL, check=False)
+    return program if built.returncode == 0 else None
+
+
+def rates(runs, octets):
+    """For each name the calls a second: the best of five turns, without the time of one call."""
+    best = {}
+    for _ in range(5):
+        for name, (program, mode) in runs.items():
+            took = seconds(program, mode, CALLS, octets) - seconds(program, mode, 1, octets)
+            best[name] = max(best.get(name, 0), CALLS / took)
+    return best
 
 
 def main():
     program = sys.argv[1] if sys.argv[1:] else PROGRAM
     octets = answer()
     print(f"an answer of {ATTRIBUTES} attributes, {len(octets)} octets")
-    for mode in ("decode", "encode"):
-        took = seconds(program, mode, CALLS, octets) - seconds(program, mode, 1, octets)
-        rate = CALLS / took
-        print(f"{mode}: {rate:,.0f} a second, {rate * len(octets) / 1e6:,.0f} MB a second")
+    with tempfile.TemporaryDirectory() as folder:
+        other = compared(folder)
+        if other is None:
+            print("libcups and the floor are left out: cc, or the package libcups2-dev, is missing")
+        for mode, cups in (("decode", "read"), ("encode", "write")):
+            runs = {mode: (program, mode)}
+            if other:
+                runs |= {"libcups": (other, cups), "floor": (other, mode)}
+            best = rates(runs, octets)
+            for name, rate in best.items():
+                label = f"{mode}: {rate:,.0f} a second, {rate * len(octets) / 1e6:,.0f} MB a second"
+                print(label if name == mode else f"  {name}: {rate:,.0f} a second, {rate / best[mode]:.2f} times as many")
 
 
 if __name__ == "__main__":

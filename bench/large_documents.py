@@ -15,7 +15,9 @@ import sys
 import tempfile
 import time
 
-from printing import PIECE, Spooler, shell
+from harness.programs import SHELL
+from harness.service import PIECE
+from printing import Spooler
 
 DOCUMENT = 16_777_216
 SIZE = 1 << 29
@@ -136,7 +138,7 @@ def closes(room, nothing):
 
 
 def main():
-    if not os.path.exists(shell):
+    if not os.path.exists(SHELL):
         sys.exit("no program: run `rt run` in crates/spool_shell first")
     folder = sys.argv[1] if len(sys.argv) > 1 else os.path.dirname(os.path.abspath(__file__))
     with tempfile.TemporaryDirectory(dir=os.path.abspath(folder)) as room:

@@ -11,7 +11,7 @@ on average, most of them in office hours, and prints them in turn. The script ru
 - A spool's host fails once in ten days on average. Then the spool opens on another host after the seconds of a failover. If a submission
   was not acknowledged by then, its client submits it again. Attempts in progress are lost, and the policy `retry-current-job` repeats them,
   so their printed pages are printed twice.
-- The contracts promise that no acknowledged job is lost, and tests/failover.py checks it. This script assumes it, and counts the jobs by
+- The contracts promise that no acknowledged job is lost, and tests/test_failover.py checks it. This script assumes it, and counts the jobs by
   applying the rules above.
 
 It prints how many jobs were acknowledged, lost, printed, printed twice and are waiting at the end, how long jobs waited, and for how much

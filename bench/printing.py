@@ -25,8 +25,9 @@ import sys
 import tempfile
 import time
 
+from harness.programs import SHELL
+
 here = os.path.dirname(os.path.abspath(__file__))
-shell = os.path.join(here, "..", "crates", "spool_shell", "out", "spool_shell")
 PROGRAM = "/bin/true"
 JOBS = 800
 PART = 40  # jobs that are printed at once, between two runs of the floors
@@ -42,7 +43,7 @@ class Spooler:
         listed = folder + ".programs"
         with open(listed, "w") as file:
             file.write(programs)
-        words = [shell, "--root", ".", "--size", str(size), "--programs", listed, *more]
+        words = [SHELL, "--root", ".", "--size", str(size), "--programs", listed, *more]
         self.running = subprocess.Popen(words, cwd=folder, stdin=subprocess.PIPE, stdout=subprocess.PIPE)
 
     def ask(self, command):
@@ -164,7 +165,7 @@ def memory(room):
 
 
 def main():
-    if not os.path.exists(shell):
+    if not os.path.exists(SHELL):
         sys.exit("no program: run `rt run` in crates/spool_shell first")
     with tempfile.TemporaryDirectory(dir=sys.argv[1] if len(sys.argv) > 1 else here) as room:
         rates(room)

@@ -11,8 +11,9 @@ import subprocess
 import sys
 import time
 
-here = os.path.dirname(os.path.abspath(__file__))
-shell = sys.argv[1] if len(sys.argv) > 1 else os.path.join(here, "..", "crates", "spool_shell", "out", "spool_shell")
+from harness.programs import SHELL
+
+shell = sys.argv[1] if len(sys.argv) > 1 else SHELL
 QUEUES = 64
 COUNTS = (10, 10_000, 300_000)
 TURNS = 20

@@ -14,8 +14,7 @@ import sys
 import tempfile
 import time
 
-here = os.path.dirname(os.path.abspath(__file__))
-SHELL = os.path.join(here, "..", "crates", "spool_shell", "out", "spool_shell")
+from harness.programs import SHELL
 
 MEBIBYTE = 1_048_576
 

@@ -15,8 +15,8 @@ import sys
 import threading
 import time
 
-here = os.path.dirname(os.path.abspath(__file__))
-shell = os.path.join(here, "..", "crates", "spool_shell", "out", "spool_shell")
+from harness.programs import SHELL
+
 ROUNDS = 20
 
 
@@ -40,7 +40,7 @@ def round_seconds(queues, held):
     replies = script.count(b"\n")
     best = None
     for _ in range(3):
-        words = [shell, "--size", "268435456"]
+        words = [SHELL, "--size", "268435456"]
         with subprocess.Popen(words, stdin=subprocess.PIPE, stdout=subprocess.PIPE) as running:
             writing = threading.Thread(target=ask, args=(running, script))
             writing.start()
@@ -67,7 +67,7 @@ def wait_for(running, replies):
 
 
 def main():
-    if not os.path.exists(shell):
+    if not os.path.exists(SHELL):
         sys.exit("no program: run `rt run` in crates/spool_shell first")
     for queues in (1, 8, 64):
         for held in (0, 1000, 10000, 100000):

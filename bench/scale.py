@@ -24,14 +24,14 @@ import sys
 import tempfile
 import time
 
+from harness.checks import at_once, same, timed
+from harness.programs import ADMIN, SERVICE, SHELL
+from harness.service import Client, Folder
+from harness.written_spools import rows, spool
+
 here = os.path.dirname(os.path.abspath(__file__))
-sys.path.insert(0, os.path.join(here, "..", "tests"))
 
-import service_parts
-from service_parts import Client, Folder, at_once, same, timed
-from opening import rows, spool
 
-BUILT = os.path.join(here, "..", "crates", "{0}", "out", "{0}")
 QUEUES = 64
 EVENTS = 2_000
 TURNS = 3
@@ -245,9 +245,9 @@ def main():
     if words[:1] == ["--costs"]:
         file, words = words[1], words[2:]
     room = words[0] if words else "."
-    shell = os.path.abspath(words[1] if len(words) > 1 else BUILT.format("spool_shell"))
-    Folder.service = os.path.abspath(words[2] if len(words) > 2 else service_parts.BUILT)
-    admin = os.path.abspath(words[3] if len(words) > 3 else BUILT.format("spool_admin"))
+    shell = os.path.abspath(words[1] if len(words) > 1 else SHELL)
+    Folder.service = os.path.abspath(words[2] if len(words) > 2 else SERVICE)
+    admin = os.path.abspath(words[3] if len(words) > 3 else ADMIN)
     for program in (shell, Folder.service, admin):
         if not os.path.exists(program):
             sys.exit(f"no program {program}: run `rt run` in its crate first")

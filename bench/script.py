@@ -12,8 +12,7 @@ import subprocess
 import sys
 import time
 
-here = os.path.dirname(os.path.abspath(__file__))
-shell = os.path.join(here, "..", "crates", "spool_shell", "out", "spool_shell")
+from harness.programs import SHELL
 
 
 def seconds(script):
@@ -23,7 +22,7 @@ def seconds(script):
     size = str(max(4_194_304, 4 * len(script)))
     for _ in range(3):
         start = time.perf_counter()
-        run = subprocess.run([shell, "--size", size], input=script, stdout=subprocess.PIPE, check=True)
+        run = subprocess.run([SHELL, "--size", size], input=script, stdout=subprocess.PIPE, check=True)
         took = time.perf_counter() - start
         best = took if best is None else min(best, took)
         if b"error" in run.stdout:
@@ -74,7 +73,7 @@ def remarks(count):
 
 
 def main():
-    if not os.path.exists(shell):
+    if not os.path.exists(SHELL):
         sys.exit("no program: run `rt run` in crates/spool_shell first")
     for make, counts in ((jobs, (1000, 10000, 100000)), (held, (1000, 10000, 100000)), (listed, (1000, 10000, 100000)), (sends, (16, 160, 1600)), (remarks, (1000, 10000, 100000))):
         first = None

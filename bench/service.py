@@ -7,7 +7,7 @@ It runs crates/spool_service/out/spool_service (built by `rt run` in that crate)
   and while eight queues print jobs of 10 ms in turn;
 - `accepted`: jobs of a KiB that are created, sent and closed per second, by 1 to 16 clients on one queue and on eight, while nothing
   prints. Each is three events, so six syncs. Alternately with them, TIMES times, the same jobs are sent to a private CUPS
-  (tests/cups_beside.py), if Debian's package `cups` is installed and the script runs as root. The script prints the median of each and the
+  (tests/harness/cups.py), if Debian's package `cups` is installed and the script runs as root. The script prints the median of each and the
   ratio of the service to CUPS (target: 5 times CUPS with syncs, and at least as much as CUPS without). CUPS's clients keep their
   connection, as those of the service do, and a job is one request, less than the service's three. The script sets two directives of CUPS,
   whatever its defaults: `SyncOnClose` (cups-files.conf(5)) and `DirtyCleanInterval` (cupsd.conf(5)). They are `No` and 30 for `no syncs`,
@@ -32,12 +32,10 @@ import tempfile
 import time
 
 import printing
-
-here = os.path.dirname(os.path.abspath(__file__))
-sys.path.insert(0, os.path.join(here, "..", "tests"))
-
-from cups_beside import Connection, Cups
-from service_parts import BUILT, Client, Folder, at_once, print_times, same, timed
+from harness.checks import at_once, print_times, same, timed
+from harness.cups import Connection, Cups
+from harness.programs import SERVICE
+from harness.service import Client, Folder
 
 CLIENTS = (1, 4, 16)
 QUEUES = (1, 8)
@@ -248,7 +246,7 @@ def memory():
 
 
 def main():
-    Folder.service = os.path.abspath(sys.argv[1] if len(sys.argv) > 1 else BUILT)
+    Folder.service = os.path.abspath(sys.argv[1] if len(sys.argv) > 1 else SERVICE)
     if not os.path.exists(Folder.service):
         sys.exit("no program: run `rt run` in crates/spool_service first")
     parts = {part.__name__: part for part in (replies, accepted, printed, work, memory)}

@@ -30,12 +30,9 @@ import tempfile
 import threading
 import time
 
-here = os.path.dirname(os.path.abspath(__file__))
-sys.path.insert(0, os.path.join(here, "..", "tests"))
-
-import service_parts
-
-SCRIPTS = os.path.join(here, "..", "crates", "spool_scripts", "out", "spool_scripts")
+from harness.checks import print_times, timed
+from harness.programs import SCRIPTS, SERVICE
+from harness.service import Client, Folder
 
 QUEUES = 64
 COUNTS = (1_000, 10_000, 100_000)
@@ -145,7 +142,7 @@ WAITING = 8
 
 def keep_full(folder, queue, stop):
     """A client that creates the jobs of a queue, so that some always wait."""
-    client, jobs = service_parts.Client(folder), []
+    client, jobs = Client(folder), []
     while not stop.is_set():
         jobs.append(client.submit(queue, f"{queue}\n"))
         if WAITING <= len(jobs):
@@ -153,18 +150,18 @@ def keep_full(folder, queue, stop):
 
 
 def ask_on_and_on(folder, stop, times):
-    client = service_parts.Client(folder)
+    client = Client(folder)
     while not stop.is_set():
-        times.append(service_parts.timed(lambda: client.listing("queues\n")))
+        times.append(timed(lambda: client.listing("queues\n")))
         time.sleep(0.01)
 
 
 def printed_next_to(slow):
     """The number of jobs of 10 ms that are printed next to `slow` slow queues, and the time of each reply to another client."""
-    folder, stop, times = service_parts.Folder(), threading.Event(), []
+    folder, stop, times = Folder(), threading.Event(), []
     try:
         folder.start("--quiet")
-        client = service_parts.Client(folder)
+        client = Client(folder)
         queues = {**{f"fast{n}": FAST for n in range(2)}, **{f"slow{n}": SLOW for n in range(slow)}}
         for name, seconds in queues.items():
             folder.queue(client, name, seconds)
@@ -186,10 +183,10 @@ def printed_next_to(slow):
 
 def idle_work():
     """The processor time in milliseconds of a service that does nothing for ten seconds."""
-    folder = service_parts.Folder()
+    folder = Folder()
     try:
         folder.start("--quiet")
-        client = service_parts.Client(folder)
+        client = Client(folder)
         folder.queue(client, "q")
         client.until_state(client.submit("q"), "9")
         time.sleep(1)
@@ -202,14 +199,14 @@ def idle_work():
 
 
 def with_real_children(program):
-    service_parts.Folder.service = program
+    Folder.service = program
     print(f"real children, {SECONDS} s")
     alone, times = printed_next_to(0)
     print(f"  {alone} fast jobs without a slow queue")
-    service_parts.print_times("a client's replies", times)
+    print_times("a client's replies", times)
     jobs, times = printed_next_to(1)
     print(f"  {jobs} fast jobs next to a slow queue: {jobs / alone:.2f}")
-    service_parts.print_times("a client's replies", times)
+    print_times("a client's replies", times)
     print(f"  idle for 10 s: {idle_work():.0f} ms of processor time")
 
 
@@ -229,7 +226,7 @@ def main():
     if kind in ("memory", "all"):
         in_memory(os.path.abspath(*program or [SCRIPTS]))
     if kind in ("real", "all"):
-        with_real_children(os.path.abspath(*program or [service_parts.BUILT]))
+        with_real_children(os.path.abspath(*program or [SERVICE]))
 
 
 if __name__ == "__main__":

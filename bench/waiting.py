@@ -15,8 +15,8 @@ import sys
 import threading
 import time
 
-here = os.path.dirname(os.path.abspath(__file__))
-shell = os.path.join(here, "..", "crates", "spool_shell", "out", "spool_shell")
+from harness.programs import SHELL
+
 COUNTS = (10, 1_000, 100_000, 1_000_000)
 TURNS = 100
 ROUNDS = 5
@@ -67,7 +67,7 @@ def resident(running):
 
 def measured(count, held):
     """The seconds of a `clock`, of a `hold` or a `release`, of an urgent `close` and of a round, and the bytes of a job."""
-    with subprocess.Popen([shell, "--size", str(SIZE)], stdin=subprocess.PIPE, stdout=subprocess.PIPE) as running:
+    with subprocess.Popen([SHELL, "--size", str(SIZE)], stdin=subprocess.PIPE, stdout=subprocess.PIPE) as running:
         ask(running, QUEUE)
         before = resident(running)
         free = min(count, ROUNDS)
@@ -88,7 +88,7 @@ def measured(count, held):
 
 
 def main():
-    if not os.path.exists(shell):
+    if not os.path.exists(SHELL):
         sys.exit("no program: run `rt run` in crates/spool_shell first")
     for held in (False, True):
         print(f"all but {ROUNDS} are held" if held else "none is held")

@@ -265,7 +265,7 @@ def tree_files():
         yield from sorted(crate.glob("src/**/*.rt"))
         yield from (it for part in ("specs", "proofs") for it in sorted(crate.glob(f"{part}/**/*.antt")))
     for folder in ("tests", "bench"):
-        yield from sorted((HERE / folder).glob("*.py"))
+        yield from sorted((HERE / folder).rglob("*.py"))
 
 
 class Counts:

@@ -4,7 +4,7 @@
 It runs `rt ci` in a clean clone of the committed state, with `--anew` if this toolchain has that option, so that no results of earlier runs
 are used, and prints a table by crate: the processor minutes of its proof, of its tests and of its edits. A second table has the seconds of
 each check of an edit. The first check of a crate proves all of it, and the last one, without an edit, shows that the kept work is that of
-the crate. The last line is `N processor minutes`, with status 0, or says that these are more than MINUTES (default 150), or that the gate
+the crate. The last line is `N processor minutes`, with status 0, or says that these are more than MINUTES (default 240), or that the gate
 failed, with status 1.
 
 The sum is the time that the system counted for the gate and all processes that it started. The table comes from polls of the running
@@ -127,7 +127,7 @@ def write(minutes):
 
 def main():
     words = [it for it in sys.argv[1:] if it != "--write"]
-    most = float(words[0]) if words else 150.0
+    most = float(words[0]) if words else 240.0
     polls, start = Polls(), time.monotonic()
     with tempfile.TemporaryDirectory() as folder:
         subprocess.run(["git", "clone", "--quiet", TOP, os.path.join(folder, "clone")], check=True)

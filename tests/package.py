@@ -33,7 +33,7 @@ import threading
 import time
 from pathlib import Path
 
-import debian_machine
+from harness import debian_machine
 
 ROOT = Path(__file__).resolve().parent.parent
 PROGRAMS = ["spool_front", "spool_shell", "spool_service", "spool_admin", "spool_tools"]
@@ -354,7 +354,9 @@ def moves(machine, package, name):
     check(run.returncode == 0 and serves(machine), f"{name}: the install after a purge: {run.stderr}")
     prepared(machine, name)
     machine.run("systemctl", "stop", "cegmandi")
-    machine.run("install", "-o", "cegmandi", "-g", "lp", "-m", "0600", "/root/spool.disk", f"{SPOOL}/spool.disk")
+    machine.run("cp", "--sparse=never", "/root/spool.disk", f"{SPOOL}/spool.disk")
+    machine.run("chown", "cegmandi:lp", f"{SPOOL}/spool.disk")
+    machine.run("chmod", "0600", f"{SPOOL}/spool.disk")
     machine.run("systemctl", "start", "cegmandi")
     check(serves(machine), f"{name}: the service does not start with a copy of a spool")
     Client(machine).ask(b"enable q0\n")

@@ -74,8 +74,8 @@ EVENT = Listing(
    `job_table/src/store/reserve.rt`).
 2. If no existing event changes the table in the same way: a variant of `Change` with its rows (`job_table/specs/Shapes.antt`).
 3. Examples: its spelling and first faults (`decision_examples/specs/Events.antt`, `decision_examples/specs/EventFaults.antt`), its
-   spelling in `tests/journal.py`, its fields and its change in `tests/spool_model.py` (written from the definition, not from the code), its
-   causes of refusal and its change in a stored script or in `tests/events.py`. One must-fail edit for its change and one for its bytes.
+   spelling in `tests/harness/journal.py`, its fields and its change in `tests/harness/spool_model.py` (written from the definition, not from the code), its
+   causes of refusal and its change in a stored script or in `tests/test_events.py`. One must-fail edit for its change and one for its bytes.
 4. `docs/PROMISES.md`: its name in *Step*.
 5. An event is new in the format, so it comes with a new version: see `places.py --list version`.
 
@@ -108,7 +108,7 @@ Eight of these places change `pages` or show it, so a field that is only stored 
 
 1. If the field is shown, also change `front_texts`, which reads the replies to `jobs` and `job`.
 2. A field that is set when the job is made is also a field of `NewJob` (`spool_types/src/event.rt`) and of the event Create.
-3. A new field changes the bytes of a row: `tests/journal.py`, `tests/spool_model.py` and the examples of rows (`decision_examples/specs`).
+3. A new field changes the bytes of a row: `tests/harness/journal.py`, `tests/harness/spool_model.py` and the examples of rows (`decision_examples/specs`).
 4. Existing spools do not have the field, so it comes with a new version: see `places.py --list version`.
 """,
 )
@@ -138,9 +138,9 @@ checkpoint converts a spool.
 1. The events and fields of the new version, as in `places.py --list event` and `places.py --list field`. Exclude them from older
    versions in `lacks_by` and similar definitions, before all other causes of refusal, and in `IsBy` and similar definitions.
 2. The places that write the newest version: `places.py --list newest`.
-3. Tests: `VERSIONS`, `NEWEST`, the rows and the events in `tests/journal.py`; `Table` in `tests/spool_model.py`; the older spools that
-   `tests/any_image.py` derives from others. Before the change, kill the current program and store its spool, as in
-   `tests/version_one.txt`. Open it with a copy of `tests/version_one.py`. It must have all kinds of events, rows and phases.
+3. Tests: `VERSIONS`, `NEWEST`, the rows and the events in `tests/harness/journal.py`; `Table` in `tests/harness/spool_model.py`; the older spools that
+   `tests/test_any_image.py` derives from others. Before the change, kill the current program and store its spool, as in
+   `tests/version_one.txt`. Open it with a copy of `tests/test_version_one.py`. It must have all kinds of events, rows and phases.
 4. Stored scripts whose spool is of an older version (`NAME.version`), up to a checkpoint and after it.
 5. `docs/man/cegmandi_spool.5`: the older versions, and the refusal. `docs/PROMISES.md`: *Area* and *Step*.
 """,

@@ -124,7 +124,7 @@ def words_in(files):
 @functools.cache
 def all_words():
     """The words of all sources and of the other test scripts, and the names of crates and of the files of specs/."""
-    found = words_in(it for it in (HERE / "tests").glob("*.py") if it.name != "promises.py") | set(crates())
+    found = words_in(it for it in (HERE / "tests").rglob("*.py") if it.name != "promises.py") | set(crates())
     for crate in crates():
         files = files_of(crate, "src") + files_of(crate, "specs")
         found |= words_in(files) | {it.stem for it in files}

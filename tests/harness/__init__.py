@@ -1,0 +1,14 @@
+"""What the tests and the benchmarks share.
+
+| Module | Contents |
+|---|---|
+| checks | `Difference`, comparisons, waiting for an event, times |
+| programs | where the built programs are, C programs of this folder, and what this machine lacks |
+| service, front | the service in a folder of its own, its clients; the front end, and a service that a test simulates |
+| journal, spool_model, stories, admin | a second encoder of a spool's file, its model, spools with any bytes, `spool_admin` |
+| real_children, child_folder, stored_scripts | filters and backends, the folder of a test of children, the scripts of `spool_scripts` |
+| traces | the system calls of a program, by strace |
+| large_run, large_parts | the limits of one spool |
+| cups, stock_documents, stock_runs | a private CUPS, and its filters and backends |
+| failover_volume, debian_machine, hostile_children | a replicated volume, a fresh Debian, children that do harm |
+"""

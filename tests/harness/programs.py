@@ -1,0 +1,67 @@
+"""Where the built programs are, and what this machine lacks.
+
+A program is crates/NAME/out/NAME, which `./build.py` or `rt run` in that crate makes. CEGMANDI_PROGRAMS is a folder of other ones, with the
+same names: tests and benchmarks then run these, such as programs that were built without a proof, or wrong ones.
+"""
+import functools
+import os
+import shutil
+import subprocess
+import tempfile
+
+HERE = os.path.dirname(os.path.realpath(__file__))
+TESTS = os.path.dirname(HERE)
+ROOT = os.path.dirname(TESTS)
+BENCH = os.path.join(ROOT, "bench")
+CRATES = os.path.join(ROOT, "crates")
+GIVEN = os.environ.get("CEGMANDI_PROGRAMS")
+
+
+def path_of(name):
+    """The path of a program, which may not have been built."""
+    given = os.path.join(os.path.abspath(GIVEN), name) if GIVEN else ""
+    return given if os.path.exists(given) else os.path.join(CRATES, name, "out", name)
+
+
+SHELL = path_of("spool_shell")
+SERVICE = path_of("spool_service")
+FRONT = path_of("spool_front")
+ADMIN = path_of("spool_admin")
+TOOLS = path_of("spool_tools")
+SCRIPTS = path_of("spool_scripts")
+
+
+def unbuilt(*names):
+    """Which of these programs have not been built, and how to build them: an empty text if there are all."""
+    missing = [name for name in names if not os.path.exists(path_of(name))]
+    return f"built programs: `rt run` in {', '.join(f'crates/{name}' for name in missing)}" if missing else ""
+
+
+def memory_folder():
+    """A folder in memory, in which a sync takes no time, or None."""
+    return "/dev/shm" if os.path.isdir("/dev/shm") else None
+
+
+@functools.lru_cache(maxsize=None)
+def compiled(name, *words):
+    """The program, or with `-shared` the library, that gcc builds from a C file of this folder or of bench/."""
+    source = next(path for path in (os.path.join(folder, name) for folder in (HERE, BENCH)) if os.path.exists(path))
+    built = os.path.join(tempfile.mkdtemp(prefix="compiled-"), name.removesuffix(".c"))
+    subprocess.run(["gcc", "-O1", *words, "-o", built, source], check=True)
+    return built
+
+
+@functools.lru_cache(maxsize=None)
+def may_trace():
+    """Whether strace is installed, and may trace programs."""
+    if not shutil.which("strace"):
+        return False
+    return subprocess.run(["strace", "-o", "/dev/null", "true"], capture_output=True).returncode == 0
+
+
+def is_sanitized(program):
+    """Whether a program was built with an address sanitizer, which keeps freed memory for a while."""
+    if not os.path.exists(program):
+        return False
+    with open(program, "rb") as file:
+        return b"__asan_" in file.read()

@@ -1,0 +1,215 @@
+"""Tries the backends of docs/STOCK.md, each with a receiver for its output."""
+import os
+import pty
+import select
+import socket
+import subprocess
+import threading
+import tty
+
+from harness.checks import LONGEST
+from harness.cups import Cups
+from harness.stock_documents import TEXT
+
+AS_IS, LISTS, NO = "as it is", "lists devices", "no"
+
+# The backends that print to a socket: each with its URI, in which PORT represents the port.
+SOCKETS = {
+    "socket": "socket://127.0.0.1:PORT/?waiteof=false",
+    "beh": "beh:/0/1/1/socket://127.0.0.1:PORT/?waiteof=false",
+    "lpd": "lpd://127.0.0.1:PORT/queue?reserve=none",
+}
+# Those that print to an IPP printer, which is a queue of CUPS.
+PRINTERS = ("ipp", "ipps", "http", "https")
+# Those that print to a device, which a terminal represents.
+DEVICES = {"parallel": "parallel:DEVICE", "serial": "serial:DEVICE?baud=9600+bits=8+parity=none+flow=none"}
+LISTERS = ("driverless", "driverless-fax", "snmp")
+
+# The seconds that a backend has to report that there is no device.
+FEW_SECONDS = 6
+
+
+class Taken:
+    """Receives data on a socket. A printer of lpd answers each part with a byte 0."""
+
+    def __init__(self, answers):
+        self.answers, self.got = answers, []
+        self.listener = socket.create_server(("127.0.0.1", 0))
+        self.listener.settimeout(LONGEST)
+        self.port = self.listener.getsockname()[1]
+        self.taker = threading.Thread(target=self.take)
+        self.taker.start()
+
+    def take(self):
+        try:
+            client, _ = self.listener.accept()
+            client.settimeout(LONGEST)
+            while piece := client.recv(65_536):
+                self.got.append(piece)
+                if self.answers:
+                    client.sendall(b"\0")
+            client.close()
+        except OSError as error:
+            self.got.append(repr(error).encode())
+
+    def end(self):
+        self.taker.join()
+        self.listener.close()
+        return b"".join(self.got)
+
+
+def printed(place, name, uri, user="ann"):
+    """How a job by this backend ends."""
+    programs = f"backend {name} {place.backends}/{name}\n"
+    return place.run(programs, "text/plain document\n", "", uri, "text/plain", TEXT, user=user)
+
+
+def to_socket(place, name):
+    taken = Taken(name == "lpd")
+    end, message = printed(place, name, SOCKETS[name].replace("PORT", str(taken.port)))
+    got = taken.end()
+    # lpd sends its description of the job before and after the document.
+    whole = TEXT in got if name == "lpd" else got == TEXT
+    return end.startswith("9 ") and whole, f"{end}, {got!r:.100}, {message}"
+
+
+def to_printer(place, name):
+    """The queue of CUPS sends the document on to a socket."""
+    taken = Taken(False)
+    with Cups() as cups:
+        cups.queue("got", f"socket://127.0.0.1:{taken.port}/?waiteof=false")
+        end, message = printed(place, name, f"{name}://localhost:{cups.port}/printers/got")
+        got = taken.end()
+    return end.startswith("9 ") and got == TEXT, f"{end}, {got!r:.100}, {message}"
+
+
+def read(path):
+    try:
+        with open(path, "rb") as file:
+            return file.read()
+    except OSError:
+        return b""
+
+
+def to_device(place, name):
+    """A terminal, which passes on its input unchanged."""
+    mine, other = pty.openpty()
+    tty.setraw(mine)
+    tty.setraw(other)
+    end, message = printed(place, name, DEVICES[name].replace("DEVICE", os.ttyname(other)))
+    got = b""
+    while select.select([mine], [], [], 1)[0]:
+        got += os.read(mine, 65_536)
+    os.close(mine)
+    os.close(other)
+    return end.startswith("9 ") and got == TEXT, f"{end}, {got!r:.100}, {message}"
+
+
+def to_home(place, name):
+    """cups-brf writes into the folder BRF of the job's user, here root's, which is removed again."""
+    folder = os.path.expanduser("~root/BRF")
+    if os.path.exists(folder):
+        return None, f"{folder} exists, and is not changed"
+    end, message = printed(place, name, "cups-brf:/", "root")
+    got = b""
+    if os.path.isdir(folder):
+        for file in os.listdir(folder):
+            got += read(os.path.join(folder, file))
+            os.remove(os.path.join(folder, file))
+        os.rmdir(folder)
+    return end.startswith("9 ") and got == TEXT, f"{end}, {got!r:.100}, {message}"
+
+
+def ended(words, environment):
+    """The status of a program that has a few seconds, or None if it takes longer."""
+    program = subprocess.Popen(words, env=environment, stdin=subprocess.DEVNULL, stdout=subprocess.DEVNULL, stderr=subprocess.DEVNULL)
+    try:
+        return program.wait(FEW_SECONDS)
+    except subprocess.TimeoutExpired:
+        program.kill()
+        program.wait()
+        return None
+
+
+def seen(place, name):
+    """How a backend runs, and its messages; None if it cannot be tried here."""
+    if name in LISTERS:
+        status = ended([os.path.join(place.backends, name)], {"PATH": "/usr/bin:/bin"})
+        return LISTS, f"its list ends with {status}" if status is not None else f"its list takes more than {FEW_SECONDS} s"
+    if name in PRINTERS:
+        if Cups.missing():
+            return None, Cups.missing()
+        runs, said = to_printer(place, name)
+    elif name in SOCKETS:
+        runs, said = to_socket(place, name)
+    elif name in DEVICES:
+        runs, said = to_device(place, name)
+    elif name == "cups-brf":
+        runs, said = to_home(place, name)
+    else:
+        path, document = os.path.join(place.backends, name), place.write("document", TEXT)
+        status = ended([path, "1", "ann", "A page", "1", "", document], {"PATH": "/usr/bin:/bin", "DEVICE_URI": f"{name}://nothing/"})
+        runs, said = status == 0, f"without its device it ends with {status}"
+    return None if runs is None else AS_IS if runs else NO, said
+
+
+def try_backends(place, rows):
+    for row in rows.backends:
+        path = os.path.join(place.backends, row.name)
+        if not os.path.isfile(path):
+            rows.left_out(row.name, "it is not installed")
+            continue
+        if not os.access(path, os.X_OK) or (row.name in (*PRINTERS, "cups-brf", "serial", "lpd") and os.geteuid()):
+            rows.left_out(row.name, "this user may not run it")
+            continue
+        way, said = seen(place, row.name)
+        if way is None:
+            rows.left_out(row.name, said)
+        elif way == row.runs:
+            rows.agrees(row.name, f"{way}: {said}")
+        else:
+            rows.differs(row.name, f"runs {way}, and not {row.runs}: {said}")
+    try_answers(place, rows)
+
+
+ANSWER = b"@PJL USTATUS DEVICE\r\nCODE=10001\r\nONLINE=TRUE\r\n"
+
+
+def answers(listener, got):
+    """A printer that reports its status again and again while it receives a job."""
+    listener.settimeout(LONGEST)
+    try:
+        client, _ = listener.accept()
+        client.settimeout(LONGEST)
+        for count in range(1_000_000):
+            if count < 3:
+                client.sendall(ANSWER)
+            piece = client.recv(65_536)
+            if not piece:
+                break
+            got.append(piece)
+        client.sendall(ANSWER)
+        client.close()
+    except OSError as error:
+        got.append(repr(error).encode())
+
+
+def try_answers(place, rows):
+    """Whether a printer's answer to the backend `socket` as a later stage is added to the job."""
+    path = os.path.join(place.backends, "socket")
+    if not os.access(path, os.X_OK):
+        rows.left_out("socket, answered", "it is not installed")
+        return
+    first = place.write("first", "#!/bin/sh\nhead -c 960000 /dev/zero | tr '\\0' x\n")
+    os.chmod(first, 0o755)
+    got = []
+    with socket.create_server(("127.0.0.1", 0)) as listener:
+        printer = threading.Thread(target=answers, args=(listener, got))
+        printer.start()
+        uri = f"socket://127.0.0.1:{listener.getsockname()[1]}/?waiteof=true"
+        programs = f"filter first {first}\nbackend socket {path}\n"
+        end, message = place.run(programs, "text/plain document\n", "text/plain test/printer 1 first\n", uri, "test/printer", TEXT)
+        printer.join()
+    job = b"".join(got)
+    whole = end.startswith("9 ") and job == b"x" * 960_000
+    rows.check("socket, answered", whole, True, f"prints only the job: {end}, {len(job)} bytes, {message}")

@@ -1,0 +1,228 @@
+"""Tries the chains of examples/office/convs: each kind of document for each type of queue.
+
+One document of each kind is printed in two copies on nine queues at once, each with a file as its printer. The script checks the file: the
+type, the number of pages, whether something is on each, and for a PDF the paper size. It also asks CUPS's program `cupsfilter`, which reads
+the same files, for the filters.
+"""
+import os
+import re
+import shutil
+import subprocess
+
+from harness.checks import Difference, LONGEST, until
+from harness.service import Client
+from harness.stock_documents import boxes, OFFICE
+
+# The columns of the page's table, and the kinds of documents.
+COLUMNS = [("text", "HTML"), ("PNG", "JPEG", "GIF", "TIFF"), ("PDF",), ("PostScript",)]
+COPIES = 2
+PAPER, POINTS = "A5", "420 x 595"
+
+
+class ChainSpool:
+    """A folder with a spool and the files of examples/office, and its printed output: by the service if that is built, or else by the
+    shell.
+    """
+
+    def __init__(self, place, name):
+        self.folder = os.path.join(place.room, name)
+        spool = os.path.join(self.folder, "spool")
+        os.makedirs(spool)
+        self.socket = os.path.join(spool, "spool.sock")
+        programs = os.path.join(self.folder, "programs")
+        with open(os.path.join(place.office, "stock-programs")) as file:
+            text = file.read().replace("@libdir@/cegmandi/spool_tools", place.tools).replace("@libdir@/cegmandi", place.office)
+        with open(programs, "w") as file:
+            file.write(text)
+        self.program = place.service if place.serves() else place.shell
+        self.serves = place.serves()
+        self.words = [self.program, "--root", spool, "--programs", programs, "--size", "67108864"]
+        self.words += ["--types", os.path.join(place.office, "types"), "--convs", os.path.join(place.office, "convs")]
+
+    def commands(self, targets, document):
+        """The commands for a job on each queue, a list for each."""
+        for number, target in enumerate(targets, 1):
+            file = os.path.join(self.folder, f"q{number}")
+            yield [
+                f"queue q{number} spoolfile:{file} {target} abort-job\n".encode(),
+                f'create q{number} ann "A page" {COPIES} 50 "media={PAPER}"\n'.encode(),
+                b"send %d %d\n%s\n" % (number, len(document), document),
+                f"close {number} page\n".encode(),
+            ]
+
+    def print(self, targets, document):
+        """The reply to the close of each job, and how the job ends."""
+        commands = list(self.commands(targets, document))
+        return self.print_by_service(commands) if self.serves else self.print_by_shell(commands)
+
+    def print_by_service(self, commands):
+        program = subprocess.Popen(self.words + ["--quiet"], stderr=subprocess.PIPE)
+        try:
+            until("the service", lambda: os.path.exists(self.socket) or program.poll() is not None)
+            client = Client(self)
+            client.connection.settimeout(300)
+            replies = [[client.ask(command) for command in job][-1] for job in commands]
+            ends = [client.listing(f"wait {number}\n")[0] for number in range(1, len(replies) + 1) if "stages" in replies[number - 1]]
+            rows = {int(row.split()[1]): row for row in ends}
+        finally:
+            program.terminate()
+            program.communicate(timeout=LONGEST)
+        return [(reply, state_of(rows.get(number, ""))) for number, reply in enumerate(replies, 1)]
+
+    def print_by_shell(self, commands):
+        script = b"".join(b"".join(job) for job in commands) + b"drain 100\njobs\n"
+        lines = subprocess.run(self.words, input=script, capture_output=True, timeout=600).stdout.decode().splitlines()
+        rows = {int(row.split()[1]): row for row in lines if row.startswith("job ")}
+        return [(lines[4 * number - 1], state_of(rows.get(number, ""))) for number in range(1, len(commands) + 1)]
+
+    def printed(self, number):
+        try:
+            with open(os.path.join(self.folder, f"q{number}"), "rb") as file:
+                return file.read()
+        except OSError:
+            return b""
+
+
+def state_of(row):
+    """The state and the reason of a job, from its row."""
+    return " ".join(row.split()[3:5])
+
+
+def conversions(place):
+    """The lines of convs: source, target and filter."""
+    with open(os.path.join(place.office, "convs")) as file:
+        lines = [line.split() for line in file if line.strip() and not line.startswith("#")]
+    return [(source, target, name) for source, target, _, name in lines]
+
+
+def leads(lines, source, target, filters):
+    """Whether these filters convert one type to another by the lines."""
+    types = {source}
+    for name in filters:
+        types = {end for begin, end, by in lines if begin in types and by == name}
+    return target in types or (not filters and ("*/*", target, "-") in lines)
+
+
+def pages_of(place, output):
+    """The number of pages of a file, or None if no program here can count them."""
+    if output[:4] == b"RaS2":
+        return output.count(b"PwgRaster\0")
+    if output.startswith((b"%PDF", b"%!")):
+        found = boxes(place.room, output)
+        return None if found is None else len([box for box in found if box != [b"0"] * 4])
+    return None
+
+
+def paper_of(place, output):
+    """The paper size of a PDF's first page in points, or None if Poppler's pdfinfo is not installed."""
+    if not shutil.which("pdfinfo"):
+        return None
+    path = os.path.join(place.room, "paper")
+    with open(path, "wb") as file:
+        file.write(output)
+    output = subprocess.run(["pdfinfo", path], capture_output=True, text=True).stdout
+    found = re.search(r"^Page size: +(.*?) pts", output, re.M)
+    return found[1] if found else "none"
+
+
+# The first bytes of each type.
+BEGINS = {
+    "application/vnd.cups-pdf": b"%PDF",
+    "application/pdf": b"%PDF",
+    "application/postscript": b"%!",
+    "application/vnd.cups-postscript": b"%!",
+    "application/vnd.cups-raster": b"RaS2",
+    "image/pwg-raster": b"RaS2PwgRaster\0",
+    "application/vnd.hp-pclxl": b"\x1b%-12345X",
+}
+
+
+def wrong_of(place, target, kind, filters, output):
+    """The error in the printed output, or an empty text."""
+    document = OFFICE[kind][0]
+    if not filters:
+        return "" if output == COPIES * document else f"{len(output)} bytes, and not the document {COPIES} times"
+    if target == "application/x-prn":
+        wanted = COPIES * (document.replace(b"\n", b"\r\n") + b"\x0c")
+        return "" if output == wanted else f"{output!r:.80}, and not {wanted!r:.80}"
+    if not output.startswith(BEGINS[target]):
+        return f"it begins with {output[:20]!r}"
+    if target == "application/vnd.hp-pclxl":
+        return "" if b"HP-PCL XL" in output else "no PCL XL"
+    if target == "application/vnd.cups-pdf" and paper_of(place, output) not in (None, POINTS):
+        return f"a paper of {paper_of(place, output)}"
+    # texttopdf and the others print no copies, and pstops leaves them to the printer.
+    once = "pdftopdf" not in filters
+    pages = pages_of(place, output)
+    return "" if pages in (None, 1 if once else COPIES) else f"{pages} pages"
+
+
+def kinds():
+    """The kinds of documents, each with the number of its column."""
+    return [(kind, column) for column, names in enumerate(COLUMNS) for kind in names]
+
+
+def try_chains(place, rows):
+    print(f"the chains, by {'the service' if place.serves() else 'the shell, as the service is not built'}:", flush=True)
+    lines = conversions(place)
+    used = {name for _, cells in rows.chains for cell in cells for name in re.findall(r"`([^`]*)`", cell)}
+    rows.check("convs", sorted(used), sorted({name for _, _, name in lines} - {"-"}), "the page's filters are those of convs")
+    missing = sorted(name for name in used - {"texttoprn"} if not os.path.isfile(os.path.join(place.filters, name)))
+    if not missing:
+        ask_cups(place, rows, lines)
+    for kind, column in kinds():
+        if missing:
+            rows.left_out(kind, f"{', '.join(missing)} is not installed")
+            continue
+        try:
+            try_kind(place, rows, lines, kind, column)
+        except (Difference, OSError) as fault:
+            rows.differs(kind, f"{fault}")
+
+
+def ask_cups(place, rows, lines):
+    """Compares the page's filters with those that CUPS finds by the same files."""
+    if not shutil.which("cupsfilter"):
+        rows.left_out("cupsfilter", "it is not installed (Debian's package cups)")
+        return
+    types = os.path.join(place.room, "data", "mime")
+    os.makedirs(types)
+    for name in ("types", "convs"):
+        shutil.copy(os.path.join(place.office, name), os.path.join(types, f"office.{name}"))
+    # CUPS knows only the types that a file of types names.
+    place.write("data/mime/more.types", "".join(f"{target}\n" for _, target, _ in lines))
+    settings = place.write("cups-files.conf", f"ServerRoot {place.room}\nDataDir {place.room}/data\nServerBin {os.path.dirname(place.filters)}\n")
+    for kind, column in kinds():
+        document = place.write("asked", OFFICE[kind][0])
+        for target, cells in rows.chains:
+            filters = re.findall(r"`([^`]*)`", cells[column])
+            # It knows no filters except CUPS's, and counts none as one of its own.
+            if filters and "texttoprn" not in filters:
+                words = ["cupsfilter", "-c", settings, "--list-filters", "-m", target, document]
+                filters_found = subprocess.run(words, capture_output=True, text=True, timeout=LONGEST).stdout.split()
+                rows.check("cupsfilter", filters_found, filters, f"{kind} to {target}")
+
+
+def try_kind(place, rows, lines, kind, column):
+    document, media = OFFICE[kind]
+    spool = ChainSpool(place, kind)
+    results = spool.print([target for target, _ in rows.chains], document)
+    for number, ((target, cells), (reply, end)) in enumerate(zip(rows.chains, results), 1):
+        cell, name = cells[column], f"{kind}, {target}"
+        filters = re.findall(r"`([^`]*)`", cell)
+        wanted = f"ok type {media} unprintable" if cell == "none" else f"ok type {media} stages {len(filters) + 1}"
+        if reply != wanted:
+            rows.differs(name, f"{reply}, and not {wanted}")
+        elif cell == "none":
+            rows.agrees(kind, f"{target}: no chain")
+        elif not leads(lines, media, target, filters):
+            rows.differs(name, f"convs has no way by {filters}")
+        else:
+            output = spool.printed(number)
+            wrong = wrong_of(place, target, kind, filters, output) if end.startswith("9 ") else f"state {end}"
+            pages = pages_of(place, output)
+            said = f"{target} by {', '.join(filters) or 'no filter'}: {len(output)} bytes{f', {pages} pages' if pages else ''}"
+            if wrong:
+                rows.differs(name, wrong)
+            else:
+                rows.agrees(kind, said)

@@ -1,0 +1,274 @@
+"""`spool_admin look` and `spool_admin grow` on all kinds of spools, with kills and failures.
+
+The spools are files that harness/journal.py writes: of both versions, in either area, with queues, documents and jobs of each phase, one of
+them processing.
+
+- `look` prints what harness/spool_model.py finds in the file, and changes neither its bytes nor its times.
+- `grow` leaves a file of BYTES bytes, with the owner and the mode of the old one. Its next epoch has exactly the rows of the table after an
+  opening, with all documents. The shell serves it, and a spool that was full takes events again.
+- `grow` names the reason when it refuses, and the old file is unchanged: a spool that is damaged or does not exist, one that a shell owns,
+  BYTES that are too few, a file with a second name, invalid arguments.
+- Under strace it is killed at each of its system calls, and each call fails once. The name refers to the old spool or to the new one,
+  complete, and the next `grow` succeeds and leaves nothing else. The calls also show that a power cut leaves one of the two: the old file is
+  never written to, the new one has no unsynced byte when it gets the name, and the folder is synced at the end.
+"""
+import os
+import re
+import shutil
+import stat
+import subprocess
+
+import pytest
+
+from harness import journal, spool_model as model, traces
+from harness.admin import administer, ERRORS, image_of, in_second_area, KILLED, LOCK, NAME, names_in, OTHERS, OWNED, SIZE, SpoolFolder
+from harness.checks import Difference, same
+from harness.journal import image
+from harness.programs import SHELL
+from harness.stories import of_q, Q, spelled
+
+pytestmark = pytest.mark.needs("spool_admin", "spool_shell")
+
+LARGER = 20_001
+UNFINISHED = "spool.disk.new"
+
+
+class Place(SpoolFolder):
+    """A spool that grows."""
+
+    def grow(self, size=LARGER):
+        same("the end of `grow`", administer("grow", self.root, str(size)), (0, "", ""))
+
+    def refuses(self, fault, *words):
+        self.is_unchanged(fault, *(words or ("grow", self.root, str(LARGER))))
+
+
+def is_grown(old, new, size=LARGER):
+    """The new bytes list the table that an opening of the old ones results in, in the next epoch."""
+    it = model.opened(old)
+    payloads, epoch = journal.current(new)
+    return (len(new), payloads, epoch, journal.current_version(new)) == (size, it.table.listing(), it.epoch + 1, journal.NEWEST)
+
+
+def lists_grown(place, old):
+    """The shell replies as it does with the old file."""
+    table = model.opened(old).table
+    same("the shell's listing", place.serve("jobs", "queues"), [*table.jobs_reply(), *table.queues_reply()])
+
+
+# ---- `look`
+
+def look_output(file):
+    it = model.reading(file)
+    half = len(file) // 2
+    jobs = list(it.table.jobs.values())
+    processing = len(it.table.processing())
+    ended = sum(job.has_ended() for job in jobs)
+    coming = sum(job.spelled_phase()[0] == 0 for job in jobs)
+    rows = {"version": it.table.version, "epoch": it.epoch, "file": len(file), "area": half, "used": it.gate - it.base,
+            "free": it.base + half - it.gate, "queues": len(it.table.queues), "jobs": len(jobs), "incoming": coming,
+            "waiting": len(jobs) - processing - ended - coming, "processing": processing, "ended": ended}
+    return "".join(f"{word} {count}\n" for word, count in rows.items())
+
+
+def test_look_prints_the_contents(folder):
+    for file in (image(SIZE), image_of(), image_of(1), in_second_area(image_of()), image_of(size=8_193), image_of(epoch=2 ** 64 - 1)):
+        place = Place(folder, file)
+        times = os.stat(place.file).st_mtime_ns, os.stat(place.file).st_ctime_ns, os.stat(place.root).st_mtime_ns
+        same("the output", administer("look", place.root), (0, look_output(file), ""))
+        same("the file is unchanged", place.content() == file, True)
+        same("the times", (os.stat(place.file).st_mtime_ns, os.stat(place.file).st_ctime_ns, os.stat(place.root).st_mtime_ns), times)
+
+
+def test_look_without_a_spool(folder):
+    Place(folder, bytes(SIZE)).refuses("spool: not-a-spool\n")
+    place = Place(folder, bytes(SIZE))
+    place.refuses("spool: not-a-spool\n", "look", place.root)
+    absent = Place(folder)
+    same("no file", administer("look", absent.root), (1, "", "spool: disk\nspool: cause: absent\n"))
+    same("no spool is created", os.listdir(absent.root), [LOCK])
+    same("no folder", administer("look", f"{absent.root}/none"), (1, "", "spool: disk\nspool: cause: absent\n"))
+
+
+# ---- `grow`
+
+def test_a_larger_file_has_the_table(folder):
+    for file in (image(SIZE), image_of(), image_of(1), in_second_area(image_of()), in_second_area(image_of(1)), image_of(size=8_193)):
+        for size in (len(file), LARGER, 1_000_000):
+            place = Place(folder, file)
+            os.chmod(place.file, 0o640)
+            os.chown(place.file, *OTHERS)
+            place.grow(size)
+            same(f"the table in {size} bytes", is_grown(file, place.content(), size), True)
+            found = os.stat(place.file)
+            same("the mode and the owner", (stat.S_IMODE(found.st_mode), found.st_uid, found.st_gid), (0o640, *OTHERS))
+            same("the names", names_in(place.root), [NAME])
+            lists_grown(place, file)
+
+
+def test_a_full_spool_takes_events_again(folder):
+    place = Place(folder, image_of(size=4_096))
+    for command in ('create q ann "More" 1 50 ""', "checkpoint"):
+        while place.serve(command)[-1].startswith("ok") and command != "checkpoint":
+            pass
+    same("it is full", place.serve('create q ann "More" 1 50 ""', "checkpoint", 'create q ann "More" 1 50 ""'), ["error full"] * 3)
+    old = place.content()
+    place.grow()
+    same("the table", is_grown(old, place.content()), True)
+    lists_grown(place, old)
+    same("it takes events", [line.split()[0] for line in place.serve('create q ann "More" 1 50 ""', "checkpoint")], ["ok", "ok"])
+
+
+def test_leftovers_are_removed(folder):
+    place = Place(folder, image_of())
+    with open(os.path.join(place.root, UNFINISHED), "wb") as file:
+        file.write(b"left" * 9_000)
+    place.grow()
+    same("the names", names_in(place.root), [NAME])
+    same("the table", is_grown(image_of(), place.content()), True)
+
+
+# ---- refusals
+
+def test_refusals(folder):
+    Place(folder, image_of(size=LARGER + 1)).refuses("spool: smaller\n")
+    Place(folder, image_of(epoch=2 ** 64 - 1)).refuses("spool: epoch-end\n")
+    damaged = in_second_area(image(SIZE, [spelled(Q.event()), b"\xFF"]))
+    Place(folder, damaged).refuses(f"spool: damaged {SIZE // 2 + journal.places([spelled(Q.event())])[-1]}\n")
+    place = Place(folder, image_of())
+    os.link(place.file, os.path.join(folder, "second"))
+    place.refuses("spool: disk\nspool: cause: no file\n")
+    linked = Place(folder)
+    os.symlink(place.file, linked.file)
+    linked.refuses("spool: disk\nspool: cause: no file\n")
+
+
+def test_a_listing_that_does_not_fit(folder):
+    """Rows are longer than the events that created them, so even an area of the same length may be too short."""
+    events = [Q.event()]
+    while len(image(SIZE, [spelled(event) for event in events])) == SIZE and model.reading(image(SIZE, [*map(spelled, events)])).gate < SIZE // 2 - 60:
+        events.append(of_q(len(events)).event())
+    file = image(SIZE, [*map(spelled, events)])
+    needed = journal.HEADER + sum(journal.FRAME + len(row) for row in model.opened(file).table.listing()) + 7
+    same("the rows are too long for it", needed > SIZE // 2, True)
+    Place(folder, file).refuses("spool: full\n", "grow", Place(folder, file).root, str(SIZE))
+    place = Place(folder, file)
+    place.refuses("spool: full\n", "grow", place.root, str(2 * needed - 2))
+    place.grow(2 * needed)
+    same("the table", is_grown(file, place.content(), 2 * needed), True)
+
+
+def test_a_running_shell_keeps_it(folder):
+    place = Place(folder, image_of())
+    pipe = subprocess.PIPE
+    shell = subprocess.Popen([SHELL, "--root", place.root], stdin=pipe, stdout=pipe, stderr=pipe, text=True)
+    try:
+        shell.stdin.write("jobs\n")
+        shell.stdin.flush()
+        shell.stdout.readline()
+        place.refuses(OWNED)
+        place.refuses(OWNED, "look", place.root)
+    finally:
+        shell.communicate()
+    place.grow()
+
+
+def test_invalid_arguments(folder):
+    place = Place(folder, image_of())
+    root = place.root
+    for words in ((), ("look",), ("grow",), ("grow", root), ("look", root, "8192"), ("grow", root, "4095"), ("grow", root, "1073741825"),
+                  ("grow", root, "x"), ("shrink", root), ("look", ""), ("grow", root, "8192", "1"), ("--size", "8192", root)):
+        status, shown, errors = administer(*words)
+        same(f"the end of {words}", (status, shown, errors.startswith("error: ")), (2, "", True))
+    same("the file is unchanged", place.content() == image_of(), True)
+    status, shown, errors = administer("--help")
+    same("the help", (status, "DIR" in shown and "BYTES" in shown, errors), (0, True, ""))
+    status, shown, errors = administer("--version")
+    same("the version", (status, re.fullmatch(r"spool_admin \(Cegmandi\) \d+\.\d+\.\d+\n", shown) is not None, errors), (0, True, ""))
+
+
+# ---- kills, failures and cuts
+
+def traced(place, *inject):
+    """A `grow` under strace, and its calls."""
+    trace = os.path.join(place.root, "..", "trace")
+    strace = ["strace", "-qq", "-y", "-xx", "-s", "20", "-o", trace, "-e", "trace=" + ",".join(f"?{name}" for name in KILLED)]
+    for words in inject:
+        strace += ["-e", f"inject={words}"]
+    done = administer("grow", place.root, str(LARGER), before=strace)
+    counts = {}
+    with open(trace, encoding="ascii") as file:
+        lines = [line.rstrip("\n") for line in file]
+    return done, [traces.Call(line, counts) for line in lines if traces.LINE.fullmatch(line)]
+
+
+def is_old_or_new(place, what):
+    content = place.content()
+    if content != image_of() and not is_grown(image_of(), content):
+        raise Difference(f"{what}: the file is neither the old spool nor the new one")
+    known = {NAME, UNFINISHED}
+    same(f"{what}: the names", set(names_in(place.root)) <= known, True)
+
+
+def next_succeeds(place, what):
+    """The next `grow` succeeds, whatever the one before left."""
+    is_old_or_new(place, what)
+    old = place.content()
+    place.grow()
+    same(f"{what}: the table", is_grown(old, place.content()), True)
+    same(f"{what}: the names", names_in(place.root), [NAME])
+
+
+def all_calls(folder):
+    done, calls = traced(Place(folder, image_of()))
+    same("the end of `grow`", done, (0, "", ""))
+    return calls
+
+
+@pytest.mark.strace
+def test_it_is_killed_at_each_call(folder):
+    for call in all_calls(folder):
+        place = Place(folder, image_of())
+        (status, _, _), _ = traced(place, f"{call.name}:signal=KILL:when={call.number}")
+        same(f"the status, killed at {call}", status in (-9, 137), True)
+        next_succeeds(place, f"killed at {call}")
+        shutil.rmtree(place.root)
+
+
+@pytest.mark.strace
+def test_each_call_fails_once(folder):
+    begun = False
+    for call in all_calls(folder):
+        begun = begun or any(place.endswith(NAME) for place in call.paths())
+        if not begun or call.name not in ERRORS:
+            continue
+        place = Place(folder, image_of())
+        (status, shown, errors), _ = traced(place, f"{call.name}:error={ERRORS[call.name]}:when={call.number}")
+        same(f"the end, when {call} fails", (status in (0, 1), shown, errors.startswith("spool: ") == (status == 1)), (True, "", True))
+        same(f"the new file, when {call} fails and `grow` succeeds", status == 1 or is_grown(image_of(), place.content()), True)
+        next_succeeds(place, f"failed at {call}")
+        shutil.rmtree(place.root)
+
+
+@pytest.mark.strace
+def test_a_power_cut_leaves_the_old_or_the_new(folder):
+    written, named, kept = False, False, False
+    for call in all_calls(folder):
+        on = os.path.basename(call.files[0]) if call.files else ""
+        if call.name in ("write", "pwrite64"):
+            same(f"{call} is on the unfinished file", (on, named), (UNFINISHED, False))
+            written = True
+        elif call.name in ("fsync", "fdatasync") and on == UNFINISHED:
+            written = False
+        elif call.name.startswith("rename"):
+            same("all is synced before it gets its name", (written, named), (False, False))
+            named = True
+        elif call.name == "fsync" and named:
+            same("the folder is synced", on, os.path.basename(os.path.dirname(call.files[0] + "/x")))
+            kept = True
+    same("it got its name, and the folder was synced", (named, kept), (True, True))
+
+
+@pytest.fixture
+def folder(room):
+    return room

@@ -1,0 +1,341 @@
+"""`spool_admin split` on all kinds of spools, with kills and failures.
+
+The spools are files that harness/journal.py writes: of both versions, in either area, with queues, documents and jobs of each phase, one of
+them processing.
+
+- `split` leaves two files of the old one's length, with its owner and mode. One lists exactly the rows and documents of the named queues, and
+  the other one all others. Both have the old highest number and time, and a job that was processing still is. The shell serves both, and
+  each gives its next job a number that no job of either has.
+- `split` names the reason when it refuses, and both folders are unchanged: a queue that does not exist, a folder that has a spool or that
+  another program owns, the same folder twice, a spool that is damaged or does not exist, rows that do not fit, invalid arguments.
+- Under strace it is killed at each of its system calls, and each call fails once. Each job is in exactly one spool then: the old spool exists
+  and the other folder has none, or both halves exist, the named one perhaps under the name that is not served. The same command, given
+  again, ends with both halves, and leaves no other name. The calls also show that this holds after a power cut: the old file is never
+  written to, both new ones are synced with their names before the switch, and each name is synced before the next one is changed, also by a
+  call that continues after one that was killed.
+"""
+import copy
+import os
+import shutil
+import stat
+import subprocess
+import tempfile
+from concurrent.futures import ThreadPoolExecutor
+
+import pytest
+
+from harness import journal, spool_model as model, traces
+from harness.admin import administer, ERRORS, image_of, image_of_documents, in_second_area, KILLED, LOCK, NAME, OTHERS, OWNED, SIZE
+from harness.checks import LONGEST, same
+from harness.journal import image
+from harness.programs import SHELL
+from harness.stories import of_q, Q, spelled
+
+pytestmark = pytest.mark.needs("spool_admin", "spool_shell")
+
+SIDE_BY_SIDE = 4
+PART = "spool.part."
+
+
+def half_of(file, names, named):
+    """The table of the rows of the named queues, or of all others."""
+    table = copy.deepcopy(model.stored_table(file))
+    table.queues = {name: queue for name, queue in table.queues.items() if (name in names) == named}
+    table.jobs = {number: job for number, job in table.jobs.items() if (job.queue in names) == named}
+    return table
+
+
+class Place:
+    """The folder of a spool with these bytes, and a second folder."""
+
+    def __init__(self, folder, content=None):
+        self.top = tempfile.mkdtemp(dir=folder)
+        self.source, self.target = (os.path.join(self.top, name) for name in ("from", "into"))
+        os.mkdir(self.source)
+        os.mkdir(self.target)
+        if content is not None:
+            with open(os.path.join(self.source, NAME), "wb") as file:
+                file.write(content)
+            # The lock files of an earlier program.
+            for root in (self.source, self.target):
+                os.close(os.open(os.path.join(root, LOCK), os.O_CREAT, 0o600))
+
+    def content(self, root, name=NAME):
+        with open(os.path.join(root, name), "rb") as file:
+            return file.read()
+
+    def split(self, *queues):
+        same("the end of `split`", administer("split", self.source, self.target, *(queues or ("lab",))), (0, "", ""))
+
+    def names(self):
+        """The names in both folders, except those of the lock files, which remain."""
+        return tuple(sorted(name for name in os.listdir(root) if name != LOCK) for root in (self.source, self.target))
+
+    def refuses(self, fault, *queues, words=None):
+        """Both folders are unchanged."""
+        names, before = self.names(), self.content(self.source)
+        same("the end", administer(*(words or ("split", self.source, self.target, *(queues or ("lab",))))), (1, "", fault))
+        same("the names", self.names(), names)
+        same("the file is unchanged", self.content(self.source) == before, True)
+
+    def serve(self, root, *commands):
+        script = "".join(f"{command}\n" for command in commands)
+        done = subprocess.run([SHELL, "--root", root], input=script, capture_output=True, text=True, timeout=LONGEST)
+        same("the shell's end", (done.returncode, done.stderr), (0, ""))
+        return done.stdout.splitlines()
+
+
+def is_listed(file, table, size):
+    """The bytes list exactly this table, in the newest version."""
+    payloads, _ = journal.current(file)
+    return (len(file), payloads, journal.current_version(file)) == (size, table.listing(), journal.NEWEST)
+
+
+def is_split(place, old, names=("lab",)):
+    same("the names", place.names(), ([NAME], [NAME]))
+    same("the named queues", is_listed(place.content(place.target), half_of(old, names, True), len(old)), True)
+    same("the other queues", is_listed(place.content(place.source), half_of(old, names, False), len(old)), True)
+
+
+def next_number(place, root, queue):
+    reply, = place.serve(root, f'create {queue} ann "More" 1 50 ""')
+    return int(reply.split()[-1])
+
+
+# ---- splitting
+
+def test_each_row_is_in_one_half(folder):
+    for file in (image_of(), image_of(1), in_second_area(image_of()), in_second_area(image_of(1)), image_of(size=8_193)):
+        for names in (("lab",), ("q",), ("q", "lab"), ("lab", "lab")):
+            place = Place(folder, file)
+            os.chmod(os.path.join(place.source, NAME), 0o640)
+            os.chown(os.path.join(place.source, NAME), *OTHERS)
+            place.split(*names)
+            is_split(place, file, names)
+            for root in (place.source, place.target):
+                found = os.stat(os.path.join(root, NAME))
+                same("the mode and the owner", (stat.S_IMODE(found.st_mode), found.st_uid, found.st_gid), (0o640, *OTHERS))
+
+
+def test_both_are_served(folder):
+    file = image_of()
+    place = Place(folder, file)
+    place.split()
+    for root, named in ((place.source, False), (place.target, True)):
+        # The attempt in progress is given up by the opening of its half, as by that of the whole spool.
+        table = half_of(file, ("lab",), named)
+        table.reopen()
+        same("the shell's listing", place.serve(root, "jobs", "queues"), [*table.jobs_reply(), *table.queues_reply()])
+    same("the next numbers", (next_number(place, place.source, "q"), next_number(place, place.target, "lab")), (6, 6))
+
+
+def test_documents_are_whole(folder):
+    """Documents of several pieces, and of none."""
+    file = image_of_documents()
+    place = Place(folder, file)
+    place.split()
+    is_split(place, file)
+
+
+def test_a_half_is_split_again(folder):
+    place = Place(folder, image_of())
+    place.split()
+    half = place.content(place.source)
+    second = Place(folder, half)
+    second.split("q")
+    is_split(second, half, ("q",))
+
+
+# ---- refusals
+
+def test_refusals(folder):
+    Place(folder, image_of()).refuses("spool: queue\n", "lab", "none")
+    Place(folder, image_of()).refuses("spool: queue\n", "no name")
+    place = Place(folder, image_of())
+    with open(os.path.join(place.target, NAME), "wb") as file:
+        file.write(image(SIZE))
+    place.refuses("spool: taken\n")
+    place = Place(folder, image_of())
+    place.refuses(OWNED, words=("split", place.source, place.source, "lab"))
+    damaged = in_second_area(image(SIZE, [spelled(Q.event()), b"\xFF"]))
+    Place(folder, damaged).refuses(f"spool: damaged {SIZE // 2 + journal.places([spelled(Q.event())])[-1]}\n", "q")
+    place = Place(folder, image_of())
+    os.link(os.path.join(place.source, NAME), os.path.join(place.top, "second"))
+    place.refuses("spool: disk\nspool: cause: no file\n")
+    place = Place(folder)
+    same("no file", administer("split", place.source, place.target, "q"), (1, "", "spool: disk\nspool: cause: absent\n"))
+    same("nothing is created", place.names(), ([], []))
+    same("no folder", administer("split", place.source, f"{place.top}/none", "q"), (1, "", "spool: disk\nspool: cause: absent\n"))
+
+
+def test_rows_that_do_not_fit(folder):
+    """Rows are longer than the events that created them."""
+    events = [Q.event()]
+    while len(image(SIZE, [*map(spelled, events)])) == SIZE and model.reading(image(SIZE, [*map(spelled, events)])).gate < SIZE // 2 - 60:
+        events.append(of_q(len(events)).event())
+    Place(folder, image(SIZE, [*map(spelled, events)])).refuses("spool: full\n", "q")
+
+
+def test_a_running_shell_keeps_it(folder):
+    place = Place(folder, image_of())
+    pipe = subprocess.PIPE
+    for root in (place.source, place.target):
+        shell = subprocess.Popen([SHELL, "--root", root], stdin=pipe, stdout=pipe, stderr=pipe, text=True)
+        try:
+            shell.stdin.write("jobs\n")
+            shell.stdin.flush()
+            shell.stdout.readline()
+            place.refuses(OWNED)
+        finally:
+            shell.communicate()
+
+
+def test_invalid_arguments(folder):
+    place = Place(folder, image_of())
+    for words in (("split",), ("split", place.source), ("split", place.source, place.target), ("split", place.source, place.target, ""),
+                  ("join", place.source, place.target, "lab"), ("look", place.source, "lab"), ("grow", place.source, "8192", "lab")):
+        status, shown, errors = administer(*words)
+        same(f"the end of {words}", (status, shown, errors.startswith("error: ")), (2, "", True))
+    same("the file is unchanged", place.content(place.source) == image_of(), True)
+
+
+def test_another_split_waits_for_the_first(folder):
+    """A split that was begun with other arguments must be finished first."""
+    place = Place(folder, image_of())
+    with open(os.path.join(place.source, "spool.split"), "w", encoding="ascii") as file:
+        file.write(f"{PART}1\n{place.target}\nq\n")
+    place.refuses("spool: unfinished\n")
+
+
+# ---- kills, failures and cuts
+
+def traced(place, *inject):
+    """A `split` under strace, and its calls."""
+    trace = os.path.join(place.top, "trace")
+    strace = ["strace", "-qq", "-y", "-xx", "-s", "20", "-o", trace, "-e", "trace=" + ",".join(f"?{name}" for name in KILLED)]
+    for words in inject:
+        strace += ["-e", f"inject={words}"]
+    done = administer("split", place.source, place.target, "lab", before=strace)
+    counts = {}
+    with open(trace, encoding="ascii") as file:
+        lines = [line.rstrip("\n") for line in file]
+    return done, [traces.Call(line, counts) for line in lines if traces.LINE.fullmatch(line)]
+
+
+def is_whole_or_split(place, what):
+    """Each job is in exactly one spool: the folder's, or the other folder's file, which may still have a name that is not served."""
+    old = image_of()
+    source, target = place.names()
+    parts = [name for name in target if name == NAME or name.startswith(PART)]
+    if place.content(place.source) == old:
+        same(f"{what}: the other folder has no spool", NAME in target, False)
+        return False
+    same(f"{what}: the other queues", is_listed(place.content(place.source), half_of(old, ("lab",), False), SIZE), True)
+    same(f"{what}: one part exists", len(parts), 1)
+    same(f"{what}: the named queues", is_listed(place.content(place.target, parts[0]), half_of(old, ("lab",), True), SIZE), True)
+    return True
+
+
+def next_succeeds(place, what):
+    """The same command, given again, ends with both halves, whatever the one before left."""
+    was_split = is_whole_or_split(place, what)
+    status, shown, errors = administer("split", place.source, place.target, "lab")
+    # If nothing was left to do.
+    done = was_split and (status, shown, errors) == (1, "", "spool: queue\n") or (status, shown, errors) == (1, "", "spool: taken\n")
+    same(f"{what}: the end of the next one", done or (status, shown, errors) == (0, "", ""), True)
+    is_split(place, image_of())
+
+
+def all_calls(folder):
+    done, calls = traced(Place(folder, image_of()))
+    same("the end of `split`", done, (0, "", ""))
+    return calls
+
+
+def side_by_side(check, calls):
+    """Each run has its own folders, and mostly waits for syncs."""
+    with ThreadPoolExecutor(SIDE_BY_SIDE) as pool:
+        try:
+            for _ in pool.map(check, calls):
+                pass
+        except BaseException:
+            pool.shutdown(cancel_futures=True)
+            raise
+
+
+@pytest.mark.strace
+def test_it_is_killed_at_each_call(folder):
+    def killed(call):
+        place = Place(folder, image_of())
+        (status, _, _), _ = traced(place, f"{call.name}:signal=KILL:when={call.number}")
+        same(f"the status, killed at {call}", status in (-9, 137), True)
+        next_succeeds(place, f"killed at {call}")
+        shutil.rmtree(place.top)
+
+    side_by_side(killed, all_calls(folder))
+
+
+@pytest.mark.strace
+def test_each_call_fails_once(folder):
+    def failing(call):
+        place = Place(folder, image_of())
+        (status, shown, errors), _ = traced(place, f"{call.name}:error={ERRORS[call.name]}:when={call.number}")
+        same(f"the end, when {call} fails", (status in (0, 1), shown, errors.startswith("spool: ") == (status == 1)), (True, "", True))
+        same(f"`split` succeeds, when {call} fails", status == 1 or is_whole_or_split(place, f"failed at {call}"), True)
+        next_succeeds(place, f"failed at {call}")
+        shutil.rmtree(place.top)
+
+    calls = all_calls(folder)
+    begun = next(at for at, call in enumerate(calls) if any("/from" in path for path in call.paths()))
+    side_by_side(failing, [call for call in calls[begun:] if call.name in ERRORS])
+
+
+@pytest.mark.strace
+def test_a_power_cut_leaves_one_or_the_other(folder):
+    """All that a later step depends on is synced: bytes of a file before its name is changed, and a name before the next one."""
+    unsynced, renamed = set(), []
+    pending = None
+    for call in all_calls(folder):
+        path = call.files[0] if call.files else ""
+        if call.name in ("write", "pwrite64"):
+            same(f"{call} is not on a spool's file", os.path.basename(path) != NAME, True)
+            unsynced.add(path)
+        elif call.name in ("fsync", "fdatasync"):
+            unsynced.discard(path)
+            if pending and path == pending:
+                pending = None
+        elif call.name.startswith("rename"):
+            same(f"the name before {call} is synced", pending, None)
+            names = [os.fsdecode(text) for text in call.texts]
+            renamed.append(tuple(map(os.path.basename, names)))
+            pending = os.path.dirname(names[1])
+            if renamed[-1][1] == NAME:
+                same(f"all is synced before {call}", unsynced, set())
+            # The file keeps its bytes under its new name.
+            unsynced = {names[1] if one == names[0] else one for one in unsynced}
+    same("the last name is synced", pending, None)
+    same("the switch precedes the part's name", [to for _, to in renamed if to == NAME], [NAME, NAME])
+    same("the switch is the rest's", renamed[-2][0], "spool.rest")
+
+
+@pytest.mark.strace
+def test_a_power_cut_after_a_kill(folder):
+    """A run that is killed before the switch, and repeated, syncs the files before the part gets its name."""
+    calls = all_calls(folder)
+    over = next(at for at, call in enumerate(calls) if call.name.startswith("rename") and b"/spool.rest" in call.texts[0])
+    sync = next(call for call in calls[over:] if call.name in ("fsync", "fdatasync"))
+    place = Place(folder, image_of())
+    (status, _, _), _ = traced(place, f"{sync.name}:signal=KILL:when={sync.number}")
+    same("the status, killed at the sync of the switch", status in (-9, 137), True)
+    same("the part waits", is_whole_or_split(place, "killed at the sync"), True)
+    done, calls = traced(place)
+    same("the end of the next one", done, (0, "", ""))
+    named = next(at for at, call in enumerate(calls) if call.name.startswith("rename"))
+    synced = [call.files[0] for call in calls[:named] if call.name in ("fsync", "fdatasync")]
+    same("the switch is synced before the part has its name", place.source in synced, True)
+    is_split(place, image_of())
+
+
+@pytest.fixture
+def folder(room):
+    return room

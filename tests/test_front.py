@@ -1,0 +1,654 @@
+"""The front end, as users and scripts run it, with a service that runs. test_front_played.py has losses and refusals of each kind."""
+import json
+import os
+import random
+import re
+import socket
+import subprocess
+import threading
+import time
+import unicodedata
+
+import pytest
+
+from harness.checks import holds, LONGEST, same, until
+from harness.front import first_line, Front, number_of
+from harness.programs import compiled, TOOLS
+from harness.service import Client, Folder, patient_client, TYPE
+
+pytestmark = pytest.mark.needs("spool_service", "spool_front")
+
+# ---- each task with a running service
+
+
+def office(folder, more=""):
+    """A service with a queue that prints at once, and its front end."""
+    folder.start()
+    client = Client(folder)
+    folder.queue(client, "q")
+    return client, Front(folder)
+
+
+def test_submits_what_fits(folder):
+    """`spool submit` asks for room before it sends: a document that does not fit is refused with both numbers, and leaves no job. If jobs that
+    have ended use the room, the service makes some, and the document is accepted.
+    """
+    folder.size = 4_194_304
+    folder.start()
+    client, front = Client(folder), Front(folder)
+    folder.queue(client, "q")
+    same("disable", client.ask("disable q\n"), "ok")
+    # A checkpoint may use some bytes more than the events.
+    room = int(client.ask("room\n").split()[2]) - 100
+    folder.write("large", "x" * (room + 200))
+    folder.write("most", "x" * room)
+    text = front.fails("spool", "submit", "q", folder.at("large"))
+    holds(f"the refusal: {text}", text.startswith(f"spool: the document has {room + 200} bytes, and the spool has room for {room // 1_000}"))
+    same("no job", client.states(), {})
+    job = number_of(front.says("spool", "submit", "q", folder.at("most")))
+    same("its size", client.fields(job)["size"], str(room))
+    holds("no more fits", "the spool has room for" in front.fails("spool", "submit", "q", folder.at("most")))
+    same("cancel", client.ask(f"cancel {job}\n"), "ok")
+    same("purge", client.ask(f"purge {job}\n"), "ok")
+    folder.write("less", "x" * (room - 1_000))
+    # The service makes a checkpoint for this, at most ten times as long after the last one as that one took.
+    until("the room again", lambda: room - 1_000 <= int(client.ask("room\n").split()[2]))
+    number_of(front.says("spool", "submit", "q", folder.at("less")))
+    # Standard input has no known length: the job is canceled when a piece of it does not fit.
+    text = front.fails("spool", "submit", "q", "-", text=b"x" * room)
+    holds(f"canceled: {text}", "error full; job" in text and "was canceled" in text)
+    same("no incoming job", [job for job, state in client.states().items() if state == "4 job-incoming"], [])
+
+
+def test_submits_a_file(folder):
+    client, front = office(folder)
+    folder.write("letter", "a letter\n")
+    job = number_of(front.says("spool", "submit", "q", folder.at("letter"), "--title", "T", "--copies", "2", "--priority", "7", "-o", "media=a4 sides=two"))
+    client.until_ended([job])
+    same("printed", folder.printed(), "a letter\n")
+    fields = client.fields(job)
+    same("user and title", (fields["user"], fields["title"]), ('"ann"', '"T"'))
+    same("copies and priority", (fields["copies"], fields["priority"]), ("2", "7"))
+    holds(f"options {fields['options']}", "media=a4" in fields["options"] and "sides=two" in fields["options"])
+
+
+def test_submits_the_input(folder):
+    client, front = office(folder)
+    text = bytes(random.randrange(256) for _ in range(1000)) * 150
+    job = number_of(front.says("spool", "submit", "q", "-", text=text))
+    client.until_ended([job])
+    same("size", client.fields(job)["size"], str(len(text)))
+    with open(folder.at("printed"), "rb") as file:
+        holds("the document is printed as it was", file.read() == text)
+
+
+def test_submits_several(folder):
+    client, front = office(folder)
+    for name in ("a", "b", "c"):
+        folder.write(name, name)
+    lines = front.says("spool", "submit", "q", *(folder.at(name) for name in "abc")).splitlines()
+    jobs = [number_of(line) for line in lines]
+    same("jobs", len(set(jobs)), 3)
+    client.until_ended(jobs)
+    front.fails("spool", "submit", "q", folder.at("a"), folder.at("missing"), folder.at("b"))
+    same("jobs in all", len(client.states()), 5)
+
+
+def test_submits_nothing(folder):
+    client, front = office(folder)
+    folder.write("empty", "")
+    job = number_of(front.says("spool", "submit", "q", folder.at("empty")))
+    client.until_ended([job])
+
+
+def test_submits_held(folder):
+    client, front = office(folder)
+    folder.write("a", "a")
+    job = number_of(front.says("spool", "submit", "q", folder.at("a"), "--hold"))
+    same("held", client.state(job).split()[0], "4")
+    front.says("spool", "release", str(job))
+    client.until_ended([job])
+    job = number_of(front.says("spool", "submit", "q", folder.at("a"), "--at", str(int(time.time()) + 8)))
+    same("held", client.state(job).split()[0], "4")
+    client.until_ended([job])
+
+
+def test_submits_by_a_moment(folder):
+    client, front = office(folder)
+    folder.write("a", "a")
+    moment = int(time.time()) + 1000
+    job = number_of(front.says("spool", "submit", "q", folder.at("a"), "--by", str(moment)))
+    same("by", client.fields(job)["by"], str(moment))
+
+
+def test_submits_and_waits(folder):
+    client, front = office(folder)
+    folder.write("a", "a")
+    front.says("spool", "submit", "q", folder.at("a"), "--wait")
+    folder.queue(client, "slow", 30)
+    child = front.start("spool", "submit", "slow", folder.at("a"), "--wait")
+    until("a second job", lambda: len(client.states()) == 2)
+    until("that it is accepted", lambda: not client.state(2).startswith("4"))
+    same("cancel", client.ask("cancel 2\n"), "ok")
+    output = child.communicate(timeout=LONGEST)[1].decode()
+    same(f"status, with the output {output!r}", child.returncode, 5)
+    holds(f"printed {output!r}", "job 2 was canceled" in output)
+
+
+def test_submits_without_standard_output(folder):
+    """The status shows the outcome of the job, even if its number is not known."""
+    client, front = office(folder)
+    folder.write("a", "a")
+    with open("/dev/full", "w") as full:
+        for words in ([], ["--wait"]):
+            ended = subprocess.run(front.command(["spool", "submit", "q", folder.at("a"), *words]), stdout=full, stderr=full, env=front.environment, timeout=LONGEST)
+            same("status", ended.returncode, 0)
+    client.until_ended([1, 2])
+
+
+def test_submits_and_loses_the_service(folder):
+    """A job that is accepted, and whose end cannot be waited for."""
+    client, front = office(folder)
+    folder.write("a", "a")
+    folder.queue(client, "slow", 60)
+    front.environment["SPOOL_PATIENCE"] = "1"
+    child = front.start("spool", "submit", "slow", folder.at("a"), "--wait")
+    until("that it is accepted", lambda: client.states() and not client.state(1).startswith("4"))
+    folder.kill()
+    output = child.communicate(timeout=LONGEST)[1].decode()
+    same(f"status, with the output {output!r}", child.returncode, 3)
+    holds(f"printed {output!r}", "cannot determine the outcome of job 1: cannot connect to" in output)
+
+
+def test_submits_and_is_refused(folder):
+    client, front = office(folder)
+    folder.write("a", "a")
+    holds("no queue", "error 1 NoQueue" in front.fails("spool", "submit", "none", folder.at("a")))
+    same("reject", client.ask("reject q\n"), "ok")
+    holds("rejecting", "error 4 NotAccepting" in front.fails("spool", "submit", "q", folder.at("a")))
+    same("jobs", client.states(), {})
+    front.fails("spool", "submit", "q", folder.at("a"), "--copies", "0", status=2)
+    front.fails("spool", "submit", status=2)
+    front.fails("spool", "bogus", status=2)
+    front.says("spool", "--help")
+    holds("how the other fields of a queue are set", "spool_admin queue set DIR NAME" in front.says("spool", "queue", "set", "--help"))
+    holds("the version", front.says("spool", "--version").startswith("spool (Cegmandi) "))
+
+
+def test_submits_a_document_that_is_too_long(folder):
+    folder.size = 100_000_000
+    client, front = office(folder)
+    output = front.fails("spool", "submit", "q", "-", text=b"x" * 16_777_217)
+    same("the error", output, "spool: error 7 TooLong; job 1 was canceled\n")
+    same("state", client.state(1), "7 canceled")
+
+
+def test_submits_an_unprintable_document(folder):
+    folder.two_stages(0)
+    client, front = office(folder)
+    same("queue", client.ask("queue p slow:/0 c/d retry-current-job 0 0\n"), "ok")
+    folder.write("a.x", "a")
+    front.fails("spool", "submit", "p", folder.at("a.x"), status=4)
+    same("state", client.state(1), "8 no-filter")
+
+
+def test_status_and_json(folder):
+    client, front = office(folder)
+    job = client.create("q", r'a \"b\" \\c')
+    rows = json.loads(front.says("spool", "status", "--json"))
+    same("a job", (rows[0]["number"], rows[0]["queue"], rows[0]["title"]), (job, "q", 'a "b" \\c'))
+    same("queues", [row["name"] for row in json.loads(front.says("spool", "queues", "--json"))], ["q"])
+    same("the job", json.loads(front.says("spool", "status", str(job), "--json"))["asked"]["number"], job)
+    holds("a table", 'a "b" \\c' in front.says("spool", "status"))
+    holds("another queue", 'a "b"' not in front.says("spool", "status", "-q", "other"))
+    holds("the job", "q" in front.says("spool", "status", str(job)))
+    holds("why it waits", "\nwhy       its document is being sent\n" in front.says("spool", "status", str(job)))
+    holds("no job", "no such job" in front.fails("spool", "status", "77"))
+    holds("queues", "q" in front.says("spool", "queues"))
+    holds("devices", "spool_shell --devices" in front.fails("spool", "devices"))
+
+
+def test_status_check(folder):
+    folder.two_stages(0)
+    client, front = office(folder)
+    front.environment |= {"SPOOL_TYPES": folder.at("types"), "SPOOL_CONVS": folder.at("convs"), "SPOOL_PROGRAMS": folder.at("programs")}
+    folder.queue(client, "b", target="a/b")
+    same("check", front.says("spool", "check"), f"service {folder.socket} is running\nqueue b prints a/b\nqueue q prints {TYPE}\n")
+    folder.queue(client, "d", target="c/d")
+    same("disable", client.ask("disable b\n"), "ok")
+    same("reject", client.ask("reject q\n"), "ok")
+    output = front.says("spool", "check", status=1).splitlines()[1:]
+    same("check", output, ["queue b is stopped", "queue d cannot print: no chain of filters converts to c/d", "queue q rejects jobs"])
+    missing = front.fails("spool", "check", environment={"SPOOL_CONVS": folder.at("missing")})
+    same("the error", missing, f"spool: cannot read {folder.at('missing')}: No such file or directory\n")
+
+
+def test_status_check_of_programs(folder):
+    folder.two_stages(0)
+    front = office(folder)[1]
+    front.environment |= {"SPOOL_TYPES": folder.at("types"), "SPOOL_CONVS": folder.at("convs")}
+    folder.write("plain", "#!/bin/sh\n", 0o644)
+    folder.write("empty", "", 0o755)
+    folder.write("good", "#!/bin/sh\n", 0o755)
+    lines = [("backend", "a", "missing"), ("backend", "b", "empty"), ("filter", "c", "plain"), ("filter", "d", "good"), ("filter", "e", "spool")]
+    folder.write("listed", "".join(f"{kind} {name} {folder.at(file)}\n" for kind, name, file in lines) + f"side {folder.at('good')}\r\n")
+    output = front.says("spool", "check", status=1, environment={"SPOOL_PROGRAMS": folder.at("listed")}).splitlines()
+    wanted = [
+        "filter c cannot be run: not executable",
+        "filter e cannot be run: not a regular file",
+        "backend a cannot be run: file not found",
+        "backend b cannot be run: neither a script nor an ELF program",
+        "side program cannot be run: the line ends with a carriage return",
+        f"service {folder.socket} is running",
+        f"queue q prints {TYPE}",
+    ]
+    same("check", output, wanted)
+    folder.write("unread", "filter\n")
+    missing = front.fails("spool", "check", environment={"SPOOL_PROGRAMS": folder.at("unread")})
+    same("the error", missing, f"spool: {folder.at('unread')} is invalid\n")
+
+
+def test_status_of_faults(folder):
+    """Each fault says what failed, on which file or queue, the system's reason, and what to do."""
+    client, front = office(folder)
+    same("disable", client.ask("disable q\n"), "ok")
+    folder.write("empty", "")
+    left = folder.at("left")
+    with socket.socket(socket.AF_UNIX) as server:
+        server.bind(left)
+    hint = "(is cegmandi running? systemctl status cegmandi)"
+    nowhere, gone = folder.at("nowhere"), folder.at("gone", "file")
+    none = {"SPOOL_SOCKET": nowhere, "SPOOL_PATIENCE": "0"}
+    table = [
+        (["spool", "status"], none, f"cannot connect to {nowhere}: No such file or directory {hint}"),
+        (["spool", "queues"], {**none, "SPOOL_SOCKET": left}, f"cannot connect to {left}: Connection refused {hint}"),
+        (["spool", "release", "7"], none, f"cannot connect to {nowhere}: No such file or directory {hint}"),
+        (["lpstat", "-p"], none, f"cannot connect to {nowhere}: No such file or directory {hint}"),
+        (["lpstat", "-t"], none, "no service is running"),
+        (["spool", "submit", "q", gone], {}, f"cannot open {gone}: No such file or directory"),
+        (["spool", "page", gone], {}, f"cannot write {gone}: No such file or directory"),
+        (["spool", "check"], {"SPOOL_PROGRAMS": gone}, f"cannot read {gone}: No such file or directory"),
+        (["lp", folder.at("empty")], {}, f"{folder.at('empty')} is empty, so nothing is printed"),
+        (["lp"], {}, "standard input is empty, so nothing is printed"),
+        (["lpstat", "-p", "q,none"], {}, "no such queue in the list: q,none"),
+        (["lpstat", "-c", "all"], {}, "no such class: all"),
+        (["lpoptions", "-d", "none"], {}, "no such queue: none"),
+        (["lpoptions", "-d", "q"], {}, "HOME is not set, so no default queue can be stored"),
+        (["cancel", "q"], {}, "no job waits or prints in queue q"),
+        (["cancel", "-a", "none"], {}, "no such queue"),
+    ]
+    for words, environment, text in table:
+        same(f"{words}", front.fails(*words, environment=environment), f"spool: {text}\n")
+    same("no service", front.says("lpstat", "-r", environment={"SPOOL_SOCKET": nowhere}), "scheduler is not running\n")
+
+
+def test_status_of_two_services(folder):
+    client, front = office(folder)
+    other = Folder()
+    try:
+        other.start()
+        folder.queue(Client(other), "z")
+        folder.write("a", "a")
+        sockets = ["--socket", folder.socket, "--socket", other.socket]
+        names = [row["name"] for row in json.loads(front.says("spool", "queues", "--json", *sockets))]
+        same("queues", names, ["q", "z"])
+        job = number_of(front.says("spool", "submit", "z", folder.at("a"), *sockets))
+        Client(other).until_ended([job])
+        same("jobs of the first", client.states(), {})
+        same("status over all", len(json.loads(front.says("spool", "status", "--json", *sockets))), 1)
+        holds("the job of the second", '"queue":"z"' in front.says("spool", "status", str(job), "--json", *sockets).replace(" ", ""))
+        # A number alone does not show the job's user.
+        for words in (["cancel", str(job)], ["watch"], ["queue", "add", "new", "slow:/0"]):
+            holds(f"{words}", "exactly one --socket" in front.fails("spool", *words, *sockets))
+        holds("no queue", "no service has this queue" in front.fails("spool", "submit", "none", folder.at("a"), *sockets))
+        Client(other).create("z")
+        same("cancel -a", front.says("cancel", "-a", *sockets), "")
+        same("canceled", Client(other).state(2).split()[0], "7")
+    finally:
+        other.end()
+        other.remove()
+
+
+def test_status_page(folder):
+    client, front = office(folder)
+    client.create("q", "<script>alert(1)</script>")
+    front.says("spool", "page", folder.at("page.html"))
+    text = folder.read("page.html")
+    holds("no script", "<script" not in text and "&lt;script" in text)
+    holds("nothing unfinished", not os.path.exists(folder.at("page.html.new")))
+    # A link, or a pipe without a reader, under the name of the new file is removed and neither followed nor opened.
+    folder.write("other", "kept")
+    os.symlink(folder.at("other"), folder.at("page.html.new"))
+    front.says("spool", "page", folder.at("page.html"))
+    same("a link is not followed", (folder.read("other"), os.path.islink(folder.at("page.html"))), ("kept", False))
+    os.mkfifo(folder.at("page.html.new"))
+    front.says("spool", "page", folder.at("page.html"))
+    holds("a pipe is not opened", "</html>" in folder.read("page.html"))
+    child = front.start("spool", "page", folder.at("live.html"), "--follow")
+    until("a page", lambda: "refresh" in folder.read("live.html"))
+    client.create("q", "later")
+    until("a newer page", lambda: "later" in folder.read("live.html"))
+    child.kill()
+    child.communicate()
+
+
+@pytest.mark.needs("chromium")
+def test_status_page_in_a_browser(folder):
+    """Debian's package chromium shows the page: its cells, and no markup of a title."""
+    client, front = office(folder)
+    client.create("q", "<script>document.title='run'</script><b>bold</b>")
+    front.says("spool", "page", folder.at("page.html"))
+    words = ["--headless", "--no-sandbox", "--disable-gpu", f"--user-data-dir={folder.at('browser')}", "--dump-dom"]
+    shown = subprocess.run(["chromium", *words, f"file://{folder.at('page.html')}"], capture_output=True, timeout=120).stdout.decode()
+    holds("the title is a text", "&lt;b&gt;bold&lt;/b&gt;" in shown and "<title>Printers and jobs</title>" in shown)
+    same("rows", (shown.count("<tr>"), shown.count("<script")), (4, 0))
+
+
+def test_status_watch(folder):
+    client, front = office(folder)
+    child = front.start("spool", "watch")
+    line = first_line(child, lambda: client.create("q", "seen"))
+    holds(f"watched {line!r}", re.match(r"job \d+ q 4 .*seen", line))
+    child.kill()
+    child.communicate()
+
+
+def test_status_live(folder):
+    client, front = office(folder)
+    client.create("q", "first")
+    child = front.start("spool", "status", "--watch", "--json")
+    rows = json.loads(child.stdout.readline())
+    same("the jobs", [row["title"] for row in rows], ["first"])
+    client.create("q", "second")
+    while len(rows) < 2:
+        rows = json.loads(child.stdout.readline())
+    same("the jobs after another one", [row["title"] for row in rows], ["first", "second"])
+    same("cancel", client.ask("cancel 1\n"), "ok")
+    while rows[0]["state"] != "canceled":
+        rows = json.loads(child.stdout.readline())
+    same("purge", client.ask("purge 1\n"), "ok")
+    while len(rows) > 1:
+        rows = json.loads(child.stdout.readline())
+    same("the jobs after one was removed", [row["title"] for row in rows], ["second"])
+    child.kill()
+    child.communicate()
+    child = front.start("spool", "status", "--watch", "-q", "other")
+    same("a table without a job", [child.stdout.readline() for _ in range(2)][0], b"\n")
+    child.kill()
+    child.communicate()
+    holds("JOB and --watch", "--watch" in front.fails("spool", "status", "1", "--watch", status=2))
+
+
+def test_status_as_json(folder):
+    client, front = office(folder)
+    folder.write("a", "a")
+    job = json.loads(front.says("spool", "submit", "q", folder.at("a"), "--json"))
+    same("an accepted job", job, {"job": 1, "queue": "q"})
+    same("a quiet one", front.says("spool", "submit", "q", folder.at("a"), "--json", "--quiet"), "")
+    queue = json.loads(front.says("spool", "queue", "show", "q", "--json"))
+    same("a queue", (queue["queue"], queue["accepting"]), ("q", "yes"))
+    child = front.start("spool", "watch", "--json")
+    row = json.loads(first_line(child, lambda: client.create("q", "seen")))
+    same("a change", (row["job"]["title"], row["job"]["state"]), ("seen", "held"))
+    child.kill()
+    child.communicate()
+
+
+def test_says_commands(folder):
+    client, front = office(folder)
+    same("a command", front.says("spool", "say", "jobs"), "ok 0\n")
+    holds("an error", front.says("spool", "say", "no such", "jobs", status=1).startswith("error syntax\nok"))
+    text = b'# a remark\n\ncreate q ann "t" 1 50 ""\nsend 1 7\nab\ncd\ne\njobs'
+    same("an input", front.says("spool", "say", text=text).split("\n")[:2], ["ok job 1", "ok bytes 7"])
+    same("no input", front.says("spool", "say", text=b""), "")
+    same("the end", front.says("spool", "say", "--until-end", "shutdown"), "ok\n")
+    same("no service", Front(folder, 1).run("spool", "say", "jobs").returncode, 1)
+
+
+def test_acts_on_jobs(folder):
+    client, front = office(folder)
+    client.ask("disable q\n")
+    jobs = [client.submit("q") for _ in range(4)]
+    front.says("spool", "hold", str(jobs[0]))
+    same("held", client.state(jobs[0]).split()[0], "4")
+    front.says("spool", "release", str(jobs[0]))
+    front.says("spool", "cancel", *map(str, jobs[:2]))
+    same("canceled", [client.state(job).split()[0] for job in jobs], ["7", "7", "3", "3"])
+    front.says("spool", "purge", str(jobs[0]))
+    same("purged", client.state(jobs[0]), "")
+    holds("twice", "error" in front.fails("spool", "cancel", str(jobs[1]), str(jobs[2])))
+    same("the other", client.state(jobs[2]).split()[0], "7")
+
+
+PAGE = 1 << 20
+
+
+class PausedPrinter:
+    """A printer on a port of the loopback address, which prints pages of 1 MiB, and one document after another. After two pages of a document it
+    pauses until `goes_on` is set.
+    """
+
+    def __init__(self):
+        self.listener = socket.socket()
+        self.listener.setsockopt(socket.SOL_SOCKET, socket.SO_RCVBUF, 65_536)
+        self.listener.bind(("127.0.0.1", 0))
+        self.listener.listen(4)
+        self.port = self.listener.getsockname()[1]
+        # The pages of each document so far.
+        self.pages, self.goes_on = [], threading.Event()
+        threading.Thread(target=self.serve, daemon=True).start()
+
+    def serve(self):
+        while True:
+            line, _ = self.listener.accept()
+            self.pages.append(0)
+            with line:
+                try:
+                    while self.read_page(line):
+                        self.pages[-1] += 1
+                        if self.pages[-1] == 2:
+                            self.goes_on.wait()
+                except OSError:
+                    pass
+
+    def read_page(self, line):
+        left = PAGE
+        while left:
+            data = line.recv(min(left, 65_536))
+            if not data:
+                return False
+            left -= len(data)
+        return True
+
+
+@pytest.mark.needs("spool_tools")
+def test_acts_that_stop_the_paper(folder):
+    """After a cancel the pages that the system has buffered come, and no others, and the next job starts, although the printer has paused. With
+    --keep-printing all pages come, and the next job waits for them.
+    """
+    folder.lines.append(f"backend appsocket {os.path.abspath(TOOLS)} appsocket\n")
+    folder.write("programs", "".join(folder.lines))
+    folder.size = 268_435_456
+    client, front = office(folder)
+    printer = PausedPrinter()
+    same("queue", client.ask(f"queue net appsocket://127.0.0.1:{printer.port}/ application/octet-stream abort-job 0 0\n"), "ok")
+    with open(folder.at("long"), "wb") as file:
+        file.write(b"x" * 12 * PAGE)
+    folder.write("short", "x")
+    for words, stops in ((["spool", "cancel"], True), (["cancel"], True), (["lprm"], True), (["spool", "cancel", "--keep-printing"], False)):
+        before = len(printer.pages)
+        printer.goes_on.clear()
+        long, short = [number_of(front.says("spool", "submit", "net", folder.at(name))) for name in ("long", "short")]
+        until("two pages", lambda: len(printer.pages) > before and printer.pages[before] == 2)
+        front.says(*words, str(long))
+        canceled = time.monotonic()
+        same("canceled", client.state(long).split()[0], "7")
+        if stops:
+            until("the next job", lambda: client.fields(short)["attempts"] == "1")
+            holds("before the backend would be killed", time.monotonic() - canceled < 9)
+        same(f"{words}: the next job has started", client.fields(short)["attempts"] == "1", stops)
+        printer.goes_on.set()
+        client.until_state(short, "9")
+        pages = printer.pages[before]
+        print(f"  {' '.join(words)}: {pages} of 12 pages")
+        holds(f"{words}: {pages} of 12 pages", pages <= 8 if stops else pages == 12)
+
+
+def test_acts_on_queues(folder):
+    client, front = office(folder)
+    front.says("spool", "queue", "add", "new", "slow:/0", "--media", "application/octet-stream")
+    front.says("spool", "queue", "set", "new", "--info", "An info", "--location", "A room")
+    front.says("spool", "queue", "reject", "new")
+    front.says("spool", "queue", "disable", "new")
+    rows = {line.split()[1]: line for line in client.listing("queues\n")}
+    holds(f"row {rows['new']}", rows["new"].startswith("queue new 5 rejecting application/octet-stream "))
+    front.says("spool", "queue", "accept", "new")
+    front.says("spool", "queue", "enable", "new")
+    rows = {line.split()[1]: line for line in client.listing("queues\n")}
+    holds(f"row {rows['new']}", rows["new"].startswith("queue new 3 accepting "))
+    holds("twice", "error 2 QueueExists" in front.fails("spool", "queue", "add", "new", "slow:/0", "--media", "a/b"))
+
+
+# ---- out of memory
+
+
+@pytest.mark.needs("gcc", "plain spool_front")
+def test_refuses_memory(folder):
+    """Each allocation of a submission is refused in turn, and its status is correct: accepted once, never, or not known. A submission that
+    failed is reported as out of memory. The same applies to the arguments, and a variable that cannot be read for lack of memory is not
+    treated as unset.
+    """
+    library = compiled("count_allocations.c", "-shared", "-fPIC")
+    client, front = office(folder)
+    text = b"x" * 70_000
+    refused, ends = 0, {}
+    while True:
+        refused += 1
+        counted = folder.at("counted")
+        title = f"document-{refused:06d}"
+        more = {"LD_PRELOAD": library, "REFUSED": str(refused), "COUNTED": counted}
+        ended = front.run("spool", "submit", "q", "-", "--title", title, text=text, environment=more)
+        output = ended.stderr.decode()
+        ends.setdefault(ended.returncode, []).append(refused)
+        holds(f"allocation {refused}, status {ended.returncode}: {output!r}", ended.returncode in (0, 1, 3))
+        holds(f"allocation {refused}, status 1: {output!r}", ended.returncode != 1 or "memory" in output)
+        closed = [row for row in client.listing("jobs\n") if title in row and row.split()[4] != "job-incoming" and row.split()[3] != "7"]
+        if ended.returncode != 3:
+            same(f"closed jobs, when allocation {refused} was refused: {output!r}", len(closed), 1 if ended.returncode == 0 else 0)
+        holds(f"the job's user, when allocation {refused} was refused: {closed}", all(row.split()[5] == '"ann"' for row in closed))
+        if " refused " not in folder.read("counted"):
+            break
+        os.remove(counted)
+    same("status with all of it", ended.returncode, 0)
+    print(f"  {refused - 1} allocations: " + ", ".join(f"status {status} for {len(which)}" for status, which in sorted(ends.items())))
+
+
+# ---- kills
+
+
+def test_kills(folder):
+    """Documents are submitted while the service is killed again and again. Each accepted document becomes one job, and none becomes two."""
+    # No ended job is purged before it is checked.
+    folder.words = ["--keep", "100000"]
+    client, front = office(folder)
+    client.close()
+    front.environment["SPOOL_PATIENCE"] = "60"
+    count = 1000 if Folder.is_long else 60
+    starts, stop = [0], threading.Event()
+
+    def killer():
+        while not stop.is_set():
+            end = time.time() + random.uniform(0.05, 0.6)
+            while time.time() < end and not stop.is_set():
+                if folder.running.poll() is not None:
+                    folder.launch()
+                time.sleep(0.01)
+            folder.kill()
+            folder.launch()
+            starts[0] += 1
+
+    thread = threading.Thread(target=killer)
+    thread.start()
+    statuses, index = {}, 0
+    began = time.time()
+    try:
+        while starts[0] < count and time.time() - began < count * 3:
+            index += 1
+            title = f"document-{index:06d}"
+            text = (title + "\n" + "x" * random.choice([0, 10, 70_000, 200_000])).encode()
+            ended = front.run("spool", "submit", "q", "-", "--title", title, text=text)
+            statuses[title] = (ended.returncode, len(text), ended.stderr.decode())
+    finally:
+        stop.set()
+        thread.join()
+    client = patient_client(folder)
+    jobs = {}
+    for line in client.listing("jobs\n"):
+        words = line.split()
+        if words[4] != "job-incoming" and not (words[3] == "7"):
+            jobs.setdefault(line.split('"')[3], []).append((words[1], int(words[6])))
+    print(f"  {index} documents, {starts[0]} kills: {sum(1 for ended in statuses.values() if ended[0] == 0)} accepted")
+    for title, (status, size, output) in statuses.items():
+        found = jobs.get(title, [])
+        holds(f"{title}, status {status}: {output!r}", status in (0, 1, 3))
+        if status == 0:
+            same(f"jobs of {title}", [size for _, size in found], [size])
+        if status == 1:
+            same(f"jobs of {title}", found, [])
+        holds(f"{title}: {found}", len(found) <= 1)
+
+
+# ---- a terminal
+
+
+def columns_of(line):
+    return sum(0 if unicodedata.combining(c) else 2 if unicodedata.east_asian_width(c) in "WF" else 1 for c in line)
+
+
+def test_fits_terminals(folder):
+    client, front = office(folder)
+    for title in ("short", "a long title " * 10, "中文" * 30, "é" * 100):
+        client.create("q", title)
+    for width in (40, 60, 79, 80, 100, 132, 200):
+        for words in (["spool", "status"], ["spool", "queues"], ["spool", "status", "1"]):
+            text, status = front.on_terminal(*words, columns=width)
+            same("status", status, 0)
+            for line in text.splitlines():
+                holds(f"{words} at {width} columns: {line!r}", columns_of(line) <= width)
+    folder.write("a", "a")
+    text, status = front.on_terminal("spool", "submit", "q", folder.at("a"), "--wait")
+    same("status", status, 0)
+    holds(f"its progress is shown: {text!r}", "done" in text and "sent" not in text)
+
+
+# ---- scripts that were written for CUPS
+
+
+def test_lp_scripts(folder):
+    client, front = office(folder)
+    folder.write("a.txt", "a\n")
+    job = number_of(front.says("lp", "-d", "q", "-n", "2", "-t", "Title", "-o", "media=a4", folder.at("a.txt")))
+    client.until_ended([job])
+    fields = client.fields(job)
+    same("copies, title", (fields["copies"], fields["title"]), ("2", '"Title"'))
+    same("an input", front.says("lp", text=b"piped").split()[:3], ["request", "id", "is"])
+    same("by the environment", front.says("lp", text=b"x", environment={"LPDEST": "q"}).split()[:3], ["request", "id", "is"])
+    front.says("lpr", "-P", "q", folder.at("a.txt"))
+    client.until_ended([2, 3, 4])
+    client.ask("disable q\n")
+    job = number_of(front.says("lp", "-d", "q", folder.at("a.txt")))
+    same("lpstat -o", front.says("lpstat", "-o", "q").split()[0], f"q-{job}")
+    holds("lpstat -p", "printer q " in front.says("lpstat", "-p", "q"))
+    holds("lpstat -a", "q accepting" in front.says("lpstat", "-a"))
+    holds("lpstat -r", "scheduler is running" in front.says("lpstat", "-r"))
+    holds("lpstat -d", "system default destination: q" in front.says("lpstat", "-d"))
+    holds("lpstat -t", "scheduler is running" in front.says("lpstat", "-t"))
+    holds("lpq", "ann" in front.says("lpq", "-P", "q"))
+    front.says("cancel", f"q-{job}")
+    same("canceled", client.state(job).split()[0], "7")
+    job = number_of(front.says("lp", "-d", "q", folder.at("a.txt")))
+    front.says("lprm", "-P", "q", str(job))
+    same("removed", client.state(job).split()[0], "7")
+    same("nothing", front.says("lpstat", "-o"), "")
+    front.fails("lp", "-d", "none", folder.at("a.txt"))
+    front.fails("lp", "-Z")

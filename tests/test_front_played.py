@@ -1,0 +1,294 @@
+"""A submission of the front end to a simulated service: each loss, each refusal and each status.
+
+The decisions after a lost reply are proved over values; here real connections are lost.
+"""
+import time
+
+import pytest
+
+from harness.checks import holds, same
+from harness.front import Front, Played
+
+pytestmark = pytest.mark.needs("spool_front")
+
+
+def shown(size, state="4 job-incoming", media="", token="TOKEN"):
+    """The reply to `job 5`."""
+    number, reason = state.split()
+    kind = f"type {media}\n" if media else ""
+    return (
+        f'job 5\nqueue q\nuser "ann"\ntitle "t"\noptions "submission={token}"\ncopies 1\npriority 50\n'
+        f"size {size}\npages 0\nattempts 0\n{kind}state {number}\nreason {reason}\nok 1\n"
+    )
+
+
+LISTED = 'job 5 q 4 job-incoming "ann" 0 0 "t"\nok 1\n'
+CLOSED = ("close 5 ", "ok type application/octet-stream stages 1\n")
+CREATED, SENT, CANCELED = ('create "q" ', "ok job 5\n"), ("send 5 3", "ok bytes 3\n"), ("cancel 5", "ok\n")
+
+# The steps of a connection that is lost at each command.
+NOT_CREATED, NOT_SENT, NOT_CLOSED = [('create "q" ', None)], [CREATED, ("send 5 3", None)], [CREATED, SENT, ("close 5 ", None)]
+
+# Others' jobs, and one that has ended.
+ROWS = 'job 5 q 4 job-incoming "ann" 0 0 "t"\njob 6 q 4 job-incoming "bob" 0 0 "t"\njob 7 q 9 job-completed-successfully "ann" 0 0 "t"\nok 3\n'
+ENDED = "the job was ended before the document was complete"
+
+
+def asked(*reply, then=()):
+    """The steps of a connection in which the front end asks for its job."""
+    return [("job 5", *reply), *then]
+
+
+# The steps of each connection, the status and a part of the output.
+SUBMISSIONS = {
+    "accepted": ([[CREATED, SENT, CLOSED]], 0, "request id is q-5 (1 file(s))"),
+    "unprintable": ([[CREATED, SENT, ("close 5 ", "ok type a/b unprintable\n")]], 4, "job 5"),
+    "create refused": ([[('create "q" ', "error 1 NoQueue\n")]], 1, "spool: error 1 NoQueue\n"),
+    "send refused": ([[CREATED, ("send 5 3", "error 7 TooLong\n"), CANCELED]], 1, "spool: error 7 TooLong; job 5 was canceled\n"),
+    "close refused": ([[CREATED, SENT, ("close 5 ", "error 5 NoJob\n"), ("cancel 5", "error 5 NoJob\n")]], 1, "error 5 NoJob; job 5 is not printed"),
+    "another size": ([[CREATED, ("send 5 3", "ok bytes 9\n"), CANCELED]], 1, "job 5 was canceled"),
+    "put off": ([[('create "q" ', "error full\n"), CREATED, ("send 5 3", "error memory\n"), SENT, ("close 5 ", "error full\n"), CLOSED]], 0, "q-5"),
+    "full for good": ([[CREATED, *[("send 5 3", "error full\n")] * 21, CANCELED]], 1, "error full; job 5 was canceled"),
+    # It was created: the front end continues with the job that has the token.
+    "create lost": ([NOT_CREATED, [("jobs", LISTED), *asked(shown(0)), SENT, CLOSED]], 0, "q-5"),
+    "create not done": ([NOT_CREATED, [("jobs", "ok 0\n"), CREATED, SENT, CLOSED]], 0, "q-5"),
+    # A listing that fails does not show that the job does not exist: it is requested again.
+    "no listing": ([NOT_CREATED, [("jobs", "error busy\n")], [("jobs", "error memory\n"), ("jobs", LISTED), *asked(shown(0)), SENT, CLOSED]], 0, "q-5"),
+    # A job with another token, a job of another user and a job that has ended are not its own.
+    "foreign jobs": ([NOT_CREATED, [("jobs", ROWS), *asked(shown(0, token="0" * 32)), CREATED, SENT, CLOSED]], 0, "q-5"),
+    "send lost, not done": ([NOT_SENT, [*asked(shown(0)), SENT, CLOSED]], 0, "q-5"),
+    "send lost, done": ([NOT_SENT, [*asked(shown(3)), CLOSED]], 0, "q-5"),
+    "send lost, another size": ([NOT_SENT, [*asked(shown(2)), CANCELED]], 1, "job 5 was canceled"),
+    "send lost, no job": ([NOT_SENT, asked("error job\n")], 1, ENDED),
+    "send lost, canceled": ([NOT_SENT, asked(shown(0, "7 canceled"))], 1, ENDED),
+    "close lost, not done": ([NOT_CLOSED, [*asked(shown(3)), CLOSED]], 0, "q-5"),
+    "close lost, done": ([NOT_CLOSED, asked(shown(3, "3 none", "a/b"))], 0, "q-5"),
+    "close lost, printed": ([NOT_CLOSED, asked(shown(3, "9 job-completed-successfully", "a/b"))], 0, "q-5"),
+    "close lost, unprintable": ([NOT_CLOSED, asked(shown(3, "8 no-filter", "a/b"))], 4, "job 5"),
+    "close lost, canceled": ([NOT_CLOSED, asked(shown(3, "7 canceled"))], 1, ENDED),
+    "close lost, no job": ([NOT_CLOSED, asked("error job\n")], 3, "job 5"),
+    # Somebody ended the job, or an earlier close was served: `job` shows which.
+    "closed before": ([[CREATED, SENT, ("close 5 ", "error 6 NotIncoming\n"), *asked(shown(3, "3 none", "a/b"))]], 0, "q-5"),
+    "canceled before": ([[CREATED, SENT, ("close 5 ", "error 6 NotIncoming\n"), *asked(shown(3, "7 canceled"))]], 1, "job 5"),
+    # After `error disk` a close may have been executed, so the front end asks again on a new connection.
+    "dead at close": ([[CREATED, SENT, ("close 5 ", "error disk\n")], asked(shown(3, "3 none", "a/b"))], 0, "q-5"),
+}
+
+# The same if the service is gone for longer than the front end waits. A dead spool replies to queries, and changes nothing.
+GIVEN_UP = {
+    "dead for good": ([[CREATED, SENT, ("close 5 ", "error dead\n")], *[[*asked(shown(3)), ("close 5 ", "error dead\n")]] * 10], 3, "job 5"),
+    "gone at close": ([NOT_CLOSED], 3, "job 5"),
+    "gone at send": ([NOT_SENT], 1, "cannot reach the service"),
+}
+
+
+def played(folder, connections, status, output, patience=3, document=b"abc"):
+    """Submits a document, usually of three bytes, to a simulated service."""
+    service = Played(folder, connections)
+    write_bytes(folder, document)
+    ended = Front(folder, patience).run("spool", "submit", "q", folder.at("doc"))
+    service.end()
+    text = ended.stdout.decode() + ended.stderr.decode()
+    same(f"status, with {text!r}", ended.returncode, status)
+    holds(f"printed {text!r}, without {output!r}", output in text)
+    return service
+
+
+def write_bytes(folder, document):
+    with open(folder.at("doc"), "wb") as file:
+        file.write(document)
+
+
+@pytest.mark.parametrize("connections, status, output", SUBMISSIONS.values(), ids=SUBMISSIONS)
+def test_submission(folder, connections, status, output):
+    played(folder, connections, status, output)
+
+
+@pytest.mark.parametrize("connections, status, output", GIVEN_UP.values(), ids=GIVEN_UP)
+def test_given_up(folder, connections, status, output):
+    played(folder, connections, status, output, patience=1)
+
+
+# ---- a long piece, which two commands send together
+
+FIRST, SECOND = 65_536, 65_535
+LONG = bytes(range(256)) * 512
+SENDS_FIRST, SENDS_SECOND = f"send 5 {FIRST}", f"send 5 {SECOND}"
+
+# An empty reply is not waited for: the second command comes although the first one has no reply yet.
+BOTH = [(SENDS_FIRST, ""), (SENDS_SECOND, f"ok bytes {FIRST}\nok bytes {FIRST + SECOND}\n")]
+REST = [("send 5 1", f"ok bytes {FIRST + SECOND + 1}\n"), CLOSED]
+ACCEPTED, GIVES_UP = "request id is q-5", "job 5 was canceled"
+
+# The steps of each connection after the creation of the job, the status and a part of the output, for 131,072 bytes: a piece that takes two
+# commands, and one of a byte.
+LONG_SUBMISSIONS = {
+    "both": ([[*BOTH, *REST]], 0, ACCEPTED),
+    # Only the other bytes are sent again.
+    "second put off": ([[(SENDS_FIRST, f"ok bytes {FIRST}\n"), (SENDS_SECOND, "error full\n"), (SENDS_SECOND, f"ok bytes {FIRST + SECOND}\n"), *REST]], 0, ACCEPTED),
+    # The second command was executed without the first one: the document is given up.
+    "first put off": ([[(SENDS_FIRST, "error full\n"), (SENDS_SECOND, f"ok bytes {SECOND}\n"), CANCELED]], 1, GIVES_UP),
+    "both put off": ([[(SENDS_FIRST, "error full\n"), (SENDS_SECOND, "error full\n"), *BOTH, *REST]], 0, ACCEPTED),
+    "both refused": ([[(SENDS_FIRST, "error 7 TooLong\n"), (SENDS_SECOND, "error 7 TooLong\n"), CANCELED]], 1, f"error 7 TooLong; {GIVES_UP}"),
+    # Its reply says nothing of the second command.
+    "lost after the first reply": ([[(SENDS_FIRST, f"ok bytes {FIRST}\n"), (SENDS_SECOND, None)], [*asked(shown(FIRST + SECOND)), *REST]], 0, ACCEPTED),
+}
+
+# The size of the job says which of the two commands were executed before the connection was lost.
+DONE = {0: BOTH, FIRST: [(SENDS_SECOND, f"ok bytes {FIRST + SECOND}\n")], FIRST + SECOND: []}
+for size, more in DONE.items():
+    for at, lost in enumerate(([(SENDS_FIRST, None)], [(SENDS_FIRST, ""), (SENDS_SECOND, None)]), 1):
+        LONG_SUBMISSIONS[f"lost at {at} with {size} bytes"] = ([lost, [*asked(shown(size)), *more, *REST]], 0, ACCEPTED)
+for size in (SECOND, 7):
+    LONG_SUBMISSIONS[f"lost with {size} bytes"] = ([[(SENDS_FIRST, None)], [*asked(shown(size)), CANCELED]], 1, GIVES_UP)
+
+
+@pytest.mark.parametrize("connections, status, output", LONG_SUBMISSIONS.values(), ids=LONG_SUBMISSIONS)
+def test_long_submission(folder, connections, status, output):
+    first, *others = connections
+    service = played(folder, [[CREATED, *first], *others], status, output, document=LONG)
+    if connections == [[*BOTH, *REST]]:
+        same("the bytes", service.bytes, LONG)
+
+
+def test_a_mebibyte(folder):
+    """A submission waits for fewer replies than it sends pieces."""
+    steps, size = [CREATED], 0
+    for _ in range(8):
+        steps += [(SENDS_FIRST, ""), (SENDS_SECOND, f"ok bytes {size + FIRST}\nok bytes {size + FIRST + SECOND}\n")]
+        size += FIRST + SECOND
+    steps += [("send 5 8", "ok bytes 1048576\n"), CLOSED]
+    document = bytes(range(256)) * 4096
+    same("the bytes", played(folder, [steps], 0, ACCEPTED, document=document).bytes, document)
+    sends = [wanted for wanted, _ in steps if wanted.startswith("send")]
+    holds("the number of waits", len([reply for _, reply in steps if reply]) < len(sends))
+
+
+def test_shows_progress(folder):
+    """The bar on a terminal, for a service that takes half a second for a piece."""
+    write_bytes(folder, LONG)
+    steps = [CREATED, BOTH[0], (*BOTH[1], 0.5), *REST]
+    for words, bar in ((["submit", "q", folder.at("doc")], True), (["submit", "q", folder.at("doc"), "--quiet"], False)):
+        service = Played(folder, [steps])
+        text, status = Front(folder, 3).on_terminal("spool", *words)
+        service.end()
+        same("status", status, 0)
+        holds(f"{words}: {text!r}", ("[###################" in text and " 99 %, 128 KiB sent, " in text and "KiB/s" in text) == bar)
+    service = Played(folder, [steps])
+    ended = Front(folder, 3).run("spool", "submit", "q", folder.at("doc"))
+    service.end()
+    same("without a terminal", ended.stderr, b"")
+
+
+# ---- other commands, and moments
+
+def test_lost_order(folder):
+    # A command that is not repeated: only its reply shows whether it was executed.
+    service = Played(folder, [[("cancel 7", None)], [("cancel 8", "ok\n"), ("end 8", "error job\n")], [("accept", None)]])
+    front = Front(folder, 1)
+    output = front.fails("spool", "cancel", "7", "8", status=3)
+    holds(f"printed {output!r}", output.startswith("spool: job 7: ") and "job 8" not in output)
+    front.fails("spool", "queue", "accept", "q", status=3)
+    service.end()
+
+
+def moments_played(folder, now, words, status=0):
+    """Submits three bytes with moments to a simulated service that replies `now` to the question for its time. Returns the moments that it
+    was sent, by the command, and the output on standard error."""
+    asked = [("now\n", now)] if now else []
+    created = "createby" if "--by" in words else "create"
+    steps = [*asked, (f'{created} "q" ', "ok job 5\n"), SENT, ("hold 5 ", "ok\n"), CLOSED]
+    service = Played(folder, [steps if not status else asked])
+    front = Front(folder)
+    folder.write("doc", "abc")
+    ended = front.run("spool", "submit", "q", folder.at("doc"), *words)
+    service.end()
+    same("status", ended.returncode, status)
+    return {line.split()[0]: int(line.split()[-1]) for line in service.heard if line.startswith(("createby", "hold"))}, ended.stderr.decode()
+
+
+def test_now(folder):
+    """Seconds from now count from the time of the service."""
+    sent, errors = moments_played(folder, "ok now 5000000000\n", ["--at", "+60", "--by", "+90"])
+    same("moments", (sent, errors), ({"hold": 5000000060, "createby": 5000000090}, ""))
+
+
+def test_time_of_day(folder):
+    """A time of day is the next one by the time of the service, in UTC. 5000000000 is 08:53:20."""
+    for told, wanted in (("08:53:21", 5000000001), ("8:53:20", 5000000000), ("08:53", 5000000000 - 20 + 86_400), ("00:00", 5000000000 + 54_400)):
+        steps = [("now\n", "ok now 5000000000\n"), ('create "q" ', "ok job 5\n"), SENT, ("hold 5 ", "ok\n"), CLOSED]
+        service = Played(folder, [steps])
+        folder.write("doc", "abc")
+        Front(folder).says("lp", "-d", "q", "-H", told, folder.at("doc"))
+        service.end()
+        same(told, [line for line in service.heard if line.startswith("hold")], [f"hold 5 {wanted}"])
+
+
+def test_removed_while_waiting(folder):
+    """A job that was canceled and removed while the program waited for it was not completed."""
+    for reply, status in (("error job\n", 5), (shown(3, "7 canceled", "a/b"), 5), (shown(3, "9 job-completed-successfully", "a/b"), 0)):
+        service = Played(folder, [[CREATED, SENT, CLOSED, ("job 5", reply)]])
+        folder.write("doc", "abc")
+        same(f"the status after {reply!r}", Front(folder).run("spool", "submit", "q", folder.at("doc"), "--wait").returncode, status)
+        service.end()
+
+
+def test_tokens_differ(folder):
+    """No two submissions have the same token."""
+    tokens = set()
+    for _ in range(40):
+        service = Played(folder, [[CREATED, SENT, CLOSED]])
+        folder.write("doc", "abc")
+        Front(folder).says("spool", "submit", "q", folder.at("doc"))
+        service.end()
+        tokens |= {line.split("submission=")[1].split('"')[0] for line in service.heard if line.startswith("create")}
+    same("tokens", (len(tokens), {len(token) for token in tokens}), (40, {32}))
+
+
+def test_now_apart(folder):
+    """A moment of the system's clock is shifted if the service's time is another one, in either direction."""
+    for apart, side in ((1_000_000, "service's time"), (-1_000_000, "system's clock")):
+        began = int(time.time())
+        sent, errors = moments_played(folder, f"ok now {began + apart}\n", ["--at", str(began + 60)])
+        holds(f"a moment {apart} s away: {sent}", abs(sent["hold"] - began - 60 - apart) <= 30)
+        holds(f"a note: {errors}", f"spool: the {side} is " in errors and "the moment is shifted by as much" in errors)
+    began = int(time.time())
+    sent, errors = moments_played(folder, f"ok now {began}\n", ["--at", str(began + 60)])
+    same("an equal clock", (sent, errors), ({"hold": began + 60}, ""))
+
+
+def test_without_now(folder):
+    """A service that does not know `now` has the system's clock."""
+    began = int(time.time())
+    sent, errors = moments_played(folder, None, ["--at", "+60"])
+    holds(f"a moment a minute ahead: {sent}", began + 60 <= sent["hold"] <= began + 90)
+    sent, errors = moments_played(folder, None, ["--at", "1000"])
+    same("an absolute moment", (sent, errors), ({"hold": 1000}, ""))
+
+
+def test_now_invalid(folder):
+    for reply in ("ok now\n", "ok now 12x\n", "ok now 4000000000001\n", "ok room 12\n", "ok 12\n"):
+        sent, errors = moments_played(folder, reply, ["--at", "+60"], status=1)
+        same(f"after {reply}", (sent, errors), ({}, "spool: the reply of the service is invalid\n"))
+
+
+def test_looks_at_a_busy_service(folder):
+    """Tasks that look try again while the service is busy, and then say so."""
+    busy, steps = [("jobs", "error busy\n")], [("jobs", "ok 0\n")]
+    for count in (1, 3):
+        service = Played(folder, [busy] * count + [steps])
+        Front(folder, 5).says("spool", "status")
+        service.end()
+    service = Played(folder, [busy] * 11)
+    same("a service that stays busy", Front(folder, 1).fails("spool", "status"), f"spool: the service at {folder.socket} is busy\n")
+    service.end()
+    # The second connection is closed before its reply.
+    service = Played(folder, [[("watch", "error busy\n")], [("watch", None)]])
+    Front(folder, 1).fails("spool", "watch")
+    service.end()
+    same("watch", service.heard, ["watch", "watch"])
+
+
+def test_without_a_service(folder):
+    folder.write("doc", "abc")
+    same("status with no service", Front(folder, 1).run("spool", "submit", "q", folder.at("doc")).returncode, 1)

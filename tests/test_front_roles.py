@@ -1,0 +1,573 @@
+"""How the front end proves its user, and explains denials.
+
+In all tests but real_* the service is simulated: it offers proofs, declines them, is an older one, denies commands or disappears, and
+examines the folder at the moment of `made`.
+
+| Test | Tests |
+|---|---|
+| proves_* | the folder, its owner and its mode, and how many round trips the proof takes |
+| goes_on_* | a service that takes no proof, or not this one: the command is done all the same |
+| leaves_* | no folder is left, whatever fails: the service, an allocation |
+| refuses_* | paths that a hostile service names |
+| explains_* | denied commands |
+| owns_* | the user of a job |
+| asks_* | commands that an older service does not know, and their substitutes |
+| real_* | a running service, with users of the system (as root) |
+"""
+import json
+import os
+import secrets
+import socket
+import stat
+import subprocess
+import threading
+
+import pytest
+
+from harness.checks import holds, LONGEST, same
+from harness.front import Front
+from harness.programs import compiled
+from harness.service import TYPE
+
+pytestmark = pytest.mark.needs("spool_service", "spool_front")
+
+ME = os.getuid()
+OLDER = "error syntax\n"
+WHERE = "see spool_service(8), Roles)"
+
+
+class Service:
+    """A simulated service. `replies` has a reply for each prefix of a command; one that is a list has a reply for each time.
+
+    `proof` is the reply to `i-am`: a text, None to close the connection, or True for the path of a new name in the folder `proof`. `made` is
+    the reply to `made`: it is given once the command after it has come, so a client that waits for it in between gets none.
+    """
+
+    def __init__(self, folder, replies, proof=True, made="ok user ann\n", takes=True):
+        self.folder, self.proof, self.made, self.takes = folder, proof, made, takes
+        self.replies = {word: list(reply) if isinstance(reply, list) else reply for word, reply in replies.items()}
+        self.heard, self.seen, self.faults, self.trips = [], [], [], 0
+        self.parent = folder.at("proof")
+        if not os.path.isdir(self.parent):
+            os.mkdir(self.parent)
+            os.chmod(self.parent, 0o1733)
+        self.path = None
+        if os.path.exists(folder.socket):
+            os.remove(folder.socket)
+        self.listener = socket.socket(socket.AF_UNIX)
+        self.listener.bind(folder.socket)
+        os.chmod(folder.socket, 0o666)
+        self.listener.listen(16)
+        self.accepting = threading.Thread(target=self.accept, daemon=True)
+        self.accepting.start()
+
+    def accept(self):
+        while True:
+            try:
+                line, _ = self.listener.accept()
+            except OSError:
+                return
+            threading.Thread(target=self.serve, args=(line,), daemon=True).start()
+
+    def serve(self, line):
+        line.settimeout(LONGEST)
+        try:
+            with line, line.makefile("rb") as stream:
+                while self.serve_one(line, stream):
+                    pass
+        except (BrokenPipeError, ConnectionResetError):
+            # The client has ended.
+            pass
+        except OSError as fault:
+            self.faults.append(repr(fault))
+
+    def next(self, stream):
+        said = stream.readline().decode()
+        if said:
+            self.heard.append(said.strip("\n"))
+        if said.startswith("send"):
+            stream.read(int(said.split()[2]) + 1)
+        return said
+
+    def serve_one(self, line, stream):
+        """Serves one command, and returns whether the connection stays open."""
+        said = self.next(stream)
+        if not said:
+            return False
+        self.trips += 1
+        if said == "made\n":
+            self.look()
+            command = self.next(stream)
+            if self.made is None:
+                return False
+            line.sendall(self.made.encode())
+            return self.answer(line, command)
+        return self.answer(line, said)
+
+    def answer(self, line, said):
+        if said == "i-am\n":
+            reply = self.offer()
+        else:
+            reply = self.reply_to(said)
+        if reply is None:
+            return False
+        line.sendall(reply.encode())
+        return not reply.startswith("error busy")
+
+    def offer(self):
+        if self.proof is not True:
+            return self.proof
+        self.path = os.path.join(self.parent, secrets.token_hex(16))
+        return f'ok proof "{self.path}"\n'
+
+    def reply_to(self, said):
+        for word, reply in self.replies.items():
+            if said.startswith(word):
+                if isinstance(reply, list):
+                    reply = reply.pop(0) if reply else OLDER
+                return reply
+        return OLDER
+
+    def look(self):
+        """Examines the folder without following a link, and removes it if the proof is taken."""
+        try:
+            about = os.lstat(self.path)
+        except (OSError, TypeError):
+            self.seen.append(None)
+            return
+        self.seen.append((stat.S_ISDIR(about.st_mode), oct(stat.S_IMODE(about.st_mode)), about.st_uid))
+        if self.takes:
+            os.rmdir(self.path)
+
+    def left(self):
+        return os.listdir(self.parent)
+
+    def end(self):
+        # A thread that still waits would accept the clients of the next service, whose descriptor may be the same.
+        self.listener.shutdown(socket.SHUT_RDWR)
+        self.accepting.join(LONGEST)
+        self.listener.close()
+        same("faults of the service", self.faults, [])
+        same("folders that are left", self.left(), [])
+
+
+def started(folder, replies, patience=2, **more):
+    return Service(folder, replies, **more), Front(folder, patience)
+
+
+# ---- the proof
+
+
+def test_proves_who_it_is(folder):
+    service, front = started(folder, {"stop 7": "ok\n"})
+    same("output", front.says("spool", "cancel", "7"), "")
+    same("said", service.heard, ["i-am", "made", "stop 7"])
+    same("the folder at `made`", service.seen, [(True, "0o700", ME)])
+    # The service has got the command before it answers `made`.
+    same("round trips", service.trips, 2)
+    service.end()
+
+
+def test_proves_with_any_mask(folder):
+    for mask in (0o000, 0o022, 0o077, 0o777):
+        service, front = started(folder, {"stop 7": "ok\n"})
+        ended = subprocess.run(front.command(["spool", "cancel", "7"]), env=front.environment, capture_output=True, umask=mask, timeout=LONGEST)
+        same(f"status with the mask {mask:o}: {ended.stderr!r}", ended.returncode, 0)
+        same(f"the folder with the mask {mask:o}", service.seen, [(True, "0o700", ME)])
+        service.end()
+
+
+def test_proves_once_a_connection(folder):
+    service, front = started(folder, {"stop 7": "ok\n", "stop 8": None, "stop 9": "ok\n"})
+    front.fails("spool", "cancel", "7", "8", "9", status=3)
+    same("said", service.heard, ["i-am", "made", "stop 7", "stop 8", "i-am", "made", "stop 9"])
+    service.end()
+
+
+def test_proves_by_each_name(folder):
+    listed = {"jobs": "ok 0\n", "list": OLDER, "printers": "ok 0\n"}
+    for words in (["cancel", "7"], ["lprm", "7"], ["spool", "hold", "7"], ["spool", "release", "7"], ["spool", "end", "7"], ["spool", "purge", "7"]):
+        service, front = started(folder, {word: "ok\n" for word in ("stop", "hold", "release", "end", "purge")})
+        front.says(*words)
+        same(f"said by {words}", service.heard[:2], ["i-am", "made"])
+        same(f"commands of {words}", len(service.heard), 3)
+        service.end()
+    for words in (["spool", "queue", "enable", "q"], ["spool", "queue", "add", "q", "slow:/0"]):
+        service, front = started(folder, {"enable": "ok\n", "queue": "ok\n"})
+        front.says(*words)
+        same(f"said by {words}", service.heard[:2], ["i-am", "made"])
+        service.end()
+    for words in (["spool", "status"], ["lpstat", "-o"]):
+        service, front = started(folder, listed)
+        front.says(*words)
+        same(f"said by {words}", service.heard[:2], ["i-am", "made"])
+        service.end()
+
+
+def test_proves_to_show_queues(folder):
+    """Queues that are shown are listed with a proof, since only operators see their messages. A queue is looked up without one."""
+    service, front = started(folder, {"printers": "ok 0\n"})
+    front.says("spool", "queues")
+    same("said", service.heard, ["i-am", "made", "printers"])
+    service.end()
+    service, front = started(folder, {"printers": OLDER, "queues": "ok 0\n"})
+    front.says("spool", "queues")
+    same("said to an older service", service.heard, ["i-am", "made", "printers", "queues"])
+    service.end()
+    service, front = started(folder, {"printers": "ok 0\n"})
+    front.run("lp", text=b"a letter")
+    same("said to find the only queue", service.heard, ["printers"])
+    service.end()
+
+
+# ---- services that take no proof
+
+
+def test_goes_on_with_an_older_service(folder):
+    service, front = started(folder, {"hold 7": "ok\n"}, proof=OLDER)
+    same("output", front.says("spool", "hold", "7"), "")
+    same("said", service.heard, ["i-am", "hold 7 indefinite"])
+    service.end()
+
+
+def test_goes_on_if_no_proofs_are_offered(folder):
+    for reply in ("error proof\n", "error memory\n", "error denied\n", "ok\n", "ok proof\n", "ok 3\n"):
+        service, front = started(folder, {"hold 7": "ok\n"}, proof=reply)
+        same("output", front.says("spool", "hold", "7"), "")
+        same(f"said after {reply!r}", service.heard, ["i-am", "hold 7 indefinite"])
+        service.end()
+
+
+def test_goes_on_if_the_proof_is_not_taken(folder):
+    for reply in ("error proof\n", "error syntax\n", "ok\n", "ok user\n", "ok user \x07\n", "ok owner ann\n"):
+        service, front = started(folder, {"hold 7": "ok\n"}, made=reply, takes=False)
+        same("output", front.says("spool", "hold", "7"), "")
+        same("the folder at `made`", service.seen, [(True, "0o700", ME)])
+        service.end()
+
+
+def test_goes_on_to_a_busy_service(folder):
+    service, front = started(folder, {}, proof="error busy\n")
+    same("output", front.fails("spool", "cancel", "7"), "spool: job 7: error busy\n")
+    same("said", service.heard, ["i-am"])
+    service.end()
+
+
+# ---- nothing is left
+
+
+def test_leaves_nothing_if_the_service_disappears(folder):
+    service, front = started(folder, {}, made=None, takes=False, patience=1)
+    front.fails("spool", "cancel", "7", status=3)
+    same("the folder at `made`", service.seen, [(True, "0o700", ME)])
+    service.end()
+    # The proof is taken, and the reply to the command is lost.
+    service, front = started(folder, {"stop": None}, patience=1)
+    front.fails("spool", "cancel", "7", status=3)
+    service.end()
+
+
+@pytest.mark.needs("gcc", "plain spool_front")
+def test_leaves_nothing_without_memory(folder):
+    """Each allocation is refused in turn, with a service that takes the proof and one that does not."""
+    library = compiled("count_allocations.c", "-shared", "-fPIC")
+    for takes, made in ((True, "ok user ann\n"), (False, "error proof\n")):
+        refused = 0
+        while True:
+            refused += 1
+            service, front = started(folder, {"stop 7": "ok\n"}, takes=takes, made=made)
+            counted = folder.at("counted")
+            ended = front.run("spool", "cancel", "7", environment={"LD_PRELOAD": library, "REFUSED": str(refused), "COUNTED": counted})
+            holds(f"allocation {refused}, status {ended.returncode}: {ended.stderr!r}", ended.returncode in (0, 1))
+            holds(f"allocation {refused}: {ended.stderr!r}", ended.returncode == 0 or b"memory" in ended.stderr)
+            service.end()
+            text = folder.read("counted")
+            if " refused " not in text:
+                break
+            os.remove(counted)
+        same("status with all of it", ended.returncode, 0)
+        print(f"  {refused - 1} allocations")
+
+
+# ---- hostile services
+
+
+def test_refuses_paths(folder):
+    parent = folder.at("elsewhere")
+    os.mkdir(parent)
+    name = secrets.token_hex(16)
+    paths = [
+        f"{parent}/file", f"{parent}/{name}/", f"{parent}/{name}0", f"{parent}/{name[1:]}", f"{parent}/{name[1:]}g", f"{parent}/x{name}",
+        f"{parent}/../elsewhere/{name}", f"{parent}/..", f"../{name}", f"./{name}", name, "", f"{parent}/missing/{name}", f"{parent}/a\0b/{name}",
+    ]
+    offers = [f'ok proof "{path}"\n' for path in paths]
+    offers += [f"ok proof {parent}/{name}\n", f'ok proof "{parent}/{name}\n', f'ok proof "{parent}/{name}" more\n', f'ok proof"{parent}/{name}"\n']
+    offers += [f'ok "{parent}/{name}"\n', f'proof "{parent}/{name}"\nok\n', f'error proof "{parent}/{name}"\n']
+    for offer in offers:
+        service, front = started(folder, {"hold 7": "ok\n"}, proof=offer)
+        same("output", front.says("spool", "hold", "7"), "")
+        same(f"said after {offer!r}", service.heard, ["i-am", "hold 7 indefinite"])
+        same(f"made after {offer!r}", os.listdir(parent), [])
+        service.end()
+    holds("nothing is made in the working folder", not os.path.exists(name))
+    # Quotes and backslashes in a path are read as in the other replies.
+    odd = folder.at('a "b" \\c')
+    os.mkdir(odd)
+    quoted = f"{odd}/{name}".replace("\\", "\\\\").replace('"', '\\"')
+    service, front = started(folder, {"hold 7": "ok\n"}, proof=f'ok proof "{quoted}"\n')
+    service.path = f"{odd}/{name}"
+    front.says("spool", "hold", "7")
+    same("the folder at `made`", service.seen, [(True, "0o700", ME)])
+    service.end()
+
+
+def test_refuses_what_is_there(folder):
+    """A folder, a file or a link of the name is not used and stays."""
+    for kind in ("folder", "file", "link", "dangling"):
+        service, front = started(folder, {"hold 7": "ok\n"})
+        path = os.path.join(folder.at("taken"), secrets.token_hex(16))
+        os.makedirs(folder.at("taken"), exist_ok=True)
+        os.makedirs(folder.at("target"), exist_ok=True)
+        if kind == "folder":
+            os.mkdir(path, 0o700)
+        elif kind == "file":
+            open(path, "w").close()
+        else:
+            os.symlink(folder.at("target") if kind == "link" else folder.at("nowhere"), path)
+        service.proof = f'ok proof "{path}"\n'
+        front.says("spool", "hold", "7")
+        same(f"said with a {kind}", service.heard, ["i-am", "hold 7 indefinite"])
+        holds(f"the {kind} stays", os.path.lexists(path))
+        holds("nothing is made at the link's end", not os.path.exists(folder.at("nowhere")))
+        service.end()
+
+
+@pytest.mark.root
+def test_refuses_the_folder_of_another_owner(folder):
+    """A folder of another user may be that of another service, which would take this service for the client."""
+    service, front = started(folder, {"hold 7": "ok\n"})
+    other = folder.at("other")
+    os.mkdir(other)
+    os.chmod(other, 0o1733)
+    os.chown(other, 65534, 65534)
+    service.proof = f'ok proof "{other}/{secrets.token_hex(16)}"\n'
+    front.says("spool", "hold", "7")
+    same("said", service.heard, ["i-am", "hold 7 indefinite"])
+    same("made", os.listdir(other), [])
+    service.end()
+
+
+# ---- denied commands
+
+NOT_YOURS = f"it is not yours (ask an operator, or {WHERE}"
+
+
+def test_explains_jobs(folder):
+    acts = {"cancel": "stop", "hold": "hold", "release": "release", "end": "end"}
+    for act, word in acts.items():
+        service, front = started(folder, {f"{word} 17": "error denied\n"})
+        same("output", front.fails("spool", act, "17"), f"spool: cannot {act} job 17: {NOT_YOURS}\n")
+        service.end()
+    for words in (["cancel", "17"], ["lprm", "17"], ["spool", "cancel", "--keep-printing", "17"]):
+        service, front = started(folder, {"stop 17": "error denied\n", "cancel 17": "error denied\n"})
+        same(f"output of {words}", front.fails(*words), f"spool: cannot cancel job 17: {NOT_YOURS}\n")
+        service.end()
+
+
+def test_explains_to_unproved_clients(folder):
+    service, front = started(folder, {"stop 17": "error denied\n"}, proof="error proof\n")
+    same("output", front.fails("spool", "cancel", "17"), f"spool: cannot cancel job 17: the service does not know who you are ({WHERE}\n")
+    service.end()
+    service, front = started(folder, {"stop 17": "error denied\n"}, made="ok operator root\n")
+    same("output", front.fails("spool", "cancel", "17"), f"spool: cannot cancel job 17: the service denies it ({WHERE}\n")
+    service.end()
+
+
+def test_explains_and_goes_on(folder):
+    """A denied job does not keep the others from it."""
+    service, front = started(folder, {"stop 1": "ok\n", "stop 2": "error denied\n", "stop 3": "error 5 NoJob\n", "stop 4": "ok\n"})
+    output = front.fails("spool", "cancel", "1", "2", "3", "4")
+    same("output", output, f"spool: cannot cancel job 2: {NOT_YOURS}\nspool: job 3: error 5 NoJob\n")
+    same("said", service.heard, ["i-am", "made", "stop 1", "stop 2", "stop 3", "stop 4"])
+    service.end()
+
+
+def test_explains_what_only_operators_may(folder):
+    service, front = started(folder, {"purge 17": "error denied\n"})
+    same("output", front.fails("spool", "purge", "17"), f"spool: cannot purge job 17: only operators may purge jobs ({WHERE}\n")
+    service.end()
+    acts = {"enable": ["q"], "disable": ["q"], "accept": ["q"], "reject": ["q"], "set": ["q", "--info", "x"], "add": ["q", "slow:/0"]}
+    for act, words in acts.items():
+        service, front = started(folder, {word: "error denied\n" for word in ("enable", "disable", "accept", "reject", "info", "queue")})
+        wanted = f"spool: cannot {act} queue q: only operators may change queues ({WHERE}\n"
+        same("output", front.fails("spool", "queue", act, *words), wanted)
+        service.end()
+
+
+# ---- the user of a job
+
+CLOSED = {"send 5": "ok bytes 3\n", "close 5": "ok type a/b stages 1\n"}
+
+
+def submitted(folder, replies, *words, status=0, made="ok user ann\n", text=None, **more):
+    """Submits a file of three bytes, or a text on standard input, and returns the service and the program's output."""
+    service, front = started(folder, {**CLOSED, **replies}, made=made, **more)
+    folder.write("doc", "abc")
+    source = folder.at("doc") if text is None else "-"
+    ended = front.run("spool", "submit", "q", source, *words, text=text or b"")
+    same(f"status, with the output {ended.stderr!r}", ended.returncode, status)
+    return service, ended.stdout.decode() + ended.stderr.decode()
+
+
+def creates(service):
+    return [line.split('"')[3] for line in service.heard if line.startswith("create ")]
+
+
+def test_owns_by_its_proved_name(folder):
+    service, output = submitted(folder, {'create "q" "ann"': "ok job 5\n"})
+    same("output", output, "request id is q-5 (1 file(s))\n")
+    same("users", creates(service), ["ann"])
+    # The proof with `room`, `create`, `send`, `close` and the fields of the job.
+    same("round trips", service.trips, 5)
+    service.end()
+    # The environment names another user: the service's name is used. It comes with the reply to `room`, or to `create` if the length of the
+    # document is not known.
+    service, output = submitted(folder, {'create "q" "bob"': "ok job 5\n", 'create "q" ': "error denied\n"}, made="ok user bob\n")
+    same("users", creates(service), ["bob"])
+    service.end()
+    service, output = submitted(folder, {'create "q" "bob"': "ok job 5\n", 'create "q" ': "error denied\n"}, made="ok user bob\n", text=b"abc")
+    same("users", creates(service), ["ann", "bob"])
+    service.end()
+    service, output = submitted(folder, {'create "q" "b o\\"b"': "ok job 5\n", 'create "q" ': "error denied\n"}, made='ok user b o"b\n')
+    service.end()
+
+
+def test_owns_as_before_if_not_proved(folder):
+    for more in ({"proof": OLDER}, {"proof": "error proof\n"}, {"made": "error proof\n"}, {"made": "ok operator root\n"}):
+        service, output = submitted(folder, {'create "q" "ann"': "ok job 5\n"}, **more)
+        same("users", creates(service), ["ann"])
+        service.end()
+
+
+def test_owns_as_another_user(folder):
+    service, output = submitted(folder, {'create "q" "bob"': "error denied\n"}, "--user", "bob", status=1)
+    same("output", output, f"spool: only operators may name another user ({WHERE}\n")
+    same("users", creates(service), ["bob"])
+    service.end()
+    service, output = submitted(folder, {'create "q" "bob"': "ok job 5\n"}, "--user", "bob", made="ok operator root\n")
+    same("users", creates(service), ["bob"])
+    service.end()
+
+
+def test_owns_nothing_that_is_denied_later(folder):
+    service, output = submitted(folder, {"create": "ok job 5\n", "send 5": "error denied\n", "cancel 5": "error denied\n"}, status=1)
+    same("output", output, f"spool: the service denies the document ({WHERE}; job 5 is not printed\n")
+    service.end()
+
+
+# ---- commands that an older service does not know
+
+
+def test_asks_to_stop(folder):
+    service, front = started(folder, {"cancel 7": "ok\n", "end 7": "ok\n"})
+    front.says("spool", "cancel", "7")
+    same("said", service.heard, ["i-am", "made", "stop 7", "cancel 7", "end 7"])
+    service.end()
+    # No child runs: the job is canceled all the same.
+    service, front = started(folder, {"cancel 7": "ok\n", "end 7": "error job\n"})
+    front.says("spool", "cancel", "7")
+    service.end()
+    # The job is not canceled: nothing is terminated.
+    service, front = started(folder, {"cancel 7": "error 5 NoJob\n"})
+    same("output", front.fails("spool", "cancel", "7"), "spool: job 7: error 5 NoJob\n")
+    same("said", service.heard, ["i-am", "made", "stop 7", "cancel 7"])
+    service.end()
+    service, front = started(folder, {"cancel 7": "ok\n"})
+    front.says("spool", "cancel", "--keep-printing", "7")
+    same("said", service.heard, ["i-am", "made", "cancel 7"])
+    service.end()
+
+
+def test_asks_for_a_type(folder):
+    service, output = submitted(folder, {"create": "ok job 5\n"}, "--type", "text/plain")
+    same("close", service.heard[-1], 'close 5 "doc" "text/plain"')
+    service.end()
+    service, output = submitted(folder, {"create": "ok job 5\n", "close 5": OLDER, "cancel 5": "ok\n"}, "--type", "text/plain", status=1)
+    same("output", output, "spool: the service does not take the media type; job 5 was canceled\n")
+    service.end()
+
+
+def shown(token=""):
+    return (
+        f'job 5\nqueue q\nuser ""\ntitle ""\noptions "{token}"\ncopies 1\npriority 50\nsize 0\npages 0\nattempts 0\n'
+        "state 4\nreason job-incoming\nok 1\n"
+    )
+
+
+def test_asks_for_its_job(folder):
+    """After a lost reply the job is found by its token, also if its fields are not shown."""
+    service, output = submitted(folder, {"create": [None, "ok job 6\n"], "find ": "ok job 5\n", "job 5": shown()}, proof="error proof\n")
+    same("output", output, "request id is q-5 (1 file(s))\n")
+    created = next(line for line in service.heard if line.startswith("create "))
+    token = created.split("submission=")[1].split('"')[0]
+    said = [line for line in service.heard if line != "room"]
+    same("said", said[2:5], ["i-am", f"find {token}", "job 5"])
+    service.end()
+    # There is none: the job is created again.
+    service, output = submitted(folder, {"create": [None, "ok job 5\n"], "find ": "error job\n"}, proof="error proof\n")
+    same("jobs created", len(creates(service)), 2)
+    service.end()
+    # The service does not know `find`.
+    service, output = submitted(folder, {"create": [None, "ok job 5\n"], "jobs": "ok 0\n"}, proof="error proof\n")
+    same("jobs created", len(creates(service)), 2)
+    service.end()
+
+
+# ---- a running service
+
+# The users of the tests: of the system, but not of the service.
+DAEMON, BIN = 1, 2
+
+
+def as_user(front, user, *words):
+    """The status and the output of the program, run by this user."""
+
+    def become():
+        os.setgroups([])
+        os.setgid(user)
+        os.setuid(user)
+
+    ended = subprocess.run(front.command(words), env=front.environment, capture_output=True, preexec_fn=become, cwd="/", timeout=LONGEST)
+    return ended.returncode, (ended.stdout + ended.stderr).decode()
+
+
+@pytest.mark.root
+def test_real_users(folder):
+    """Each user may act on the jobs of this user only, and root on all."""
+    for path in (folder.path, folder.at("spool")):
+        os.chmod(path, 0o755)
+    folder.words = ["--trust", "none", "--mode", "0666"]
+    folder.start()
+    front = Front(folder)
+    front.says("spool", "queue", "add", "q", "slow:/0", "--media", TYPE)
+    front.says("spool", "queue", "disable", "q")
+    folder.write("doc", "abc")
+    # The environment names another user.
+    same("daemon prints", as_user(front, DAEMON, "lp", "-d", "q", folder.at("doc")), (0, "request id is q-1 (1 file(s))\n"))
+    same("bin prints", as_user(front, BIN, "lp", "-d", "q", folder.at("doc")), (0, "request id is q-2 (1 file(s))\n"))
+    users = [row["user"] for row in json.loads(front.says("spool", "status", "--json"))]
+    same("users", users, ["daemon", "bin"])
+    same("what bin sees", [row["user"] for row in json.loads(as_user(front, BIN, "spool", "status", "--json")[1])], ["", "bin"])
+    same("bin cancels", as_user(front, BIN, "spool", "cancel", "1", "2"), (1, f"spool: cannot cancel job 1: {NOT_YOURS}\n"))
+    same("states", [row["state"] for row in json.loads(front.says("spool", "status", "--json"))], ["pending", "canceled"])
+    same("bin starts q", as_user(front, BIN, "spool", "queue", "enable", "q"), (1, f"spool: cannot enable queue q: only operators may change queues ({WHERE}\n"))
+    denied = f"spool: only operators may name another user ({WHERE}\n"
+    same("bin prints for root", as_user(front, BIN, "spool", "submit", "q", folder.at("doc"), "--user", "root"), (1, denied))
+    holds("the URI is for operators", "uri" not in as_user(front, BIN, "spool", "queue", "show", "q")[1])
+    holds("root sees the URI", "slow:/0" in front.says("spool", "queue", "show", "q"))
+    front.says("spool", "submit", "q", folder.at("doc"), "--user", "carol", "--type", TYPE)
+    front.says("spool", "cancel", "1")
+    jobs = [(row["user"], row["state"]) for row in json.loads(front.says("spool", "status", "--json"))]
+    same("jobs", jobs, [("daemon", "canceled"), ("bin", "canceled"), ("carol", "pending")])
+    holds("times", "created  " in front.says("spool", "status", "3"))
+    same("folders that are left", os.listdir(folder.at("spool", "proof")), [])
