@@ -11,8 +11,8 @@
 #                                cupsaccept and cupsreject
 #   PREFIX/lib/cegmandi/bin      these, without --lp, so that they do not replace those of CUPS: put this folder first in PATH
 #   PREFIX/sbin                  spool_shell, spool_service, spool_admin
-#   PREFIX/lib/cegmandi          spool_tools, say.py, copy-spool.py, the wrappers of stock filters and their PPD, and the manifest: the
-#                                list of all installed files
+#   PREFIX/lib/cegmandi          spool_tools, copy-spool.py, import-cups.py, job-log.py, watch-spool.py, through, the wrappers of
+#                                stock filters and their PPD, and the manifest: the list of all installed files
 #   PREFIX/lib/systemd/system    cegmandi.service
 #   PREFIX/lib/sysusers.d        cegmandi.conf: the users of the unit, for systemd-sysusers(8)
 #   PREFIX/share                 man pages, the completions for bash, zsh and fish, the README and the examples
@@ -186,7 +186,7 @@ programs() {
         program "$1" $name "$prefix/sbin/$name"
     done
     program "$1" spool_tools "$library/spool_tools"
-    for name in say.py copy-spool.py with-cups-env as-pages; do
+    for name in copy-spool.py import-cups.py job-log.py watch-spool.py through with-cups-env as-pages; do
         "$1" file 755 "$here/examples/office/$name" "$library/$name"
     done
     "$1" file 644 "$here/examples/office/paper.ppd" "$library/paper.ppd"

@@ -50,7 +50,7 @@ _spool() {
     --title | --user | --copies | --priority | --pages | -o | --at | --by | --until | --interval | --limit | --info | --location) return ;;
     esac
     if [[ -z $words && $COMP_CWORD -eq 1 ]]; then
-        words='submit status queues watch cancel hold release purge end queue devices check page --help --version'
+        words='submit status queues watch cancel hold release purge end queue devices check page say --help --version'
     elif [[ -z $words && $task == queue && $COMP_CWORD -eq 2 ]]; then
         words='show add set accept reject enable disable'
     elif [[ -z $words ]]; then
@@ -59,9 +59,10 @@ _spool() {
         fi
         if [[ $current == -* ]]; then
             case $task in
-            submit) words='--title --user --copies --priority --pages --type -o --hold --at --by --wait --quiet' ;;
-            status) words='-q --json' ;;
-            queues) words='--json' ;;
+            submit) words='--title --user --copies --priority --pages --type -o --hold --at --by --wait --quiet --json' ;;
+            status) words='-q --json --watch' ;;
+            queues | watch | check | 'queue show') words='--json' ;;
+            say) words='--until-end' ;;
             cancel) words='--keep-printing' ;;
             hold) words='--until' ;;
             'queue add') words='--media --policy --interval --limit' ;;

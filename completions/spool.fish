@@ -13,7 +13,7 @@ function __spool_jobs
     __spool_asked status | string match -a -r '"number": *[0-9]+' | string replace -r '.* |.*:' ''
 end
 
-set -l tasks submit status queues watch cancel hold release purge end queue devices check page
+set -l tasks submit status queues watch cancel hold release purge end queue devices check page say
 set -l acts show add set accept reject enable disable
 
 complete -c spool -f
@@ -37,7 +37,9 @@ complete -c spool -n '__fish_seen_subcommand_from submit' -l wait -d 'Wait until
 complete -c spool -n '__fish_seen_subcommand_from submit' -l quiet -d 'Print nothing for an accepted job'
 
 complete -c spool -n '__fish_seen_subcommand_from status' -s q -x -a '(__spool_queues)' -d 'Only the jobs of this queue'
-complete -c spool -n '__fish_seen_subcommand_from status queues' -l json -d 'Print JSON'
+complete -c spool -n '__fish_seen_subcommand_from submit status queues watch check show' -l json -d 'Print JSON'
+complete -c spool -n '__fish_seen_subcommand_from status' -l watch -d 'Show the jobs again whenever one changes'
+complete -c spool -n '__fish_seen_subcommand_from say' -l until-end -d 'Wait until the service has ended'
 complete -c spool -n '__fish_seen_subcommand_from status cancel hold release purge end' -a '(__spool_jobs)'
 complete -c spool -n '__fish_seen_subcommand_from cancel' -l keep-printing -d 'Do not terminate filters and backends'
 complete -c spool -n '__fish_seen_subcommand_from hold' -l until -x -d 'The end of the hold'
