@@ -82,7 +82,8 @@
 //!
 //! - That the program sends what the decisions ask for, with the piece that was read last; that it passes them the reply that it received,
 //!   and no other; that it reports a lost connection as lost; and that the service executes each request completely or not at all. This was
-//!   read in the code. `tests/test_front.py` tests it with services that are simulated and killed, and refuses each allocation in turn.
+//!   read in the code. `tests/test_front_played.py` tests it with simulated services; `tests/test_front.py` kills a service and refuses each
+//!   allocation in turn.
 //! - What a file, a socket, the clock or the environment returns, and what is printed. So the contracts allow: a listing of the queues or
 //!   jobs of all services that is empty, fails at once, asks no service, or reports none of its faults (`show_lpstat`, `show_lpq`,
 //!   `write_page`); a `variable` that is never set; a wait that ends at once with another status; a status for several files, jobs or

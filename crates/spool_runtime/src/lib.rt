@@ -79,8 +79,9 @@
 //! - That the launcher moves `first` on, and when it has room for fewer than four starts.
 //! - That a lock keeps a user for one child, what the script does, and that the system separates users.
 //!   `tests/test_hostile.py`
-//! - How long a poll and a start take. A poll asks the system once (`tests/test_service_children.py`). The
-//!   starts of a round try again for two seconds in all. A start of a tick does not wait.
+//! - How long a poll and a start take: read in the code. A poll asks the system once. The starts of a round try again
+//!   for two seconds in all. A start of a tick does not wait. `tests/test_service_children.py` shows that clients do
+//!   not wait for a child.
 //! - That [`NamedDisk`] reads and writes its bytes: a body that does nothing meets its clauses. `tests/test_children.py`
 //!   shows that the file keeps its name.
 //! - That no other program writes the spool's file. The program locks the folder and `spool.lock` in it before it opens
