@@ -140,7 +140,8 @@ def fail(folder, use):
 
 
 def change(client):
-    same("a change", client.ask("reject later\n"), "error disk")
+    client.say("reject later\n")
+    same("a change gets no reply", client.is_closed(), True)
 
 
 def processing_jobs(folder):
@@ -158,7 +159,9 @@ def processing_jobs(folder):
 
 
 def test_a_device_that_fails(folder):
-    """The service replies `error disk` and ends with status 1. Its children continue. The next start reports them, and does not wait."""
+    """The service sends no reply, disconnects all clients and ends with status 1. Its children continue. The next start reports them, and does
+    not wait.
+    """
     client, jobs = processing_jobs(folder)
     other = Client(folder)
     same("another client", len(other.listing("queues\n")), 3)

@@ -6,11 +6,11 @@ use child_pipeline::Children;
 use command_lines::Command;
 use service_rules::{Journal, close_cost, create_cost, is_let_in, send_cost};
 use spool_disk::Disk;
-use spool_engine::Engine;
+use spool_engine::StagingEngine;
 use spool_types::Event;
 
 /// Returns the state of an engine's journal. `area` is the size of an area of its disk, in bytes.
-pub fn journal_of<D: Disk, C: Children>(engine: &Engine<D, C>, area: u64) -> Journal
+pub fn journal_of<D: Disk, C: Children>(engine: &StagingEngine<D, C>, area: u64) -> Journal
     ensures { result ≡ journal_of area engine.now.run_state }
 {
     Journal {
@@ -23,7 +23,7 @@ pub fn journal_of<D: Disk, C: Children>(engine: &Engine<D, C>, area: u64) -> Jou
 /// Returns whether something that needs at most this many bytes, if it takes room, would take them from the reserve. After a fault of the
 /// device it would not: the engine reports the fault.
 pub fn takes_reserve<D: Disk, C: Children>(
-    engine: &Engine<D, C>,
+    engine: &StagingEngine<D, C>,
     area: u64,
     cost: Option<u64>,
 ) -> bool

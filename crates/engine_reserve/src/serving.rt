@@ -159,7 +159,7 @@ fn execute<D: Disk, C: Children>(engine: &mut Engine<D, C>, area: u64, command: 
     ensures mime { engine.new.mime ≡ engine.old.mime }
     ensures place { engine.new.place ≡ engine.old.place }
 {
-    if takes_reserve(engine, area, command_cost(&command)) {
+    if takes_reserve(engine.as_staging(), area, command_cost(&command)) {
         drop(command);
         return Answer::Full;
     }

@@ -1,5 +1,5 @@
 -- The engine of a service changes by calls.
-use Rattle.std.proofs.Common.{◌≡◌, ◌≤◌, ℕ, Bool, true, false, cond, List, [], ◌∷◌, ◌++◌, Option, None, Some, IfSome, refl, ap, sym, ◌∙◌, subst}
+use Rattle.std.proofs.Common.{◌≡◌, ◌≤◌, ℕ, Bool, true, false, cond, List, [], ◌∷◌, ◌++◌, Option, None, Some, IfSome, inl, inr, refl, ap, sym, ◌∙◌, subst}
 use Rattle.spool_types.specs.State.{State}
 use Rattle.spool_types.specs.declared.event.Event.{Event}
 use Rattle.spool_types.specs.declared.event.Event.TheVariants.{Purge}
@@ -17,14 +17,15 @@ use Rattle.print_rounds.specs.RunStates.{RunState}
 use Rattle.print_rounds.specs.StageHistory.{keys_in}
 use Rattle.print_rounds.specs.RoundTicks.{count_running}
 use Rattle.print_rounds.specs.declared.start_room.TickLimits.{TickLimits}
-use Rattle.spool_engine.specs.EngineCalls.{Call, round_call, tick_call, run_call, left_by, IsCall, AreCalls, IsAlongCalls, last_by}
+use Rattle.spool_engine.specs.StagedSteps.{IsStagingStep, IsStagingTick, SettlesTo, TakesStagingStep}
+use Rattle.spool_engine.specs.EngineCalls.{Call, round_call, tick_call, run_call, stage_call, settle_call, left_by, IsCall, AreCalls, IsAlongCalls, last_by}
 use Rattle.spool_engine.specs.EventSteps.{Setting, setting}
 use Rattle.spool_engine.specs.EngineLives.{EngineLife, IsEngineLife, AreEngineLives, IsEngineHistory, keys_told, last_of}
 use Rattle.spool_engine.specs.EngineRounds.{Ran, AreRunBy}
-use Rattle.spool_engine.specs.EngineRuns.{Engine, TakesStep, CommandStep, AreCommandSteps, HasNoRounds, How, IsHow, answered, ran, withheld, commands_in, is_round, last_run_state}
+use Rattle.spool_engine.specs.EngineRuns.{Engine, CommandStep, AreCommandSteps, HasNoRounds, How, IsHow, answered, ran, withheld, commands_in, is_round, last_run_state}
 use Rattle.spool_engine.specs.Mime.{Mime}
 use Rattle.spool_engine.specs.Script.{asks, creating, meaning, says}
-use Rattle.spool_engine.specs.EngineTicks.{Ticked, IsTicked}
+use Rattle.spool_engine.specs.EngineTicks.{Ticked}
 use Rattle.service_loop.specs.ServiceCalls.{AreWithin, GoesByCalls, GoesWithin, HasAnswered, HasLimit, HasAnsweredAll, IsWithin, purges, ServiceLife, IsServiceLife, AreServiceLives, IsServiceHistory, keys_ordered}
 
 -- ## Commands without rounds
@@ -120,29 +121,53 @@ module _ {D : Type 0} (device : DiskView D) where
   turn_within m e m2 e2 m3 e3 m4 e4 m5 e5 same kept clients ticked maintained =
       within_since m e m2 e2 m5 e5 same kept (within_then m2 e2 m4 e4 m5 e5 (within_then m2 e2 m3 e3 m4 e4 clients ticked) maintained)
 
-  -- A command that was answered without rounds.
-  pub within_turn : (most : ℕ) (e e1 : Engine D) (command : Command) (t : CommandStep D) → e1.mime ≡ e.mime → e1.place ≡ e.place → is_round command ≡ false →
-      TakesStep (setting device e.mime e.place) e.run_state command t e1.run_state → GoesWithin device most e most e1
-  within_turn most e e1 command t mime place none takes = record {
+  -- A command that was staged, or executed after a settle, without rounds.
+  within_step : (most : ℕ) (e e1 : Engine D) (t : CommandStep D) → e1.mime ≡ e.mime → e1.place ≡ e.place → is_round t.command ≡ false → IsStagingStep (setting device e.mime e.place) e.run_state t → t.next ≡ e1.run_state → GoesWithin device most e most e1
+  within_step most e e1 t mime place none (inl staged) next = record {
     mime = mime;
     place = place;
-    calls = run_call (t ∷ []) ∷ [];
-    are = ((takes.legal, tt), tt);
-    last = takes.next;
-    within = ((ap is_round takes.command ∙ none, tt), tt);
+    calls = stage_call t ∷ [];
+    are = (staged, tt);
+    last = next;
+    within = (tt, tt);
+    same = refl;
+  }
+  within_step most e e1 t mime place none (inr (mid, settles, both, step)) next = record {
+    mime = mime;
+    place = place;
+    calls = settle_call mid ∷ run_call (t ∷ []) ∷ [];
+    are = (settles, ((both, (step, tt)), tt));
+    last = next;
+    within = (tt, ((none, tt), tt));
     same = refl;
   }
 
-  -- A tick.
-  pub within_tick : (most : ℕ) (e e1 : Engine D) (t : Ticked D) → e1.mime ≡ e.mime → e1.place ≡ e.place → IsTicked (setting device e.mime e.place) e.run_state t → t.next ≡ e1.run_state →
-      HasLimit most t.limits → GoesWithin device most e most e1
-  within_tick most e e1 t mime place ticked next limit = record {
+  pub within_turn : (most : ℕ) (e e1 : Engine D) (command : Command) (t : CommandStep D) → e1.mime ≡ e.mime → e1.place ≡ e.place → is_round command ≡ false →
+      TakesStagingStep (setting device e.mime e.place) e.run_state command t e1.run_state → GoesWithin device most e most e1
+  within_turn most e e1 command t mime place none takes = within_step most e e1 t mime place (ap is_round takes.command ∙ none) takes.legal takes.next
+
+  -- A settle.
+  pub within_settle : (most : ℕ) (e e1 : Engine D) → e1.mime ≡ e.mime → e1.place ≡ e.place → SettlesTo device e.run_state e1.run_state → GoesWithin device most e most e1
+  within_settle most e e1 mime place settles = record {
     mime = mime;
     place = place;
-    calls = tick_call t ∷ [];
-    are = (ticked, tt);
+    calls = settle_call e1.run_state ∷ [];
+    are = (settles, tt);
+    last = refl;
+    within = (tt, tt);
+    same = refl;
+  }
+
+  -- A tick after a settle.
+  pub within_tick : (most : ℕ) (e e1 : Engine D) (t : Ticked D) → e1.mime ≡ e.mime → e1.place ≡ e.place → IsStagingTick (setting device e.mime e.place) e.run_state t → t.next ≡ e1.run_state →
+      HasLimit most t.limits → GoesWithin device most e most e1
+  within_tick most e e1 t mime place (mid, settles, both, ticked) next limit = record {
+    mime = mime;
+    place = place;
+    calls = settle_call mid ∷ tick_call t ∷ [];
+    are = (settles, ((both, ticked), tt));
     last = next;
-    within = (limit, tt);
+    within = (tt, (limit, tt));
     same = refl;
   }
 
@@ -165,8 +190,10 @@ module _ {D : Type 0} (device : DiskView D) where
 
   few_by_call : (most : ℕ) (v : Setting D) (s : RunState D) (c : Call D) → IsCall v s c → IsWithin most c → count_running s.slots ≤ most → count_running (left_by s c).slots ≤ most
   few_by_call most v s (round_call r) is within few = absurd within
-  few_by_call most v s (tick_call t) is within few = few_by_tick most s t.limits t.next within is.most few
-  few_by_call most v s (run_call turns) is within few = subst (λ (slots : Slots). count_running slots ≤ most) (sym (held_by_steps v s turns is within)) few
+  few_by_call most v s (tick_call t) is within few = few_by_tick most s t.limits t.next within is.1.most few
+  few_by_call most v s (run_call turns) is within few = subst (λ (slots : Slots). count_running slots ≤ most) (sym (held_by_steps v s turns is.1 within)) few
+  few_by_call most v s (stage_call t) is within few = subst (λ (slots : Slots). count_running slots ≤ most) (sym is.held.slots) few
+  few_by_call most v s (settle_call next) is within few = subst (λ (slots : Slots). count_running slots ≤ most) (sym is.held.slots) few
 
   few_by_calls : (most : ℕ) (v : Setting D) (s : RunState D) (cs : List (Call D)) → AreCalls v s cs → AreWithin most cs → count_running s.slots ≤ most → count_running (last_by s cs).slots ≤ most
   few_by_calls most v s [] are within few = few
@@ -179,7 +206,7 @@ module _ {D : Type 0} (device : DiskView D) where
 
   -- A command that was executed was answered.
   pub answered_by : (e e1 : Engine D) (command : Command) (t : CommandStep D) → GoesByCalls device e e1 →
-      TakesStep (setting device e.mime e.place) e.run_state command t e1.run_state → HasAnswered device e command e1
+      TakesStagingStep (setting device e.mime e.place) e.run_state command t e1.run_state → HasAnswered device e command e1
   answered_by e e1 command t goes takes = record { mime = goes.mime; place = goes.place; turn = t; takes = takes }
 
   -- A job was purged, and then the others.
@@ -218,7 +245,7 @@ module _ {D : Type 0} (device : DiskView D) where
     empty = is.empty;
     tells = is.tells;
     quiet = is.quiet;
-    calls = (tt, is.goes.are);
+    calls = (((is.settled, is.settled), tt), is.goes.are);
     now = is.now;
     tells_then = ap (λ (s : RunState D). s.told) is.goes.last ∙ is.tells_then;
     added = is.added;

@@ -19,8 +19,9 @@ use Rattle.command_lines.specs.declared.command.Command.{Command}
 use Rattle.command_lines.specs.declared.command.Command.TheVariants as commands
 use Rattle.spool_engine.specs.EventSteps.{Setting, setting}
 use Rattle.spool_engine.specs.EngineRounds.{round_line}
-use Rattle.spool_engine.specs.EngineTicks.{Ticked, IsTicked}
-use Rattle.spool_engine.specs.EngineRuns.{Engine, TakesStep, CommandStep, is_round}
+use Rattle.spool_engine.specs.EngineTicks.{Ticked}
+use Rattle.spool_engine.specs.StagedSteps.{IsStagingTick, SettlesTo, TakesStagingStep}
+use Rattle.spool_engine.specs.EngineRuns.{Engine, CommandStep, is_round}
 use Rattle.command_lines.specs.declared.reply.Answer.{Answer}
 use Rattle.client_standing.specs.ClientStanding.{ClientStanding, first_standing, with_proof}
 use Rattle.client_standing.specs.declared.caller.Proved.{Proved}
@@ -30,12 +31,12 @@ use Rattle.service_rules.specs.declared.listening.Listening.{Listening}
 use Rattle.spool_engine.specs.AnswerTexts.{answer_text}
 use Rattle.engine_reserve.specs.CommandRoom.{full_text}
 use Rattle.service_loop.specs.TakenRoom.{is_reserved}
-use Rattle.service_loop.specs.ClientActions.{Action, answers, ticks, applies, says, offers, proves, denies, reserves, turns_away, ends, ClientStatus, IsMeant, IsSaid, IsEndReported, IsDone, AreActions, after_action, standing_after, standing_after_all, status_after, with_answer, begins_to_listen, asks_by, asks_in, text_by, texts_in, proofs_by, proofs_in, applied_text}
+use Rattle.service_loop.specs.ClientActions.{Action, answers, ticks, applies, says, offers, proves, denies, reserves, turns_away, ends, settles, delivers, ClientStatus, IsDurable, IsMeant, IsSaid, IsEndReported, IsDone, AreActions, after_action, standing_after, standing_after_all, status_after, with_answer, begins_to_listen, asks_by, asks_in, text_by, texts_in, proofs_by, proofs_in, given_by, given_in, applied_text}
 use Rattle.service_loop.specs.ConnectionViews.{ConnectionView, IsProofStep, ProofStep, AddsProofs, named, examined}
 use Rattle.service_loop.specs.ProofTexts.{busy_text, denied_text, offer_text, proof_text}
 use Rattle.service_loop.specs.ShownAnswers.{shown_answer}
 use Rattle.service_loop.specs.Progress.{IsRead}
-use Rattle.service_loop.specs.ClientSteps.{AreClientSteps, Asks, AsksFirst, GivesNext, Goes, GoesProving, HasAll, IsAdded, IsAnswered, IsEntry, IsClientStep, IsClientStepBy, ClientStep, turns, changes, signs, client_after, actions_by, actions_of, status_of, told_to}
+use Rattle.service_loop.specs.ClientSteps.{AreClientSteps, Asks, AsksFirst, Delivers, GivesNext, Goes, GoesGiving, GoesProving, HasAll, IsAdded, IsAnswered, IsEntry, IsClientStep, IsClientStepBy, ClientStep, turns, changes, signs, client_after, actions_by, actions_of, status_of, told_to}
 use Rattle.service_loop.specs.declared.client.Client.{Client}
 
 first_then : (a b c : Option (List ℕ)) (f g h : List ℕ → List Ask) (xs ys : List Ask) → AsksFirst a f xs b g → AsksFirst b g ys c h → AsksFirst a f (xs ++ ys) c h
@@ -65,9 +66,9 @@ adds_same : (old new : Option (List ProofStep)) → new ≡ old → AddsProofs o
 adds_same old new same = subst (λ (o : Option (List ProofStep)). AddsProofs old o []) (sym same) (adds_none old)
 
 module _ {L : Type 0} (view : ConnectionView L) where
-  pub goes_on : (a b c : Client L) (xs ys : List Ask) (s t : List ℕ) (ps qs : List ProofStep) → GoesProving view a xs s ps b → GoesProving view b ys t qs c →
-      GoesProving view a (xs ++ ys) (s ++ t) (ps ++ qs) c
-  goes_on a b c xs ys s t ps qs one two = record {
+  pub goes_on : (a b c : Client L) (xs ys : List Ask) (s t : List ℕ) (ps qs : List ProofStep) (v w : List ℕ) → GoesGiving view a xs s ps v b → GoesGiving view b ys t qs w c →
+      GoesGiving view a (xs ++ ys) (s ++ t) (ps ++ qs) (v ++ w) c
+  goes_on a b c xs ys s t ps qs v w one two = record {
     asked = λ awaited awaits.
         let first = one.asked awaited awaits in
         let then = two.asked first.0 first.1 in
@@ -77,10 +78,17 @@ module _ {L : Type 0} (view : ConnectionView L) where
         let then = two.told first.within in
         record { within = then.within; told = appends_then (told_to view a) (told_to view b) (told_to view c) s t first.told then.told };
     proved = adds_then (view.proofs a.connection) (view.proofs b.connection) (view.proofs c.connection) ps qs one.proved two.proved;
+    wrote = appends_then (view.contents a.connection) (view.contents b.connection) (view.contents c.connection) v w one.wrote two.wrote;
   }
 
   pub goes_then : (a b c : Client L) (xs ys : List Ask) (s t : List ℕ) → Goes view a xs s b → Goes view b ys t c → Goes view a (xs ++ ys) (s ++ t) c
-  goes_then a b c xs ys s t one two = goes_on a b c xs ys s t [] [] one two
+  goes_then a b c xs ys s t one two = goes_on a b c xs ys s t [] [] [] [] one two
+
+  pub delivers_then : (a b c : Client L) → Delivers view a b → Delivers view b c → Delivers view a c
+  delivers_then a b c (v, one) (w, two) = (v ++ w, goes_on a b c [] [] [] [] [] [] v w one two)
+
+  pub delivers_none : (a b : Client L) → Goes view a [] [] b → Delivers view a b
+  delivers_none a b goes = ([], goes)
 
 -- ## A text is added
 
@@ -95,6 +103,15 @@ asks_one (Some rest) f g ask gives = λ more. gives (rest ++ more)
 keeps_same : (known : Option (List ℕ)) → Keeps known known
 keeps_same None = tt
 keeps_same (Some said) = refl
+
+-- Nothing was written.
+wrote_none : (old new : Option (List ℕ)) → Keeps old new → Appends old new []
+wrote_none None new kept = tt
+wrote_none (Some said) None kept = absurd kept
+wrote_none (Some said) (Some now) kept = kept ∙ sym (append-nil said)
+
+wrote_same : (old new : Option (List ℕ)) → new ≡ old → Appends old new []
+wrote_same old new same = subst (λ (o : Option (List ℕ)). Appends old o []) (sym same) (wrote_none old old (keeps_same old))
 
 appends_behind : (known : Option (List ℕ)) (untaken text : List ℕ) → Appends (append_known known untaken) (append_known known (untaken ++ text)) text
 appends_behind None untaken text = tt
@@ -111,6 +128,7 @@ module _ {L : Type 0} (view : ConnectionView L) where
           (appends_behind (view.contents a.connection) (drop a.taken a.replies.items) text);
     };
     proved = adds_same (view.proofs a.connection) (view.proofs b.connection) (ap view.proofs added.connection);
+    wrote = wrote_same (view.contents a.connection) (view.contents b.connection) (ap view.contents added.connection);
   }
 
 -- ## Some of its replies are written
@@ -142,7 +160,7 @@ pub record IsWritten {L : Type 0} (view : ConnectionView L) (old : Client L) (co
   pub within : count ≤ length old.replies.items - old.taken
   pub proofs : view.proofs new.connection ≡ view.proofs old.connection
 
-pub goes_written : {L : Type 0} (view : ConnectionView L) (old : Client L) (count : ℕ) (new : Client L) → IsWritten view old count new → Goes view old [] [] new
+pub goes_written : {L : Type 0} (view : ConnectionView L) (old : Client L) (count : ℕ) (new : Client L) → IsWritten view old count new → GoesGiving view old [] [] [] (take count (drop old.taken old.replies.items)) new
 goes_written view old count new written = record {
   asked = λ awaited awaits. (awaited, rw written.reader awaits, asks_kept (view.remaining old.connection) (view.remaining new.connection) awaited written.kept);
   told = λ within.
@@ -154,6 +172,7 @@ goes_written view old count new written = record {
             (appends_moved (view.contents old.connection) (view.contents new.connection) (drop old.taken old.replies.items) count written.wrote);
       };
   proved = adds_same (view.proofs old.connection) (view.proofs new.connection) written.proofs;
+  wrote = written.wrote;
 }
 
 -- ## A piece is read
@@ -181,6 +200,7 @@ goes_read view old piece new read proofs = record {
     told = rw (read.taken, read.replies) (appends_kept (view.contents old.connection) (view.contents new.connection) (drop old.taken old.replies.items) read.kept);
   };
   proved = adds_same (view.proofs old.connection) (view.proofs new.connection) proofs;
+  wrote = wrote_none (view.contents old.connection) (view.contents new.connection) read.kept;
 }
 
 -- A step of a proof was made, and its text was appended.
@@ -195,6 +215,7 @@ goes_offered view old step text new made reader taken replies = record {
         (appends_kept_then (view.contents old.connection) (view.contents new.connection) (drop old.taken old.replies.items) text made.contents);
   };
   proved = made.proofs;
+  wrote = wrote_none (view.contents old.connection) (view.contents new.connection) made.contents;
 }
 
 -- ## The next request is returned
@@ -208,6 +229,7 @@ goes_asked view old asks new asked connection taken replies = record {
     told = rw (connection, taken, replies) (appends_kept (view.contents old.connection) (view.contents old.connection) (drop old.taken old.replies.items) (keeps_same (view.contents old.connection)));
   };
   proved = adds_same (view.proofs old.connection) (view.proofs new.connection) (ap view.proofs connection);
+  wrote = wrote_same (view.contents old.connection) (view.contents new.connection) (ap view.contents connection);
 }
 
 pub gives_next : {L : Type 0} (view : ConnectionView L) (old : Client L) (next : Next) (new : Client L) → ((asks : List ℕ → List Ask) → Awaits old.reader asks → Gives asks next new.reader) →
@@ -252,6 +274,15 @@ module _ {D : Type 0} where
   proofs_in-append [] ys = refl
   proofs_in-append (x ∷ xs) ys = ap (λ l. proofs_by x ++ l) (proofs_in-append xs ys) ∙ sym (append_assoc (proofs_by x) (proofs_in xs) (proofs_in ys))
 
+  given_in-append : (xs ys : List (Action D)) → given_in (xs ++ ys) ≡ given_in xs ++ given_in ys
+  given_in-append [] ys = refl
+  given_in-append (x ∷ xs) ys = ap (λ l. given_by x ++ l) (given_in-append xs ys) ∙ sym (append_assoc (given_by x) (given_in xs) (given_in ys))
+
+  -- An action that answers a request writes nothing.
+  asked_writes_none : (x : Action D) (ask : Ask) → asks_by x ≡ ask ∷ [] → given_by x ≡ []
+  asked_writes_none (delivers bytes) ask asked = absurd (cc)
+  asked_writes_none x ask asked = refl
+
   standing-append : (c : ClientStanding) (xs ys : List (Action D)) → standing_after_all c (xs ++ ys) ≡ standing_after_all (standing_after_all c xs) ys
   standing-append c [] ys = refl
   standing-append c (x ∷ xs) ys = standing-append (standing_after c x) xs ys
@@ -274,7 +305,7 @@ module _ {D L : Type 0} (device : DiskView D) (view : ConnectionView L) where
   -- The engine answered a command, and the client noted its answer.
   pub answered_by_turn : (e e1 : Engine D) (c c1 c2 : Client L) (command : Command) (t : CommandStep D) (answer : Answer) → e1.mime ≡ e.mime → e1.place ≡ e.place → is_round command ≡ false →
       is_allowed c.standing e.run_state.spool.state (asking.Command command) ≡ true →
-      TakesStep (setting device e.mime e.place) e.run_state command t e1.run_state → answer_text e1.run_state.spool.state answer ≡ t.text →
+      TakesStagingStep (setting device e.mime e.place) e.run_state command t e1.run_state → answer_text e1.run_state.spool.state answer ≡ t.text →
       IsAdded c (shown_answer c.standing e1.run_state.spool.state answer) c1 → status_of c1 ≡ status_of c → c.waits ≡ None →
       c2.standing ≡ with_answer c1.standing answer → c2 ≡ record c1 { standing = c2.standing } → IsAnswered device view e c (asking.Command command) e1 c2
   answered_by_turn e e1 c c1 c2 command t answer mime place other role served same added kept none noted rest = record {
@@ -308,7 +339,7 @@ module _ {D L : Type 0} (device : DiskView D) (view : ConnectionView L) where
   pub answered_by_tick : (e e1 : Engine D) (c c1 : Client L) (command : Command) (counts : Result Round RoundFault) (text : List ℕ) (t : Ticked D) →
       t.next ≡ e1.run_state → t.result ≡ counts → e1.mime ≡ e.mime → e1.place ≡ e.place → is_round command ≡ true →
       is_allowed c.standing e.run_state.spool.state (asking.Command command) ≡ true →
-      IsTicked (setting device e.mime e.place) e.run_state t → text ≡ round_line counts → IsAdded c text c1 → c.waits ≡ None → status_of c1 ≡ status_of c → IsAnswered device view e c (asking.Command command) e1 c1
+      IsStagingTick (setting device e.mime e.place) e.run_state t → text ≡ round_line counts → IsAdded c text c1 → c.waits ≡ None → status_of c1 ≡ status_of c → IsAnswered device view e c (asking.Command command) e1 c1
   answered_by_tick e e1 c c1 command counts text t next result mime place round role ticked told added none kept = record {
     mime = mime;
     place = place;
@@ -338,7 +369,7 @@ module _ {D L : Type 0} (device : DiskView D) (view : ConnectionView L) where
   -- A word of the service was answered by a command of the engine.
   pub answered_by_applied : (e e1 : Engine D) (c c1 : Client L) (word : OwnWord) (command : Command) (t : CommandStep D) (answer : Answer) (text : List ℕ) → e1.mime ≡ e.mime → e1.place ≡ e.place →
       is_allowed c.standing e.run_state.spool.state (asking.Own word) ≡ true → IsMeant (setting device e.mime e.place) e.run_state.spool.state word command →
-      TakesStep (setting device e.mime e.place) e.run_state command t e1.run_state → answer_text e1.run_state.spool.state answer ≡ t.text →
+      TakesStagingStep (setting device e.mime e.place) e.run_state command t e1.run_state → answer_text e1.run_state.spool.state answer ≡ t.text →
       text ≡ applied_text (setting device e.mime e.place) e.run_state.spool.state e1.run_state.spool.state word answer →
       IsAdded c text c1 → status_of c1 ≡ status_of c → c.waits ≡ None → IsAnswered device view e c (asking.Own word) e1 c1
   answered_by_applied e e1 c c1 word command t answer text mime place role meant served same told added kept none = record {
@@ -449,8 +480,8 @@ module _ {D L : Type 0} (device : DiskView D) (view : ConnectionView L) where
         (subst (λ m. AreActions (setting device m e.place) e1.run_state (status_of c1) ys e2.run_state (status_of c2)) one.mime
         (subst (λ p. AreActions (setting device e1.mime p) e1.run_state (status_of c1) ys e2.run_state (status_of c2)) one.place two.actions));
     client =
-        rw (asks_in-append xs ys, texts_in-append xs ys, proofs_in-append xs ys)
-        (goes_on view c c1 c2 (asks_in xs) (asks_in ys) (texts_in xs) (texts_in ys) (proofs_in xs) (proofs_in ys) one.client two.client);
+        rw (asks_in-append xs ys, texts_in-append xs ys, proofs_in-append xs ys, given_in-append xs ys)
+        (goes_on view c c1 c2 (asks_in xs) (asks_in ys) (texts_in xs) (texts_in ys) (proofs_in xs) (proofs_in ys) (given_in xs) (given_in ys) one.client two.client);
   }
 
   -- A client that requested nothing and was sent nothing, with an unchanged engine.
@@ -460,6 +491,20 @@ module _ {D L : Type 0} (device : DiskView D) (view : ConnectionView L) where
   pub stepped_then : (e : Engine D) (c : Client L) (e1 : Engine D) (c1 : Client L) (e2 : Engine D) (c2 : Client L) →
       Stepped e c e1 c1 → Stepped e1 c1 e2 c2 → Stepped e c e2 c2
   stepped_then e c e1 c1 e2 c2 one two = (one.0 ++ two.0, client_step_then e c one.0 e1 c1 two.0 e2 c2 one.1 two.1)
+
+  -- The staged events were settled, and the client did not change.
+  pub step_settled : (e : Engine D) (c : Client L) (e1 : Engine D) → e1.mime ≡ e.mime → e1.place ≡ e.place → SettlesTo device e.run_state e1.run_state → Stepped e c e1 c
+  step_settled e c e1 mime place is = (
+    settles e1.run_state ∷ [],
+    record { mime = mime; place = place; actions = (record { is = is; role = tt; timely = tt }, (refl, refl)); client = goes_none view c },
+  )
+
+  -- Some bytes were written to its connection, with an unchanged engine whose events were all durable.
+  pub step_given : (e : Engine D) (c c1 : Client L) → IsDurable e.run_state.spool → Delivers view c c1 → status_of c1 ≡ status_of c → Stepped e c e c1
+  step_given e c c1 durable (bytes, goes) kept = (
+    delivers bytes ∷ [],
+    record { mime = refl; place = refl; actions = (record { is = durable; role = tt; timely = tt }, (refl, kept)); client = rw (append-nil bytes) goes },
+  )
 
   -- A request was answered.
   pub step_answered : (e : Engine D) (c c1 : Client L) (ask : Ask) (e1 : Engine D) (c2 : Client L) → Goes view c (ask ∷ []) [] c1 → status_of c1 ≡ status_of c →
@@ -474,8 +519,8 @@ module _ {D L : Type 0} (device : DiskView D) (view : ConnectionView L) where
         (sym done.next, sym done.status ∙ ap (λ w. status_after w done.action) kept),
       );
       client =
-          rw (done.asked, append-nil (text_by done.action), append-nil (proofs_by done.action))
-          (goes_on view c c1 c2 (ask ∷ []) [] [] (text_by done.action) [] (proofs_by done.action) asked done.told);
+          rw (done.asked, append-nil (text_by done.action), append-nil (proofs_by done.action), asked_writes_none done.action ask done.asked)
+          (goes_on view c c1 c2 (ask ∷ []) [] [] (text_by done.action) [] (proofs_by done.action) [] [] asked done.told);
     },
   )
 
@@ -509,18 +554,19 @@ first_of (Some rest) None text f g asks e first more = absurd first
 first_of (Some rest) (Some still) text f g asks e first more = (g (still ++ more), ap (λ l. f (l ++ more)) (let same : text ≡ rest = cc in same) ∙ first more)
 
 module _ {D L : Type 0} (device : DiskView D) (view : ConnectionView L) where
-  goes_by : (c : Client L) (x : ClientStep D L) → IsClientStepBy device view c x → GoesProving view c (asks_in (actions_by x)) (texts_in (actions_by x)) (proofs_in (actions_by x)) (client_after x)
+  goes_by : (c : Client L) (x : ClientStep D L) → IsClientStepBy device view c x →
+      GoesGiving view c (asks_in (actions_by x)) (texts_in (actions_by x)) (proofs_in (actions_by x)) (given_in (actions_by x)) (client_after x)
   goes_by c (turns old done new c1) is = is.client
   goes_by c (changes text told c1) is = rw (append-nil told) (goes_added view c told c1 is.1)
   goes_by c (signs c1) is = is.0
 
   goes_all : (c : Client L) (xs : List (ClientStep D L)) (c1 : Client L) → AreClientSteps device view c xs c1 →
-      GoesProving view c (asks_in (actions_of xs)) (texts_in (actions_of xs)) (proofs_in (actions_of xs)) c1
+      GoesGiving view c (asks_in (actions_of xs)) (texts_in (actions_of xs)) (proofs_in (actions_of xs)) (given_in (actions_of xs)) c1
   goes_all c [] c1 same = rw same (goes_none view c)
   goes_all c (x ∷ xs) c1 are =
-      rw (asks_in-append (actions_by x) (actions_of xs), texts_in-append (actions_by x) (actions_of xs), proofs_in-append (actions_by x) (actions_of xs))
+      rw (asks_in-append (actions_by x) (actions_of xs), texts_in-append (actions_by x) (actions_of xs), proofs_in-append (actions_by x) (actions_of xs), given_in-append (actions_by x) (actions_of xs))
       (goes_on view c (client_after x) c1 (asks_in (actions_by x)) (asks_in (actions_of xs)) (texts_in (actions_by x)) (texts_in (actions_of xs)) (proofs_in (actions_by x)) (proofs_in (actions_of xs))
-      (goes_by c x are.0) (goes_all (client_after x) xs c1 are.1))
+      (given_in (actions_by x)) (given_in (actions_of xs)) (goes_by c x are.0) (goes_all (client_after x) xs c1 are.1))
 
   standing_by : (c : Client L) (x : ClientStep D L) → IsClientStepBy device view c x → (client_after x).standing ≡ standing_after_all c.standing (actions_by x)
   standing_by c (turns old done new c1) is = standing_of_actions (setting device old.mime old.place) old.run_state (status_of c) done new.run_state (status_of c1) is.actions

@@ -13,6 +13,7 @@ use Rattle.service_loop.specs.Progress.{EndsTurn, IsAtRest, IsBacklogged, IsGive
 use Rattle.service_loop.specs.ClientSteps.{IsClientStep, is_starved}
 use Rattle.service_loop.specs.declared.client.Client.{Client}
 use Rattle.service_loop.specs.declared.client.Disconnect.{Disconnect}
+use Rattle.service_loop.specs.declared.client.Disconnect.TheVariants.{Device}
 use Rattle.service_loop.specs.declared.client.Turn.{Turn}
 
 either : (a b : ℕ) → a < b + 1 → (a < b) ⊎ (a ≡ b)
@@ -69,11 +70,11 @@ module _ {D L : Type 0} (device : DiskView D) (view : ConnectionView L) where
 
   pub had_turn : (e : Engine D) (slots : Slab (Client L)) (key : ℕ) (was is : Client L) (turn : Turn) (e' : Engine D) (left : Slab (Client L)) → get slots key ≡ Some was →
       GoesByCalls device e e' → (is_starved turn.disconnect ≡ false → (actions : List (Action D)) × IsClientStep device view e was actions e' is) →
-      EndsTurn view e'.run_state.spool.state was turn is →
+      EndsTurn view e'.run_state.spool.state was turn is → (turn.disconnect ≡ Some Device → e'.run_state.spool.dead ≡ true) →
       Updates slots left key (unless_parted turn.disconnect is) → HasTurn device view e slots key (Some turn) e' left
-  had_turn e slots key was is turn e' left there calls client_step ends updates = record {
+  had_turn e slots key was is turn e' left there calls client_step ends fails updates = record {
     own = subst (λ (c : Option (Client L)). SlotHadTurn device view e c (Some turn) e' (get left key)) (sym there)
-        (record { calls = calls; is = is; client_step = client_step; ends = ends; stays = updates.changed });
+        (record { calls = calls; is = is; client_step = client_step; ends = ends; fails = fails; stays = updates.changed });
     others = updates.others;
   }
 

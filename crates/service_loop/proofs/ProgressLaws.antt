@@ -25,6 +25,14 @@ heard_of x y z now was mid new fewer less one two =
 pub heard_then : {L : Type 0} (now : ℕ) (a b c : Client L) → unread b ≤ unread a → unread c ≤ unread b → b.last_active ≡ heard_after a now b → c.last_active ≡ heard_after b now c → c.last_active ≡ heard_after a now c
 heard_then now a b c fewer less one two = heard_of (unread a) (unread b) (unread c) now a.last_active b.last_active c.last_active fewer less one two
 
+not_later : (x now was : ℕ) (less : Bool) → less ≡ nat_lt x x → was ≡ cond less now was
+not_later x now was false same = refl
+not_later x now was true same = absurd (let lt : x < x = grind (arith, nat_tests, same) in omega (arith, lt))
+
+-- It took nothing.
+pub heard_none : {L : Type 0} (now : ℕ) (c : Client L) → c.last_active ≡ heard_after c now c
+heard_none now c = not_later (unread c) now c.last_active (nat_lt (unread c) (unread c)) refl
+
 pub fewer_by : (old new : ℕ) (P : Type 0) → (new < old) ⊎ (P × (new ≡ old)) → new ≤ old
 fewer_by old new P (inl less) = omega arith
 fewer_by old new P (inr same) = let e = same.1 in omega arith

@@ -12,7 +12,7 @@ use Rattle.print_rounds.specs.declared.happenings.Happening.{Happening}
 use Rattle.print_rounds.specs.declared.outcome.Round.{Round}
 use Rattle.print_rounds.specs.declared.outcome.RoundFault.{RoundFault}
 use Rattle.print_rounds.specs.declared.start_room.TickLimits.{TickLimits}
-use Rattle.spool_engine.specs.EngineRuns.{Engine}
+use Rattle.filter_args.specs.declared.place.Place.{Place}
 use Rattle.event_records.specs.declared.deeds.Deed.{Deed}
 use Rattle.service_loop.specs.declared.events.Records.{Records}
 use Rattle.service_loop.specs.RecordedEvents.{HasRecorded, HasRecordedAll}
@@ -35,9 +35,9 @@ recorded_then s old [] mid es new same others = subst (λ (r : Records). HasReco
 recorded_then s old (x ∷ ds) mid es new (r, first, one) others = (r, first, recorded_then s r ds mid es new one others)
 
 -- The accepted events of a tick, named.
-pub tick_events : {D : Type 0} (device : DiskView D) (e : Engine D) (limits : Option TickLimits) (b : Bool) (new : RunState D) (result : Result Round RoundFault) (happened : List Happening) →
-    IsTickThat (λ es. happened ≡ happenings_of es) device e.place limits e.run_state b new result →
-    (events : List Event) × IsTickThat (λ es. es ≡ events) device e.place limits e.run_state b new result × (happened ≡ happenings_of events)
-tick_events device e limits true new result happened (answer, same, is) = ([], (answer, same, refl), is)
-tick_events device e limits false new result happened (inl (unbegun, is)) = ([], inl (unbegun, refl), is)
-tick_events device e limits false new result happened (inr (made, is)) = (events_in e.run_state made.steps.parts, inr (made, refl), is)
+pub tick_events : {D : Type 0} (device : DiskView D) (place : Place) (limits : Option TickLimits) (s : RunState D) (b : Bool) (new : RunState D) (result : Result Round RoundFault) (happened : List Happening) →
+    IsTickThat (λ es. happened ≡ happenings_of es) device place limits s b new result →
+    (events : List Event) × IsTickThat (λ es. es ≡ events) device place limits s b new result × (happened ≡ happenings_of events)
+tick_events device place limits s true new result happened (answer, same, is) = ([], (answer, same, refl), is)
+tick_events device place limits s false new result happened (inl (unbegun, is)) = ([], inl (unbegun, refl), is)
+tick_events device place limits s false new result happened (inr (made, is)) = (events_in s made.steps.parts, inr (made, refl), is)

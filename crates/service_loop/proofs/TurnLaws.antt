@@ -5,7 +5,8 @@ use Rattle.spool_types.specs.State.{State}
 use Rattle.spool_disk.specs.Disk.{DiskView}
 use Rattle.spool_engine.specs.EventSteps.{setting}
 use Rattle.spool_engine.specs.EngineRuns.{Engine}
-use Rattle.spool_engine.specs.EngineTicks.{Ticked, IsTicked}
+use Rattle.spool_engine.specs.EngineTicks.{Ticked}
+use Rattle.spool_engine.specs.StagedSteps.{IsStagingTick}
 use Rattle.service_rules.specs.Clocks.{clock_to_announce}
 use Rattle.service_loop.specs.ServiceCalls.{GoesByCalls}
 use Rattle.service_loop.specs.ServiceTurns.{HasTicked, IsTimely, KeepsTime, has_moved}
@@ -34,7 +35,7 @@ timely_as h h1 s (Some millis) told due is =
 
 module _ {D : Type 0} (device : DiskView D) where
   -- An engine that ticked, and then did not change.
-  pub ticked_by : (e e1 e2 : Engine D) (t : Ticked D) (moved : Bool) → e1.mime ≡ e.mime → e1.place ≡ e.place → IsTicked (setting device e.mime e.place) e.run_state t
+  pub ticked_by : (e e1 e2 : Engine D) (t : Ticked D) (moved : Bool) → e1.mime ≡ e.mime → e1.place ≡ e.place → IsStagingTick (setting device e.mime e.place) e.run_state t
       → t.next ≡ e1.run_state → moved ≡ has_moved t.result → e2 ≡ e1 → HasTicked device e moved e2
   ticked_by e e1 e2 t moved mime place is next has same =
       subst (λ (x : Engine D). HasTicked device e moved x) (sym same) (record { mime = mime; place = place; ticked = t; is = is; next = next; moved = sym has })

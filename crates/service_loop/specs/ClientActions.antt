@@ -31,11 +31,13 @@ use Rattle.client_standing.specs.ClientStanding.{ClientStanding, with_job, with_
 use Rattle.client_standing.specs.declared.caller.Proved.{Proved}
 use Rattle.client_roles.specs.RoleTable.{is_allowed}
 use Rattle.print_rounds.specs.RunStates.{RunState}
+use Rattle.spool_core.specs.OpenSpools.{OpenSpool}
 use Rattle.spool_engine.specs.AnswerTexts.{answer_text}
 use Rattle.spool_engine.specs.EventSteps.{Setting}
 use Rattle.spool_engine.specs.EngineRounds.{round_line}
-use Rattle.spool_engine.specs.EngineRuns.{CommandStep, IsCommandStep, is_round}
-use Rattle.spool_engine.specs.EngineTicks.{Ticked, IsTicked}
+use Rattle.spool_engine.specs.EngineRuns.{CommandStep, is_round}
+use Rattle.spool_engine.specs.EngineTicks.{Ticked}
+use Rattle.spool_engine.specs.StagedSteps.{IsStagingStep, IsStagingTick, SettlesTo}
 use Rattle.spool_engine.specs.Script.{closing_as, closing_line}
 use Rattle.service_loop.specs.ConnectionViews.{ProofStep, named, examined}
 use Rattle.service_rules.specs.Listeners.{may_listen}
@@ -68,6 +70,10 @@ pub data Action (D : Type 0) : Type 0 where
   ends : ℕ → List ℕ → Action D
   -- A change was sent without a request. This is never part of the client's turn.
   tells : List ℕ → Action D
+  -- The staged events were settled: they became durable, or the device failed.
+  settles : RunState D → Action D
+  -- These bytes were written to its connection, while all events were durable.
+  delivers : List ℕ → Action D
 
 -- The request that an action answers.
 abbrev pub asks_by : {D : Type 0} → Action D → List Ask
@@ -82,6 +88,8 @@ asks_by (reserves ask) = ask ∷ []
 asks_by (turns_away l word) = asking.Own word ∷ []
 asks_by (ends job text) = []
 asks_by (tells text) = []
+asks_by (settles next) = []
+asks_by (delivers bytes) = []
 
 -- The text that an action sent.
 abbrev pub text_by : {D : Type 0} → Action D → List ℕ
@@ -96,6 +104,13 @@ text_by (reserves ask) = full_text
 text_by (turns_away l word) = busy_text
 text_by (ends job text) = text
 text_by (tells text) = text
+text_by (settles next) = []
+text_by (delivers bytes) = []
+
+-- The bytes that an action wrote to the client's connection.
+abbrev pub given_by : {D : Type 0} → Action D → List ℕ
+given_by (delivers bytes) = bytes
+given_by d = []
 
 -- The step of a proof that an action made.
 abbrev pub proofs_by : {D : Type 0} → Action D → List ProofStep
@@ -115,6 +130,12 @@ after_action s (reserves ask) = s
 after_action s (turns_away l word) = s
 after_action s (ends job text) = s
 after_action s (tells text) = s
+after_action s (settles next) = next
+after_action s (delivers bytes) = s
+
+-- All events of a spool are durable.
+abbrev pub IsDurable : {D : Type 0} → OpenSpool D → Type 0
+IsDurable spool = (spool.dead ≡ false) × (spool.held ≡ None)
 
 -- ## The client
 
@@ -156,6 +177,8 @@ IsByRole c s (reserves ask) = is_allowed c s ask ≡ true
 IsByRole c s (turns_away l word) = is_allowed c s (asking.Own word) ≡ true
 IsByRole c s (ends job text) = Unit {0}
 IsByRole c s (tells text) = Unit {0}
+IsByRole c s (settles next) = Unit {0}
+IsByRole c s (delivers bytes) = Unit {0}
 
 -- The moment of the service. If the clock cannot be read, it is that of the table.
 abbrev pub moment_of : Option ℕ → State → ℕ
@@ -206,7 +229,7 @@ applied_text v s s' word answer = answer_text s' answer
 -- It is a command step of the engine, with this answer.
 pub record IsApplied {D : Type 0} (v : Setting D) (s : RunState D) (word : OwnWord) (t : CommandStep D) (text : List ℕ) : Type 0 where
   pub meant : IsMeant v s.spool.state word t.command
-  pub turn : IsCommandStep v s t
+  pub turn : IsStagingStep v s t
   pub answer : Answer
   pub same : answer_text t.next.spool.state answer ≡ t.text
   pub told : text ≡ applied_text v s.spool.state t.next.spool.state word answer
@@ -219,13 +242,13 @@ pub record IsEndReported (c : ClientStanding) (s : State) (job : ℕ) (text : Li
 -- A round is answered by a tick, and the text is its counts.
 pub record IsTickedFor {D : Type 0} (v : Setting D) (s : RunState D) (command : Command) (t : Ticked D) (text : List ℕ) : Type 0 where
   pub round : is_round command ≡ true
-  pub tick : IsTicked v s t
+  pub tick : IsStagingTick v s t
   pub told : text ≡ round_line t.result
 
 -- Any other command is a command step of the engine. The text shows its answer as far as the client may see it.
 pub record IsServed {D : Type 0} (v : Setting D) (c : ClientStanding) (s : RunState D) (t : CommandStep D) (answer : Answer) (text : List ℕ) : Type 0 where
   pub command : is_round t.command ≡ false
-  pub turn : IsCommandStep v s t
+  pub turn : IsStagingStep v s t
   pub same : answer_text t.next.spool.state answer ≡ t.text
   pub told : text ≡ shown_answer c t.next.spool.state answer
 
@@ -241,10 +264,14 @@ IsAction v c s (reserves ask) = (area : ℕ) × (is_reserved area s ask ≡ true
 IsAction v c s (turns_away l word) = (begins_to_listen word ≡ true) × (may_listen l ≡ false)
 IsAction v c s (ends job text) = IsEndReported c s.spool.state job text
 IsAction v c s (tells text) = ⊥
+IsAction v c s (settles next) = SettlesTo v.device s next
+IsAction v c s (delivers bytes) = IsDurable s.spool
 
--- Only the end of the job that the client waits for is reported. Until then nothing else is done for it.
+-- Only the end of the job that the client waits for is reported. Until then no request of it is answered.
 abbrev pub IsTimely : {D : Type 0} → Option ℕ → Action D → Type 0
 IsTimely waits (ends job text) = waits ≡ Some job
+IsTimely waits (settles next) = Unit {0}
+IsTimely waits (delivers bytes) = Unit {0}
 IsTimely waits d = waits ≡ None
 
 -- An action for a client, by the roles.
@@ -272,6 +299,11 @@ texts_in (d ∷ ds) = text_by d ++ texts_in ds
 abbrev pub proofs_in : {D : Type 0} → List (Action D) → List ProofStep
 proofs_in [] = []
 proofs_in (d ∷ ds) = proofs_by d ++ proofs_in ds
+
+-- The bytes that were written to the client's connection, in order.
+abbrev pub given_in : {D : Type 0} → List (Action D) → List ℕ
+given_in [] = []
+given_in (d ∷ ds) = given_by d ++ given_in ds
 
 -- The rights of a client after these actions.
 abbrev pub standing_after_all : {D : Type 0} → ClientStanding → List (Action D) → ClientStanding

@@ -13,6 +13,7 @@ use Rattle.service_loop.specs.Progress.{EndsTurn, IsBacklogged, misses, signed, 
 use Rattle.service_loop.specs.ClientSteps.{Goes, IsAdded, IsEntry, IsNotified, IsClientStep, is_starved, status_of}
 use Rattle.service_loop.specs.declared.client.Client.{Client}
 use Rattle.service_loop.specs.declared.client.Disconnect.{Disconnect}
+use Rattle.service_loop.specs.declared.client.Disconnect.TheVariants.{Device}
 use Rattle.service_loop.specs.declared.client.Turn.{Turn}
 
 -- The client in a slot after a turn, or none if it was disconnected.
@@ -21,12 +22,14 @@ unless_parted None c = Some c
 unless_parted (Some disconnect) c = None
 
 -- A client had a turn, and left its slot only if it was disconnected. Unless memory ran out for it, the turn was a client step. If it
--- stayed, it was sent what its connection takes, and is at rest unless the turn reports that there is more.
+-- stayed, it was sent what its connection takes, and is at rest unless the turn reports that there is more. If it left because the device
+-- failed, the device has failed.
 pub record HadTurn {D L : Type 0} (device : DiskView D) (view : ConnectionView L) (old : Engine D) (was : Client L) (turn : Turn) (new : Engine D) (left : Option (Client L)) : Type 0 where
   pub calls : GoesByCalls device old new
   pub is : Client L
   pub client_step : is_starved turn.disconnect ≡ false → (actions : List (Action D)) × IsClientStep device view old was actions new is
   pub ends : EndsTurn view new.run_state.spool.state was turn is
+  pub fails : turn.disconnect ≡ Some Device → new.run_state.spool.dead ≡ true
   pub stays : left ≡ unless_parted turn.disconnect is
 
 -- A slot had a turn. If it was empty, nothing was done.

@@ -10,7 +10,7 @@ use Rattle.client_reader.specs.declared.ask.Next.TheVariants as nexts
 use Rattle.spool_engine.specs.EventSteps.{setting}
 use Rattle.spool_engine.specs.EngineRuns.{Engine}
 use Rattle.client_standing.specs.ClientStanding.{first_standing}
-use Rattle.service_loop.specs.ClientActions.{Action, tells, ClientStatus, IsDone, AreActions, after_action, status_after, asks_by, asks_in, text_by, texts_in, proofs_by, proofs_in}
+use Rattle.service_loop.specs.ClientActions.{Action, tells, ClientStatus, IsDone, AreActions, after_action, status_after, asks_by, asks_in, text_by, texts_in, proofs_by, proofs_in, given_in}
 use Rattle.service_loop.specs.ConnectionViews.{ConnectionView, ProofStep, AddsProofs}
 use Rattle.service_loop.specs.declared.client.Client.{Client}
 use Rattle.service_loop.specs.declared.client.Disconnect.{Disconnect}
@@ -41,15 +41,25 @@ pub record IsSent {L : Type 0} (view : ConnectionView L) (old : Client L) (text 
   pub within : IsWithin new
   pub told : Appends (told_to view old) (told_to view new) text
 
--- A client made these requests, was sent this text, and made these steps of proofs.
-pub record GoesProving {L : Type 0} (view : ConnectionView L) (old : Client L) (asks : List Ask) (text : List ℕ) (steps : List ProofStep) (new : Client L) : Type 0 where
+-- A client made these requests, was sent this text, and made these steps of proofs. These bytes were written to its connection, of this text
+-- or of earlier ones.
+pub record GoesGiving {L : Type 0} (view : ConnectionView L) (old : Client L) (asks : List Ask) (text : List ℕ) (steps : List ProofStep) (given : List ℕ) (new : Client L) : Type 0 where
   pub asked : Asks view old asks new
   pub told : IsWithin old → IsSent view old text new
   pub proved : AddsProofs (view.proofs old.connection) (view.proofs new.connection) steps
+  pub wrote : Appends (view.contents old.connection) (view.contents new.connection) given
 
--- A client made these requests, and was sent this text.
+-- A client made these requests, was sent this text, and made these steps of proofs. Nothing was written to its connection.
+abbrev pub GoesProving : {L : Type 0} → ConnectionView L → Client L → List Ask → List ℕ → List ProofStep → Client L → Type 0
+GoesProving view old asks text steps new = GoesGiving view old asks text steps [] new
+
+-- A client made these requests, and was sent this text. Nothing was written to its connection.
 abbrev pub Goes : {L : Type 0} → ConnectionView L → Client L → List Ask → List ℕ → Client L → Type 0
 Goes view old asks text new = GoesProving view old asks text [] new
+
+-- It made no request and was sent no further text. Some bytes of its replies were written to its connection.
+abbrev pub Delivers : {L : Type 0} → ConnectionView L → Client L → Client L → Type 0
+Delivers view old new = (given : List ℕ) × GoesGiving view old [] [] [] given new
 
 -- The part of a client on which its actions depend.
 abbrev pub status_of : {L : Type 0} → Client L → ClientStatus
@@ -81,12 +91,13 @@ pub record IsAnswered {D L : Type 0} (device : DiskView D) (view : ConnectionVie
   pub status : status_after (status_of c) action ≡ status_of c'
   pub told : GoesProving view c [] (text_by action) (proofs_by action) c'
 
--- These actions, and no others, were done for a client: they answer its requests, one for one, and it was sent their texts, in order.
+-- These actions, and no others, were done for a client: they answer its requests, one for one, and it was sent their texts, in order. What was
+-- written to its connection meanwhile was written while all events were durable.
 pub record IsClientStep {D L : Type 0} (device : DiskView D) (view : ConnectionView L) (old : Engine D) (c : Client L) (done : List (Action D)) (new : Engine D) (c' : Client L) : Type 0 where
   pub mime : new.mime ≡ old.mime
   pub place : new.place ≡ old.place
   pub actions : AreActions (setting device old.mime old.place) old.run_state (status_of c) done new.run_state (status_of c')
-  pub client : GoesProving view c (asks_in done) (texts_in done) (proofs_in done) c'
+  pub client : GoesGiving view c (asks_in done) (texts_in done) (proofs_in done) (given_in done) c'
 
 -- The result of its reader: a request, or none yet.
 abbrev pub GivesNext : {L : Type 0} → ConnectionView L → Client L → Next → Client L → Type 0

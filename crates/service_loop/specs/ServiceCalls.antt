@@ -4,6 +4,7 @@ use Rattle.std.specs.FinMap as finite
 use Rattle.spool_types.specs.declared.event.Event.{Event}
 use Rattle.spool_types.specs.declared.event.Event.TheVariants.{Purge}
 use Rattle.spool_types.specs.State.{State}
+use Rattle.spool_core.specs.OpenSpools.{IsSettled as NoneStaged}
 use Rattle.spool_disk.specs.Disk.{DiskView}
 use Rattle.job_table.specs.Attempts.{HasNoProcessing}
 use Rattle.job_table.specs.EventFold.{after_all}
@@ -16,9 +17,10 @@ use Rattle.child_pipeline.specs.ChildTraces.{ChildTrace}
 use Rattle.child_pipeline.specs.declared.order.Placed.{Placed}
 use Rattle.print_rounds.specs.StageHistory.{keys_in}
 use Rattle.print_rounds.specs.declared.start_room.TickLimits.{TickLimits}
-use Rattle.spool_engine.specs.EngineCalls.{Call, AreCalls, last_by, round_call, run_call, tick_call}
+use Rattle.spool_engine.specs.EngineCalls.{Call, AreCalls, last_by, round_call, run_call, tick_call, stage_call, settle_call}
 use Rattle.spool_engine.specs.EventSteps.{setting}
-use Rattle.spool_engine.specs.EngineRuns.{Engine, TakesStep, CommandStep, HasNoRounds, commands_in}
+use Rattle.spool_engine.specs.EngineRuns.{Engine, CommandStep, HasNoRounds, commands_in}
+use Rattle.spool_engine.specs.StagedSteps.{TakesStagingStep}
 
 -- An engine changed by calls alone, and kept its rules and its place.
 pub record GoesByCalls {D : Type 0} (device : DiskView D) (old new : Engine D) : Type 0 where
@@ -40,6 +42,8 @@ abbrev pub IsWithin : {D : Type 0} → ℕ → Call D → Type 0
 IsWithin most (round_call r) = ⊥
 IsWithin most (tick_call t) = HasLimit most t.limits
 IsWithin most (run_call turns) = HasNoRounds (commands_in turns)
+IsWithin most (stage_call t) = Unit {0}
+IsWithin most (settle_call next) = Unit {0}
 
 abbrev pub AreWithin : {D : Type 0} → ℕ → List (Call D) → Type 0
 AreWithin most [] = Unit {0}
@@ -62,7 +66,7 @@ pub record HasAnswered {D : Type 0} (device : DiskView D) (old : Engine D) (comm
   pub mime : new.mime ≡ old.mime
   pub place : new.place ≡ old.place
   pub turn : CommandStep D
-  pub takes : TakesStep (setting device old.mime old.place) old.run_state command turn new.run_state
+  pub takes : TakesStagingStep (setting device old.mime old.place) old.run_state command turn new.run_state
 
 -- It answered these commands in order, and did nothing else.
 abbrev pub HasAnsweredAll : {D : Type 0} → DiskView D → Engine D → List Command → Engine D → Type 0
@@ -82,12 +86,13 @@ pub record ServiceLife (D : Type 0) : Type 0 where
   pub told : ChildTrace
   pub orders : List Placed
 
--- Its engine was made on a legal table without a processing job, as an opening leaves it, and changed by calls. It held no slot, its
--- children report their trace, and none was running.
+-- Its engine was made on a legal table without a processing job, as an opening leaves it, and changed by calls. It held no slot, nothing
+-- was staged, its children report their trace, and none was running.
 pub record IsServiceLife {D : Type 0} (device : DiskView D) (l : ServiceLife D) : Type 0 where
   pub legal : IsLegal (l.start).run_state.spool.state
   pub idle : HasNoProcessing (l.start).run_state.spool.state
   pub empty : (l.start).run_state.slots ≡ finite.empty
+  pub settled : NoneStaged (l.start).run_state.spool
   pub tells : (l.start).run_state.told ≡ Some l.told
   pub quiet : (l.told).running ≡ []
   pub goes : GoesByCalls device l.start l.last

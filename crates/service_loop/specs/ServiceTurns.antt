@@ -9,7 +9,8 @@ use Rattle.print_rounds.specs.declared.outcome.Round.{Round}
 use Rattle.print_rounds.specs.declared.outcome.RoundFault.{RoundFault}
 use Rattle.spool_engine.specs.EventSteps.{setting}
 use Rattle.spool_engine.specs.EngineRuns.{Engine}
-use Rattle.spool_engine.specs.EngineTicks.{Ticked, IsTicked}
+use Rattle.spool_engine.specs.EngineTicks.{Ticked}
+use Rattle.spool_engine.specs.StagedSteps.{IsStagingTick}
 use Rattle.service_rules.specs.Bounds.{most_clients}
 use Rattle.service_rules.specs.Clocks.{clock_to_announce}
 use Rattle.service_loop.specs.ServiceCalls.{GoesByCalls, HasAnswered}
@@ -39,7 +40,7 @@ pub record HasTicked {D : Type 0} (device : DiskView D) (old : Engine D) (has : 
   pub mime : new.mime ≡ old.mime
   pub place : new.place ≡ old.place
   pub ticked : Ticked D
-  pub is : IsTicked (setting device old.mime old.place) old.run_state ticked
+  pub is : IsStagingTick (setting device old.mime old.place) old.run_state ticked
   pub next : ticked.next ≡ new.run_state
   pub moved : has_moved ticked.result ≡ has
 

@@ -20,7 +20,7 @@ use Rattle.service_loop.specs.ConnectionViews.{ConnectionView, IsUntouched, Proo
 use Rattle.service_loop.specs.Progress.{HasLeft, news_for}
 use Rattle.service_loop.specs.ServiceCalls.{GoesByCalls}
 use Rattle.service_loop.specs.declared.client.Client.{Client}
-use Rattle.service_loop.specs.declared.client.Disconnect.TheVariants.{Memory}
+use Rattle.service_loop.specs.declared.client.Disconnect.TheVariants.{Device, Memory}
 use Rattle.service_loop.specs.declared.client.Turn.{Turn}
 
 -- ## Events of the loop
@@ -92,15 +92,15 @@ pub record HasParted {D L : Type 0} (device : DiskView D) (view : ConnectionView
   pub client_step : IsClientStep device view e c actions new is
   pub left : HasLeft view is
 
--- This event makes the client of this slot leave: in its own turn it had left, or memory ran out for it; it was the idle client that a new
--- one replaced; or it watched, and memory ran out for a notice.
+-- This event makes the client of this slot leave: in its own turn it had left, memory ran out for it, or the device failed; it was the
+-- idle client that a new one replaced; or it watched, and memory ran out for a notice.
 abbrev pub IsCause : {D L : Type 0} → DiskView D → ConnectionView L → Engine D → Slab (Client L) → LoopEvent L → Engine D → ℕ → Client L → Type 0
 IsCause device view e slots works new key c = ⊥
 IsCause device view e slots (readies other writable gone) new key c = ⊥
 IsCause device view e slots (gives_up other now places) new key c = (other ≡ key) × IsAdmission places (heard_of slots) now (InsteadOf other)
 IsCause device view e slots (enters connection) new key c = ⊥
 IsCause device view e slots (takes_turn other None) new key c = ⊥
-IsCause device view e slots (takes_turn other (Some turn)) new key c = (other ≡ key) × ((turn.disconnect ≡ Some Memory) ⊎ HasParted device view e c new)
+IsCause device view e slots (takes_turn other (Some turn)) new key c = (other ≡ key) × ((turn.disconnect ≡ Some Memory) ⊎ ((turn.disconnect ≡ Some Device) × (new.run_state.spool.dead ≡ true)) ⊎ HasParted device view e c new)
 IsCause device view e slots (notifies noted last) new key c = watches c ≡ true
 
 -- ## Each client

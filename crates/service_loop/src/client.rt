@@ -8,9 +8,10 @@ ghost use Rattle.service_rules.specs.Listeners.{may_listen};
 ghost use Rattle.service_loop.specs.ClientListening.{BeginsAtMost, IsHeard};
 ghost use Rattle.service_loop.specs.ServiceCalls.{GoesWithin};
 ghost use Rattle.service_loop.specs.AdmissionViews.{is_listener, listens, unread, watches};
-ghost use Rattle.service_loop.specs.ClientActions.{Action};
+ghost use Rattle.service_loop.specs.ClientActions.{Action, IsDurable};
 ghost use Rattle.service_loop.specs.Progress.{EndsTurn, HasLeft, HasRead, IsAtRest, IsBacklogged, IsCut, IsGiven, IsMarked, IsReadAs, IsUnheard, as_given, as_read, as_served, as_told, heard_after, misses, news_for, signed, text_for};
-ghost use Rattle.service_loop.specs.ClientSteps.{Goes, GivesNext, IsAdded, IsEntry, IsNotified, IsClientStep, is_starved, status_of};
+ghost use Rattle.service_loop.specs.ClientSteps.{Delivers, Goes, GivesNext, IsAdded, IsEntry, IsNotified, IsClientStep, is_starved, status_of};
+ghost use Rattle.service_loop.specs.declared.client.Disconnect.TheVariants as causes;
 
 mod answers;
 mod applied;
@@ -42,6 +43,8 @@ pub enum Disconnect {
     Left,
     /// Memory ran out for its text or a reply.
     Memory,
+    /// The device failed before its replies were durable.
+    Device,
 }
 
 /// Why a client cannot be served.
@@ -226,7 +229,8 @@ impl<L: Connection> Client<L> {
         listening: Listening,
         now: u64,
     ) -> Turn
-        // Unless memory ran out for it, its next requests were answered in order, and it was sent nothing else.
+        // Unless memory ran out for it, its next requests were answered in order, and it was sent nothing else. What was written to its
+        // connection was written while all events were durable.
         ensures client_step { is_starved result.disconnect ≡ false → (actions : List (Action D)) ×
             IsClientStep D.device L.view shared.old.engine self.old actions shared.new.engine self.new }
 
@@ -235,45 +239,56 @@ impl<L: Connection> Client<L> {
 
         // What its connection takes was written. Unless there is more to do at once, nothing can be done for it now.
         ensures ends { EndsTurn L.view shared.new.engine.run_state.spool.state self.old result self.new }
+        ensures fails { result.disconnect ≡ Some causes.Device → shared.new.engine.run_state.spool.dead ≡ true }
         ensures calls { GoesWithin D.device shared.old.most shared.old.engine shared.new.most shared.new.engine }
     {
         let mut turn = Turn::new(listening);
         match self.try_serve(shared, now, &mut turn) {
-            Ok(true) => {}
-            Ok(false) => turn.disconnect = Some(Disconnect::Left),
+            Ok(disconnect) => turn.disconnect = disconnect,
             Err(ClientFault::Memory) => turn.disconnect = Some(Disconnect::Memory),
         }
         turn
     }
 
-    // Does the same. Returns whether the client stays.
+    // Does the same. Returns why the client is disconnected, if it is.
     fn try_serve<D: Disk, C: Children>(
         &mut self,
         shared: &mut Shared<D, C>,
         now: u64,
         turn: &mut Turn,
-    ) -> Result<bool, ClientFault>
+    ) -> Result<Option<Disconnect>, ClientFault>
         requires { turn.old.is_backlogged ≡ false }
         ensures client_step { OnOk result ((actions : List (Action D)) ×
             IsClientStep D.device L.view shared.old.engine self.old actions shared.new.engine self.new) }
         ensures listens { OnOk result (BeginsAtMost (may_listen turn.old.listening) self.old self.new) }
-        ensures given { IfOk result (λ there. there ≡ true → IsGiven self.new) }
-        ensures rests { IfOk result (λ there. there ≡ true → turn.new.more ≡ false → IsAtRest shared.new.engine.run_state.spool.state self.new ⊎ IsBacklogged self.new) }
-        ensures leaves { IfOk result (λ there. there ≡ false → HasLeft L.view self.new) }
+        ensures given { IfOk result (λ cause. cause ≡ None → IsGiven self.new) }
+        ensures rests { IfOk result (λ cause. cause ≡ None → turn.new.more ≡ false → IsAtRest shared.new.engine.run_state.spool.state self.new ⊎ IsBacklogged self.new) }
+        ensures leaves { IfOk result (λ cause. cause ≡ Some causes.Left → HasLeft L.view self.new) }
+        ensures memory { IfOk result (λ cause. is_starved cause ≡ false) }
+        ensures fails { IfOk result (λ cause. cause ≡ Some causes.Device → shared.new.engine.run_state.spool.dead ≡ true) }
         ensures marked { IsMarked L.view self.old → IsMarked L.view self.new }
-        ensures disconnect { turn.new.disconnect ≡ turn.old.disconnect }
         ensures calls { GoesWithin D.device shared.old.most shared.old.engine shared.new.most shared.new.engine }
     {
-        if !self.give(now) {
-            return Ok(false);
+        if !shared.settle() {
+            return Ok(Some(Disconnect::Device));
+        }
+        if !self.give(shared, now) {
+            return Ok(Some(Disconnect::Left));
         }
         if self.has_left_waiting() {
-            return Ok(false);
+            return Ok(Some(Disconnect::Left));
         }
         if !self.serve_some(shared, now, turn)? {
-            return Ok(false);
+            return Ok(Some(Disconnect::Left));
         }
-        Ok(self.end_turn(now, turn))
+        if !shared.settle() {
+            return Ok(Some(Disconnect::Device));
+        }
+        if self.end_turn(shared, now, turn) {
+            Ok(None)
+        } else {
+            Ok(Some(Disconnect::Left))
+        }
     }
 
     // Whether it has hung up while it waits. A waiting client is not read, so the end of its text is not seen.
@@ -284,8 +299,14 @@ impl<L: Connection> Client<L> {
     }
 
     // Writes the replies that its connection takes, after its requests were served. Returns whether the client stays.
-    fn end_turn(&mut self, now: u64, turn: &mut Turn) -> bool
-        ensures goes { Goes L.view self.old [] [] self.new }
+    fn end_turn<D: Disk, C: Children>(
+        &mut self,
+        shared: &Shared<D, C>,
+        now: u64,
+        turn: &mut Turn,
+    ) -> bool
+        requires durable { IsDurable shared.now.engine.run_state.spool }
+        ensures delivers { Delivers L.view self.old self.new }
         ensures status { status_of self.new ≡ status_of self.old }
         ensures given { result ≡ true → IsGiven self.new }
         ensures leaves { result ≡ false → IsUnheard L.view self.new ⊎ ((self.new.over ≡ true) × (unread self.new ≡ 0)) }
@@ -295,7 +316,7 @@ impl<L: Connection> Client<L> {
     {
         // A last line without line feed is no command: the client may have been killed in the middle of it.
         let ended = self.over && !turn.more && !turn.is_backlogged && self.waits.is_none();
-        let there = self.give(now);
+        let there = self.give(shared, now);
         // It took so much that it can be served again, and its connection may report no readiness for that.
         turn.more = turn.more || turn.is_backlogged && self.unread() < MOST_UNREAD;
         there && (!ended || 0 < self.unread())
@@ -472,9 +493,10 @@ impl<L: Connection> Client<L> {
         Ok(())
     }
 
-    // Writes the replies that its connection takes. Returns whether the connection still takes replies.
-    fn give(&mut self, now: u64) -> bool
-        ensures goes { Goes L.view self.old [] [] self.new }
+    // Writes the replies that its connection takes. What they report is durable. Returns whether the connection still takes replies.
+    fn give<D: Disk, C: Children>(&mut self, shared: &Shared<D, C>, now: u64) -> bool
+        requires durable { IsDurable shared.now.engine.run_state.spool }
+        ensures delivers { Delivers L.view self.old self.new }
         ensures status { status_of self.new ≡ status_of self.old }
         ensures given { result ≡ true → IsGiven self.new }
         ensures lost { result ≡ false → IsUnheard L.view self.new }
@@ -483,7 +505,7 @@ impl<L: Connection> Client<L> {
         ensures kept { self.new ≡ as_given self.old self.new }
     {
         while self.writable && self.taken < self.replies.len() {
-            if !self.write_some(now) {
+            if !self.write_some(shared, now) {
                 return false;
             }
         }
@@ -495,10 +517,11 @@ impl<L: Connection> Client<L> {
     }
 
     // Writes some of its replies. Returns whether the connection still takes replies.
-    fn write_some(&mut self, now: u64) -> bool
+    fn write_some<D: Disk, C: Children>(&mut self, _shared: &Shared<D, C>, now: u64) -> bool
+        requires durable { IsDurable _shared.now.engine.run_state.spool }
         requires unread { self.old.taken < vec_len self.old.replies }
         requires writable { self.old.writable ≡ true }
-        ensures goes { Goes L.view self.old [] [] self.new }
+        ensures delivers { Delivers L.view self.old self.new }
         ensures some { result ≡ true → (unread self.new < unread self.old) ⊎ ((self.new.writable ≡ false) × (unread self.new ≡ unread self.old)) }
         ensures lost { result ≡ false → IsUnheard L.view self.new × (unread self.new ≡ unread self.old) }
         ensures heard { self.new.last_active ≡ heard_after self.old now self.new }

@@ -9,7 +9,7 @@ ghost use Rattle.service_loop.specs.declared.endings.Ending.{Ending as AnyEnding
 use crate::signals::{Signal, Signals};
 use child_pipeline::Children;
 use spool_disk::Disk;
-use spool_engine::Engine;
+use spool_engine::StagingEngine;
 use spool_types::JobId;
 use std::alloc::{AllocError, Global};
 
@@ -43,7 +43,7 @@ impl Endings {
     /// Notes that the child of a job must end. Returns whether one runs.
     pub fn ask<D: Disk, C: Children>(
         &mut self,
-        engine: &Engine<D, C>,
+        engine: &StagingEngine<D, C>,
         job: JobId,
     ) -> Result<bool, AllocError>
         ensures runs { IfOk result (λ runs. runs ≡ true → (group : ℕ) × (self.new.list.items ≡ with_ending job group self.old.list.items)) }
@@ -90,7 +90,7 @@ impl Endings {
     /// Sends SIGTERM to the new ones, kills those whose grace period is over, and forgets those that have ended.
     pub fn act<D: Disk, C: Children, S: Signals>(
         &mut self,
-        engine: &Engine<D, C>,
+        engine: &StagingEngine<D, C>,
         signals: &mut S,
         now: u64,
     )
@@ -117,7 +117,7 @@ impl Endings {
 }
 
 // Whether the job's child runs in the group that was noted.
-fn is_current<D: Disk, C: Children>(engine: &Engine<D, C>, ending: &Ending) -> bool
+fn is_current<D: Disk, C: Children>(engine: &StagingEngine<D, C>, ending: &Ending) -> bool
     ensures { result ≡ is_current C.groups engine.now.run_state.slots ending.now }
 {
     match engine.group_of(ending.job) {

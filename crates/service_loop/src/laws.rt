@@ -81,8 +81,8 @@ pub fn clients_of_a_service_stay_apart<L: Connection, D: Disk>()
         HasServed D.device L.view old slots events new left → (key : ℕ) (c : Client L) → get left key ≡ Some c → IsServedRight D.device L.view events c }
 {}
 
-/// A client leaves its slot for one of the listed causes alone (`IsCause`): in its own turn it had left, or memory ran out for it; it was the
-/// idle client that a new one replaced; or memory ran out for a notice while it watched.
+/// A client leaves its slot for one of the listed causes alone (`IsCause`): in its own turn it had left, memory ran out for it, or the device
+/// failed; it was the idle client that a new one replaced; or memory ran out for a notice while it watched.
 pub fn clients_leave_for_a_cause<L: Connection, D: Disk>()
     ensures { (old : Engine D) (slots : Slab (Client L)) (event : LoopEvent L) (new : Engine D) (left : Slab (Client L)) →
         IsLoopEvent D.device L.view old slots event new left → (key : ℕ) (c : Client L) → get slots key ≡ Some c → get left key ≡ None →

@@ -30,6 +30,10 @@
 //! reader (`client_reader`) and answers it, or reads more text. Each reply is appended to the client's buffer; only `Client::write_some`
 //! writes the buffer to the connection.
 //!
+//! The commands of a turn are staged, and one settle makes their events durable together (`Shared::settle`) before the replies are written.
+//! If the device fails at the settle, nothing more is written, and the client is disconnected: it knows of no command of the turn whether it
+//! was done.
+//!
 //! | Reply to | Made by |
 //! |---|---|
 //! | a request that the roles do not allow | `Client::answer`: `error denied`, and nothing is done |
@@ -76,8 +80,15 @@
 //!   first wait fails; as a life of an engine it has a run of no commands.
 //! - [`crashes_lose_no_call`]: for each moment when the disk has not failed, a later crash leaves the table of that moment, or the table
 //!   after a prefix of the events since then.
-//! - **Commands and ticks.** `Shared::execute` executes a command as the engine does (`executed`, `TakesStep`). `Shared::tick` is one tick
-//!   of the engine (`tick`, `IsTicked`). A `round` or a `drain` is answered with one tick.
+//! - **Commands and ticks.** `Shared::execute` executes a command as the engine does, and its event is staged (`executed`,
+//!   `TakesStagingStep`). `Shared::tick` settles the staged events and is one tick of the engine (`tick`, `IsStagingTick`). A `round` or a
+//!   `drain` is answered with one tick.
+//! - **Durable replies.** Bytes are written to a client only while all events are durable: each write is an action of the client's turn
+//!   (`delivers`), which only such a state allows (`IsAction`, `IsDurable`), and the turn wrote the bytes of these actions and no others
+//!   (`wrote` of `GoesGiving`, in `client_step` of `Client::serve`). So a client that reads a reply knows that no crash takes back what it
+//!   says. A crash within the turn of a client leaves none of its commands or all of them ([`spool_engine::batches_are_whole`]), unless one
+//!   of them is a checkpoint or a `round`. In a turn in which memory runs out for the client, `Client::write_some` still requires a durable
+//!   state (`durable`), but no clause lists what was written.
 //! - **Tokens.** `Shared::execute` notes a created job for the token of its options and forgets a purged job that is gone; each other entry
 //!   stays as it was (`known` of `Shared::execute`, `entry_after`).
 //! - **Isolation.** A client's turn is a client step (`client_step` of `Client::serve`, `IsClientStep`): actions that answer, one for one
@@ -99,7 +110,7 @@
 //!   events of the loop alone, in one list: calls of the service itself, readiness, admissions, turns and notices. So each text that a
 //!   client was sent is an answer of its own turn, given on the engine of that moment, or a notice, perhaps after `missed`.
 //! - [`clients_leave_for_a_cause`]: in such an event a client leaves its slot only in its own turn (for a cause of `leaves`, or because
-//!   memory ran out), because memory ran out for a notice while it watched, or because it was idle when a new client found no free slot.
+//!   memory ran out or the device failed), because memory ran out for a notice while it watched, or because it was idle when a new client found no free slot.
 //! - [`clients_of_a_service_stay_apart`]: each client that has a slot after such events was admitted in one of them, nothing having been read
 //!   from its connection, and made client steps since. Each moment of a service is the end of a list of its events.
 //! - [`clients_of_the_loop_stay_apart`]: over any list of a client's steps since its admission, its actions answer the first of the
@@ -124,7 +135,7 @@
 //!   too much unread (`rests` of `Clients::serve`, `HasNoneNow`; `ends` of `Client::serve`, `EndsTurn`).
 //! - On connections that report the result of their last read and write the marks are true: a connection that is not read or not written
 //!   reported last that nothing comes or that it takes nothing now (`IsMarked`). A client is disconnected in its turn only if its
-//!   connection is lost, it hung up while it waited, its text has ended and it has taken all replies, or memory ran out (`leaves`). A read
+//!   connection is lost, it hung up while it waited, its text has ended and it has taken all replies, or memory ran out or the device failed (`leaves`). A read
 //!   takes a piece, finds none now, or finds the end (`HasRead`). Readiness sets the marks of the connection (`signed`).
 //! - **Records** (`events.rt`). Exactly the events that the engine accepted are recorded: those of a command by its answer (`recorded` of
 //!   `Shared::execute`, `HasRecordedCommand`), also the jobs that a Clock changes, from any sender, and those of a tick by the engine's report

@@ -102,6 +102,7 @@ impl<'a, L: Log, D: Disk + Drop, C: Children + Drop, R: Listener> Service<'a, L,
         )?;
         let records = Records::new(alloc, last_change)?;
         let known = KnownJobs::of_table(alloc, engine.table(), 0)?;
+        let engine = engine.into_staging();
         Ok(Service {
             log,
             alloc,

@@ -14,6 +14,7 @@ ghost use Rattle.print_rounds.specs.Happenings.{IsTickInTurn, IsTickThat, happen
 ghost use Rattle.print_rounds.specs.declared.start_room.TickLimits.{TickLimits as LimitsOf};
 ghost use Rattle.job_table.specs.Attempts.{busy_of};
 ghost use Rattle.spool_types.specs.State.{State, job_at};
+ghost use Rattle.service_loop.specs.ClientActions.{IsDurable};
 ghost use Rattle.spool_types.specs.declared.event.Closing.{Closing};
 ghost use Rattle.spool_types.specs.declared.event.Event.{Event};
 ghost use Rattle.spool_types.specs.declared.event.Reply.TheVariants.{Done};
@@ -22,8 +23,9 @@ ghost use Rattle.service_loop.specs.RetryClocks.{is_row_in_last_stage, may_end, 
 ghost use Rattle.service_loop.specs.ServiceCalls.{GoesWithin};
 ghost use Rattle.spool_engine.specs.EventSteps.{setting};
 ghost use Rattle.spool_engine.specs.AnswerTexts.{answer_text};
-ghost use Rattle.spool_engine.specs.EngineRuns.{CommandStep, TakesStep, is_round};
-ghost use Rattle.spool_engine.specs.EngineTicks.{IsTicked};
+ghost use Rattle.spool_engine.specs.EngineRuns.{CommandStep, is_round};
+ghost use Rattle.spool_engine.specs.StagedSteps.{IsStagingTick, SettlesTo, TakesStagingStep};
+ghost use Rattle.print_rounds.specs.RunStates.{RunState};
 
 use crate::endings::Endings;
 use crate::events::{Records, expect};
@@ -36,7 +38,7 @@ use job_table::Table;
 use print_rounds::{Happening, Round, RoundFault, TickLimits};
 use service_texts::{Notes, push_change};
 use spool_disk::Disk;
-use spool_engine::Engine;
+use spool_engine::StagingEngine;
 use spool_types::{Event, JobId, MediaType, Phase, QueueName};
 use std::alloc::{AllocError, Global};
 use wait_causes::ServiceFacts;
@@ -45,7 +47,7 @@ use wait_causes::ServiceFacts;
 #[derive(Drop)]
 pub(crate) struct Shared<D: Disk, C: Children> {
     alloc: Global,
-    pub engine: Engine<D, C>,
+    pub engine: StagingEngine<D, C>,
     /// How many children may run at once.
     pub most: usize,
     /// The size of an area of the disk in bytes.
@@ -72,7 +74,7 @@ impl<D: Disk, C: Children> Shared<D, C> {
         alloc: Global,
         most: usize,
         area: u64,
-        engine: Engine<D, C>,
+        engine: StagingEngine<D, C>,
         records: Records,
         known: KnownJobs,
     ) -> Shared<D, C>
@@ -99,10 +101,11 @@ impl<D: Disk, C: Children> Shared<D, C> {
         }
     }
 
-    /// Executes a command that runs no round, and returns the answer. Its events are recorded if they were accepted.
+    /// Executes a command that runs no round, and returns the answer. Its events are recorded if they were accepted. They are staged: no
+    /// client may be shown the answer before [`Shared::settle`].
     pub fn execute(&mut self, command: Command) -> Result<Answer, AllocError>
         requires { is_round command ≡ false }
-        ensures executed { IfOk result (λ answer. (t : CommandStep D) × TakesStep (setting D.device self.old.engine.mime self.old.engine.place)
+        ensures executed { IfOk result (λ answer. (t : CommandStep D) × TakesStagingStep (setting D.device self.old.engine.mime self.old.engine.place)
             self.old.engine.run_state command t self.new.engine.run_state × (answer_text self.new.engine.run_state.spool.state answer ≡ t.text)) }
         // Exactly the accepted events are recorded. If memory runs out, nothing was done.
         ensures recorded { IfOk result (λ answer. HasRecordedCommand self.old.engine.run_state.spool.state self.new.engine.run_state.spool.state command answer self.old.records self.new.records) }
@@ -124,10 +127,23 @@ impl<D: Disk, C: Children> Shared<D, C> {
         Ok(answer)
     }
 
+    /// Makes all staged events durable, and returns whether the device works. If it does not, the service ends at the end of the turn.
+    pub fn settle(&mut self) -> bool
+        ensures settles { SettlesTo D.device self.old.engine.run_state self.new.engine.run_state }
+        ensures durable { result ≡ true → IsDurable self.new.engine.run_state.spool }
+        ensures fails { result ≡ false → self.new.engine.run_state.spool.dead ≡ true }
+        ensures mime { self.new.engine.mime ≡ self.old.engine.mime }
+        ensures place { self.new.engine.place ≡ self.old.engine.place }
+        ensures kept { self.new ≡ record self.old { engine = self.new.engine } }
+        ensures calls { GoesWithin D.device self.old.most self.old.engine self.new.most self.new.engine }
+    {
+        self.engine.settle()
+    }
+
     /// Cancels a job, and notes in the same step that its running child must end. Returns the answer to the cancel. If memory runs out for
     /// the note, nothing was done.
     pub fn stop(&mut self, job: JobId) -> Result<Answer, AllocError>
-        ensures executed { IfOk result (λ answer. (t : CommandStep D) × TakesStep (setting D.device self.old.engine.mime self.old.engine.place)
+        ensures executed { IfOk result (λ answer. (t : CommandStep D) × TakesStagingStep (setting D.device self.old.engine.mime self.old.engine.place)
             self.old.engine.run_state (Command.Apply (Event.Cancel job)) t self.new.engine.run_state × (answer_text self.new.engine.run_state.spool.state answer ≡ t.text)) }
         ensures calls { GoesWithin D.device self.old.most self.old.engine self.new.most self.new.engine }
     {
@@ -138,7 +154,7 @@ impl<D: Disk, C: Children> Shared<D, C> {
 
     /// Closes a job as a document of this type, and returns the answer.
     pub fn close_as(&mut self, job: JobId, media: MediaType) -> Result<Answer, AllocError>
-        ensures executed { IfOk result (λ given. (t : CommandStep D) × TakesStep (setting D.device self.old.engine.mime self.old.engine.place)
+        ensures executed { IfOk result (λ given. (t : CommandStep D) × TakesStagingStep (setting D.device self.old.engine.mime self.old.engine.place)
             self.old.engine.run_state (Command.Apply (Event.Close (closing_as self.old.engine.mime self.old.engine.run_state.spool.state job media))) t self.new.engine.run_state
             × (answer : AnswerOf) × (answer_text self.new.engine.run_state.spool.state answer ≡ t.text)
             × (answer_text self.new.engine.run_state.spool.state given ≡ closed_answer (closing_as self.old.engine.mime self.old.engine.run_state.spool.state job media) self.new.engine.run_state.spool.state answer)) }
@@ -149,15 +165,17 @@ impl<D: Disk, C: Children> Shared<D, C> {
         Ok(closing_answer(answer, closed))
     }
 
-    /// One tick. No more children run after it than may at once.
+    /// Settles the staged events, and runs one tick. No more children run after it than may at once.
     pub fn tick(&mut self) -> Result<Round, RoundFault>
-        ensures tick { (tried : List Event) × (starts : ℕ) × IsTicked (setting D.device self.old.engine.mime self.old.engine.place) self.old.engine.run_state
+        ensures tick { (tried : List Event) × (starts : ℕ) × IsStagingTick (setting D.device self.old.engine.mime self.old.engine.place) self.old.engine.run_state
             (record { limits = Some (record { most = self.old.most; starts = starts }); next = self.new.engine.run_state; result = result; tried = tried }) }
         // Exactly the accepted events are recorded.
-        ensures recorded { (events : List Event) × (limits : Option LimitsOf) × IsTickThat (λ es. es ≡ events) D.device self.old.engine.place limits self.old.engine.run_state self.old.engine.run_state.spool.dead self.new.engine.run_state result
+        ensures recorded { (mid : RunState D) × SettlesTo D.device self.old.engine.run_state mid
+            × (events : List Event) × (limits : Option LimitsOf) × IsTickThat (λ es. es ≡ events) D.device self.old.engine.place limits mid mid.spool.dead self.new.engine.run_state result
             × HasRecordedAll self.new.engine.run_state.spool.state self.old.records (map happened_deed (happenings_of events)) self.new.records }
         // A queue that was left out is before each queue that was not in the next tick.
-        ensures turn { (limits : Option LimitsOf) × IsTickInTurn self.old.engine.turn self.new.engine.turn D.device self.old.engine.place limits self.old.engine.run_state self.old.engine.run_state.spool.dead self.new.engine.run_state result }
+        ensures turn { (mid : RunState D) × SettlesTo D.device self.old.engine.run_state mid
+            × (limits : Option LimitsOf) × IsTickInTurn self.old.engine.turn self.new.engine.turn D.device self.old.engine.place limits mid mid.spool.dead self.new.engine.run_state result }
         ensures most { self.new.most ≡ self.old.most }
         ensures calls { GoesWithin D.device self.old.most self.old.engine self.new.most self.new.engine }
     {
@@ -367,9 +385,9 @@ fn settle_token(
 }
 
 // Executes a command of an engine.
-fn execute<D: Disk, C: Children>(engine: &mut Engine<D, C>, command: Command) -> Answer
+fn execute<D: Disk, C: Children>(engine: &mut StagingEngine<D, C>, command: Command) -> Answer
     requires { is_round command ≡ false }
-    ensures executed { (t : CommandStep D) × TakesStep (setting D.device engine.old.mime engine.old.place)
+    ensures executed { (t : CommandStep D) × TakesStagingStep (setting D.device engine.old.mime engine.old.place)
         engine.old.run_state command t engine.new.run_state × (answer_text engine.new.run_state.spool.state result ≡ t.text) }
     ensures calls { (most : ℕ) → GoesWithin D.device most engine.old most engine.new }
 {

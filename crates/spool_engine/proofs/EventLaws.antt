@@ -51,7 +51,7 @@ has_bytes None h = absurd cc
 has_bytes (Some bytes) h = (bytes, refl)
 
 -- A refused event sends nothing.
-refused_sent : (s : State) (documents : ℕ → List ℕ) (e : Event) (r : Refusal) (o : Option Refusal) → answered s e o ≡ Err r → unless_refused_sent documents e o ≡ documents
+pub refused_sent : (s : State) (documents : ℕ → List ℕ) (e : Event) (r : Refusal) (o : Option Refusal) → answered s e o ≡ Err r → unless_refused_sent documents e o ≡ documents
 refused_sent s documents e r None is = absurd cc
 refused_sent s documents e r (Some q) is = refl
 

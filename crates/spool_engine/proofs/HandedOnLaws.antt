@@ -7,7 +7,7 @@ use Rattle.std.proofs.lemmas.List.{append_cancel_left}
 use Rattle.spool_disk.specs.Disk.{DiskView, IsLawful}
 use Rattle.job_table.specs.Legal.{IsLegal}
 use Rattle.spool_core.specs.Image.{HasDocuments}
-use Rattle.spool_core.specs.OpenSpools.{OpenSpool}
+use Rattle.spool_core.specs.OpenSpools.{OpenSpool, IsSettled as NoneStaged}
 use Rattle.filter_args.specs.declared.place.Place.{Place}
 use Rattle.child_pipeline.specs.StageSlots.{IsTicketless, Slots}
 use Rattle.child_pipeline.specs.Tickets.{HasTickets}
@@ -23,17 +23,19 @@ use Rattle.print_rounds.specs.declared.start_room.TickLimits.{TickLimits}
 use Rattle.print_rounds.specs.declared.outcome.Round.{Round}
 use Rattle.print_rounds.specs.declared.outcome.RoundFault.{RoundFault}
 use Rattle.print_rounds.proofs.InputLaws.{documents_both}
-use Rattle.spool_engine.specs.EngineCalls.{Call, round_call, tick_call, run_call, left_by, IsCall, AreCalls, HandsDocuments, StepsHandDocuments, CallHandsDocuments, documents_by, CallsHandDocuments}
+use Rattle.spool_engine.specs.StagedSteps.{IsStagedStep, SettlesTo, ShowsDocuments}
+use Rattle.spool_engine.specs.EngineCalls.{Call, round_call, tick_call, run_call, stage_call, settle_call, left_by, IsCall, AreCalls, HandsDocuments, StepsHandDocuments, CallHandsDocuments, documents_by, CallsHandDocuments}
 use Rattle.spool_engine.specs.EventSteps.{Setting}
 use Rattle.spool_engine.specs.EngineInputs.{AddOrders, IsRoundRight, IsTickRight, AreRoundsRight, IsHowRight, AreStepsRight, IsCallRight, AreCallsRight}
 use Rattle.spool_engine.specs.EngineRounds.{Ran, IsRoundWith, IsRan, AreRan, AreRunBy}
-use Rattle.spool_engine.specs.EngineRuns.{CommandStep, How, answered as replied, ran, withheld, IsHow, AreCommandSteps, documents_left, last_run_state, last_documents}
+use Rattle.spool_engine.specs.EngineRuns.{CommandStep, How, answered as replied, ran, withheld, IsHeld, IsHow, AreCommandSteps, documents_left, last_run_state, last_documents}
 use Rattle.spool_engine.specs.Script.{Documents, Meaning, says, asks, lists, runs, meaning}
 use Rattle.spool_engine.specs.EngineTicks.{Ticked, IsTickWith, IsTicked}
 use Rattle.spool_engine.proofs.EventLaws.{has_bytes, told_documents}
 use Rattle.spool_engine.proofs.InputLaws.{Hands, answered_none, begins_kept}
 use Rattle.spool_engine.proofs.SettleLaws.{no_tickets, told_same}
-use Rattle.spool_engine.proofs.StageHistoryLaws.{Laws, call_turn, how_turn, legal_then, quiet_after, round_turn, tick_turn}
+use Rattle.spool_engine.proofs.StagingLaws.{leaves_shown, shows_left}
+use Rattle.spool_engine.proofs.StageHistoryLaws.{Laws, how_turn, legal_then, quiet_after, round_turn, tick_turn}
 
 -- The laws of each tick, and of waiting for children.
 pub record TickHands {D : Type 0} (device : DiskView D) : Type 0 where
@@ -143,7 +145,7 @@ module _ {D : Type 0} (laws : Laws D) (v : Setting D) (lawful : IsLawful v.devic
       legal = subst (λ (x : OpenSpool D). IsLegal x.state) (sym same) goes.legal
 
       legal_next : IsLegal r.next.spool.state
-      legal_next = let one = call_turn laws v t s (round_call r) goes.legal (goes.tells, goes.has) is in legal_then laws t s r.next one.0 one.1
+      legal_next = let one = round_turn laws v t s r goes.legal (goes.tells, goes.has) is in legal_then laws t s r.next one.0.0 one.0.1
 
       none : answered waited.now.starts waited.now.finishes [] ≡ []
       none = answered_none waited.now.starts waited.now.finishes
@@ -247,7 +249,7 @@ module _ {D : Type 0} (laws : Laws D) (v : Setting D) (lawful : IsLawful v.devic
   tick_on documents earlier t s k goes is = by_death s.spool.dead refl is.tick
     where
       legal_next : IsLegal k.next.spool.state
-      legal_next = let one = call_turn laws v t s (tick_call k) goes.legal (goes.tells, goes.has) is in legal_then laws t s k.next one.0 one.1
+      legal_next = let one = tick_turn laws t v s k goes.legal (goes.tells, goes.has) is in legal_then laws t s k.next one.0 one.1
 
       unchanged : k.next ≡ s → IsTickOn earlier s k documents
       unchanged is_old =
@@ -360,21 +362,98 @@ module _ {D : Type 0} (laws : Laws D) (v : Setting D) (lawful : IsLawful v.devic
 
   -- ## Calls
 
+  -- The documents are known as they are shown. If nothing is staged, a crash leaves them.
+  abbrev IsShownKnown : Documents → RunState D → Type 0
+  IsShownKnown documents s = (s.spool.dead ≡ true) ⊎ (IsSome (v.device.bytes s.spool.disk) × ShowsDocuments v.device documents s.spool × (NoneStaged s.spool → LeavesDocuments v.device documents s.spool))
+
+  settled_known : (documents : Documents) (s : RunState D) → NoneStaged s.spool → IsShownKnown documents s → IsKnown v documents s
+  settled_known documents s settled (inl died) = inl died
+  settled_known documents s settled (inr (some, shows, leaves)) = inr (some, leaves settled)
+
+  shown_known : (documents : Documents) (s : RunState D) → NoneStaged s.spool → IsKnown v documents s → IsShownKnown documents s
+  shown_known documents s settled (inl died) = inl died
+  shown_known documents s settled (inr (some, leaves)) = by_death s.spool.dead refl
+    where
+      by_death : (b : Bool) → s.spool.dead ≡ b → IsShownKnown documents s
+      by_death true died = inl died
+      by_death false lives = inr (some, shows_left v.device lawful documents s.spool (settled lives) leaves, λ none. leaves)
+
   abbrev IsCallOn : List AnsweredOrder → RunState D → Call D → Documents → Type 0
   IsCallOn earlier s c documents =
       (answers : List AnsweredOrder) × IsCallRight v earlier s c answers × (t : ChildTrace) × GoesOn (earlier ++ answers) t (left_by s c)
-      × (IsKnown v documents s → CallHandsDocuments v.mime s documents c × IsKnown v (documents_by v.mime s documents c) (left_by s c))
+      × (IsShownKnown documents s → CallHandsDocuments v.mime s documents c × IsShownKnown (documents_by v.mime s documents c) (left_by s c))
+
+  -- A call that orders nothing.
+  silent_on : (earlier : List AnsweredOrder) (t : ChildTrace) (s new : RunState D) (documents : Documents) → GoesOn earlier t s → IsHeld s new → IsLegal new.spool.state → IsPart (earlier ++ []) s (Unit {0}) documents new
+  silent_on earlier t s new documents goes held legal =
+      renamed_part earlier (earlier ++ []) s (Unit {0}) documents new (sym (append-nil earlier)) (same_part earlier t s (Unit {0}) documents new goes held.told held.slots legal)
+
+  staged_known : (documents : Documents) (s : RunState D) (turn : CommandStep D) → (s.spool.dead ≡ true → turn.next.spool.dead ≡ true) → IsStagedStep v s turn → IsShownKnown documents s → IsShownKnown (documents_left v.mime s documents turn) turn.next
+  staged_known documents s turn over is has = by_death turn.next.spool.dead refl
+    where
+      by_death : (b : Bool) → turn.next.spool.dead ≡ b → IsShownKnown (documents_left v.mime s documents turn) turn.next
+      by_death true died = inl died
+      by_death false lives = elim has [
+        | inl died ↦ absurd (both_ways _ lives (over died))
+        | inr (some, shows, leaves) ↦
+            let then = is.sent lives documents shows in
+            inr (is.told.1 some, then, λ settled. leaves_shown v.device (documents_left v.mime s documents turn) turn.next.spool (is.told.1 some) (settled lives) (is.plain.synced lives (settled lives)) then)
+      ]
+
+  settle_known : (documents : Documents) (s next : RunState D) → SettlesTo v.device s next → IsShownKnown documents s → IsShownKnown documents next
+  settle_known documents s next is has = by_death next.spool.dead refl
+    where
+      by_death : (b : Bool) → next.spool.dead ≡ b → IsShownKnown documents next
+      by_death true died = inl died
+      by_death false lives = elim has [
+        | inl died ↦ absurd (both_ways _ (is.spool.lives lives) died)
+        | inr (some, shows, leaves) ↦
+            let then = is.spool.sent lives some documents shows in
+            inr (is.spool.told.1 some, shows_left v.device lawful documents next.spool (is.spool.settled lives) then, λ settled. then)
+      ]
 
   call_on : (documents : Documents) (c : Call D) (earlier : List AnsweredOrder) (t : ChildTrace) (s : RunState D) → GoesOn earlier t s → IsCall v s c → IsCallOn earlier s c documents
-  call_on documents (round_call r) earlier t s goes is =
-      let (answers, right, part) = round_on documents earlier t s r goes is in
-      (answers, right, part.adds.now, part.goes, λ has. (hands_part (earlier ++ answers) s (IsKnown v documents s) documents r.next part has, round_known documents earlier t s r goes is has))
-  call_on documents (tick_call k) earlier t s goes is =
-      let (answers, right, part) = tick_on documents earlier t s k goes is in
-      (answers, right, part.adds.now, part.goes, λ has. (hands_part (earlier ++ answers) s (IsKnown v documents s) documents k.next part has, tick_known documents earlier t s k goes is has))
-  call_on documents (run_call turns) earlier t s goes are = turns_on documents turns earlier t s goes are
+  call_on documents (round_call r) earlier t s goes (both, is) =
+      let (answers, right, part) = round_on documents earlier t s r goes is in (
+        answers,
+        right,
+        part.adds.now,
+        part.goes,
+        λ has.
+            let known = settled_known documents s both.0 has in
+            (hands_part (earlier ++ answers) s (IsKnown v documents s) documents r.next part known, shown_known documents r.next both.1 (round_known documents earlier t s r goes is known)),
+      )
+  call_on documents (tick_call k) earlier t s goes (both, is) =
+      let (answers, right, part) = tick_on documents earlier t s k goes is in (
+        answers,
+        right,
+        part.adds.now,
+        part.goes,
+        λ has.
+            let known = settled_known documents s both.0 has in
+            (hands_part (earlier ++ answers) s (IsKnown v documents s) documents k.next part known, shown_known documents k.next both.1 (tick_known documents earlier t s k goes is known)),
+      )
+  call_on documents (run_call turns) earlier t s goes (both, are) =
+      let (answers, right, now, goes_then, hands_then) = turns_on documents turns earlier t s goes are in (
+        answers,
+        right,
+        now,
+        goes_then,
+        λ has.
+            let (more, known) = hands_then (settled_known documents s both.0 has) in
+            (more, shown_known (last_documents v.mime s documents turns) (last_run_state s turns) both.1 known),
+      )
+  call_on documents (stage_call turn) earlier t s goes is =
+      let call = how_turn laws v t s turn goes.legal (goes.tells, goes.has) is.how in
+      let legal_next = legal_then laws t s turn.next call.0.0 call.0.1 in
+      let part = silent_on earlier t s turn.next documents goes is.held legal_next in
+      ([], refl, part.adds.now, part.goes, λ has. (hands_part (earlier ++ []) s (Unit {0}) documents turn.next part tt, staged_known documents s turn (λ died. (call.0.1.after_over died).1) is has))
+  call_on documents (settle_call next) earlier t s goes is =
+      let legal_next = subst IsLegal (sym is.spool.state) goes.legal in
+      let part = silent_on earlier t s next documents goes is.held legal_next in
+      ([], refl, part.adds.now, part.goes, λ has. (hands_part (earlier ++ []) s (Unit {0}) documents next part tt, settle_known documents s next is has))
 
-  calls_on : (documents : Documents) (calls : List (Call D)) (earlier : List AnsweredOrder) (t : ChildTrace) (s : RunState D) → GoesOn earlier t s → AreCalls v s calls → AreCallsRight v earlier s calls × (IsKnown v documents s → CallsHandDocuments v.mime s documents calls)
+  calls_on : (documents : Documents) (calls : List (Call D)) (earlier : List AnsweredOrder) (t : ChildTrace) (s : RunState D) → GoesOn earlier t s → AreCalls v s calls → AreCallsRight v earlier s calls × (IsShownKnown documents s → CallsHandDocuments v.mime s documents calls)
   calls_on documents [] earlier t s goes are = (tt, λ has. tt)
   calls_on documents (c ∷ cs) earlier t s goes (is, others) =
       let (answers, right, now, goes_then, first) = call_on documents c earlier t s goes is in
@@ -390,5 +469,5 @@ module _ {D : Type 0} (laws : Laws D) (v : Setting D) (lawful : IsLawful v.devic
   pub calls_right : (s : RunState D) (calls : List (Call D)) (t : ChildTrace) → IsLegal s.spool.state → s.slots ≡ finite.empty → s.told ≡ Some t → t.running ≡ [] → AreCalls v s calls → AreCallsRight v [] s calls
   calls_right s calls t legal none tells quiet are = (calls_on (λ j. []) calls [] t s (begins s t legal none tells quiet) are).0
 
-  pub first_right : (s : RunState D) (documents : Documents) (calls : List (Call D)) (t : ChildTrace) → IsLegal s.spool.state → s.slots ≡ finite.empty → s.told ≡ Some t → t.running ≡ [] → IsSome (v.device.bytes s.spool.disk) → LeavesDocuments v.device documents s.spool → AreCalls v s calls → CallsHandDocuments v.mime s documents calls
-  first_right s documents calls t legal none tells quiet some leaves are = (calls_on documents calls [] t s (begins s t legal none tells quiet) are).1 (inr (some, leaves))
+  pub first_right : (s : RunState D) (documents : Documents) (calls : List (Call D)) (t : ChildTrace) → IsLegal s.spool.state → s.slots ≡ finite.empty → s.told ≡ Some t → t.running ≡ [] → NoneStaged s.spool → IsSome (v.device.bytes s.spool.disk) → LeavesDocuments v.device documents s.spool → AreCalls v s calls → CallsHandDocuments v.mime s documents calls
+  first_right s documents calls t legal none tells quiet settled some leaves are = (calls_on documents calls [] t s (begins s t legal none tells quiet) are).1 (shown_known documents s settled (inr (some, leaves)))

@@ -20,7 +20,7 @@ use Rattle.print_rounds.specs.StageHistory.{keys_in}
 use Rattle.print_rounds.proofs.InputLaws.{right_both}
 use Rattle.print_rounds.specs.declared.outcome.Round.{Round}
 use Rattle.print_rounds.specs.declared.outcome.RoundFault.{RoundFault}
-use Rattle.spool_engine.specs.EngineCalls.{Call, round_call, tick_call, run_call, left_by, IsCall, AreCalls, last_by, IsNoTick, HaveNoTicks, HaveRightInput}
+use Rattle.spool_engine.specs.EngineCalls.{Call, round_call, tick_call, run_call, stage_call, settle_call, left_by, IsCall, AreCalls, last_by, IsNoTick, HaveNoTicks, HaveRightInput}
 use Rattle.spool_engine.specs.EventSteps.{Setting}
 use Rattle.spool_engine.specs.EngineRounds.{Ran, IsRoundWith, IsRan, AreRan, AreRunBy}
 use Rattle.spool_engine.specs.EngineRuns.{CommandStep, How, answered as replied, ran, withheld, IsHow, AreCommandSteps, last_run_state}
@@ -169,9 +169,11 @@ module _ {D : Type 0} (laws : Laws D) (v : Setting D) (hands : Hands v.device) w
       then_on earlier t turn.next (last_run_state turn.next turns) one (turns_on turns (earlier ++ one.each) one.now turn.next legal_next one.tells one.quiet one.rests one.kept others)
 
   call_on : (c : Call D) (earlier : List AnsweredOrder) (t : ChildTrace) (old : RunState D) → IsNoTick c → IsLegal old.spool.state → old.told ≡ Some t → t.running ≡ [] → HasNoneRunning old.slots → AreKeptFrom earlier old.slots → IsCall v old c → AreOn earlier t (left_by old c)
-  call_on (round_call r) earlier t old no_tick legal tells quiet rests kept is = round_on earlier t old r legal tells quiet rests kept is
+  call_on (round_call r) earlier t old no_tick legal tells quiet rests kept (both, is) = round_on earlier t old r legal tells quiet rests kept is
   call_on (tick_call k) earlier t old no_tick legal tells quiet rests kept is = absurd no_tick
-  call_on (run_call turns) earlier t old no_tick legal tells quiet rests kept are = turns_on turns earlier t old legal tells quiet rests kept are
+  call_on (run_call turns) earlier t old no_tick legal tells quiet rests kept (both, are) = turns_on turns earlier t old legal tells quiet rests kept are
+  call_on (stage_call turn) earlier t old no_tick legal tells quiet rests kept is = same_on earlier t old turn.next quiet tells kept rests is.held.told is.held.slots
+  call_on (settle_call next) earlier t old no_tick legal tells quiet rests kept is = same_on earlier t old next quiet tells kept rests is.held.told is.held.slots
 
   call_legal : (c : Call D) (t : ChildTrace) (old : RunState D) → IsLegal old.spool.state → old.told ≡ Some t → t.running ≡ [] → HasNoneRunning old.slots → IsCall v old c → IsLegal (left_by old c).spool.state
   call_legal c t old legal tells quiet rests is =

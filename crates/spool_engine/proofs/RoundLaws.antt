@@ -34,7 +34,7 @@ use Rattle.spool_engine.proofs.EventLaws.{OnlyNow, crash_in, unmoved, unmoved_wh
 
 -- ## Events that send nothing
 
-whole_none : (s : State) (documents : ℕ → List ℕ) (es : List Event) (c : List ℕ) → HasWhole s documents c → HasSomeWhole s documents es c
+pub whole_none : (s : State) (documents : ℕ → List ℕ) (es : List Event) (c : List ℕ) → HasWhole s documents c → HasSomeWhole s documents es c
 whole_none s documents es c has = (0, omega arith, has)
 
 -- Some of the first events count as some of all events.
@@ -284,7 +284,7 @@ module _ {D : Type 0} (v : Setting D) (now : OnlyNow v.device) where
 
 -- ## A command without rounds, with slots and children that do not change
 
-same_turn : {D : Type 0} (t : EventStep D) (c : Command) (s' : OpenSpool D) → t.command ≡ c → t.next ≡ s' → t ≡ record { command = c; document = t.document; outcome = t.outcome; text = t.text; next = s' }
+pub same_turn : {D : Type 0} (t : EventStep D) (c : Command) (s' : OpenSpool D) → t.command ≡ c → t.next ≡ s' → t ≡ record { command = c; document = t.document; outcome = t.outcome; text = t.text; next = s' }
 same_turn t c s' e f =
     ap (λ x. record { command = x; document = t.document; outcome = t.outcome; text = t.text; next = t.next }) e
     ∙ ap (λ x. record { command = c; document = t.document; outcome = t.outcome; text = t.text; next = x }) f

@@ -29,7 +29,8 @@ use Rattle.spool_engine.specs.EventSteps.{listed, tried_as, Setting, Outcome, se
 use Rattle.spool_engine.specs.EngineRounds.{Ran, IsRoundWith, IsRan, IsSettled, AreRan, AreRunBy}
 use Rattle.spool_engine.specs.EngineTicks.{Ticked, IsTickWith, IsTicked}
 use Rattle.spool_engine.specs.EngineRuns.{tried_by, tried_in, CommandStep, How, answered as replied, ran, withheld, event_step, IsHow, IsHeld as HasSlotsOf, KeepVersion, AreCommandSteps, commands_in, last_run_state}
-use Rattle.spool_engine.specs.EngineCalls.{Call, round_call, tick_call, run_call, left_by, IsCall, IsTicketedCall, IsQuietCall, IsTicketRun, tried_in_steps}
+use Rattle.spool_engine.specs.StagedSteps.{SettlesTo}
+use Rattle.spool_engine.specs.EngineCalls.{Call, round_call, tick_call, run_call, stage_call, settle_call, left_by, IsCall, IsTicketedCall, IsQuietCall, IsTicketRun, tried_in_steps}
 use Rattle.spool_engine.specs.Script.{event_in, event_of, Meaning, says, asks, lists, runs, meaning}
 use Rattle.spool_engine.specs.Mime.{Mime}
 use Rattle.spool_engine.proofs.ExactLaws.{VersionLaw, is_listing, lists_none, raised_same}
@@ -483,8 +484,16 @@ module _ {D : Type 0} (laws : Laws D) where
       let c = one.turn.1 in
       then_turns v t old turn turns one (turns_turn v turns c.now turn.next (legal_then t old turn.next one.turn.0 c) (c.tells, one.turn.2) others)
 
+  -- All staged events become durable.
+  settled_turn : (device : DiskView D) (t : ChildTrace) (s next : RunState D) → IsLegal s.spool.state → IsTold t s → SettlesTo device s next → IsTicketCall t s next
+  settled_turn device t s next legal tells is =
+      let one = plain_call laws t s next false [] legal tells tt (inl is.spool.state) is.held (λ died. ap (λ (x : OpenSpool D). x.dead) (is.spool.died died) ∙ died) in
+      ([], one.0, one.1)
+
   -- A call of any kind.
   pub call_turn : (v : Setting D) (t : ChildTrace) (s : RunState D) (c : Call D) → IsLegal s.spool.state → IsTold t s → IsCall v s c → IsTicketCall t s (left_by s c)
-  call_turn v t s (round_call r) legal tells is = let one = round_turn v t s r legal tells is in (one.0.0, one.0.1, one.0.2)
-  call_turn v t s (tick_call k) legal tells is = let one = tick_turn laws t v s k legal tells is in (one.0, one.1, one.2)
-  call_turn v t s (run_call turns) legal tells is = let one = turns_turn v turns t s legal tells is in (one.0.0, one.0.1, one.0.2)
+  call_turn v t s (round_call r) legal tells (both, is) = let one = round_turn v t s r legal tells is in (one.0.0, one.0.1, one.0.2)
+  call_turn v t s (tick_call k) legal tells (both, is) = let one = tick_turn laws t v s k legal tells is in (one.0, one.1, one.2)
+  call_turn v t s (run_call turns) legal tells (both, is) = let one = turns_turn v turns t s legal tells is in (one.0.0, one.0.1, one.0.2)
+  call_turn v t s (stage_call turn) legal tells is = (how_turn v t s turn legal tells is.how).0
+  call_turn v t s (settle_call next) legal tells is = settled_turn v.device t s next legal tells is

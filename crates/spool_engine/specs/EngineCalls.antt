@@ -1,4 +1,4 @@
--- The calls of one engine, in order: rounds, ticks, and runs by their steps. Each is a call of a StageHistory.
+-- The calls of one engine, in order: rounds, ticks, runs by their steps, staged commands and settles. Each is a call of a StageHistory.
 use Rattle.std.specs.Prelude.{◌≡◌, ◌⊎◌, ℕ, true, List, [], ◌∷◌, ◌++◌, map, Some}
 use Rattle.spool_types.specs.declared.event.Event.{Event}
 use Rattle.job_table.specs.EventFold.{accepted}
@@ -18,6 +18,7 @@ use Rattle.spool_engine.specs.EngineRounds.{Ran, IsRan}
 use Rattle.spool_engine.specs.EngineRuns.{CommandStep, AreCommandSteps, IsAlong, IsWholeAlong, KeepVersion, commands_in, documents_left, last_run_state, last_documents, tried_in}
 use Rattle.spool_engine.specs.Script.{Documents}
 use Rattle.spool_engine.specs.EngineTicks.{Ticked, IsTicked}
+use Rattle.spool_engine.specs.StagedSteps.{AreSettled, IsStagedStep, SettlesTo}
 
 -- The events that were tried in the steps.
 abbrev pub tried_in_steps : {D : Type 0} → Mime → RunState D → List (CommandStep D) → List Event
@@ -63,17 +64,25 @@ pub data Call (D : Type 0) : Type 0 where
   round_call : Ran D → Call D
   tick_call : Ticked D → Call D
   run_call : List (CommandStep D) → Call D
+  -- A command whose event is staged, and the settle of all staged events.
+  stage_call : CommandStep D → Call D
+  settle_call : RunState D → Call D
 
 -- The run state after a call.
 abbrev pub left_by : {D : Type 0} → RunState D → Call D → RunState D
 left_by s (round_call r) = r.next
 left_by s (tick_call t) = t.next
 left_by s (run_call turns) = last_run_state s turns
+left_by s (stage_call t) = t.next
+left_by s (settle_call next) = next
 
+-- Nothing is staged before and after a round, a tick or a run.
 abbrev pub IsCall : {D : Type 0} → Setting D → RunState D → Call D → Type 0
-IsCall v s (round_call r) = IsRan v s r
-IsCall v s (tick_call t) = IsTicked v s t
-IsCall v s (run_call turns) = AreCommandSteps v s turns
+IsCall v s (round_call r) = AreSettled s r.next × IsRan v s r
+IsCall v s (tick_call t) = AreSettled s t.next × IsTicked v s t
+IsCall v s (run_call turns) = AreSettled s (last_run_state s turns) × AreCommandSteps v s turns
+IsCall v s (stage_call t) = IsStagedStep v s t
+IsCall v s (settle_call next) = SettlesTo v.device s next
 
 -- Each call starts from the run state that the previous one left.
 abbrev pub AreCalls : {D : Type 0} → Setting D → RunState D → List (Call D) → Type 0
@@ -89,6 +98,8 @@ abbrev pub IsNoTick : {D : Type 0} → Call D → Type 0
 IsNoTick (round_call r) = Unit {0}
 IsNoTick (tick_call t) = ⊥
 IsNoTick (run_call turns) = Unit {0}
+IsNoTick (stage_call t) = Unit {0}
+IsNoTick (settle_call next) = Unit {0}
 
 abbrev pub HaveNoTicks : {D : Type 0} → List (Call D) → Type 0
 HaveNoTicks [] = Unit {0}
@@ -119,12 +130,16 @@ abbrev pub CallHandsDocuments : {D : Type 0} → Mime → RunState D → Documen
 CallHandsDocuments m s documents (round_call r) = HandsDocuments documents s r.next
 CallHandsDocuments m s documents (tick_call t) = HandsDocuments documents s t.next
 CallHandsDocuments m s documents (run_call turns) = StepsHandDocuments m s documents turns
+CallHandsDocuments m s documents (stage_call t) = HandsDocuments documents s t.next
+CallHandsDocuments m s documents (settle_call next) = HandsDocuments documents s next
 
 -- The documents after a call.
 abbrev pub documents_by : {D : Type 0} → Mime → RunState D → Documents → Call D → Documents
 documents_by m s documents (round_call r) = documents
 documents_by m s documents (tick_call t) = documents
 documents_by m s documents (run_call turns) = last_documents m s documents turns
+documents_by m s documents (stage_call t) = documents_left m s documents t
+documents_by m s documents (settle_call next) = documents
 
 -- The same in each of these calls.
 abbrev pub CallsHandDocuments : {D : Type 0} → Mime → RunState D → Documents → List (Call D) → Type 0
@@ -133,11 +148,14 @@ CallsHandDocuments m s documents (c ∷ cs) = CallHandsDocuments m s documents c
 
 -- ## After a crash in these calls
 
--- The image has the table after the first of a call's events, some or all.
+-- The image has the table after the first of a call's events, some or all. An image of a settle has the table with all staged events, or
+-- one of an earlier call.
 abbrev pub HasTableBy : {D : Type 0} → Mime → RunState D → Call D → List ℕ → Type 0
 HasTableBy m s (round_call r) image = HasSomeOf s.spool.state r.tried image
 HasTableBy m s (tick_call t) image = HasSomeOf s.spool.state t.tried image
 HasTableBy m s (run_call turns) image = IsAlong m s turns image
+HasTableBy m s (stage_call t) image = HasTable s.spool.state image
+HasTableBy m s (settle_call next) image = HasTable s.spool.state image
 
 -- The image has the table after the first of the events of these calls, some or all.
 abbrev pub IsAlongCalls : {D : Type 0} → Mime → RunState D → List (Call D) → List ℕ → Type 0
@@ -149,6 +167,8 @@ abbrev pub HasWholeBy : {D : Type 0} → Mime → RunState D → Documents → C
 HasWholeBy m s documents (round_call r) image = HasSomeWhole s.spool.state documents r.tried image
 HasWholeBy m s documents (tick_call t) image = HasSomeWhole s.spool.state documents t.tried image
 HasWholeBy m s documents (run_call turns) image = IsWholeAlong m s documents turns image
+HasWholeBy m s documents (stage_call t) image = HasWhole s.spool.state documents image
+HasWholeBy m s documents (settle_call next) image = HasWhole s.spool.state documents image
 
 abbrev pub IsWholeAlongCalls : {D : Type 0} → Mime → RunState D → Documents → List (Call D) → List ℕ → Type 0
 IsWholeAlongCalls m s documents [] image = HasWhole s.spool.state documents image
@@ -158,3 +178,10 @@ IsWholeAlongCalls m s documents (c ∷ cs) image = HasWholeBy m s documents c im
 abbrev pub last_documents_by : {D : Type 0} → Mime → RunState D → Documents → List (Call D) → Documents
 last_documents_by m s documents [] = documents
 last_documents_by m s documents (c ∷ cs) = last_documents_by m (left_by s c) (documents_by m s documents c) cs
+
+-- ## A batch
+
+-- These commands were staged, each on the run state that the previous one left.
+abbrev pub AreStagedSteps : {D : Type 0} → Setting D → RunState D → List (CommandStep D) → Type 0
+AreStagedSteps v s [] = Unit {0}
+AreStagedSteps v s (t ∷ ts) = IsStagedStep v s t × AreStagedSteps v t.next ts

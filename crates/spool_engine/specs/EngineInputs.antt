@@ -7,7 +7,7 @@ use Rattle.print_rounds.specs.RunStates.{RunState}
 use Rattle.print_rounds.specs.TickInputs.{AllRight, answers_in, finished_in}
 use Rattle.print_rounds.specs.Inputs.{AnsweredOrder, answered, AreRight}
 use Rattle.print_rounds.specs.RoundTicks.{AreFinishings, Finishing, IsTickOf, running_jobs}
-use Rattle.spool_engine.specs.EngineCalls.{Call, round_call, tick_call, run_call, left_by}
+use Rattle.spool_engine.specs.EngineCalls.{Call, round_call, tick_call, run_call, stage_call, settle_call, left_by}
 use Rattle.spool_engine.specs.EventSteps.{Setting}
 use Rattle.spool_engine.specs.EngineRounds.{Ran}
 use Rattle.spool_engine.specs.EngineRuns.{CommandStep, How, answered as replied, ran, withheld}
@@ -65,6 +65,8 @@ abbrev pub IsCallRight : {D : Type 0} → Setting D → List AnsweredOrder → R
 IsCallRight v earlier s (round_call r) answers = IsRoundRight earlier s r answers
 IsCallRight v earlier s (tick_call k) answers = IsTickRight v earlier s k answers
 IsCallRight v earlier s (run_call turns) answers = AreStepsRight earlier s turns answers
+IsCallRight v earlier s (stage_call t) answers = answers ≡ []
+IsCallRight v earlier s (settle_call next) answers = answers ≡ []
 
 -- Each call is right after the earlier answers and those of the previous calls.
 abbrev pub AreCallsRight : {D : Type 0} → Setting D → List AnsweredOrder → RunState D → List (Call D) → Type 0

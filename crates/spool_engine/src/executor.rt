@@ -1,5 +1,5 @@
 //! The executor of commands of one event, of checkpoints and of listings, over the spool alone.
-ghost use Rattle.std.specs.Prelude.{◌≡◌, ◌≤◌, ℕ, List, Some, None, Result, false, [], IfOk, IsSome};
+ghost use Rattle.std.specs.Prelude.{◌≡◌, ◌≤◌, ℕ, List, Some, None, Result, false, not, [], IfOk, IsSome};
 ghost use Rattle.std.specs.Option.{option_and_then, option_copied};
 ghost use Rattle.std.specs.FinMap as finite;
 ghost use Rattle.spool_types.specs.State.{State, job_at};
@@ -19,14 +19,16 @@ ghost use Rattle.spool_engine.specs.Mime.{Mime as MimeDatabase, IsEnough};
 ghost use Rattle.spool_engine.specs.Script.{closing_as, closing_line, closing_of, filters_to, queue_of_job, reply_line, stages_of};
 ghost use Rattle.spool_engine.specs.Script.{next_number};
 ghost use Rattle.spool_engine.specs.AnswerTexts.{answer_text};
-ghost use Rattle.spool_engine.specs.EventSteps.{setting, EventStep, IsKept};
-ghost use Rattle.spool_engine.specs.EventAnswers.{IsApplied, IsFrontRead, IsRelisted, Takes, event_line, checkpoint_line};
+ghost use Rattle.spool_engine.specs.EventSteps.{setting, EventStep};
+ghost use Rattle.spool_engine.specs.EventAnswers.{IsApplied, IsRelisted, event_line, checkpoint_line};
+ghost use Rattle.spool_engine.specs.StagedSteps.{IsAppliedAs, IsFrontReadAs, IsPlainIfSettled, IsSettling, IsStagedBy, MayApply, TakesAs};
 ghost use Rattle.spool_engine.specs.EngineRounds.{IsRan};
 ghost use Rattle.spool_engine.specs.EngineTicks.{IsTicked};
 ghost use Rattle.print_rounds.specs.Happenings.{IsTickInTurn, IsTickThat, happenings_of};
 ghost use Rattle.spool_types.specs.declared.event.Event.{Event as EventOf};
 
 use crate::answers::{checkpoint_answer, event_answer, fault_answer};
+use crate::durability::Durability;
 use crate::mime::Mime;
 use crate::options::job_options;
 use child_pipeline::{Children, Content, Runner};
@@ -53,8 +55,7 @@ pub(crate) struct Executor<D: Disk> {
 
 impl<D: Disk> Model for Executor<D> {
     ghost use Rattle.spool_core.specs.OpenSpools.{OpenSpool};
-    ghost use Rattle.spool_core.specs.OpenSpools.{IsSettled as NoneStaged};
-    ghost use Rattle.spool_engine.specs.EventSteps.{IsKept};
+    ghost use Rattle.spool_engine.specs.StagedSteps.{IsPlainIfSettled};
     ghost use Rattle.std.specs.Coded.{codes};
     ghost use Rattle.std.specs.FinMap as map;
 
@@ -64,16 +65,15 @@ impl<D: Disk> Model for Executor<D> {
 
     ghost view = { λ e. e.spool };
 
-    ghost invariant = { λ e. IsKept D.device e.spool × NoneStaged e.spool };
+    ghost invariant = { λ e. IsPlainIfSettled D.device e.spool };
 }
 
 impl<D: Disk> Executor<D> {
     /// Returns an executor over this spool.
     pub fn new(alloc: Global, spool: Spool<D>) -> Executor<D>
-        requires settled { NoneStaged spool }
         ensures { result ≡ spool }
     {
-        // `table` states that a crash leaves this table, which is the executor's invariant.
+        // `table` states what a crash leaves, which is the executor's invariant.
         let _table = spool.table();
         Executor { alloc, spool }
     }
@@ -89,8 +89,8 @@ impl<D: Disk> Executor<D> {
     /// Returns whether the device has failed. Every event is then answered `error dead`.
     pub fn met_fault(&self) -> bool
         ensures dead { result ≡ self.now.dead }
-        // Until the device has failed, a crash leaves the table that is shown.
-        ensures kept { IsKept D.device self.now }
+        // If nothing is staged, a crash leaves what is shown, until the device has failed.
+        ensures plain { IsPlainIfSettled D.device self.now }
     {
         self.spool.is_dead()
     }
@@ -109,46 +109,93 @@ impl<D: Disk> Executor<D> {
         self.spool.table()
     }
 
-    fn apply(&mut self, event: Event) -> Result<Reply, ApplyFault>
-        ensures { IsApplied D.device self.old event result self.new }
+    /// Makes all staged events durable, and returns whether the device works afterwards.
+    pub fn settle(&mut self) -> bool
+        ensures settles { IsSettling D.device self.old self.new }
+        ensures lives { self.new.dead ≡ not result }
     {
-        self.spool.apply(event)
+        let done = self.spool.settle();
+        // `table` states what a crash leaves, which is the executor's invariant.
+        let _table = self.spool.table();
+        done.is_ok()
     }
 
-    /// Applies an event, and returns the answer, which depends only on the spool's reply.
-    pub fn execute_event(&mut self, event: Event) -> Answer
-        ensures { (answer : Result Reply ApplyFault) ×
-            IsApplied D.device self.old event answer self.new ×
-            (answer_text self.new.state result ≡ event_line reply_line answer) }
+    fn apply(&mut self, event: Event) -> Result<Reply, ApplyFault>
+        requires settled { NoneStaged self.old }
+        ensures applied { IsApplied D.device self.old event result self.new }
+        ensures settled { NoneStaged self.new }
     {
-        let applied = self.apply(event);
-        event_answer(applied)
+        let applied = self.spool.apply(event);
+        // `table` states what a crash leaves, which is the executor's invariant.
+        let _table = self.spool.table();
+        applied
+    }
+
+    fn stage(&mut self, event: Event) -> Result<Reply, ApplyFault>
+        ensures { IsStagedBy D.device self.old event result self.new }
+    {
+        let staged = self.spool.stage(event);
+        // `table` states what a crash leaves, which is the executor's invariant.
+        let _table = self.spool.table();
+        staged
+    }
+
+    // Applies or stages an event.
+    fn take(&mut self, event: Event, durability: Durability) -> Result<Reply, ApplyFault>
+        requires may { MayApply durability self.old }
+        ensures taken { IsAppliedAs durability D.device self.old event result self.new }
+        ensures may { MayApply durability self.new }
+    {
+        match durability {
+            Durability::Durable => self.apply(event),
+            Durability::Staged => self.stage(event),
+        }
+    }
+
+    /// Takes an event, and returns the answer, which depends only on the spool's reply.
+    pub fn execute_event(&mut self, event: Event, durability: Durability) -> Answer
+        requires may { MayApply durability self.old }
+        ensures taken { (answer : Result Reply ApplyFault) ×
+            IsAppliedAs durability D.device self.old event answer self.new ×
+            (answer_text self.new.state result ≡ event_line reply_line answer) }
+        ensures may { MayApply durability self.new }
+    {
+        let taken = self.take(event, durability);
+        event_answer(taken)
     }
 
     /// Adds a queue if its URI is that of a device, and returns the answer.
-    pub fn add_queue(&mut self, queue: NewQueue) -> Answer
-        ensures { (m : MimeDatabase) (p : PlaceOf) → (t : EventStep D) ×
-            Takes (setting D.device m p) self.old (Command.Queue queue) t self.new ×
+    pub fn add_queue(&mut self, queue: NewQueue, durability: Durability) -> Answer
+        requires may { MayApply durability self.old }
+        ensures taken { (m : MimeDatabase) (p : PlaceOf) → (t : EventStep D) ×
+            TakesAs durability (setting D.device m p) self.old (Command.Queue queue) t self.new ×
             (answer_text self.new.state result ≡ t.text) }
+        ensures may { MayApply durability self.new }
     {
+        // What a crash leaves if nothing is staged.
+        let _plain = self.met_fault();
         match DeviceUri::parse(self.alloc, queue.uri.as_str()) {
-            Ok(_) => self.execute_event(Event::AddQueue(queue)),
+            Ok(_) => self.execute_event(Event::AddQueue(queue), durability),
             Err(UriFault::BadUri) => Answer::BadUri,
             Err(UriFault::Memory) => Answer::NoMemory,
         }
     }
 
     /// Creates a job if its options contain no error and are short enough, and returns the answer.
-    pub fn create(&mut self, creation: Creation) -> Answer
-        ensures { (m : MimeDatabase) (p : PlaceOf) → (t : EventStep D) ×
-            Takes (setting D.device m p) self.old (Command.Create creation) t self.new ×
+    pub fn create(&mut self, creation: Creation, durability: Durability) -> Answer
+        requires may { MayApply durability self.old }
+        ensures taken { (m : MimeDatabase) (p : PlaceOf) → (t : EventStep D) ×
+            TakesAs durability (setting D.device m p) self.old (Command.Create creation) t self.new ×
             (answer_text self.new.state result ≡ t.text) }
+        ensures may { MayApply durability self.new }
     {
+        // What a crash leaves if nothing is staged.
+        let _plain = self.met_fault();
         match job_options(self.alloc, creation.options.as_str()) {
             Ok(Some(options)) => {
                 let by = creation.by;
                 let job = new_job(self.next_number(), creation, options);
-                self.execute_event(event_of_creation(job, by))
+                self.execute_event(event_of_creation(job, by), durability)
             }
             Ok(None) => Answer::BadOptions,
             Err(AllocError) => Answer::NoMemory,
@@ -157,10 +204,18 @@ impl<D: Disk> Executor<D> {
 
     /// Closes a job, and returns the answer. The document is read only if the job can be closed, and only as far as its type
     /// depends on it.
-    pub fn close(&mut self, mime: &Mime<'_>, job: JobId, name: &str) -> Answer
-        ensures { (p : PlaceOf) → (t : EventStep D) ×
-            Takes (setting D.device mime.now p) self.old (Command.Close job name.now) t self.new ×
+    pub fn close(
+        &mut self,
+        mime: &Mime<'_>,
+        job: JobId,
+        name: &str,
+        durability: Durability,
+    ) -> Answer
+        requires may { MayApply durability self.old }
+        ensures taken { (p : PlaceOf) → (t : EventStep D) ×
+            TakesAs durability (setting D.device mime.now p) self.old (Command.Close job name.now) t self.new ×
             (answer_text self.new.state result ≡ t.text) }
+        ensures may { MayApply durability self.new }
     {
         if self.met_fault() {
             return fault_answer(ApplyFault::Dead);
@@ -169,8 +224,8 @@ impl<D: Disk> Executor<D> {
             return fault_answer(ApplyFault::Refused(refusal));
         }
         let count = self.reach(mime, job);
-        match self.front(job, count) {
-            Ok(front) => self.close_typed(mime, job, name, front.as_slice()),
+        match self.front(job, count, durability) {
+            Ok(front) => self.close_typed(mime, job, name, front.as_slice(), durability),
             Err(Unread::Memory) => fault_answer(ApplyFault::Memory),
             Err(Unread::Disk) => fault_answer(ApplyFault::Disk),
         }
@@ -189,32 +244,46 @@ impl<D: Disk> Executor<D> {
     }
 
     // Reads the first bytes of the job's document.
-    fn front(&mut self, job: JobId, count: usize) -> Result<Content, Unread>
+    fn front(&mut self, job: JobId, count: usize, durability: Durability) -> Result<Content, Unread>
         requires alive { self.old.dead ≡ false }
         requires there { IsSome (job_at self.old.state job) }
         requires lasts { is_over self.old.state job ≡ false }
         requires inside { count ≤ len_at self.old.state job }
-        ensures { IsFrontRead D.device self.old job count result self.new }
+        requires may { MayApply durability self.old }
+        ensures read { IsFrontReadAs durability D.device self.old job count result self.new }
+        ensures may { MayApply durability self.new }
     {
-        read_content(self.alloc, &mut self.spool, job, count)
+        let read = read_content(self.alloc, &mut self.spool, job, count);
+        // `table` states what a crash leaves, which is the executor's invariant.
+        let _table = self.spool.table();
+        read
     }
 
     // Closes a job whose document begins with these bytes, and returns the answer.
-    fn close_typed(&mut self, mime: &Mime<'_>, job: JobId, name: &str, document: &[u8]) -> Answer
+    fn close_typed(
+        &mut self,
+        mime: &Mime<'_>,
+        job: JobId,
+        name: &str,
+        document: &[u8],
+        durability: Durability,
+    ) -> Answer
         requires alive { self.old.dead ≡ false }
         requires accepted { (c : ClosingOf) → c.job ≡ job → refusal_of self.old.state (Event.Close c) ≡ None }
-        ensures { (answer : Result Reply ApplyFault) ×
-            IsApplied D.device
+        requires may { MayApply durability self.old }
+        ensures may { MayApply durability self.new }
+        ensures taken { (answer : Result Reply ApplyFault) ×
+            IsAppliedAs durability D.device
             self.old (Event.Close (closing_of mime.now self.old.state document.now job name.now)) answer self.new ×
             (answer_text self.new.state result ≡ event_line (closing_line (closing_of mime.now self.old.state document.now job name.now)) answer) }
     {
-        // Until the device has failed, a crash leaves the table that is shown.
-        let _kept = self.met_fault();
+        // What a crash leaves if nothing is staged.
+        let _plain = self.met_fault();
         let (closing, closed) = match self.closing_of(mime, job, name, document) {
             Ok(both) => both,
             Err(_) => return fault_answer(ApplyFault::Memory),
         };
-        match self.apply(Event::Close(closing)) {
+        match self.take(Event::Close(closing), durability) {
             Ok(_) => closed,
             Err(fault) => fault_answer(fault),
         }
@@ -286,7 +355,9 @@ impl<D: Disk> Executor<D> {
 
     /// Lists the table in the other area, so that the journal has room again, and returns the answer.
     pub fn checkpoint(&mut self) -> Answer
-        ensures { (answer : Result (Unit {0}) CheckpointFault) ×
+        requires settled { NoneStaged self.old }
+        ensures settled { NoneStaged self.new }
+        ensures listed { (answer : Result (Unit {0}) CheckpointFault) ×
             IsRelisted D.device self.old answer self.new ×
             (answer_text self.new.state result ≡ checkpoint_line answer) }
     {
@@ -295,9 +366,14 @@ impl<D: Disk> Executor<D> {
     }
 
     fn relist(&mut self) -> Result<(), CheckpointFault>
-        ensures { IsRelisted D.device self.old result self.new }
+        requires settled { NoneStaged self.old }
+        ensures listed { IsRelisted D.device self.old result self.new }
+        ensures settled { NoneStaged self.new }
     {
-        self.spool.checkpoint()
+        let listed = self.spool.checkpoint();
+        // `table` states what a crash leaves, which is the executor's invariant.
+        let _table = self.spool.table();
+        listed
     }
 
     /// Waits for each child that runs, then runs a round.
@@ -307,13 +383,15 @@ impl<D: Disk> Executor<D> {
         runner: &mut Runner<C>,
         children: &mut C,
     ) -> Result<Round, RoundFault>
-        ensures { (m : MimeDatabase) → (settled : RunState D) × (tried : List EventOf) × (documents : ℕ → List ℕ) × IsRan (setting D.device m place.now)
+        requires settled { NoneStaged self.old }
+        ensures settled { NoneStaged self.new }
+        ensures round { (m : MimeDatabase) → (settled : RunState D) × (tried : List EventOf) × (documents : ℕ → List ℕ) × IsRan (setting D.device m place.now)
             (run_state self.old runner.old (C.tells children.old))
             (record { settled = settled; next = run_state self.new runner.new (C.tells children.new); result = result; tried = tried; documents = documents }) }
     {
         finish_children(runner, children);
         let ran = print_rounds::round(self.alloc, place, &mut self.spool, runner, children);
-        // `table` states that a crash leaves this table, which is the executor's invariant.
+        // `table` states what a crash leaves, which is the executor's invariant.
         let _table = self.spool.table();
         ran
     }
@@ -328,6 +406,8 @@ impl<D: Disk> Executor<D> {
         turn: &mut usize,
         happened: &mut Vec<Happening>,
     ) -> Result<Round, RoundFault>
+        requires settled { NoneStaged self.old }
+        ensures settled { NoneStaged self.new }
         ensures tick { (m : MimeDatabase) → (tried : List EventOf) × IsTicked (setting D.device m place.now)
             (run_state self.old runner.old (C.tells children.old))
             (record { limits = limits; next = run_state self.new runner.new (C.tells children.new); result = result; tried = tried }) }
@@ -346,7 +426,7 @@ impl<D: Disk> Executor<D> {
             turn,
             happened,
         );
-        // `table` states that a crash leaves this table, which is the executor's invariant.
+        // `table` states what a crash leaves, which is the executor's invariant.
         let _table = self.spool.table();
         ran
     }
@@ -361,8 +441,8 @@ impl<D: Disk> Executor<D> {
     /// Returns the answer that lists the jobs.
     pub fn jobs(&self) -> Answer
         ensures text { answer_text self.now.state result ≡ jobs_text self.now.state.moment (finite.values self.now.state.jobs) }
-        // Until the device has failed, a crash leaves the table that is listed.
-        ensures kept { IsKept D.device self.now }
+        // If nothing is staged, a crash leaves the table that is listed, until the device has failed.
+        ensures plain { IsPlainIfSettled D.device self.now }
     {
         Answer::Jobs(self.spool.table().jobs().len())
     }
@@ -370,8 +450,8 @@ impl<D: Disk> Executor<D> {
     /// Returns the answer that lists the queues.
     pub fn queues(&self) -> Answer
         ensures text { answer_text self.now.state result ≡ queues_text (finite.values self.now.state.jobs) (finite.values self.now.state.queues) }
-        // Until the device has failed, a crash leaves the table that is listed.
-        ensures kept { IsKept D.device self.now }
+        // If nothing is staged, a crash leaves the table that is listed, until the device has failed.
+        ensures plain { IsPlainIfSettled D.device self.now }
     {
         Answer::Queues(self.spool.table().queues().len())
     }

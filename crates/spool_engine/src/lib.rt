@@ -29,9 +29,13 @@
 //! - `checkpoint` lists the table in the other area of the disk, so that the journal has room again (`Spool::checkpoint`). The table is
 //!   then in the newest version of the format. Nothing else in it changes (`raised`).
 //!
-//! There are three layers. `Executor` applies events over the spool alone. `Printer` executes the commands over it, with the slots and the
-//! children, and serves the text of a run. `Engine` lends both the rules, the conversions and the `Place`, which never change, so no clause of a step has to state that
-//! they stay. The definitions in `specs/`:
+//! - A [`StagingEngine`] makes the events of many commands durable together, with one pair of syncs: [`StagingEngine::execute`] stages an
+//!   event, and [`StagingEngine::settle`] settles all staged ones. An answer may be shown only after the settle. A tick, a round and a
+//!   checkpoint settle first. An [`Engine`] has nothing staged between its calls.
+//!
+//! There are four layers. `Executor` applies and stages events over the spool alone. `Printer` executes the commands over it, with the slots
+//! and the children, and serves the text of a run. `StagingEngine` lends both the rules, the conversions and the `Place`, which never
+//! change, so no clause of a step has to state that they stay. `Engine` has one with nothing staged. The definitions in `specs/`:
 //!
 //! - `Mime`: the MIME rules, the conversions and the locale of the `Place`, as each call borrows them. `media_of` is the type of a
 //!   document.
@@ -43,6 +47,7 @@
 //! - `EventSteps`, `EngineRounds`, `EngineTicks`, `EngineRuns`: each step, round, tick and run, also if something fails. A command of one
 //!   event is defined over the spool alone (`IsEventStep`), a command with rounds over the run state of spool, slots and children
 //!   (`IsCommandStep`). Both list the events that were tried. `Setting` groups the view of the device, the MIME database and the `Place`.
+//! - `StagedSteps`: a command whose event is staged (`IsStagedStep`), and the settle (`SettlesTo`).
 //! - `AnswerTexts`: the text of an answer over a table (`answer_text`). `StepReplies`: the reply of a step in which nothing failed.
 //! - `EngineLives`: `IsEngineLife` and `IsEngineHistory` are the lives and the stage histories of engines.
 //!
@@ -83,7 +88,10 @@
 //!   covers disks that report their bytes.
 //! - *Crashes*, between steps: [`crashes_between_replies`] states for whole runs that no answered step is lost as long as the device works:
 //!   neither its events (`tables`) nor the bytes that they sent (`documents`). [`crashes_between_calls`] states the same for any list of
-//!   rounds, ticks and runs.
+//!   rounds, ticks, runs, staged commands and settles.
+//! - *Batches* ([`batches_are_whole`]): a crash in a list of staged commands and their settle leaves none of their events or all of them. A
+//!   staged command has the outcome and the answer of a durable one (`how`), but no image changes (`still`). The documents shown have the
+//!   bytes that it sends (`sent`). After a settle that returns true a crash leaves the table and the documents shown (`kept`).
 //! - *EachFinishedOnce* (`finished` of each round): whatever failed, each child that a round started is finished once when the round
 //!   returns, and all starts come before the first finish. Children that ran before it were finished once before it began (`settles`,
 //!   `IsSettled`). After a tick each child that was started runs or has been finished once, and the slots have the tickets of the running
@@ -117,7 +125,8 @@
 //!
 //! # Invariants
 //!
-//! 1. Until the device has failed, a crash leaves the table that the engine shows (`IsKept`, the invariant of `Executor`).
+//! 1. Until the device has failed, and if nothing is staged, a crash leaves the table that the engine shows (`IsPlainIfSettled`, the
+//!    invariant of `Executor`). Nothing is staged between the calls of an [`Engine`].
 //! 2. If no child runs before a `round` or a `run`, none runs after it (`rests`).
 //!
 //! # Errors
@@ -139,6 +148,7 @@
 #![tactic(auto)]
 
 mod answers;
+mod durability;
 mod engine;
 mod executor;
 mod fault;
@@ -146,11 +156,13 @@ mod laws;
 mod mime;
 mod options;
 mod printer;
+mod staging;
 
 pub use answers::{append_answer, round_answer};
 pub use engine::Engine;
 pub use fault::RunFault;
 pub use laws::{
-    calls_are_steps, crashes_between_calls, crashes_between_replies, lives_law,
+    batches_are_whole, calls_are_steps, crashes_between_calls, crashes_between_replies, lives_law,
     no_stage_is_ordered_twice, quiet_states_stay, replies_are_scripts, stages_have_right_input,
 };
+pub use staging::StagingEngine;

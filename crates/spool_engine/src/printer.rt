@@ -1,5 +1,5 @@
 //! The printer: executes commands, each on the run state that it finds, and serves the commands of a text.
-ghost use Rattle.std.specs.Prelude.{◌≡◌, ◌-◌, ℕ, false, List, [], IfOk, IsNone, IsSome, IsTrue, OnOk};
+ghost use Rattle.std.specs.Prelude.{◌≡◌, ◌-◌, ℕ, false, true, not, List, [], IfOk, IsNone, IsSome, IsTrue, OnOk};
 ghost use Rattle.std.specs.FinMap as finite;
 ghost use Rattle.spool_core.specs.OpenSpools.{IsSettled as NoneStaged};
 ghost use Rattle.spool_types.specs.declared.event.Event.{Event as EventOf};
@@ -11,7 +11,8 @@ ghost use Rattle.print_rounds.specs.Happenings.{IsTickInTurn, IsTickThat, happen
 ghost use Rattle.spool_types.specs.State.{State};
 ghost use Rattle.spool_types.specs.declared.event.Reply.{Reply};
 ghost use Rattle.spool_engine.specs.AnswerTexts.{answer_text};
-ghost use Rattle.spool_engine.specs.EventSteps.{setting, IsKept};
+ghost use Rattle.spool_engine.specs.EventSteps.{setting};
+ghost use Rattle.spool_engine.specs.StagedSteps.{IsPlainIfSettled, MayApply, SettlesTo, StagesStep, TakesStepAs, is_staged};
 ghost use Rattle.spool_engine.specs.Mime.{Mime as MimeDatabase};
 ghost use Rattle.spool_engine.specs.EngineTicks.{IsTicked};
 ghost use Rattle.spool_engine.specs.EngineRounds.{Ran, IsRan, IsSettled, AreRan, AreAll, AreRun, counts_in, results_of, rounds_run};
@@ -20,6 +21,7 @@ ghost use Rattle.spool_engine.specs.Script.{closing_as, closing_line, is_idle, r
 ghost use Rattle.spool_engine.specs.EngineRuns.{CommandStep, TakesStep, Serves, IsRun, Drains, DrainsEnd, DrainsPiece};
 
 use crate::answers::{append_answer, drain_answer, round_answer};
+use crate::durability::Durability;
 use crate::executor::Executor;
 use crate::fault::RunFault;
 use crate::mime::Mime;
@@ -64,7 +66,6 @@ impl<D: Disk, C: Children> Model for Printer<D, C> {
 impl<D: Disk, C: Children> Printer<D, C> {
     /// Returns a printer over this spool.
     pub fn new(alloc: Global, spool: Spool<D>, children: C) -> Printer<D, C>
-        requires settled { NoneStaged spool }
         ensures { result ≡ run_state spool finite.empty (C.tells children) }
     {
         Printer {
@@ -94,8 +95,8 @@ impl<D: Disk, C: Children> Printer<D, C> {
     /// Returns whether the device has failed. Every event is then answered `error dead`.
     pub fn met_fault(&self) -> bool
         ensures dead { result ≡ self.now.spool.dead }
-        // Until the device has failed, a crash leaves the table that is shown.
-        ensures kept { IsKept D.device self.now.spool }
+        // If nothing is staged, a crash leaves what is shown, until the device has failed.
+        ensures plain { IsPlainIfSettled D.device self.now.spool }
     {
         self.executor.met_fault()
     }
@@ -114,9 +115,19 @@ impl<D: Disk, C: Children> Printer<D, C> {
         self.executor.table()
     }
 
+    /// Makes all staged events durable, and returns whether the device works afterwards.
+    pub fn settle(&mut self) -> bool
+        ensures settles { SettlesTo D.device self.old self.new }
+        ensures lives { self.new.spool.dead ≡ not result }
+    {
+        self.executor.settle()
+    }
+
     /// Waits for each child that runs, then runs a round.
     pub fn round(&mut self, place: &Place) -> Result<Round, RoundFault>
-        ensures { (m : MimeDatabase) → (settled : RunState D) × (tried : List EventOf) × (documents : ℕ → List ℕ) × IsRan (setting D.device m place.now) self.old
+        requires settled { NoneStaged self.old.spool }
+        ensures settled { NoneStaged self.new.spool }
+        ensures round { (m : MimeDatabase) → (settled : RunState D) × (tried : List EventOf) × (documents : ℕ → List ℕ) × IsRan (setting D.device m place.now) self.old
             (record { settled = settled; next = self.new; result = result; tried = tried; documents = documents }) }
     {
         self.executor
@@ -131,6 +142,8 @@ impl<D: Disk, C: Children> Printer<D, C> {
         turn: &mut usize,
         happened: &mut Vec<Happening>,
     ) -> Result<Round, RoundFault>
+        requires settled { NoneStaged self.old.spool }
+        ensures settled { NoneStaged self.new.spool }
         ensures tick { (m : MimeDatabase) → (tried : List EventOf) × IsTicked (setting D.device m place.now) self.old
             (record { limits = limits; next = self.new; result = result; tried = tried }) }
         ensures turn { IsTickInTurn turn.old turn.new D.device place.now limits self.old self.old.spool.dead self.new result }
@@ -185,7 +198,9 @@ impl<D: Disk, C: Children> Printer<D, C> {
 
     // Runs rounds until one starts and finishes nothing, at most `most`, and returns how many it ran.
     fn drain(&mut self, place: &Place, most: Rounds) -> Result<u32, RoundFault>
-        ensures { (m : MimeDatabase) → (rs : List (Ran D)) × AreRan (setting D.device m place.now) self.old rs self.new
+        requires settled { NoneStaged self.old.spool }
+        ensures settled { NoneStaged self.new.spool }
+        ensures ran { (m : MimeDatabase) → (rs : List (Ran D)) × AreRan (setting D.device m place.now) self.old rs self.new
             × AreAll most (results_of rs) × (result ≡ rounds_run (counts_in (results_of rs))) }
     {
         for run in 0..most.get() {
@@ -203,7 +218,9 @@ impl<D: Disk, C: Children> Printer<D, C> {
 
     // Runs a round, and returns the answer.
     fn answer_round(&mut self, place: &Place) -> Answer
-        ensures { (m : MimeDatabase) → (rs : List (Ran D)) × (reply : List ℕ)
+        requires settled { NoneStaged self.old.spool }
+        ensures settled { NoneStaged self.new.spool }
+        ensures answered { (m : MimeDatabase) → (rs : List (Ran D)) × (reply : List ℕ)
             × AreRun (setting D.device m place.now) 1 round_text self.old rs self.new reply
             × (answer_text self.new.spool.state result ≡ reply) }
     {
@@ -213,7 +230,9 @@ impl<D: Disk, C: Children> Printer<D, C> {
 
     // Runs the rounds of a drain, and returns the answer.
     fn answer_drain(&mut self, place: &Place, most: Rounds) -> Answer
-        ensures { (m : MimeDatabase) → (rs : List (Ran D)) × (reply : List ℕ)
+        requires settled { NoneStaged self.old.spool }
+        ensures settled { NoneStaged self.new.spool }
+        ensures answered { (m : MimeDatabase) → (rs : List (Ran D)) × (reply : List ℕ)
             × AreRun (setting D.device m place.now) most drain_text self.old rs self.new reply
             × (answer_text self.new.spool.state result ≡ reply) }
     {
@@ -231,41 +250,74 @@ impl<D: Disk, C: Children> Printer<D, C> {
         }
     }
 
-    // Applies an event, unless it is a purge of a job whose child runs, and returns the answer.
-    fn apply(&mut self, event: Event) -> Answer
-        ensures { (m : MimeDatabase) (p : PlaceOf) → (t : CommandStep D) ×
-            TakesStep (setting D.device m p) self.old (Command.Apply event) t self.new ×
+    // Takes an event, unless it is a purge of a job whose child runs, and returns the answer.
+    fn take(&mut self, event: Event, durability: Durability) -> Answer
+        requires may { MayApply durability self.old.spool }
+        ensures may { MayApply durability self.new.spool }
+        ensures taken { (m : MimeDatabase) (p : PlaceOf) → (t : CommandStep D) ×
+            TakesStepAs durability (setting D.device m p) self.old (Command.Apply event) t self.new ×
             (answer_text self.new.spool.state result ≡ t.text) }
     {
-        // Until the device has failed, a crash leaves the table that is shown.
-        let _kept = self.met_fault();
+        // What a crash leaves if nothing is staged.
+        let _plain = self.met_fault();
         if self.withholds(&event) {
             Answer::Refused(Refusal::NotEnded)
         } else {
-            self.executor.execute_event(event)
+            self.executor.execute_event(event, durability)
         }
+    }
+
+    // Executes a command that runs no round and makes no checkpoint, and returns the answer.
+    fn execute_plain(&mut self, mime: &Mime<'_>, command: Command, durability: Durability) -> Answer
+        requires plain { is_staged command ≡ true }
+        requires may { MayApply durability self.old.spool }
+        ensures may { MayApply durability self.new.spool }
+        ensures taken { (p : PlaceOf) → (t : CommandStep D) ×
+            TakesStepAs durability (setting D.device mime.now p) self.old command t self.new ×
+            (answer_text self.new.spool.state result ≡ t.text) }
+    {
+        // What a crash leaves if nothing is staged.
+        let _plain = self.met_fault();
+        match command {
+            Command::Apply(event) => self.take(event, durability),
+            Command::Queue(queue) => self.executor.add_queue(queue, durability),
+            Command::Create(creation) => self.executor.create(creation, durability),
+            Command::Close { job, name } => {
+                self.executor.close(mime, job, name.as_str(), durability)
+            }
+            Command::OversizedSend => Answer::Refused(Refusal::TooLong),
+            Command::Jobs => self.executor.jobs(),
+            Command::Queues => self.executor.queues(),
+            Command::Malformed => Answer::Malformed,
+            Command::Round | Command::Drain(_) | Command::Checkpoint => unreachable!(),
+        }
+    }
+
+    /// Executes a command that runs no round and makes no checkpoint, and returns the answer. Its event, if it has one, is staged.
+    pub fn stage(&mut self, mime: &Mime<'_>, command: Command) -> Answer
+        requires plain { is_staged command ≡ true }
+        ensures { (p : PlaceOf) → (t : CommandStep D) ×
+            StagesStep (setting D.device mime.now p) self.old command t self.new ×
+            (answer_text self.new.spool.state result ≡ t.text) }
+    {
+        self.execute_plain(mime, command, Durability::Staged)
     }
 
     /// Executes a command, and returns the answer.
     pub fn execute(&mut self, mime: &Mime<'_>, place: &Place, command: Command) -> Answer
-        ensures { (t : CommandStep D) ×
+        requires settled { NoneStaged self.old.spool }
+        ensures settled { NoneStaged self.new.spool }
+        ensures executed { (t : CommandStep D) ×
             TakesStep (setting D.device mime.now place.now) self.old command t self.new ×
             (answer_text self.new.spool.state result ≡ t.text) }
     {
-        // Until the device has failed, a crash leaves the table that is shown.
-        let _kept = self.met_fault();
+        // If nothing is staged, a crash leaves what is shown, until the device has failed.
+        let _plain = self.met_fault();
         match command {
-            Command::Apply(event) => self.apply(event),
-            Command::Queue(queue) => self.executor.add_queue(queue),
-            Command::Create(creation) => self.executor.create(creation),
-            Command::Close { job, name } => self.executor.close(mime, job, name.as_str()),
-            Command::OversizedSend => Answer::Refused(Refusal::TooLong),
-            Command::Jobs => self.executor.jobs(),
-            Command::Queues => self.executor.queues(),
             Command::Round => self.answer_round(place),
             Command::Drain(most) => self.answer_drain(place, most),
             Command::Checkpoint => self.executor.checkpoint(),
-            Command::Malformed => Answer::Malformed,
+            command => self.execute_plain(mime, command, Durability::Durable),
         }
     }
 
@@ -277,6 +329,8 @@ impl<D: Disk, C: Children> Printer<D, C> {
         command: Command,
         writer: &mut W,
     ) -> Result<(), RunFault>
+        requires settled { NoneStaged self.old.spool }
+        ensures settled { NoneStaged self.new.spool }
         ensures served { (t : CommandStep D) × Serves (setting D.device mime.now place.now)
             self.old command t self.new result (W.contents writer.old) (W.contents writer.new) }
     {
@@ -307,7 +361,9 @@ impl<D: Disk, C: Children> Printer<D, C> {
         commands: &mut Commands,
         writer: &mut W,
     ) -> Result<(), RunFault>
-        ensures { (turns : List (CommandStep D)) × Drains (setting D.device mime.now place.now)
+        requires settled { NoneStaged self.old.spool }
+        ensures settled { NoneStaged self.new.spool }
+        ensures drains { (turns : List (CommandStep D)) × Drains (setting D.device mime.now place.now)
             self.old commands.old turns self.new commands.new result (W.contents writer.old) (W.contents writer.new) }
     {
         'commands: loop {
@@ -330,7 +386,9 @@ impl<D: Disk, C: Children> Printer<D, C> {
         commands: &mut Commands,
         writer: &mut W,
     ) -> Result<(), RunFault>
-        ensures { (turns : List (CommandStep D)) × (rest : List Command) ×
+        requires settled { NoneStaged self.old.spool }
+        ensures settled { NoneStaged self.new.spool }
+        ensures ends { (turns : List (CommandStep D)) × (rest : List Command) ×
             DrainsEnd (setting D.device mime.now place.now)
             self.old commands.old turns self.new rest result (W.contents writer.old) (W.contents writer.new) ×
             OnOk result (rest ≡ []) }
@@ -356,7 +414,9 @@ impl<D: Disk, C: Children> Printer<D, C> {
         piece: &[u8],
         writer: &mut W,
     ) -> Result<(), RunFault>
-        ensures { (turns : List (CommandStep D)) × DrainsPiece (setting D.device mime.now place.now)
+        requires settled { NoneStaged self.old.spool }
+        ensures settled { NoneStaged self.new.spool }
+        ensures drains { (turns : List (CommandStep D)) × DrainsPiece (setting D.device mime.now place.now)
             piece.now self.old commands.old turns self.new commands.new result (W.contents writer.old) (W.contents writer.new) }
     {
         match commands.feed(piece) {
@@ -373,12 +433,14 @@ impl<D: Disk, C: Children> Printer<D, C> {
         reader: &mut R,
         writer: &mut W,
     ) -> Result<(), RunFault>
-        ensures { (text : List ℕ) × (turns : List (CommandStep D)) ×
+        requires settled { NoneStaged self.old.spool }
+        ensures settled { NoneStaged self.new.spool }
+        ensures run { (text : List ℕ) × (turns : List (CommandStep D)) ×
             IsRun (setting D.device mime.now place.now) (R.remaining reader.old)
             self.old text turns self.new result (W.contents writer.old) (W.contents writer.new) }
     {
-        // Until the device has failed, a crash leaves the table that is shown.
-        let _kept = self.met_fault();
+        // If nothing is staged, a crash leaves what is shown, until the device has failed.
+        let _plain = self.met_fault();
         // No event raises the version.
         versions_rise();
         // No ticket is lost.

@@ -26,7 +26,7 @@ returns-clause-later g c = λ mime place s calls t legal none tells quiet are no
     }) (setting g.D.Disk.device mime place) c.rounds_hand_on.ensures s calls t no_ticks legal none tells quiet are
 
 pub returns-clause-first : goal.returns-clause-first
-returns-clause-first g c = λ mime place s documents calls t legal none tells quiet some leaves are. first_right
+returns-clause-first g c = λ mime place s documents calls t legal none tells quiet settled some leaves are. first_right
     (record {
       legal = c.legal_tables_stay_legal.ensures.stays;
       left = c.spent_stages_stay_spent.ensures.left;
@@ -34,4 +34,4 @@ returns-clause-first g c = λ mime place s documents calls t legal none tells qu
       raised_legal = c.versions_rise.ensures.legal;
       version = c.versions_rise.ensures.version;
       joined = c.calls_join.ensures;
-    }) (setting g.D.Disk.device mime place) g.met.D.Disk.lawful c.rounds_hand_on.ensures (record { one = c.ticks_hand_on.ensures.one; finishes = c.ticks_hand_on.ensures.finishes }) s documents calls t legal none tells quiet some leaves are
+    }) (setting g.D.Disk.device mime place) g.met.D.Disk.lawful c.rounds_hand_on.ensures (record { one = c.ticks_hand_on.ensures.one; finishes = c.ticks_hand_on.ensures.finishes }) s documents calls t legal none tells quiet settled some leaves are

@@ -20,7 +20,7 @@ pub returns-then-is_some-clause-turn : goal.returns-then-is_some-clause-turn
 returns-then-is_some-clause-turn g c =
     let turn = c.serve-turn in
     let there = sym c.in_ok-client-2.ensures.value in
-    had_turn _ _ _ _ _ c.in_ok-client-2.client.now turn.new.self turn.result _ _ there (goes_of _ _ _ _ _ turn.ensures.calls) turn.ensures.client_step turn.ensures.ends
+    had_turn _ _ _ _ _ c.in_ok-client-2.client.now turn.new.self turn.result _ _ there (goes_of _ _ _ _ _ turn.ensures.calls) turn.ensures.client_step turn.ensures.ends turn.ensures.fails
     (has_gone _ _ _ c.in_ok-client-2.client.now turn.new.self turn.result.disconnect there (sym c.is_some.ensures ∙ c.if-is_some.true) c.try_remove.ensures.updates)
 
 pub returns-then-is_some-clause-counted : goal.returns-then-is_some-clause-counted
@@ -37,7 +37,7 @@ pub returns-then-is_listener-clause-turn : goal.returns-then-is_listener-clause-
 returns-then-is_listener-clause-turn g c =
     let turn = c.serve-turn in
     let there = sym c.in_ok-client-2.ensures.value in
-    had_turn _ _ _ _ _ c.in_ok-client-2.client.now turn.new.self turn.result _ _ there (goes_of _ _ _ _ _ turn.ensures.calls) turn.ensures.client_step turn.ensures.ends
+    had_turn _ _ _ _ _ c.in_ok-client-2.client.now turn.new.self turn.result _ _ there (goes_of _ _ _ _ _ turn.ensures.calls) turn.ensures.client_step turn.ensures.ends turn.ensures.fails
     (has_stayed _ _ c.in_ok-client-2.client.now turn.new.self turn.result.disconnect there (sym c.is_some.ensures ∙ c.if-is_some.false))
 
 pub returns-then-is_listener-clause-counted : goal.returns-then-is_listener-clause-counted
@@ -55,7 +55,7 @@ pub returns-else-is_listener-clause-turn : goal.returns-else-is_listener-clause-
 returns-else-is_listener-clause-turn g c =
     let turn = c.serve-turn in
     let there = sym c.in_ok-client-2.ensures.value in
-    had_turn _ _ _ _ _ c.in_ok-client-2.client.now turn.new.self turn.result _ _ there (goes_of _ _ _ _ _ turn.ensures.calls) turn.ensures.client_step turn.ensures.ends
+    had_turn _ _ _ _ _ c.in_ok-client-2.client.now turn.new.self turn.result _ _ there (goes_of _ _ _ _ _ turn.ensures.calls) turn.ensures.client_step turn.ensures.ends turn.ensures.fails
     (has_stayed _ _ c.in_ok-client-2.client.now turn.new.self turn.result.disconnect there (sym c.is_some.ensures ∙ c.if-is_some.false))
 
 pub returns-else-is_listener-clause-counted : goal.returns-else-is_listener-clause-counted

@@ -5,7 +5,7 @@ use Rattle.spool_types.specs.declared.event.Event.TheVariants.{Close}
 use Rattle.spool_types.specs.declared.event.Reply.TheVariants.{Done}
 use Rattle.command_lines.specs.declared.command.Command.TheVariants.{Apply}
 use Rattle.spool_engine.specs.AnswerTexts.{answer_text}
-use Rattle.spool_engine.specs.EngineRuns.{TakesStep}
+use Rattle.spool_engine.specs.StagedSteps.{TakesStagingStep}
 use Rattle.spool_engine.specs.EventSteps.{setting}
 use Rattle.service_loop.specs.ClientActions.{closed_answer}
 use Rattle.service_loop.proofs.shared.Shared.close_as.Goals as goal
@@ -18,7 +18,7 @@ returns-clause-executed g c =
     let is = c.in_ok-closing.ensures.closing in
     let (t, takes, same) = c.in_ok-answer.ensures.executed in (
       t,
-      subst (λ (k : Closing). TakesStep (setting g.D.Disk.device e.mime e.place) e.run_state (Apply (Close k)) t after) is takes,
+      subst (λ (k : Closing). TakesStagingStep (setting g.D.Disk.device e.mime e.place) e.run_state (Apply (Close k)) t after) is takes,
       answer,
       same,
       subst (λ (k : Closing). answer_text after.spool.state c.closing_answer.result ≡ closed_answer k after.spool.state answer) is

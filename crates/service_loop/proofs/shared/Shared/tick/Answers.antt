@@ -10,32 +10,34 @@ use Rattle.service_loop.proofs.shared.Shared.tick.Goals as goal
 
 pub returns-in-Ok-eq0-clause-calls : goal.returns-in-Ok-eq0-clause-calls
 returns-in-Ok-eq0-clause-calls g c =
-    let ticked = c.tick-counts.ensures in
-    within_tick g.D.Disk.device _ _ _ (record { limits = _; next = c.tick-counts.new.self.run_state; result = c.tick-counts.result; tried = ticked.tick.0 }) ticked.mime ticked.place ticked.tick.1 refl refl
+    let (mid, settles, both, (tried, ticked), turn, happened) = c.tick-counts.ensures.tick in
+    within_tick g.D.Disk.device _ _ _ (record { limits = _; next = c.tick-counts.new.self.run_state; result = c.tick-counts.result; tried = tried }) c.tick-counts.ensures.mime c.tick-counts.ensures.place (mid, settles, both, ticked) refl refl
 
 pub returns-in-Err-Full-clause-calls : goal.returns-in-Err-Full-clause-calls
 returns-in-Err-Full-clause-calls g c =
-    let ticked = c.tick-counts.ensures in
-    within_tick g.D.Disk.device _ _ _ (record { limits = _; next = c.tick-counts.new.self.run_state; result = c.tick-counts.result; tried = ticked.tick.0 }) ticked.mime ticked.place ticked.tick.1 refl refl
+    let (mid, settles, both, (tried, ticked), turn, happened) = c.tick-counts.ensures.tick in
+    within_tick g.D.Disk.device _ _ _ (record { limits = _; next = c.tick-counts.new.self.run_state; result = c.tick-counts.result; tried = tried }) c.tick-counts.ensures.mime c.tick-counts.ensures.place (mid, settles, both, ticked) refl refl
 
 pub returns-in_default-clause-calls : goal.returns-in_default-clause-calls
 returns-in_default-clause-calls g c =
-    let ticked = c.tick-counts.ensures in
-    within_tick g.D.Disk.device _ _ _ (record { limits = _; next = c.tick-counts.new.self.run_state; result = c.tick-counts.result; tried = ticked.tick.0 }) ticked.mime ticked.place ticked.tick.1 refl refl
+    let (mid, settles, both, (tried, ticked), turn, happened) = c.tick-counts.ensures.tick in
+    within_tick g.D.Disk.device _ _ _ (record { limits = _; next = c.tick-counts.new.self.run_state; result = c.tick-counts.result; tried = tried }) c.tick-counts.ensures.mime c.tick-counts.ensures.place (mid, settles, both, ticked) refl refl
 
 pub returns-in-Ok-eq0-clause-tick : goal.returns-in-Ok-eq0-clause-tick
-returns-in-Ok-eq0-clause-tick g c = let ticked = c.tick-counts.ensures.tick in (ticked.0, _, ticked.1)
+returns-in-Ok-eq0-clause-tick g c = let (mid, settles, both, (tried, ticked), turn, happened) = c.tick-counts.ensures.tick in (tried, _, (mid, settles, both, ticked))
 
 pub returns-in-Err-Full-clause-tick : goal.returns-in-Err-Full-clause-tick
-returns-in-Err-Full-clause-tick g c = let ticked = c.tick-counts.ensures.tick in (ticked.0, _, ticked.1)
+returns-in-Err-Full-clause-tick g c = let (mid, settles, both, (tried, ticked), turn, happened) = c.tick-counts.ensures.tick in (tried, _, (mid, settles, both, ticked))
 
 pub returns-in_default-clause-tick : goal.returns-in_default-clause-tick
-returns-in_default-clause-tick g c = let ticked = c.tick-counts.ensures.tick in (ticked.0, _, ticked.1)
+returns-in_default-clause-tick g c = let (mid, settles, both, (tried, ticked), turn, happened) = c.tick-counts.ensures.tick in (tried, _, (mid, settles, both, ticked))
 
 pub returns-in-Ok-eq0-clause-recorded : goal.returns-in-Ok-eq0-clause-recorded
 returns-in-Ok-eq0-clause-recorded g c =
-    let e = c.args.self.now.engine in
-    let (events, that, is) = tick_events g.D.Disk.device e _ e.run_state.spool.dead c.tick-counts.new.self.run_state c.tick-counts.result c.tick-counts.new.happened.items c.tick-counts.ensures.happened in (
+    let (mid, settles, both, ticked, turn, happened) = c.tick-counts.ensures.tick in
+    let (events, that, is) = tick_events g.D.Disk.device c.args.self.now.engine.place _ mid mid.spool.dead c.tick-counts.new.self.run_state c.tick-counts.result c.tick-counts.new.happened.items happened in (
+      mid,
+      settles,
       events,
       _,
       that,
@@ -45,8 +47,10 @@ returns-in-Ok-eq0-clause-recorded g c =
 
 pub returns-in-Err-Full-clause-recorded : goal.returns-in-Err-Full-clause-recorded
 returns-in-Err-Full-clause-recorded g c =
-    let e = c.args.self.now.engine in
-    let (events, that, is) = tick_events g.D.Disk.device e _ e.run_state.spool.dead c.tick-counts.new.self.run_state c.tick-counts.result c.tick-counts.new.happened.items c.tick-counts.ensures.happened in (
+    let (mid, settles, both, ticked, turn, happened) = c.tick-counts.ensures.tick in
+    let (events, that, is) = tick_events g.D.Disk.device c.args.self.now.engine.place _ mid mid.spool.dead c.tick-counts.new.self.run_state c.tick-counts.result c.tick-counts.new.happened.items happened in (
+      mid,
+      settles,
       events,
       _,
       that,
@@ -56,8 +60,10 @@ returns-in-Err-Full-clause-recorded g c =
 
 pub returns-in_default-clause-recorded : goal.returns-in_default-clause-recorded
 returns-in_default-clause-recorded g c =
-    let e = c.args.self.now.engine in
-    let (events, that, is) = tick_events g.D.Disk.device e _ e.run_state.spool.dead c.tick-counts.new.self.run_state c.tick-counts.result c.tick-counts.new.happened.items c.tick-counts.ensures.happened in (
+    let (mid, settles, both, ticked, turn, happened) = c.tick-counts.ensures.tick in
+    let (events, that, is) = tick_events g.D.Disk.device c.args.self.now.engine.place _ mid mid.spool.dead c.tick-counts.new.self.run_state c.tick-counts.result c.tick-counts.new.happened.items happened in (
+      mid,
+      settles,
       events,
       _,
       that,
@@ -66,10 +72,10 @@ returns-in_default-clause-recorded g c =
     )
 
 pub returns-in-Ok-eq0-clause-turn : goal.returns-in-Ok-eq0-clause-turn
-returns-in-Ok-eq0-clause-turn g c = (_, c.tick-counts.ensures.turn)
+returns-in-Ok-eq0-clause-turn g c = let (mid, settles, both, ticked, turn, happened) = c.tick-counts.ensures.tick in (mid, settles, _, turn)
 
 pub returns-in-Err-Full-clause-turn : goal.returns-in-Err-Full-clause-turn
-returns-in-Err-Full-clause-turn g c = (_, c.tick-counts.ensures.turn)
+returns-in-Err-Full-clause-turn g c = let (mid, settles, both, ticked, turn, happened) = c.tick-counts.ensures.tick in (mid, settles, _, turn)
 
 pub returns-in_default-clause-turn : goal.returns-in_default-clause-turn
-returns-in_default-clause-turn g c = (_, c.tick-counts.ensures.turn)
+returns-in_default-clause-turn g c = let (mid, settles, both, ticked, turn, happened) = c.tick-counts.ensures.tick in (mid, settles, _, turn)

@@ -1,5 +1,5 @@
--- The printer executes the command on the run state that the engine shows, with the engine's locale.
-use Rattle.std.proofs.Common.{◌≡◌, subst, ℕ, List}
+-- The inner engine executes the command, with nothing staged.
+use Rattle.std.proofs.Common.{◌≡◌, subst}
 use Rattle.spool_engine.specs.AnswerTexts.{answer_text}
 use Rattle.spool_engine.specs.EventSteps.{setting}
 use Rattle.spool_engine.specs.EngineRuns.{CommandStep, Engine, TakesStep}
@@ -7,7 +7,5 @@ use Rattle.spool_engine.proofs.engine.Engine.execute.Goals as goal
 
 pub returns-clause-executed : goal.returns-clause-executed
 returns-clause-executed g c =
-    let (t, takes, same) = c.execute.ensures in
-    let here : TakesStep {D = g.row.D.Denot} (setting g.D.Disk.device (record { types = c.self.inside.types; convs = c.self.inside.convs; locale = c.self.inside.place.lang.bytes.items }) c.self.inside.place) c.self.inside.printer c.args.command t c.execute.new.self
-    = subst (λ (locale : List ℕ). TakesStep {D = g.row.D.Denot} (setting g.D.Disk.device (record { types = c.self.inside.types; convs = c.self.inside.convs; locale = locale }) c.self.inside.place) c.self.inside.printer c.args.command t c.execute.new.self) c.as_str.ensures.value takes in
-    (t, subst (λ (e : Engine g.row.D.Denot). TakesStep {D = g.row.D.Denot} (setting g.D.Disk.device e.mime e.place) e.run_state c.args.command t c.execute.new.self) c.self.view_is here, same)
+    subst (λ (e : Engine g.row.D.Denot). (t : CommandStep g.row.D.Denot) × TakesStep (setting g.D.Disk.device e.mime e.place) e.run_state c.args.command t c.execute_settled.new.self.run_state
+    × (answer_text c.execute_settled.new.self.run_state.spool.state c.execute_settled.result ≡ t.text)) c.self.view_is c.execute_settled.ensures.executed

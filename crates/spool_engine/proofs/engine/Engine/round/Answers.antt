@@ -1,6 +1,5 @@
--- A round of the printer, over an equal run state.
+-- A round of the inner engine, over an equal run state.
 use Rattle.std.proofs.Common.{List, ℕ, subst}
-use Rattle.std.specs.String.{string_bytes}
 use Rattle.spool_types.specs.declared.event.Event.{Event}
 use Rattle.print_rounds.specs.RunStates.{RunState}
 use Rattle.spool_engine.specs.EventSteps.{setting}
@@ -10,10 +9,5 @@ use Rattle.spool_engine.proofs.engine.Engine.round.Goals as goal
 
 pub returns-clause-round : goal.returns-clause-round
 returns-clause-round g c =
-    subst (λ (e : Engine g.row.D.Denot). (settled : RunState g.row.D.Denot) × (tried : List Event) × (documents : ℕ → List ℕ) × IsRan (setting g.D.Disk.device e.mime e.place) e.run_state (record { settled = settled; next = c.round.new.self; result = c.round.result; tried = tried; documents = documents })) c.self.view_is
-    (c.round.ensures (record { types = c.self.inside.types; convs = c.self.inside.convs; locale = string_bytes c.self.inside.place.lang }))
-
-pub returns-clause-rests : goal.returns-clause-rests
-returns-clause-rests g c = λ none.
-    let (settled, tried, documents, is) = c.round.ensures (record { types = c.self.inside.types; convs = c.self.inside.convs; locale = string_bytes c.self.inside.place.lang }) in
-    is.rest
+    subst (λ (e : Engine g.row.D.Denot). (settled : RunState g.row.D.Denot) × (tried : List Event) × (documents : ℕ → List ℕ) × IsRan (setting g.D.Disk.device e.mime e.place) e.run_state
+    (record { settled = settled; next = c.round.new.self.run_state; result = c.round.result; tried = tried; documents = documents })) c.self.view_is c.round.ensures.round

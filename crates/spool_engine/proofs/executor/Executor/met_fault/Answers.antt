@@ -1,5 +1,6 @@
-use Rattle.spool_engine.proofs.EventLaws.{kept_as}
+use Rattle.std.proofs.Common.{subst}
+use Rattle.spool_engine.specs.StagedSteps.{IsPlainIfSettled}
 use Rattle.spool_engine.proofs.executor.Executor.met_fault.Goals as goal
 
-pub returns-clause-kept : goal.returns-clause-kept
-returns-clause-kept g c = kept_as g.D.Disk.device _ _ c.self.view_is c.self.invariant.0
+pub returns-clause-plain : goal.returns-clause-plain
+returns-clause-plain g c = subst (IsPlainIfSettled g.D.Disk.device) c.self.view_is c.self.invariant

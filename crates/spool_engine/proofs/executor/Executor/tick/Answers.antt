@@ -1,7 +1,7 @@
 -- A tick over the spool, the images that a crash in it leaves, and its accepted events.
-use Rattle.std.proofs.Common.{◌≡◌, refl, subst, List}
+use Rattle.std.proofs.Common.{◌≡◌, refl, sym, subst, List}
 use Rattle.spool_types.specs.declared.event.Event.{Event}
-use Rattle.spool_core.specs.OpenSpools.{OpenSpool}
+use Rattle.spool_core.specs.OpenSpools.{OpenSpool, IsSettled as NoneStaged}
 use Rattle.print_rounds.specs.Happenings.{IsTickInTurn, IsTickThat, happenings_of}
 use Rattle.print_rounds.specs.RoundTicks.{count_running}
 use Rattle.print_rounds.specs.StartLimits.{IsRoomBy}
@@ -18,7 +18,7 @@ returns-clause-tick g c = λ m.
     let old = run_state c.self.inside.spool c.args.runner.now (tells c.args.children.now) in
     let new = run_state c.tick-ran.new.spool c.tick-ran.new.runner (tells c.tick-ran.new.children) in
     subst (λ (s : OpenSpool g.row.D.Denot). (tried : List Event) × IsTicked v (run_state s c.args.runner.now (tells c.args.children.now)) (record { limits = c.args.limits; next = new; result = c.tick-ran.result; tried = tried })) c.self.view_is
-    (ticked_of v c.args.limits old new c.tick-ran.result c.self.inside.spool.dead refl g.met.D.Disk.lawful.only_now c.self.invariant.0 (λ alive. c.table-table.ensures.kept alive (c.tick-ran.ensures.settled alive))
+    (ticked_of v c.args.limits old new c.tick-ran.result c.self.inside.spool.dead refl g.met.D.Disk.lawful.only_now (c.self.invariant.kept (subst (λ (s : OpenSpool g.row.D.Denot). NoneStaged s) (sym c.self.view_is) c.requires.settled)) (λ alive. c.table-table.ensures.kept alive (c.tick-ran.ensures.settled alive))
     c.tick-ran.ensures.later c.tick-ran.ensures.told c.tick-ran.ensures.most (tick_by (IsRoomBy (λ answer. (then : g.row.C.Denot) × g.C.Children.rooms c.args.children.now answer then) c.args.limits (count_running c.args.runner.now) c.args.turn.now) g.D.Disk.device c.args.place.now c.args.limits old new c.tick-ran.result c.self.inside.spool.dead c.tick-ran.ensures.tick))
 
 pub returns-clause-happened : goal.returns-clause-happened
@@ -29,10 +29,10 @@ returns-clause-happened g c =
     (run_state s c.args.runner.now (tells c.args.children.now)) s.dead new c.tick-ran.result) c.self.view_is c.tick-ran.ensures.happened
 
 pub invariant_of-self : goal.invariant_of-self
-invariant_of-self g c = ((λ alive. c.table-table.ensures.kept alive (c.tick-ran.ensures.settled alive)), c.tick-ran.ensures.settled)
+invariant_of-self g c = record { kept = λ settled alive. c.table-table.ensures.kept alive (settled alive); synced = c.table-table.ensures.synced }
 
 pub tick-ran-requires : goal.tick-ran-requires
-tick-ran-requires g c = record { settled = c.self.invariant.1 }
+tick-ran-requires g c = record { settled = subst (λ (s : OpenSpool g.row.D.Denot). NoneStaged s) (sym c.self.view_is) c.requires.settled }
 
 pub returns-clause-turn : goal.returns-clause-turn
 returns-clause-turn g c =

@@ -7,19 +7,19 @@ use Rattle.spool_engine.proofs.printer.Printer.answer.Goals as goal
 
 pub returns-in-Ok-write_whole : goal.returns-in-Ok-write_whole
 returns-in-Ok-write_whole g c =
-    let (t, takes, same) = c.execute-answer.ensures in
+    let (t, takes, same) = c.execute-answer.ensures.executed in
     let W = g.W.Write.contents in
     let wrote = subst (Appends (W c.args.writer.now) (W c.write_whole.new.writer)) (c.deref.ensures.value ∙ c.in-Ok.ensures ∙ same) c.in-Ok-write_whole.ensures.ok in
-    record { served = (t, record { legal = takes.legal; command = takes.command; next = takes.next; wrote = wrote_one _ _ t wrote }) }
+    record { settled = c.execute-answer.ensures.settled; served = (t, record { legal = takes.legal; command = takes.command; next = takes.next; wrote = wrote_one _ _ t wrote }) }
 
 pub returns-in-Ok : goal.returns-in-Ok
 returns-in-Ok g c =
-    let (t, takes, same) = c.execute-answer.ensures in
+    let (t, takes, same) = c.execute-answer.ensures.executed in
     let W = g.W.Write.contents in
     let wrote = subst (WroteSome (W c.args.writer.now) (W c.write_whole.new.writer)) (c.deref.ensures.value ∙ c.in-Ok.ensures ∙ same) c.in-Err-write_whole.ensures.err in
-    record { served = (t, record { legal = takes.legal; command = takes.command; next = takes.next; wrote = wrote_part _ _ t wrote }) }
+    record { settled = c.execute-answer.ensures.settled; served = (t, record { legal = takes.legal; command = takes.command; next = takes.next; wrote = wrote_part _ _ t wrote }) }
 
 pub returns : goal.returns
 returns g c =
-    let (t, takes, same) = c.execute-answer.ensures in
-    record { served = (t, record { legal = takes.legal; command = takes.command; next = takes.next; wrote = wrote_none (g.W.Write.contents c.args.writer.now) t }) }
+    let (t, takes, same) = c.execute-answer.ensures.executed in
+    record { settled = c.execute-answer.ensures.settled; served = (t, record { legal = takes.legal; command = takes.command; next = takes.next; wrote = wrote_none (g.W.Write.contents c.args.writer.now) t }) }

@@ -6,9 +6,9 @@ use Rattle.spool_engine.specs.Script.{drain_text}
 use Rattle.spool_engine.proofs.DrainLaws.{drain_told, as_told}
 use Rattle.spool_engine.proofs.printer.Printer.answer_drain.Goals as goal
 
-pub returns : goal.returns
-returns g c = λ m.
-    let (rs, each, all, is) = c.drain-run.ensures m in
+pub returns-clause-answered : goal.returns-clause-answered
+returns-clause-answered g c = λ m.
+    let (rs, each, all, is) = c.drain-run.ensures.ran m in
     let q = counts_in (results_of rs) in
     let reply = line_told drain_text q in
     (rs, reply, record { each = each; all = all; text = refl }, as_told (answer_text c.drain-run.new.self.spool.state c.drain_answer.result) reply _ (drain_told q ∙ ap drain_line (sym is)) (c.drain_answer.ensures c.drain-run.new.self.spool.state))

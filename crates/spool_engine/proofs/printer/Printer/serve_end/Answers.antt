@@ -6,19 +6,19 @@ use Rattle.spool_engine.proofs.printer.Printer.serve_end.Goals as goal
 
 pub commands-preserved : goal.commands-preserved
 commands-preserved g c =
-    let (ts, h) = c.commands.invariant in
+    let (settled, ts, h) = c.commands.invariant in
     let (t, one) = c.in-Ok.ensures.served in
     let gives = rw c.in-Ok-Some.field-0-is at c.in-Ok-Some.ensures.ok in
-    (ts ++ t ∷ [], ends_more _ (Ok tt) _ _ _ _ _ _ ts t _ _ _ _ h gives one)
+    (c.in-Ok.ensures.settled, ts ++ t ∷ [], ends_more _ (Ok tt) _ _ _ _ _ _ ts t _ _ _ _ h gives one)
 
 pub returns-in-Err-answer : goal.returns-in-Err-answer
 returns-in-Err-answer g c =
-    let (ts, h) = c.commands.invariant in
+    let (settled, ts, h) = c.commands.invariant in
     let (t, one) = c.in-Err-answer.ensures.served in
     let gives = rw c.in-Ok-Some.field-0-is at c.in-Ok-Some.ensures.ok in
-    (ts ++ t ∷ [], to_come c.finish.new.self [], ends_more _ (Err c.in-Err-answer.fault) _ _ _ _ _ _ ts t _ _ _ _ h gives one, tt)
+    record { settled = c.in-Err-answer.ensures.settled; ends = (ts ++ t ∷ [], to_come c.finish.new.self [], ends_more _ (Err c.in-Err-answer.fault) _ _ _ _ _ _ ts t _ _ _ _ h gives one, tt) }
 
 pub returns-in-Err : goal.returns-in-Err
 returns-in-Err g c =
-    let (ts, h) = c.commands.invariant in
-    (ts, to_come c.finish.new.self [], ends_stop _ _ _ _ ts _ _ _ _ h c.in-Err.ensures.err, tt)
+    let (settled, ts, h) = c.commands.invariant in
+    record { settled = settled; ends = (ts, to_come c.finish.new.self [], ends_stop _ _ _ _ ts _ _ _ _ h c.in-Err.ensures.err, tt) }

@@ -5,19 +5,19 @@ use Rattle.spool_engine.proofs.printer.Printer.serve_whole.Goals as goal
 
 pub commands-preserved : goal.commands-preserved
 commands-preserved g c =
-    let (ts, h) = c.commands.invariant in
+    let (settled, ts, h) = c.commands.invariant in
     let (t, one) = c.in-Ok.ensures.served in
     let gives = rw c.in-Ok-Some.field-0-is at c.in-Ok-Some.ensures.ok in
-    (ts ++ t ∷ [], drains_more _ (Ok tt) _ _ _ _ _ _ ts t _ _ _ _ h gives one)
+    (c.in-Ok.ensures.settled, ts ++ t ∷ [], drains_more _ (Ok tt) _ _ _ _ _ _ ts t _ _ _ _ h gives one)
 
 pub returns-in-Err-answer : goal.returns-in-Err-answer
 returns-in-Err-answer g c =
-    let (ts, h) = c.commands.invariant in
+    let (settled, ts, h) = c.commands.invariant in
     let (t, one) = c.in-Err-answer.ensures.served in
     let gives = rw c.in-Ok-Some.field-0-is at c.in-Ok-Some.ensures.ok in
-    (ts ++ t ∷ [], drains_more _ (Err c.in-Err-answer.fault) _ _ _ _ _ _ ts t _ _ _ _ h gives one)
+    record { settled = c.in-Err-answer.ensures.settled; drains = (ts ++ t ∷ [], drains_more _ (Err c.in-Err-answer.fault) _ _ _ _ _ _ ts t _ _ _ _ h gives one) }
 
 pub returns-in-Err : goal.returns-in-Err
 returns-in-Err g c =
-    let (ts, h) = c.commands.invariant in
-    (ts, drains_stop _ _ _ _ _ _ ts _ _ h c.in-Err.ensures.err)
+    let (settled, ts, h) = c.commands.invariant in
+    record { settled = settled; drains = (ts, drains_stop _ _ _ _ _ _ ts _ _ h c.in-Err.ensures.err) }

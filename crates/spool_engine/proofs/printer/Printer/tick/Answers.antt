@@ -1,5 +1,6 @@
 -- A tick of the executor, over an equal run state.
-use Rattle.std.proofs.Common.{◌≡◌, List, subst}
+use Rattle.std.proofs.Common.{◌≡◌, List, sym, subst}
+use Rattle.spool_core.specs.OpenSpools.{IsSettled as NoneStaged}
 use Rattle.spool_types.specs.declared.event.Event.{Event}
 use Rattle.print_rounds.specs.Happenings.{IsTickInTurn, IsTickThat, happenings_of}
 use Rattle.print_rounds.specs.RunStates.{RunState, run_state}
@@ -23,3 +24,6 @@ pub returns-clause-turn : goal.returns-clause-turn
 returns-clause-turn g c =
     let new = run_state c.tick.new.self c.tick.new.runner (g.C.Children.tells c.tick.new.children) in
     subst (λ (s : RunState g.row.D.Denot). IsTickInTurn c.args.turn.now c.tick.new.turn g.D.Disk.device c.args.place.now c.args.limits s s.spool.dead new c.tick.result) c.self.view_is c.tick.ensures.turn
+
+pub tick-requires : goal.tick-requires
+tick-requires g c = record { settled = subst (λ (s : RunState g.row.D.Denot). NoneStaged s.spool) (sym c.self.view_is) c.requires.settled }

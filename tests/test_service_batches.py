@@ -1,0 +1,108 @@
+"""Tests of commands that a client sends together: their events become durable with one pair of syncs, and then come their replies.
+
+The service's calls are observed by strace, which also kills it at one of them.
+"""
+import os
+import re
+import signal
+import subprocess
+from contextlib import contextmanager
+
+import pytest
+
+from harness.checks import holds, same, until
+from harness.service import Client
+
+pytestmark = pytest.mark.strace
+
+SYNCS = "trace=fsync,fdatasync,sendto,write"
+
+
+def submission(job, text=b"hello\n"):
+    """The commands that create, fill and close a job of this number."""
+    return b'create q u "t" 1 50 ""\nsend %d %d\n%s\nclose %d f\n' % (job, len(text), text, job)
+
+
+def held_queue(folder):
+    """A client of a service whose queue prints nothing yet, and the number of the next job."""
+    folder.start()
+    client = Client(folder)
+    folder.queue(client, "q")
+    same("disable", client.ask("disable q\n"), "ok")
+    return client, client.create("q") + 1
+
+
+@contextmanager
+def traced(folder, *words):
+    """The calls of the service meanwhile, as strace writes them to the file."""
+    out = folder.at("calls")
+    command = ["strace", "-f", "-y", "-qq", "-o", out, "-e", SYNCS, *words, "-p", str(folder.running.pid)]
+    with subprocess.Popen(command, stderr=subprocess.DEVNULL) as strace:
+        until("the trace", lambda: b"TracerPid:\t0\n" not in open(f"/proc/{folder.running.pid}/status", "rb").read())
+        try:
+            yield out
+        finally:
+            strace.send_signal(signal.SIGINT)
+
+
+def calls_in(out):
+    """The syncs of the spool and the writes to sockets, in order: `sync` or `reply`."""
+    calls = []
+    with open(out, encoding="utf-8", errors="replace") as lines:
+        for line in lines:
+            if re.search(r"f(data)?sync\(\d+<[^>]*spool\.disk", line):
+                calls.append("sync")
+            elif re.search(r"(sendto|write)\(\d+<(socket|UNIX)", line):
+                calls.append("reply")
+    return calls
+
+
+def test_one_pair_of_syncs(folder):
+    """A submission that is sent at once costs two syncs, and its replies come after them."""
+    client, job = held_queue(folder)
+    with traced(folder) as out:
+        client.say(submission(job))
+        replies = [client.reply() for _ in range(3)]
+    same("replies", replies, [f"ok job {job}", "ok bytes 6", "ok type application/octet-stream stages 1"])
+    calls = calls_in(out)
+    same("syncs", calls[:2], ["sync", "sync"])
+    holds(f"its replies: {calls}", "reply" in calls and "sync" not in calls[2:])
+
+
+def test_separate_commands(folder):
+    """Commands that wait for the reply of the one before cost two syncs each."""
+    client, job = held_queue(folder)
+    with traced(folder) as out:
+        same("job", client.create("q"), job)
+        client.finish(job)
+    same("calls", [call for call in calls_in(out) if call == "sync"], ["sync"] * 6)
+
+
+@pytest.mark.parametrize("number", [1, 2])
+def test_a_kill_at_a_sync(folder, number):
+    """A service that is killed at a sync of a batch leaves none of its events or all of them, and sent no reply."""
+    client, job = held_queue(folder)
+    with traced(folder, "-e", f"inject=fsync,fdatasync:signal=KILL:when={number}"):
+        client.say(submission(job))
+        same("it sends nothing", client.is_closed(), True)
+        folder.running.wait()
+    folder.start()
+    client = Client(folder)
+    fields = client.fields(job)
+    holds(f"none or all: {fields}", not fields or (fields["size"], fields["state"]) == ("6", "3"))
+    if fields:
+        same("enable", client.ask("enable q\n"), "ok")
+        client.until_state(job, "9")
+        same("printed", folder.printed(), "hello\n")
+
+
+def test_a_refused_command_among_others(folder):
+    """A command that is refused changes nothing, and the commands around it are done."""
+    client, job = held_queue(folder)
+    client.say(b"close 999 f\n" + submission(job) + b"cancel 999\n")
+    replies = [client.reply() for _ in range(5)]
+    same("the refusals", [replies[0][:6], replies[4][:6]], ["error ", "error "])
+    same("the others", [reply.split()[0] for reply in replies[1:4]], ["ok"] * 3)
+    folder.kill()
+    folder.start()
+    same("after a kill", Client(folder).fields(job)["size"], "6")
