@@ -18,7 +18,7 @@ import time
 HERE = os.path.dirname(os.path.abspath(__file__))
 
 # These are parts of others, or need arguments.
-OTHERS = ("all", "plots", "many_spools")
+OTHERS = ("all", "harness", "many_spools", "plots")
 
 # After this many seconds a benchmark is killed.
 SECONDS = 3_600

@@ -18,9 +18,10 @@ import subprocess
 import sys
 import tempfile
 
-here = os.path.dirname(os.path.abspath(__file__))
-CRATE = os.path.join(here, "..", "crates", "ipp_codec_tests")
-PROGRAM = os.path.join(CRATE, "out", "ipp_codec_tests")
+from harness.programs import BENCH, CRATES, path_of
+
+CRATE = os.path.join(CRATES, "ipp_codec_tests")
+PROGRAM = path_of("ipp_codec_tests")
 
 ATTRIBUTES = 200
 CALLS = 5_000
@@ -74,7 +75,7 @@ def seconds(program, mode, calls, octets):
 def compared(folder):
     """The program of ipp_messages.c, if libcups and its header are installed."""
     program = os.path.join(folder, "ipp_messages")
-    words = ["cc", "-O2", "-o", program, os.path.join(here, "ipp_messages.c"), "-lcups"]
+    words = ["cc", "-O2", "-o", program, os.path.join(BENCH, "ipp_messages.c"), "-lcups"]
     built = subprocess.run(words, stderr=subprocess.DEVNULL, check=False)
     return program if built.returncode == 0 else None
 

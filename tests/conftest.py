@@ -37,8 +37,8 @@ else:
 # The Debian package of each command that a test may need.
 PACKAGES = {
     "chromium": "chromium", "debootstrap": "debootstrap", "dpkg-deb": "dpkg", "gcc": "gcc", "mandoc": "mandoc", "rt": "",
-    "lpr": "cups-bsd", "lpstat": "cups-client", "setpriv": "util-linux", "shellcheck": "shellcheck", "useradd": "passwd", "valgrind": "valgrind",
-    "zsh": "zsh",
+    "lintian": "lintian", "lpr": "cups-bsd", "lpstat": "cups-client", "nsenter": "util-linux", "setpriv": "util-linux", "shellcheck": "shellcheck",
+    "systemd-nspawn": "systemd-container", "useradd": "passwd", "valgrind": "valgrind", "zsh": "zsh",
 }
 FILTERS = "/usr/lib/cups/filter"
 
@@ -47,7 +47,7 @@ FILTERS = "/usr/lib/cups/filter"
 
 def pytest_addoption(parser):
     parser.addoption("--long", action="store_true", help="run the long tests, and random ones for longer")
-    parser.addoption("--write", action="store_true", help="store the numbers of allocations in tests/allocations.txt")
+    parser.addoption("--write", action="store_true", help="store what some tests compare: tests/allocations.txt, and the output of ipp_codec_tests")
     parser.addoption("--seed", type=int, help="the seed of the random tests that print one")
 
 
@@ -88,7 +88,7 @@ def pytest_collection_modifyitems(items):
 
 def lacking(name):
     """The missing requirement with its package, or an empty text."""
-    if name.startswith("spool_"):
+    if os.path.isdir(os.path.join(programs.CRATES, name)):
         return programs.unbuilt(name)
     if name.startswith("plain "):
         # A library that refuses allocations has no effect on a program with an address sanitizer, which allocates by itself.

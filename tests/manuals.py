@@ -18,7 +18,6 @@ The script reads the names that the pages in docs/man must document from the sou
 
 The last line is `N checks, 0 failed` with exit status 0, or contains the number of failed checks, with exit status 1.
 """
-import os
 import re
 import shutil
 import subprocess

@@ -14,18 +14,16 @@ them processing.
 """
 import os
 import re
-import shutil
 import stat
-import subprocess
 
 import pytest
 
-from harness import journal, spool_model as model, traces
-from harness.admin import administer, ERRORS, image_of, in_second_area, KILLED, LOCK, NAME, names_in, OTHERS, OWNED, SIZE, SpoolFolder
-from harness.checks import Difference, same
+from harness import journal, spool_model as model
+from harness.admin import (administer, image_of, image_of_rows, in_second_area, LOCK, NAME, names_in, OTHERS, OWNED, renames_when_synced, SIZE,
+                           SpoolFolder, Trial, while_a_shell_runs)
+from harness.checks import same
 from harness.journal import image
-from harness.programs import SHELL
-from harness.stories import of_q, Q, spelled
+from harness.stories import Q, spelled
 
 pytestmark = pytest.mark.needs("spool_admin", "spool_shell")
 
@@ -145,10 +143,7 @@ def test_refusals(folder):
 
 def test_a_listing_that_does_not_fit(folder):
     """Rows are longer than the events that created them, so even an area of the same length may be too short."""
-    events = [Q.event()]
-    while len(image(SIZE, [spelled(event) for event in events])) == SIZE and model.reading(image(SIZE, [*map(spelled, events)])).gate < SIZE // 2 - 60:
-        events.append(of_q(len(events)).event())
-    file = image(SIZE, [*map(spelled, events)])
+    file = image_of_rows()
     needed = journal.HEADER + sum(journal.FRAME + len(row) for row in model.opened(file).table.listing()) + 7
     same("the rows are too long for it", needed > SIZE // 2, True)
     Place(folder, file).refuses("spool: full\n", "grow", Place(folder, file).root, str(SIZE))
@@ -160,16 +155,12 @@ def test_a_listing_that_does_not_fit(folder):
 
 def test_a_running_shell_keeps_it(folder):
     place = Place(folder, image_of())
-    pipe = subprocess.PIPE
-    shell = subprocess.Popen([SHELL, "--root", place.root], stdin=pipe, stdout=pipe, stderr=pipe, text=True)
-    try:
-        shell.stdin.write("jobs\n")
-        shell.stdin.flush()
-        shell.stdout.readline()
+
+    def refused():
         place.refuses(OWNED)
         place.refuses(OWNED, "look", place.root)
-    finally:
-        shell.communicate()
+
+    while_a_shell_runs(place.root, refused)
     place.grow()
 
 
@@ -189,84 +180,34 @@ def test_invalid_arguments(folder):
 
 # ---- kills, failures and cuts
 
-def traced(place, *inject):
-    """A `grow` under strace, and its calls."""
-    trace = os.path.join(place.root, "..", "trace")
-    strace = ["strace", "-qq", "-y", "-xx", "-s", "20", "-o", trace, "-e", "trace=" + ",".join(f"?{name}" for name in KILLED)]
-    for words in inject:
-        strace += ["-e", f"inject={words}"]
-    done = administer("grow", place.root, str(LARGER), before=strace)
-    counts = {}
-    with open(trace, encoding="ascii") as file:
-        lines = [line.rstrip("\n") for line in file]
-    return done, [traces.Call(line, counts) for line in lines if traces.LINE.fullmatch(line)]
+@pytest.fixture
+def trial(folder):
+    def is_changed(place, what):
+        place.old = place.content()
+        same(f"{what}: other names", {*names_in(place.root)} - {NAME, UNFINISHED}, set())
+        same(f"{what}: it is the old spool or the new one", place.old == image_of() or is_grown(image_of(), place.old), True)
+        return place.old != image_of()
 
+    def is_done(place, what):
+        same(f"{what}: the table", is_grown(place.old, place.content()), True)
+        same(f"{what}: the names", names_in(place.root), [NAME])
 
-def is_old_or_new(place, what):
-    content = place.content()
-    if content != image_of() and not is_grown(image_of(), content):
-        raise Difference(f"{what}: the file is neither the old spool nor the new one")
-    known = {NAME, UNFINISHED}
-    same(f"{what}: the names", set(names_in(place.root)) <= known, True)
-
-
-def next_succeeds(place, what):
-    """The next `grow` succeeds, whatever the one before left."""
-    is_old_or_new(place, what)
-    old = place.content()
-    place.grow()
-    same(f"{what}: the table", is_grown(old, place.content()), True)
-    same(f"{what}: the names", names_in(place.root), [NAME])
-
-
-def all_calls(folder):
-    done, calls = traced(Place(folder, image_of()))
-    same("the end of `grow`", done, (0, "", ""))
-    return calls
+    return Trial(folder, lambda: Place(folder, image_of()), lambda place: ("grow", place.root, str(LARGER)), is_changed, is_done)
 
 
 @pytest.mark.strace
-def test_it_is_killed_at_each_call(folder):
-    for call in all_calls(folder):
-        place = Place(folder, image_of())
-        (status, _, _), _ = traced(place, f"{call.name}:signal=KILL:when={call.number}")
-        same(f"the status, killed at {call}", status in (-9, 137), True)
-        next_succeeds(place, f"killed at {call}")
-        shutil.rmtree(place.root)
+def test_it_is_killed_at_each_call(trial):
+    trial.is_killed_at_each_call()
 
 
 @pytest.mark.strace
-def test_each_call_fails_once(folder):
-    begun = False
-    for call in all_calls(folder):
-        begun = begun or any(place.endswith(NAME) for place in call.paths())
-        if not begun or call.name not in ERRORS:
-            continue
-        place = Place(folder, image_of())
-        (status, shown, errors), _ = traced(place, f"{call.name}:error={ERRORS[call.name]}:when={call.number}")
-        same(f"the end, when {call} fails", (status in (0, 1), shown, errors.startswith("spool: ") == (status == 1)), (True, "", True))
-        same(f"the new file, when {call} fails and `grow` succeeds", status == 1 or is_grown(image_of(), place.content()), True)
-        next_succeeds(place, f"failed at {call}")
-        shutil.rmtree(place.root)
+def test_each_call_fails_once(trial):
+    trial.fails_at_each_call()
 
 
 @pytest.mark.strace
-def test_a_power_cut_leaves_the_old_or_the_new(folder):
-    written, named, kept = False, False, False
-    for call in all_calls(folder):
-        on = os.path.basename(call.files[0]) if call.files else ""
-        if call.name in ("write", "pwrite64"):
-            same(f"{call} is on the unfinished file", (on, named), (UNFINISHED, False))
-            written = True
-        elif call.name in ("fsync", "fdatasync") and on == UNFINISHED:
-            written = False
-        elif call.name.startswith("rename"):
-            same("all is synced before it gets its name", (written, named), (False, False))
-            named = True
-        elif call.name == "fsync" and named:
-            same("the folder is synced", on, os.path.basename(os.path.dirname(call.files[0] + "/x")))
-            kept = True
-    same("it got its name, and the folder was synced", (named, kept), (True, True))
+def test_a_power_cut_leaves_the_old_or_the_new(trial):
+    same("the renames", renames_when_synced(trial.calls()), [(UNFINISHED, NAME)])
 
 
 @pytest.fixture

@@ -16,25 +16,21 @@ them processing.
 """
 import copy
 import os
-import shutil
 import stat
 import subprocess
-from concurrent.futures import ThreadPoolExecutor
 
 import pytest
 
-from harness import journal, spool_model as model, traces
-from harness.admin import (administer, ERRORS, image_of, image_of_documents, in_second_area, KILLED, NAME, names_in, OTHERS, OWNED,
-                           SIZE, SpoolFolder)
+from harness import journal, spool_model as model
+from harness.admin import (administer, image_of, image_of_documents, image_of_rows, in_second_area, NAME, names_in, OTHERS, OWNED,
+                           renames_when_synced, SIZE, SpoolFolder, Trial, while_a_shell_runs)
 from harness.checks import same, until
 from harness.journal import cancel, close, image, send
-from harness.programs import SHELL
 from harness.service import Client, Folder
 from harness.stories import LAB, of_lab, of_q, Q, spelled
 
 pytestmark = pytest.mark.needs("spool_admin", "spool_shell")
 
-SIDE_BY_SIDE = 4
 UNENDED = "spool: jobs of the queue have not ended\n"
 ENDED = "spool: the queue has ended jobs, which --purge removes\n"
 
@@ -183,10 +179,7 @@ def test_refusals(folder):
 
 def test_rows_that_do_not_fit(folder):
     """Rows are longer than the events that created them."""
-    events = [Q.event()]
-    while len(image(SIZE, [*map(spelled, events)])) == SIZE and model.reading(image(SIZE, [*map(spelled, events)])).gate < SIZE // 2 - 60:
-        events.append(of_q(len(events)).event())
-    Place(folder, image(SIZE, [*map(spelled, events)])).refuses("spool: full\n", "set", "--limit", "1", name="q")
+    Place(folder, image_of_rows()).refuses("spool: full\n", "set", "--limit", "1", name="q")
     # A URI of its greatest length takes more room than the old one.
     small = image(4_096, [spelled(event) for event in (Q.event(), of_q(1, title="t" * 255).event(), of_q(2, title="t" * 255).event(),
                                                         of_q(3, title="t" * 255).event(), of_q(4, title="t" * 255).event())])
@@ -196,16 +189,12 @@ def test_rows_that_do_not_fit(folder):
 
 def test_a_running_shell_keeps_it(folder):
     place = Place(folder, image_of())
-    pipe = subprocess.PIPE
-    shell = subprocess.Popen([SHELL, "--root", place.root], stdin=pipe, stdout=pipe, stderr=pipe, text=True)
-    try:
-        shell.stdin.write("jobs\n")
-        shell.stdin.flush()
-        shell.stdout.readline()
+
+    def refused():
         place.refuses(OWNED, "set", *ALL)
         place.refuses(OWNED, "remove", "--purge")
-    finally:
-        shell.communicate()
+
+    while_a_shell_runs(place.root, refused)
 
 
 @pytest.mark.root
@@ -268,115 +257,42 @@ def test_the_service_prints_to_the_new_address(folder):
 
 # ---- kills, failures and cuts
 
-COMMANDS = (("set", (*ALL,), lambda: image_of(), lambda file: with_fields(file, "lab", ALL_FIELDS)),
-            ("remove", ("--purge",), ended_file, lambda file: without(file, "lab")))
+TASKS = {"set": (ALL, image_of, lambda file: with_fields(file, "lab", ALL_FIELDS), ()),
+         # A queue that is removed is not there any more.
+         "remove": (("--purge",), ended_file, lambda file: without(file, "lab"), ((1, "", "spool: queue\n"),))}
 
 
-def traced(place, act, words, *inject):
-    """The command under strace, and its calls."""
-    trace = os.path.join(place.root, "..", f"trace-{os.path.basename(place.root)}")
-    strace = ["strace", "-qq", "-y", "-xx", "-s", "20", "-o", trace, "-e", "trace=" + ",".join(f"?{name}" for name in KILLED)]
-    for one in inject:
-        strace += ["-e", f"inject={one}"]
-    done = administer("queue", act, place.root, "lab", *words, before=strace)
-    counts = {}
-    with open(trace, encoding="ascii") as file:
-        lines = [line.rstrip("\n") for line in file]
-    return done, [traces.Call(line, counts) for line in lines if traces.LINE.fullmatch(line)]
+@pytest.fixture(params=TASKS)
+def trial(request, folder):
+    act = request.param
+    words, make, after, again = TASKS[act]
+    file = make()
+    table = after(file)
 
+    def is_changed(place, what):
+        content = place.content()
+        if content == file:
+            return False
+        same(f"{what}: the new spool is complete", (len(content), journal.current(content)[0]), (len(file), table.listing()))
+        return True
 
-def is_old_or_new(place, file, table, what):
-    """Whether the name refers to the new spool; otherwise it refers to the old one."""
-    content = place.content()
-    if content == file:
-        return False
-    payloads, _ = journal.current(content)
-    same(f"{what}: the new spool is complete", (len(content), payloads), (len(file), table.listing()))
-    return True
-
-
-def next_succeeds(place, act, words, file, table, what):
-    """The same command, given again, leaves the new spool and nothing else."""
-    is_new = is_old_or_new(place, file, table, what)
-    done = administer("queue", act, place.root, "lab", *words)
-    # A queue that is removed is not there any more.
-    same(f"{what}: the end of the next one", done, (1, "", "spool: queue\n") if is_new and act == "remove" else (0, "", ""))
-    if is_new and act == "remove":
-        same(f"{what}: the names", set(names_in(place.root)) <= {NAME}, True)
-    else:
-        place.lists(table, len(file))
-
-
-def side_by_side(check, calls):
-    with ThreadPoolExecutor(SIDE_BY_SIDE) as pool:
-        try:
-            for _ in pool.map(check, calls):
-                pass
-        except BaseException:
-            pool.shutdown(cancel_futures=True)
-            raise
-
-
-def all_calls(folder, act, words, file):
-    done, calls = traced(Place(folder, file), act, words)
-    same("the end", done, (0, "", ""))
-    return calls
+    return Trial(folder, lambda: Place(folder, file), lambda place: ("queue", act, place.root, "lab", *words), is_changed,
+                 lambda place, what: place.lists(table, len(file)), again)
 
 
 @pytest.mark.strace
-def test_it_is_killed_at_each_call(folder):
-    for act, words, make, after in COMMANDS:
-        file = make()
-        table = after(file)
-
-        def killed(call):
-            place = Place(folder, file)
-            (status, _, _), _ = traced(place, act, words, f"{call.name}:signal=KILL:when={call.number}")
-            same(f"the status, killed at {call}", status in (-9, 137), True)
-            next_succeeds(place, act, words, file, table, f"{act} killed at {call}")
-            shutil.rmtree(place.root)
-
-        side_by_side(killed, all_calls(folder, act, words, file))
+def test_it_is_killed_at_each_call(trial):
+    trial.is_killed_at_each_call()
 
 
 @pytest.mark.strace
-def test_each_call_fails_once(folder):
-    for act, words, make, after in COMMANDS:
-        file = make()
-        table = after(file)
-
-        def failing(call):
-            place = Place(folder, file)
-            (status, shown, errors), _ = traced(place, act, words, f"{call.name}:error={ERRORS[call.name]}:when={call.number}")
-            same(f"the end, when {call} fails", (status in (0, 1), shown, errors.startswith("spool: ") == (status == 1)), (True, "", True))
-            is_new = is_old_or_new(place, file, table, f"{act} failed at {call}")
-            same(f"it succeeds, when {call} fails", status == 1 or is_new, True)
-            next_succeeds(place, act, words, file, table, f"{act} failed at {call}")
-            shutil.rmtree(place.root)
-
-        calls = all_calls(folder, act, words, file)
-        begun = next(at for at, call in enumerate(calls) if any(path.startswith(folder) for path in call.paths()))
-        side_by_side(failing, [call for call in calls[begun:] if call.name in ERRORS])
+def test_each_call_fails_once(trial):
+    trial.fails_at_each_call()
 
 
 @pytest.mark.strace
-def test_a_power_cut_leaves_one_or_the_other(folder):
-    """The old file is never written to, all bytes of the new one are synced before it gets the name, and then the folder is."""
-    for act, words, make, _ in COMMANDS:
-        unsynced, pending, renames = set(), None, 0
-        for call in all_calls(folder, act, words, make()):
-            path = call.files[0] if call.files else ""
-            if call.name in ("write", "pwrite64"):
-                same(f"{call} is not on the spool's file", os.path.basename(path) != NAME, True)
-                unsynced.add(path)
-            elif call.name in ("fsync", "fdatasync"):
-                unsynced.discard(path)
-                pending = None if path == pending else pending
-            elif call.name.startswith("rename"):
-                same(f"all is synced before {call}", unsynced, set())
-                renames += 1
-                pending = os.path.dirname(os.fsdecode(call.texts[1]))
-        same("the name is synced", (renames, pending), (1, None))
+def test_a_power_cut_leaves_one_or_the_other(trial):
+    same("the names of the new spool", [to for _, to in renames_when_synced(trial.calls())], [NAME])
 
 
 @pytest.fixture

@@ -16,24 +16,22 @@ them processing.
 """
 import copy
 import os
-import shutil
 import stat
 import subprocess
 import tempfile
-from concurrent.futures import ThreadPoolExecutor
 
 import pytest
 
-from harness import journal, spool_model as model, traces
-from harness.admin import administer, ERRORS, image_of, image_of_documents, in_second_area, KILLED, LOCK, NAME, OTHERS, OWNED, SIZE
+from harness import journal, spool_model as model
+from harness.admin import (administer, image_of, image_of_documents, image_of_rows, in_second_area, LOCK, NAME, OTHERS, OWNED, renames_when_synced,
+                           SIZE, TAKEN, traced, Trial, while_a_shell_runs)
 from harness.checks import LONGEST, same
 from harness.journal import image
 from harness.programs import SHELL
-from harness.stories import of_q, Q, spelled
+from harness.stories import Q, spelled
 
 pytestmark = pytest.mark.needs("spool_admin", "spool_shell")
 
-SIDE_BY_SIDE = 4
 PART = "spool.part."
 
 
@@ -49,8 +47,8 @@ class Place:
     """The folder of a spool with these bytes, and a second folder."""
 
     def __init__(self, folder, content=None):
-        self.top = tempfile.mkdtemp(dir=folder)
-        self.source, self.target = (os.path.join(self.top, name) for name in ("from", "into"))
+        self.root = tempfile.mkdtemp(dir=folder)
+        self.source, self.target = (os.path.join(self.root, name) for name in ("from", "into"))
         os.mkdir(self.source)
         os.mkdir(self.target)
         if content is not None:
@@ -154,40 +152,29 @@ def test_refusals(folder):
     place = Place(folder, image_of())
     with open(os.path.join(place.target, NAME), "wb") as file:
         file.write(image(SIZE))
-    place.refuses("spool: taken\n")
+    place.refuses(TAKEN)
     place = Place(folder, image_of())
     place.refuses(OWNED, words=("split", place.source, place.source, "lab"))
     damaged = in_second_area(image(SIZE, [spelled(Q.event()), b"\xFF"]))
     Place(folder, damaged).refuses(f"spool: damaged {SIZE // 2 + journal.places([spelled(Q.event())])[-1]}\n", "q")
     place = Place(folder, image_of())
-    os.link(os.path.join(place.source, NAME), os.path.join(place.top, "second"))
+    os.link(os.path.join(place.source, NAME), os.path.join(place.root, "second"))
     place.refuses("spool: disk\nspool: cause: no file\n")
     place = Place(folder)
     same("no file", administer("split", place.source, place.target, "q"), (1, "", "spool: disk\nspool: cause: absent\n"))
     same("nothing is created", place.names(), ([], []))
-    same("no folder", administer("split", place.source, f"{place.top}/none", "q"), (1, "", "spool: disk\nspool: cause: absent\n"))
+    same("no folder", administer("split", place.source, f"{place.root}/none", "q"), (1, "", "spool: disk\nspool: cause: absent\n"))
 
 
 def test_rows_that_do_not_fit(folder):
     """Rows are longer than the events that created them."""
-    events = [Q.event()]
-    while len(image(SIZE, [*map(spelled, events)])) == SIZE and model.reading(image(SIZE, [*map(spelled, events)])).gate < SIZE // 2 - 60:
-        events.append(of_q(len(events)).event())
-    Place(folder, image(SIZE, [*map(spelled, events)])).refuses("spool: full\n", "q")
+    Place(folder, image_of_rows()).refuses("spool: full\n", "q")
 
 
 def test_a_running_shell_keeps_it(folder):
     place = Place(folder, image_of())
-    pipe = subprocess.PIPE
     for root in (place.source, place.target):
-        shell = subprocess.Popen([SHELL, "--root", root], stdin=pipe, stdout=pipe, stderr=pipe, text=True)
-        try:
-            shell.stdin.write("jobs\n")
-            shell.stdin.flush()
-            shell.stdout.readline()
-            place.refuses(OWNED)
-        finally:
-            shell.communicate()
+        while_a_shell_runs(root, lambda: place.refuses(OWNED))
 
 
 def test_invalid_arguments(folder):
@@ -209,19 +196,6 @@ def test_another_split_waits_for_the_first(folder):
 
 # ---- kills, failures and cuts
 
-def traced(place, *inject):
-    """A `split` under strace, and its calls."""
-    trace = os.path.join(place.top, "trace")
-    strace = ["strace", "-qq", "-y", "-xx", "-s", "20", "-o", trace, "-e", "trace=" + ",".join(f"?{name}" for name in KILLED)]
-    for words in inject:
-        strace += ["-e", f"inject={words}"]
-    done = administer("split", place.source, place.target, "lab", before=strace)
-    counts = {}
-    with open(trace, encoding="ascii") as file:
-        lines = [line.rstrip("\n") for line in file]
-    return done, [traces.Call(line, counts) for line in lines if traces.LINE.fullmatch(line)]
-
-
 def is_whole_or_split(place, what):
     """Each job is in exactly one spool: the folder's, or the other folder's file, which may still have a name that is not served."""
     old = image_of()
@@ -236,99 +210,41 @@ def is_whole_or_split(place, what):
     return True
 
 
-def next_succeeds(place, what):
-    """The same command, given again, ends with both halves, whatever the one before left."""
-    was_split = is_whole_or_split(place, what)
-    status, shown, errors = administer("split", place.source, place.target, "lab")
-    # If nothing was left to do.
-    done = was_split and (status, shown, errors) == (1, "", "spool: queue\n") or (status, shown, errors) == (1, "", "spool: taken\n")
-    same(f"{what}: the end of the next one", done or (status, shown, errors) == (0, "", ""), True)
-    is_split(place, image_of())
-
-
-def all_calls(folder):
-    done, calls = traced(Place(folder, image_of()))
-    same("the end of `split`", done, (0, "", ""))
-    return calls
-
-
-def side_by_side(check, calls):
-    """Each run has its own folders, and mostly waits for syncs."""
-    with ThreadPoolExecutor(SIDE_BY_SIDE) as pool:
-        try:
-            for _ in pool.map(check, calls):
-                pass
-        except BaseException:
-            pool.shutdown(cancel_futures=True)
-            raise
+@pytest.fixture
+def trial(folder):
+    again = ((1, "", "spool: queue\n"), (1, "", TAKEN))
+    return Trial(folder, lambda: Place(folder, image_of()), lambda place: ("split", place.source, place.target, "lab"), is_whole_or_split,
+                 lambda place, what: is_split(place, image_of()), again)
 
 
 @pytest.mark.strace
-def test_it_is_killed_at_each_call(folder):
-    def killed(call):
-        place = Place(folder, image_of())
-        (status, _, _), _ = traced(place, f"{call.name}:signal=KILL:when={call.number}")
-        same(f"the status, killed at {call}", status in (-9, 137), True)
-        next_succeeds(place, f"killed at {call}")
-        shutil.rmtree(place.top)
-
-    side_by_side(killed, all_calls(folder))
+def test_it_is_killed_at_each_call(trial):
+    trial.is_killed_at_each_call()
 
 
 @pytest.mark.strace
-def test_each_call_fails_once(folder):
-    def failing(call):
-        place = Place(folder, image_of())
-        (status, shown, errors), _ = traced(place, f"{call.name}:error={ERRORS[call.name]}:when={call.number}")
-        same(f"the end, when {call} fails", (status in (0, 1), shown, errors.startswith("spool: ") == (status == 1)), (True, "", True))
-        same(f"`split` succeeds, when {call} fails", status == 1 or is_whole_or_split(place, f"failed at {call}"), True)
-        next_succeeds(place, f"failed at {call}")
-        shutil.rmtree(place.top)
-
-    calls = all_calls(folder)
-    begun = next(at for at, call in enumerate(calls) if any("/from" in path for path in call.paths()))
-    side_by_side(failing, [call for call in calls[begun:] if call.name in ERRORS])
+def test_each_call_fails_once(trial):
+    trial.fails_at_each_call()
 
 
 @pytest.mark.strace
-def test_a_power_cut_leaves_one_or_the_other(folder):
+def test_a_power_cut_leaves_one_or_the_other(trial):
     """All that a later step depends on is synced: bytes of a file before its name is changed, and a name before the next one."""
-    unsynced, renamed = set(), []
-    pending = None
-    for call in all_calls(folder):
-        path = call.files[0] if call.files else ""
-        if call.name in ("write", "pwrite64"):
-            same(f"{call} is not on a spool's file", os.path.basename(path) != NAME, True)
-            unsynced.add(path)
-        elif call.name in ("fsync", "fdatasync"):
-            unsynced.discard(path)
-            if pending and path == pending:
-                pending = None
-        elif call.name.startswith("rename"):
-            same(f"the name before {call} is synced", pending, None)
-            names = [os.fsdecode(text) for text in call.texts]
-            renamed.append(tuple(map(os.path.basename, names)))
-            pending = os.path.dirname(names[1])
-            if renamed[-1][1] == NAME:
-                same(f"all is synced before {call}", unsynced, set())
-            # The file keeps its bytes under its new name.
-            unsynced = {names[1] if one == names[0] else one for one in unsynced}
-    same("the last name is synced", pending, None)
-    same("the switch precedes the part's name", [to for _, to in renamed if to == NAME], [NAME, NAME])
-    same("the switch is the rest's", renamed[-2][0], "spool.rest")
+    served = [names for names in renames_when_synced(trial.calls()) if names[1] == NAME]
+    same("the switch is the rest's, and precedes the part's name", ([old for old, _ in served][:1], len(served)), (["spool.rest"], 2))
 
 
 @pytest.mark.strace
-def test_a_power_cut_after_a_kill(folder):
+def test_a_power_cut_after_a_kill(folder, trial):
     """A run that is killed before the switch, and repeated, syncs the files before the part gets its name."""
-    calls = all_calls(folder)
+    calls = trial.calls()
     over = next(at for at, call in enumerate(calls) if call.name.startswith("rename") and b"/spool.rest" in call.texts[0])
     sync = next(call for call in calls[over:] if call.name in ("fsync", "fdatasync"))
-    place = Place(folder, image_of())
-    (status, _, _), _ = traced(place, f"{sync.name}:signal=KILL:when={sync.number}")
+    place = trial.make()
+    (status, _, _), _ = traced(folder, trial.words(place), f"{sync.name}:signal=KILL:when={sync.number}")
     same("the status, killed at the sync of the switch", status in (-9, 137), True)
     same("the part waits", is_whole_or_split(place, "killed at the sync"), True)
-    done, calls = traced(place)
+    done, calls = traced(folder, trial.words(place))
     same("the end of the next one", done, (0, "", ""))
     named = next(at for at, call in enumerate(calls) if call.name.startswith("rename"))
     synced = [call.files[0] for call in calls[:named] if call.name in ("fsync", "fdatasync")]

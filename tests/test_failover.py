@@ -13,7 +13,7 @@ glusterfs-server, glusterfs-client and attr, root and /dev/fuse. All tests run i
 - A host that is cut off keeps the spool until the volume releases its locks. Then the other one opens it, and later writes of the first one
   are refused, because the volume has the option client.strict-locks. The same applies if the bricks are restarted in turn.
 
-The seconds until the other host replies, and events per second, are printed, without a limit for either. The environment's FAILOVER_TIMES is
+The seconds until the other host replies are printed. The environment's FAILOVER_TIMES is
 the number of failovers. With FAILOVER_CARELESS the volume and its mounts are configured without the options that examples/office/failover
 requires. Then `fast_alternation`, `a_host_that_is_cut_off` and `bricks_that_are_restarted` must be seen to fail: choose each of them alone,
 with PYTEST_ADDOPTS="-k NAME".
@@ -492,10 +492,14 @@ def test_bricks_that_are_restarted(volume):
     cluster.end()
 
 
-# ---- figures
+# ---- speed
+
+# Each of the calls of an event goes to three bricks.
+MOST_SLOWER = 100
+
 
 def test_events_a_second(volume, times):
-    """One client that waits for each reply, on the volume and on the local disk."""
+    """One client that waits for each reply: an event takes at most MOST_SLOWER times as long on the volume as on the local disk."""
     cluster = Cluster(volume, "speed")
     rates = {}
     for name in ("the volume", "the local disk"):
@@ -512,7 +516,8 @@ def test_events_a_second(volume, times):
             holds("create", client.ask(f'create quick u "t{number}" 1 50 ""\n').startswith("ok job"))
         rates[name] = count / (time.monotonic() - began)
         cluster.end()
-    print("  events per second: " + ", ".join(f"{rate:.0f} on {name}" for name, rate in rates.items()))
+    text = ", ".join(f"{rate:.0f} on {name}" for name, rate in rates.items())
+    holds(f"events per second: {text}", rates["the local disk"] <= MOST_SLOWER * rates["the volume"])
 
 
 # ---- in namespaces

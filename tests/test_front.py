@@ -192,6 +192,18 @@ def test_submits_an_unprintable_document(folder):
     same("state", client.state(1), "8 no-filter")
 
 
+@pytest.mark.strace
+def test_submits_half_a_document(folder):
+    """A document whose second half cannot be read is a fault, and its job is canceled."""
+    client, front = office(folder)
+    folder.write("doc", "x" * 300_000)
+    words = front.command(["spool", "submit", "q", folder.at("doc")])
+    strace = ["strace", "-qq", "-o", os.devnull, "-P", folder.at("doc"), "-e", "inject=read:error=EIO:when=2"]
+    ended = subprocess.run([*strace, *words], capture_output=True, env=front.environment, timeout=LONGEST)
+    same(f"its end, with {ended.stderr}", (ended.returncode, ended.stdout, b"cannot read the document" in ended.stderr), (1, b"", True))
+    same("its job, and what is printed", (client.states(), folder.printed()), ({1: "7 canceled"}, ""))
+
+
 def test_status_and_json(folder):
     client, front = office(folder)
     job = client.create("q", r'a \"b\" \\c')

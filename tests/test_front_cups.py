@@ -17,11 +17,11 @@ import os
 import re
 import shutil
 import subprocess
-import tempfile
 
 import pytest
 
-from harness.checks import LONGEST, same, until
+from harness.checks import LONGEST, same
+from harness.cups import Cups
 from harness.front import Front
 from harness.programs import TESTS
 from harness.service import Client, Folder
@@ -147,36 +147,17 @@ class Own(System):
         return bool(lines) and (len(lines) == 1 or any(line.startswith("error: ") for line in lines) or "spool: " in lines[0])
 
 
-class Cups(System):
-    """CUPS, with a folder of its own."""
+class Theirs(System):
+    """CUPS."""
 
     user = "root"
 
-    def __init__(self, path):
-        super().__init__(os.path.join(path, "documents"))
-        self.socket = os.path.join(path, "cups.sock")
-        self.nobody = f"CUPS_SERVER={os.path.join(path, 'none')}"
+    def __init__(self, server):
+        super().__init__(os.path.join(server.folder, "documents"))
+        self.socket, self.nobody = server.socket, f"CUPS_SERVER={os.path.join(server.folder, 'none')}"
         self.environment = {"CUPS_SERVER": self.socket, "HOME": self.path, "LC_ALL": "C", "PATH": "/usr/bin:/usr/sbin:/bin:/sbin"}
-        os.chmod(path, 0o755)
-        for name in ("etc", "spool/tmp", "cache", "run", "log"):
-            os.makedirs(os.path.join(path, name))
-        self.write(path, "files", "SystemGroup root\nFileDevice Yes\n" + "".join(
-            f"{word} {os.path.join(path, name)}\n"
-            for word, name in (("ServerRoot", "etc"), ("RequestRoot", "spool"), ("CacheDir", "cache"), ("StateDir", "run"), ("TempDir", "spool/tmp"),
-                               ("AccessLog", "log/access"), ("ErrorLog", "log/error"), ("PageLog", "log/page"))))
-        self.write(path, "conf", f"LogLevel warn\nListen {self.socket}\nBrowsing Off\nDefaultAuthType None\nWebInterface No\nJobPrivateAccess all\n"
-                   "<Location />\nOrder allow,deny\nAllow all\n</Location>\n<Policy default>\nJobPrivateValues none\n<Limit All>\nOrder allow,deny\nAllow all\n</Limit>\n</Policy>\n")
-        self.service = subprocess.Popen(
-            ["/usr/sbin/cupsd", "-c", os.path.join(path, "conf"), "-s", os.path.join(path, "files"), "-f"], stdout=subprocess.DEVNULL, stderr=subprocess.DEVNULL
-        )
-        until("CUPS", lambda: "is running" in self.run("lpstat -r").stdout)
         for name in ("office", "lab"):
-            self.run(f"lpadmin -p {name} -E -v file:/dev/null -m raw")
-
-    @staticmethod
-    def write(path, name, text):
-        with open(os.path.join(path, name), "w", encoding="utf-8") as file:
-            file.write(text)
+            server.queue(name, "file:/dev/null")
 
     def reset(self):
         shutil.rmtree(os.path.join(self.path, ".cups"), ignore_errors=True)
@@ -186,10 +167,6 @@ class Cups(System):
     @staticmethod
     def is_usual(_ended):
         return True
-
-    def end(self):
-        self.service.terminate()
-        self.service.wait(LONGEST)
 
 
 ROWS = rows()
@@ -209,11 +186,8 @@ def own():
 
 @pytest.fixture(scope="module")
 def cups():
-    path = tempfile.mkdtemp(prefix="f-")
-    system = Cups(path)
-    yield system
-    system.end()
-    shutil.rmtree(path)
+    with Cups() as server:
+        yield Theirs(server)
 
 
 @pytest.mark.xdist_group("front_cups")

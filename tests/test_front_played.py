@@ -233,16 +233,16 @@ def test_removed_while_waiting(folder):
         service.end()
 
 
-def test_tokens_differ(folder):
+def test_tokens_differ(folder, is_long):
     """No two submissions have the same token."""
-    tokens = set()
-    for _ in range(40):
+    tokens, count = set(), 1_000 if is_long else 40
+    for _ in range(count):
         service = Played(folder, [[CREATED, SENT, CLOSED]])
         folder.write("doc", "abc")
         Front(folder).says("spool", "submit", "q", folder.at("doc"))
         service.end()
         tokens |= {line.split("submission=")[1].split('"')[0] for line in service.heard if line.startswith("create")}
-    same("tokens", (len(tokens), {len(token) for token in tokens}), (40, {32}))
+    same("tokens", (len(tokens), {len(token) for token in tokens}), (count, {32}))
 
 
 def test_now_apart(folder):

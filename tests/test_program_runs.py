@@ -1,32 +1,27 @@
-"""Runs of the built shell and tools: arguments, files and folders.
+"""Runs of the built shell: arguments, files and folders.
 
 Each run is compared with its replies, its standard error, its status and the files that it leaves: arguments that are accepted or refused,
 each error of the shell, files of types, conversions and programs in their order, spool files that are refused and stay as they are, the
-owner of a folder and of a device, and new devices; of the tools, the options of a URI, the packets on the side channel, and the end of a
-session.
+owner of a folder and of a device, and new devices.
 """
-import contextlib
 import fcntl
 import os
 import resource
 import signal
-import socket
 import subprocess
 import tempfile
-import threading
 
 import pytest
 
 from harness import journal
 from harness.checks import same as check
-from harness.programs import is_sanitized, SHELL, TOOLS
+from harness.programs import is_sanitized, SHELL
 
-pytestmark = pytest.mark.needs("spool_shell", "spool_tools")
+pytestmark = pytest.mark.needs("spool_shell")
 
 SECONDS = 120  # a program that takes longer hangs
 LEAST, MOST = 4_096, 1 << 30  # the sizes of a spool
 LONGEST = 64  # the bytes of the name of a folder
-JOB = ["7", "ann", "First page", "1", ""]
 
 
 @pytest.fixture(name="folder")
@@ -58,11 +53,6 @@ def read(path):
             return file.read()
     except FileNotFoundError:
         return None
-
-
-def remove(path):
-    with contextlib.suppress(FileNotFoundError):
-        os.remove(path)
 
 
 FINE = b"ok 0\n", b"", 0
@@ -264,75 +254,3 @@ def test_a_device_needs_its_folder(folder):
         replies, errors, status = run("--root", os.path.join(folder, name))
         check(f"a folder {taken}", (replies, errors.startswith(b"spool: disk\n"), status), (b"", True, 1))
     check("no file is made", os.path.exists(os.path.join(folder, "blocked", "spool.disk")), False)
-
-
-# ---- the tools
-
-def tool(*words, **variables):
-    ended = subprocess.run([TOOLS, *words], input=b"page", capture_output=True, env=variables, timeout=SECONDS)
-    return ended.stdout, ended.stderr, ended.returncode
-
-
-def test_a_device_has_a_path_and_options(folder):
-    for query, name, status in (
-        ("/out", "out", 0),
-        ("/a%20b?exit=6", "a b", 6),
-        ("/out?exit=6&exit=007", "out", 7),
-        ("/out?exit=256", "out", 0),
-        ("/out?exit=2&=x", "out", 0),
-    ):
-        path = os.path.join(folder, name)
-        got = tool("spoolfile", *JOB, DEVICE_URI=f"spoolfile:{folder}{query}")
-        check(query, (got, read(path)), ((b"", b"", status), b"page"))
-        remove(path)
-    # A partner whose file exists is met at once, in whatever number of turns; without turns none is waited for.
-    write(os.path.join(folder, "b-c"), b"")
-    for query, status in (("?partner={}%2Fb-c&turns=0", 1), ("?partner={}%2Fb-c&turns=1", 0), ("?partner={}/b-c&turns=4294967296", 0),
-                          ("?turns=0", 1)):
-        got = tool("meet", *JOB, DEVICE_URI=f"meet:{folder}/a" + query.format(folder))
-        check(f"meet {query}", got, (b"", b"", status))
-    for uri in ("meet:/%FF", "/out"):
-        check(uri, tool("meet", *JOB, DEVICE_URI=uri), (b"", b"", 1))
-
-
-def packets_to(path, answer, words, **variables):
-    """The result of a tool whose side channel is the socket of this path, which sends an answer, and what it sent there."""
-    heard = []
-    with socket.socket(socket.AF_UNIX) as listener:
-        listener.bind(path)
-        listener.listen()
-
-        def serve():
-            connection, _ = listener.accept()
-            with connection:
-                # A tool may end before it has read all of the answer.
-                with contextlib.suppress(OSError):
-                    connection.sendall(answer)
-                    connection.shutdown(socket.SHUT_WR)
-                with contextlib.suppress(OSError):
-                    while piece := connection.recv(100):
-                        heard.append(piece)
-
-        server = threading.Thread(target=serve, daemon=True)
-        server.start()
-        ended = tool(*words, **variables)
-        server.join(SECONDS)
-    os.remove(path)
-    return ended, b"".join(heard)
-
-
-def test_the_side_channel_is_asked(folder):
-    path, out = os.path.join(folder, "side"), os.path.join(folder, "id")
-    for answer, wanted in (
-        (b"\x04\x01\0\x06MFG:X;", b"MFG:X;"),
-        (b"\x04\x01\0\0", b""),
-        (b"\x04\x05\0\0", None),
-        (b"\x05\x01\0\x01\x21", None),
-        (b"\x04\x01\0\x06MFG", None),
-        (b"", None),
-    ):
-        got = packets_to(path, answer, ("sideask", *JOB), DEVICE_URI=f"sideask:{out}", SPOOL_SIDE=path)
-        check(f"the answer {answer}", got, ((b"", b"", 1 if wanted is None else 0), b"\x04\0\0\0"))
-        check(f"the id of {answer}", read(out), wanted)
-        remove(out)
-    check("a session is ended", packets_to(path, b"", ("side-end", path)), ((b"", b"", 0), b"\xFF\0\0\0"))

@@ -6,7 +6,7 @@ import time
 import pytest
 
 from harness import power_cuts as cuts, traces
-from harness.checks import Difference, holds, same, until
+from harness.checks import holds, same, until
 from harness.programs import SHELL
 from harness.service import Client, kill_children, patient_client, Submitter, WAITS
 
@@ -158,18 +158,14 @@ def converse(folder):
 
 @pytest.mark.strace
 @pytest.mark.needs("spool_shell")
-def test_power_cuts(folder):
+def test_power_cuts(folder, seed):
     """Each file that a power cut may leave has the table after a prefix of the events, including all that were acknowledged."""
     run_folder = ServiceRunFolder(SHELL, folder)
     steps = run_folder.traced_service()
     kinds = [step.kind for step in steps]
     print(f"  {len(steps)} steps: " + ", ".join(f"{kinds.count(kind)} {kind}" for kind in sorted(set(kinds))))
     holds("replies, starts and syncs were seen", {"reply", "start", "sync", "write"} <= set(kinds))
-    seed, count = random.randrange(1 << 32), 2_000 if folder.is_long else 150
-    try:
-        cuts.cuts(run_folder, list(cuts.moments_of(steps, b"")), seed, count)
-    except cuts.Difference as difference:
-        raise Difference(f"seed {seed}: {difference}") from None
+    cuts.cuts(run_folder, list(cuts.moments_of(steps, b"")), seed, 2_000 if folder.is_long else 150)
     controls = cuts.CONTROLS if folder.is_long else cuts.CONTROLS[:1]
     for control in controls:
         tries = cuts.is_seen(run_folder, steps, control, seed)

@@ -1,13 +1,12 @@
-"""The suite itself: each test is run, and the plain scripts that read only sources pass."""
+"""The suite itself: each test is run, each script is one of those that CONTRIBUTING.md describes, and the manual pages are right."""
 import ast
 import os
+import re
 import subprocess
 import sys
 
-import pytest
-
 from harness.checks import same
-from harness.programs import TESTS
+from harness.programs import ROOT, TESTS
 
 # The names of fixtures. A function with one of these parameters alone is a test, or it is called.
 FIXTURES = {"folder", "child_folder", "room", "memory_room", "place", "people", "house"}
@@ -32,20 +31,32 @@ def test_no_test_is_left_out():
     same("functions that nothing runs", [found for path in files for found in uncollected(path)], [])
 
 
-# Plain scripts: those that the gate runs, and those that are run on demand.
-GATE = {"edits_apply.py", "english.py", "out_of_memory.py", "places.py", "promises.py", "reference.py", "unused_lemmas.py"}
-ON_DEMAND = {"function_sizes.py", "gate_minutes.py", "ipp_codec.py", "more_edits.py", "package.py", "with_users.py"}
-BUILT = pytest.mark.needs("spool_front", "spool_service", "spool_shell", "spool_tools")
+# Plain scripts: those of the gate, and those that people run.
+PLAIN = {"edits_apply.py", "english.py", "out_of_memory.py", "places.py", "promises.py", "reference.py", "unused_lemmas.py",
+         "function_sizes.py", "gate_minutes.py", "manuals.py", "more_edits.py", "with_users.py"}
 
 
-def others():
-    """The other plain scripts, each of which runs its own checks and ends with status 0 if all hold."""
-    for name in sorted(os.listdir(TESTS)):
-        if name.endswith(".py") and not name.startswith("test_") and name not in {"conftest.py", *GATE, *ON_DEMAND}:
-            yield pytest.param(name, marks=[] if name == "manuals.py" else BUILT)
+def test_each_script_is_a_test_or_a_plain_one():
+    """CONTRIBUTING.md names the plain ones."""
+    scripts = {name for name in os.listdir(TESTS) if name.endswith(".py") and not name.startswith("test_")}
+    same("the scripts", scripts, {"conftest.py", *PLAIN})
+    with open(os.path.join(ROOT, "CONTRIBUTING.md"), encoding="utf-8") as file:
+        text = file.read()
+    same("those that CONTRIBUTING.md does not name", {name for name in PLAIN if f"{name}`" not in text}, set())
 
 
-@pytest.mark.parametrize("name", others())
-def test_plain_script(name):
-    ran = subprocess.run([sys.executable, os.path.join(TESTS, name)], capture_output=True, text=True)
-    same(f"{name}: {ran.stdout}", ran.returncode, 0)
+def test_each_script_that_is_named_exists():
+    """In documents, root pages and scripts. CHANGES.md and DECISIONS.md also name older ones."""
+    files = subprocess.run(["git", "ls-files"], cwd=ROOT, capture_output=True, text=True, check=True).stdout.splitlines()
+    missing = set()
+    for name in files:
+        if name.endswith((".md", ".rt", ".py", ".sh", ".txt", "README")) and os.path.basename(name) not in ("CHANGES.md", "DECISIONS.md"):
+            with open(os.path.join(ROOT, name), encoding="utf-8") as file:
+                found = re.findall(r"(?<![\w/])(?:tests|bench)/[a-z_/]+\.(?:py|table|txt)\b", file.read())
+            missing |= {f"{name}: {it}" for it in found if not os.path.exists(os.path.join(ROOT, it))}
+    same("scripts that do not exist", missing, set())
+
+
+def test_manual_pages():
+    ran = subprocess.run([sys.executable, os.path.join(TESTS, "manuals.py")], capture_output=True, text=True)
+    same(f"manuals.py: {ran.stdout}", ran.returncode, 0)

@@ -3,15 +3,14 @@
 Each case compares a tool's output, its standard error, its status and the files that it leaves: the output of each filter for some bytes,
 from standard input and from a file with several copies, also with little memory; the results of each backend, with each of its options; the
 packets on the side channel; printers that take a document fast or slowly, read nothing, close the connection too early, last or never, reset
-it, send data or do not exist, with each value of `waiteof` and `afterlast`; and arguments that are refused, which write nothing. With SLOW=1
-in the environment the 20 turns of `meet` and the 90 seconds of `appsocket` are tested too.
+it, send data or do not exist, with each value of `waiteof` and `afterlast`; and arguments that are refused, which write nothing. With
+--long the 20 turns of `meet` and the 90 seconds of `appsocket` are tested too.
 """
 import os
 import re
 import resource
 import signal
 import socket
-import struct
 import subprocess
 import threading
 import time
@@ -19,6 +18,7 @@ import time
 import pytest
 
 from harness.checks import compare, LONGEST, reports_all, until
+from harness.printers import Printer, reset, reset_after, take
 from harness.programs import TOOLS
 
 pytestmark = pytest.mark.needs("spool_tools")
@@ -264,7 +264,7 @@ def test_targets(folder):
 
 
 @reports_all
-def test_meet(folder):
+def test_meet(folder, is_long):
     a, b = os.path.join(folder, "a"), os.path.join(folder, "b")
 
     def start(mine, other, query=""):
@@ -299,7 +299,13 @@ def test_meet(folder):
     compare("no partner", (run(["meet", *JOB], uri=f"meet:{a}?turns=1"), read(a)), ((b"", b"", 1), None))
     compare("no place for a mark", run(["meet", *JOB], uri=f"meet:{folder}/none/a?partner=/&turns=9"), (b"", b"", 1))
     compare("no URI to meet at", run(["meet", *JOB]), (b"", b"", 1))
-    if os.environ.get("SLOW"):
+    for query, status in (("?partner={}%2Fmet&turns=0", 1), ("?partner={}%2Fmet&turns=1", 0), ("?partner={}/met&turns=4294967296", 0), ("?turns=0", 1)):
+        # Without turns a partner is not waited for, although its file exists.
+        write(os.path.join(folder, "met"), b"")
+        compare(f"a partner that is there, {query}", run(["meet", *JOB], uri=f"meet:{a}{query.format(folder)}"), (b"", b"", status))
+    for uri in ("meet:/%FF", "/out"):
+        compare(f"meet at {uri}", run(["meet", *JOB], uri=uri), (b"", b"", 1))
+    if is_long:
         began = time.monotonic()
         got = end(start(a, "/nowhere"))
         compare("no partner in 20 turns", (got, 18.9 <= time.monotonic() - began < 40), ((b"", b"", 1), True))
@@ -381,58 +387,6 @@ def test_side(folder):
         compare(f"side-end {path:.20}", run(["side-end", path]), (b"", b"", 1))
 
 
-class Printer(threading.Thread):
-    """Listens on the loopback address, and runs the given function for each connection."""
-
-    def __init__(self, serve, times=1, host="127.0.0.1"):
-        super().__init__(daemon=True)
-        family = socket.AF_INET6 if ":" in host else socket.AF_INET
-        self.listener = socket.create_server((host, 0), family=family)
-        self.listener.settimeout(LONGEST)
-        self.port = self.listener.getsockname()[1]
-        self.serve, self.times, self.got, self.accepted = serve, times, [], 0
-        self.start()
-
-    def run(self):
-        for _ in range(self.times):
-            connection, _ = self.listener.accept()
-            self.accepted += 1
-            connection.settimeout(LONGEST)
-            with connection:
-                try:
-                    self.got.append(self.serve(connection))
-                except OSError as error:
-                    self.got.append(error)
-        self.listener.close()
-
-    def all(self):
-        self.join(LONGEST)
-        return self.got
-
-
-def take(connection, most=1 << 30):
-    """The data on a connection up to its end, or up to `most` bytes of it."""
-    taken = bytearray()
-    while len(taken) < most and (piece := connection.recv(min(65_536, most - len(taken)))):
-        taken += piece
-    return bytes(taken)
-
-
-def reset(connection):
-    connection.setsockopt(socket.SOL_SOCKET, socket.SO_LINGER, struct.pack("ii", 1, 0))
-
-
-def reset_after(count):
-    """Resets the connection after `count` bytes have arrived."""
-
-    def serve(connection):
-        taken = take(connection, count)
-        reset(connection)
-        return taken
-
-    return serve
-
-
 def reset_after_all(connection):
     """Reads everything, and resets the connection instead of closing it."""
     taken = take(connection)
@@ -511,7 +465,7 @@ def told(printer, what, level="ERROR"):
 
 
 @reports_all
-def test_appsocket(folder):
+def test_appsocket(folder, is_long):
     text = bytes(range(256)) * 79  # more than 20,000 bytes
     large = text * 500  # about ten million, more than any system accepts at once
     for length in (0, 1, 500, 20_000):
@@ -539,7 +493,7 @@ def test_appsocket(folder):
     early_close()
     resets(text, large)
     unreached(folder, text)
-    bounds(text)
+    bounds(text, is_long)
 
 
 def connection_ends(text, large):
@@ -704,10 +658,10 @@ def unreached(folder, text):
         compare("the usual port", (out, errors, child.returncode), SENT)
 
 
-def bounds(text):
+def bounds(text, is_long):
     """The backend waits for a printer that never closes as long as the option says."""
     for query, least, most in (("?endtimeout=0", 0, 30), ("?endtimeout=2", 1.9, 30), ("?endtimeout=LONGEST&endtimeout=1", 0.9, 30),
-                               *([("", 89, 120)] if os.environ.get("SLOW") else [])):
+                               *([("", 89, 120)] if is_long else [])):
         printer = Printer(stay)
         began = time.monotonic()
         ended = sent(printer, text, query)

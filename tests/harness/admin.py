@@ -1,9 +1,11 @@
 """The spools of the tests of spool_admin, their folders, and the system calls at which it is killed or fails."""
 import os
+import shutil
 import subprocess
 import tempfile
+from concurrent.futures import ThreadPoolExecutor
 
-from harness import journal
+from harness import journal, spool_model as model, traces
 from harness.checks import LONGEST, same
 from harness.journal import cancel, close, hold, image, send, start
 from harness.programs import ADMIN, SHELL
@@ -13,6 +15,7 @@ SIZE = 8_192
 NAME = "spool.disk"
 LOCK = "spool.lock"
 OWNED = "spool: disk\nspool: cause: owned\n"
+TAKEN = "spool: taken\n"
 # The user and the group of a spool: others than those of the program, if that is allowed.
 OTHERS = (os.geteuid(), os.getegid()) if os.geteuid() else (65_533, 65_532)
 
@@ -55,6 +58,14 @@ def names_in(root):
     return [name for name in os.listdir(root) if name != LOCK]
 
 
+def image_of_rows(size=SIZE):
+    """A spool that is full of jobs, whose rows are longer than the events that created them: a listing of them needs more room."""
+    events = [Q.event()]
+    while len(image(size, [*map(spelled, events)])) == size and model.reading(image(size, [*map(spelled, events)])).gate < size // 2 - 60:
+        events.append(of_q(len(events)).event())
+    return image(size, [*map(spelled, events)])
+
+
 class SpoolFolder:
     """A folder with a spool of these bytes, and the lock file of an earlier program."""
 
@@ -91,3 +102,117 @@ def administer(*words, before=()):
     """The result of spool_admin with these arguments, and its output. `before` is a command that runs it."""
     done = subprocess.run([*before, ADMIN, *words], capture_output=True, text=True, timeout=LONGEST)
     return done.returncode, done.stdout, done.stderr
+
+
+def while_a_shell_runs(root, act):
+    """Does this while a shell owns the spool of a folder."""
+    pipe = subprocess.PIPE
+    shell = subprocess.Popen([SHELL, "--root", root], stdin=pipe, stdout=pipe, stderr=pipe, text=True)
+    try:
+        shell.stdin.write("jobs\n")
+        shell.stdin.flush()
+        shell.stdout.readline()
+        act()
+    finally:
+        shell.communicate()
+
+
+# ---- kills, failures and cuts
+
+def traced(folder, words, *inject):
+    """The result of spool_admin with these arguments under strace, and its calls."""
+    trace = os.path.join(tempfile.mkdtemp(prefix="trace-", dir=folder), "trace")
+    strace = ["strace", "-qq", "-y", "-xx", "-s", "20", "-o", trace, "-e", "trace=" + ",".join(f"?{name}" for name in KILLED)]
+    for one in inject:
+        strace += ["-e", f"inject={one}"]
+    done = administer(*words, before=strace)
+    counts = {}
+    with open(trace, encoding="ascii") as file:
+        lines = [line.rstrip("\n") for line in file]
+    return done, [traces.Call(line, counts) for line in lines if traces.LINE.fullmatch(line)]
+
+
+class Trial:
+    """A task of spool_admin that is killed at each of its system calls, or each of whose calls fails once.
+
+    `make` makes a place with a spool, and `words` are the arguments for a place. `is_changed` says whether the place has the new spool, or
+    the old one, and finds a difference if it has neither. `is_done` finds a difference unless the place has the new spool and nothing else.
+    `again` are the results of the same arguments, given again, if they have nothing left to do.
+    """
+
+    def __init__(self, folder, make, words, is_changed, is_done, again=()):
+        self.folder, self.make, self.words, self.is_changed, self.is_done, self.again = folder, make, words, is_changed, is_done, again
+
+    def calls(self):
+        place = self.make()
+        done, calls = traced(self.folder, self.words(place))
+        same("the end", done, (0, "", ""))
+        return calls
+
+    def next_succeeds(self, place, what):
+        """The same arguments, given again, end with the new spool, whatever the first run left."""
+        was_changed = self.is_changed(place, what)
+        done = administer(*self.words(place))
+        same(f"{what}: the end of the next one, {done}", done == (0, "", "") or done in self.again and (was_changed or done[2] == TAKEN), True)
+        self.is_done(place, what)
+
+    def is_killed_at_each_call(self):
+        def killed(call):
+            place = self.make()
+            (status, _, _), _ = traced(self.folder, self.words(place), f"{call.name}:signal=KILL:when={call.number}")
+            same(f"the status, killed at {call}", status in (-9, 137), True)
+            self.next_succeeds(place, f"killed at {call}")
+            shutil.rmtree(place.root)
+
+        side_by_side(killed, self.calls())
+
+    def fails_at_each_call(self):
+        """From the first call on the spool on."""
+        def failing(call):
+            place, what = self.make(), f"{call} failed"
+            (status, shown, errors), _ = traced(self.folder, self.words(place), f"{call.name}:error={ERRORS[call.name]}:when={call.number}")
+            same(f"the end, {what}", (status in (0, 1), shown, errors.startswith("spool: ") == (status == 1)), (True, "", True))
+            same(f"it succeeds, {what}", status == 1 or self.is_changed(place, what), True)
+            self.next_succeeds(place, what)
+            shutil.rmtree(place.root)
+
+        calls = self.calls()
+        begun = next(at for at, call in enumerate(calls) if any(path.startswith(self.folder) for path in call.paths()))
+        side_by_side(failing, [call for call in calls[begun:] if call.name in ERRORS])
+
+
+def side_by_side(check, calls, most=4):
+    """Each run has its own folders, and mostly waits for syncs."""
+    with ThreadPoolExecutor(most) as pool:
+        try:
+            for _ in pool.map(check, calls):
+                pass
+        except BaseException:
+            pool.shutdown(cancel_futures=True)
+            raise
+
+
+def renames_when_synced(calls):
+    """The renames among these calls, as names before and after. No call writes to a spool's file, a file has no unsynced byte when it gets the
+    name of one, and each change of a name is synced before the next one.
+    """
+    unsynced, pending, renamed = set(), None, []
+    for call in calls:
+        path = call.files[0] if call.files else ""
+        if call.name in ("write", "pwrite64"):
+            same(f"{call} is not on a spool's file", os.path.basename(path) != NAME, True)
+            unsynced.add(path)
+        elif call.name in ("fsync", "fdatasync"):
+            unsynced.discard(path)
+            pending = None if path == pending else pending
+        elif call.name.startswith("rename"):
+            same(f"the name before {call} is synced", pending, None)
+            names = [os.fsdecode(text) for text in call.texts]
+            renamed.append(tuple(map(os.path.basename, names)))
+            pending = os.path.dirname(names[1])
+            if renamed[-1][1] == NAME:
+                same(f"all is synced before {call}", unsynced, set())
+            # The file keeps its bytes under its new name.
+            unsynced = {names[1] if one == names[0] else one for one in unsynced}
+    same("the last name is synced", pending, None)
+    return renamed

@@ -51,6 +51,8 @@ DirtyCleanInterval {interval}
   Allow all
 </Location>
 <Policy default>
+  JobPrivateAccess all
+  JobPrivateValues none
   <Limit All>
     Order deny,allow
     Allow all
@@ -60,13 +62,16 @@ DirtyCleanInterval {interval}
 
 
 class Cups:
-    """CUPS during a `with`. `syncs` says whether it syncs its files, and `interval` after how many seconds it writes them."""
+    """CUPS during a `with`. `syncs` says whether it syncs its files, `interval` after how many seconds it writes them, and `config` and `files`
+    are more lines of its two files of configuration.
+    """
 
-    def __init__(self, syncs=False, interval=30):
+    def __init__(self, syncs=False, interval=30, config="", files=""):
         self.folder = tempfile.mkdtemp(prefix="cups-")
         self.socket = os.path.join(self.folder, "cups.sock")
         with socket.create_server(("127.0.0.1", 0)) as free:
             self.port = free.getsockname()[1]
+        self.texts = (("cupsd.conf", CONFIG + config), ("cups-files.conf", FILES + files))
         self.words = {"folder": self.folder, "port": self.port, "sync": "Yes" if syncs else "No", "interval": interval}
 
     @staticmethod
@@ -82,7 +87,7 @@ class Cups:
         for name in ("etc", "spool", "spool/tmp", "cache", "run", "ssl"):
             os.mkdir(os.path.join(self.folder, name))
             shutil.chown(os.path.join(self.folder, name), "lp", "lp")
-        paths = [self.write(f"etc/{name}", text.format(**self.words)) for name, text in (("cupsd.conf", CONFIG), ("cups-files.conf", FILES))]
+        paths = [self.write(f"etc/{name}", text.format(**self.words)) for name, text in self.texts]
         words = [CUPSD, "-f", "-c", paths[0], "-s", paths[1]]
         self.program = subprocess.Popen(words, stdout=subprocess.DEVNULL, stderr=subprocess.DEVNULL)
         end = time.time() + LONGEST

@@ -1,4 +1,4 @@
-"""A fresh Debian that runs its own systemd in a container: for tests/package.py.
+"""A fresh Debian that runs its own systemd in a container: for tests/test_package.py.
 
 debootstrap creates it, and systemd-nspawn boots it, in namespaces of its own. It uses the network of the host, for apt.
 """
@@ -28,16 +28,6 @@ mkdir -p /run/systemd/system
 exec systemd-nspawn --quiet --register=no --keep-unit --resolv-conf=off --timezone=off --machine="$2" \\
     --directory="$1" --boot
 """
-
-
-def lacks():
-    """The requirement of such a container that is missing, or an empty text."""
-    if os.geteuid():
-        return "another user than root cannot create a Debian"
-    for program, package in (("debootstrap", "debootstrap"), ("systemd-nspawn", "systemd-container"), ("nsenter", "util-linux")):
-        if not shutil.which(program):
-            return f"{program} (Debian's package {package})"
-    return ""
 
 
 def mirror():

@@ -1,25 +1,7 @@
-#!/usr/bin/env python3
-"""Compares crates/ipp_codec with a model of RFC 8010: ipp_codec.py [--write | COUNT]
+"""A model of RFC 8010: how many octets are a message, whether they need more octets, and whether they have a fault.
 
-`crates/ipp_codec_tests` has messages that clients and cupsd(8) sent, in `stdin` and, an answer of 133 attributes, in `data`. The program of that crate cuts each of them after every octet,
-and changes single octets. The model in this script says how many of the octets are a message, how many need more octets, and how many have
-a fault. It is written from the RFC and from the promises of the crate, and is no copy of its code. This script compares the lines of the
-program with those of the model, and then runs the program on at least COUNT damaged messages (1,000,000 by default) for at most ten
-minutes: each run must end with status 0, and each message must be counted.
-
-`rt run` in crates/ipp_codec_tests builds the program. With --write the script writes `stdout` of that crate from the model, and runs
-nothing.
-
-The last line is `N lines, 0 differ, M damaged messages`, with status 0, or the number that differ, with status 1.
+It is written from the RFC and from the promises of crates/ipp_codec, and is no copy of its code.
 """
-import os
-import subprocess
-import sys
-import time
-
-CRATE = os.path.join(os.path.dirname(os.path.realpath(__file__)), "..", "crates", "ipp_codec_tests")
-PROGRAM = os.path.join(CRATE, "out", "ipp_codec_tests")
-SECONDS = 600
 
 LONGEST, MOST_VALUES, DEEPEST = 65_536, 4_096, 8
 GROUPS = {0x01, 0x02, 0x04, 0x05, 0x06, 0x07, 0x08, 0x09, 0x0A}
@@ -197,52 +179,3 @@ def lines(octets, count, seed):
     for one in messages(octets):
         cuts = counts(one[:end] for end in range(len(one)))
         yield f"{len(one)} true cuts {cuts} damaged {counts(damaged(one, count, seed))}"
-
-
-def contents(*path):
-    with open(os.path.join(CRATE, *path), "rb") as file:
-        return file.read()
-
-
-def run(octets, count, seed):
-    words = [PROGRAM, "exchanges", str(count), str(seed)]
-    done = subprocess.run(words, input=octets, stdout=subprocess.PIPE, check=True, timeout=SECONDS)
-    return done.stdout.decode().splitlines()
-
-
-def storm(octets, least):
-    """Damages messages until there are this many, or the time is over. Returns their number."""
-    end = time.monotonic() + SECONDS
-    total, seed = 0, 1
-    while total < least and time.monotonic() < end:
-        seed += 1
-        for line in run(octets, 1_000, seed):
-            total += sum(int(word) for word in line.split()[-3:])
-    return total
-
-
-def main():
-    octets = contents("stdin")
-    with open(os.path.join(CRATE, "args")) as file:
-        _, count, seed = file.read().split()
-    wanted = list(lines(octets, int(count), int(seed)))
-    if sys.argv[1:] == ["--write"]:
-        with open(os.path.join(CRATE, "stdout"), "w") as file:
-            file.writelines(line + "\n" for line in wanted)
-        return
-    found = run(octets, int(count), int(seed))
-    answer = contents("data", "printer_attributes")
-    wanted += lines(answer, int(count), int(seed))
-    found += run(answer, int(count), int(seed))
-    differing = abs(len(wanted) - len(found))
-    for model, program in zip(wanted, found):
-        if model != program:
-            differing += 1
-            print(f"the model: {model}\nthe program: {program}")
-    total = storm(octets, int(sys.argv[1]) if sys.argv[1:] else 1_000_000)
-    print(f"{len(wanted)} lines, {differing} differ, {total} damaged messages")
-    sys.exit(1 if differing else 0)
-
-
-if __name__ == "__main__":
-    main()

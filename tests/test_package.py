@@ -1,8 +1,8 @@
-#!/usr/bin/env python3
-"""Installs, upgrades and removes the package in fresh Debians: package.py [--programs FOLDER] [--gate OUTPUT] [--kept FOLDER] [SUITE..]
+"""The Debian package in fresh Debians.
 
-packaging/deb makes two packages of the built programs, or of those of FOLDER. Without --gate, the gate's output, these are packages for
-tests (`--unproved`). In each SUITE, by default bookworm and trixie, a fresh Debian boots its own systemd in a container, and there:
+packaging/deb makes two packages of the built programs. With CEGMANDI_GATE=OUTPUT, the output of a gate, these are packages of a proved
+version, and otherwise packages for tests (`--unproved`). It refuses a gate of other programs, of another commit, or that failed. `lintian`
+reports no error for the package. With --long a fresh bookworm and a fresh trixie boot their own systemd in a container, and there:
 
 1. `apt-get install` of the package, with nothing else but its dependencies. The users exist, the unit is enabled and runs, the files are
    root's, the sums of PROOF are those of the installed programs. systemd-analyze finds no fault in the unit, and its exposure is printed.
@@ -13,13 +13,8 @@ tests (`--unproved`). In each SUITE, by default bookworm and trixie, a fresh Deb
 5. A purge asks for nothing, and removes configuration and spool. No file is left but those of the test.
 6. A copy of the spool, made by copy-spool.py while the service ran, becomes the spool of another install, which prints its waiting jobs.
 
-`lintian` reports no error for the package. packaging/deb refuses a gate of other programs, of another commit, or that failed.
-
-Only root can run this script. It needs Debian's packages debootstrap, systemd-container, dpkg-dev and lintian, Debian's mirror, and about
-ten minutes. --kept names a folder for the Debians that debootstrap created, for the next run. Parts whose requirements are missing are skipped,
-and reported as `left out`. The last line is `N checks, 0 failed`, with status 0, or has the number that failed, with status 1.
+This needs Debian's mirror and ten minutes. CEGMANDI_DEBIANS names a folder for the Debians that debootstrap created, for the next run.
 """
-import argparse
 import collections
 import hashlib
 import os
@@ -27,16 +22,21 @@ import re
 import shutil
 import socket
 import subprocess
-import sys
-import tempfile
 import threading
 import time
 from pathlib import Path
 
-from harness import debian_machine
+import pytest
 
-ROOT = Path(__file__).resolve().parent.parent
+from harness import debian_machine
+from harness.checks import check, reports_all
+from harness.programs import GIVEN, path_of, ROOT
+
 PROGRAMS = ["spool_front", "spool_shell", "spool_service", "spool_admin", "spool_tools"]
+GATE = os.environ.get("CEGMANDI_GATE")
+
+pytestmark = [pytest.mark.root, pytest.mark.needs("dpkg-deb", *PROGRAMS)]
+
 USERS = ["cegmandi", *(f"cegmandi-{number}" for number in range(1, 8))]
 SOCKET = "/run/cegmandi/spool.sock"
 SPOOL = "/var/lib/cegmandi"
@@ -52,19 +52,6 @@ case $3 in slow-*) until [ -e {PRINTED}/upgrade ]; do sleep 0.2; done; sleep {SE
 cat "${{6:--}}" > "$file" && mv "$file" "$file.done"
 """
 
-FAULTS = []
-COUNT = 0
-LEFT_OUT = []
-
-
-def check(holds, fault):
-    """Counts a check and, if it fails, adds its message to FAULTS."""
-    global COUNT
-    COUNT += 1
-    if not holds:
-        print(f"FAULT: {fault}", flush=True)
-        FAULTS.append(fault)
-
 
 def until(is_so, seconds):
     """Whether something becomes true within these seconds."""
@@ -78,7 +65,7 @@ def until(is_so, seconds):
 
 # ---- the package
 
-def made(words, room, programs, revision, top=ROOT):
+def made(words, room, programs, revision, top=Path(ROOT)):
     """Runs packaging/deb. Returns the run."""
     folder = ["--programs", programs] if programs else []
     words = [top / "packaging/deb", *words, *folder, "--revision", str(revision), "--to", room]
@@ -87,24 +74,24 @@ def made(words, room, programs, revision, top=ROOT):
     return subprocess.run(words, env=environment, capture_output=True, text=True)
 
 
-def packages(room, programs, gate):
-    """The paths of two packages of the same programs, the second of a higher version."""
-    found = []
-    for revision in (1, 2):
-        run = made([gate] if gate else ["--unproved"], room, programs, revision)
-        check(run.returncode == 0, f"packaging/deb: {run.stderr}")
-        found.append(Path(run.stdout.strip()))
-    return found
+@pytest.fixture(scope="module")
+def packages(tmp_path_factory):
+    """Two packages of the same programs, the second of a higher version."""
+    runs = [made([GATE] if GATE else ["--unproved"], tmp_path_factory.mktemp("packages"), GIVEN and os.path.abspath(GIVEN), revision) for revision in (1, 2)]
+    for run in runs:
+        assert run.returncode == 0, run.stderr
+    return [Path(run.stdout.strip()) for run in runs]
 
 
-def refusals(room, programs):
+@reports_all
+def test_packages_that_are_refused(tmp_path):
     """packaging/deb makes no package without the output of a gate that proved these programs and this commit. It runs in a clean clone."""
-    top = room / "clone"
+    top = tmp_path / "clone"
     subprocess.run(["git", "clone", "--quiet", ROOT, top], check=True)
-    folder = room / "programs"
+    folder = tmp_path / "programs"
     folder.mkdir()
     for name in PROGRAMS:
-        shutil.copy2(path_of(name, programs), folder / name)
+        shutil.copy2(path_of(name), folder / name)
     commit = subprocess.run(["git", "-C", top, "rev-parse", "HEAD"], capture_output=True, text=True, check=True).stdout.strip()
     sums = "".join(f"{hashlib.sha256((folder / name).read_bytes()).hexdigest()}  {name}\n" for name in PROGRAMS)
     passed = f"The gate's commit: {commit}\nThe gate's toolchain: kit-1\n{sums}122 passed, 0 failed\n"
@@ -117,34 +104,26 @@ def refusals(room, programs):
         "nothing": "",
     }
     for name, text in outputs.items():
-        (room / "gate").write_text(text)
-        run = made([room / "gate"], room / "refused", folder, 1, top)
-        check(run.returncode == 1 and run.stderr and not (room / "refused").exists(), f"packaging/deb accepts {name}: {run}")
-    check(made([], room / "refused", folder, 1, top).returncode == 1, "packaging/deb accepts no gate at all")
-    check(made(["--other"], room / "refused", folder, 1, top).returncode == 2, "packaging/deb accepts an unknown option")
-    (room / "gate").write_text(passed)
-    run = made([room / "gate"], room / "accepted", folder, 1, top)
+        (tmp_path / "gate").write_text(text)
+        run = made([tmp_path / "gate"], tmp_path / "refused", folder, 1, top)
+        check(run.returncode == 1 and run.stderr and not (tmp_path / "refused").exists(), f"packaging/deb accepts {name}: {run}")
+    check(made([], tmp_path / "refused", folder, 1, top).returncode == 1, "packaging/deb accepts no gate at all")
+    check(made(["--other"], tmp_path / "refused", folder, 1, top).returncode == 2, "packaging/deb accepts an unknown option")
+    (tmp_path / "gate").write_text(passed)
+    run = made([tmp_path / "gate"], tmp_path / "accepted", folder, 1, top)
     check(run.returncode == 0 and "unproved" not in run.stdout, f"packaging/deb refuses a passed gate: {run}")
     text = subprocess.run(["dpkg-deb", "--fsys-tarfile", run.stdout.strip()], capture_output=True).stdout
     proof = subprocess.run(["tar", "-xO", "./usr/share/doc/cegmandi/PROOF"], input=text, capture_output=True).stdout.decode()
     check(commit in proof and "kit-1" in proof and "122 passed, 0 failed" in proof, f"PROOF: {proof}")
     with open(top / "README.md", "a", encoding="utf-8") as changed:
         changed.write("changed\n")
-    check(made([room / "gate"], room / "refused", folder, 1, top).returncode == 1, "packaging/deb accepts a changed tree")
-    shutil.rmtree(top)
+    check(made([tmp_path / "gate"], tmp_path / "refused", folder, 1, top).returncode == 1, "packaging/deb accepts a changed tree")
 
 
-def path_of(name, programs):
-    return Path(programs, name) if programs else ROOT / "crates" / name / "out" / name
-
-
-def linted(package):
-    if not shutil.which("lintian"):
-        LEFT_OUT.append("lintian (Debian's package lintian)")
-        return
-    run = subprocess.run(["lintian", "--allow-root", "--tag-display-limit", "0", package], capture_output=True, text=True)
-    print(run.stdout, end="")
-    check(run.returncode == 0 and not re.search(r"^[EW]:", run.stdout, re.M), f"lintian: {run.stdout}{run.stderr}")
+@pytest.mark.needs("lintian")
+def test_lintian(packages):
+    run = subprocess.run(["lintian", "--allow-root", "--tag-display-limit", "0", packages[0]], capture_output=True, text=True)
+    assert run.returncode == 0 and not re.search(r"^[EW]:", run.stdout, re.M), f"{run.stdout}{run.stderr}"
 
 
 # ---- in a Debian
@@ -376,18 +355,20 @@ def purges(machine, name):
     check(not machine.run("dpkg-query", "--show", "cegmandi").stdout, f"{name}: dpkg knows the package after the purge")
 
 
-def life(suite, room, kept, first, second):
+@pytest.mark.long
+@pytest.mark.needs("debootstrap", "systemd-nspawn", "nsenter")
+@pytest.mark.parametrize("suite", ["bookworm", "trixie"])
+@reports_all
+def test_life(packages, tmp_path, suite):
     """The life of the package in one Debian."""
-    folder = room / suite
-    fault = debian_machine.create(suite, folder, kept)
+    first, second = packages
+    fault = debian_machine.create(suite, tmp_path / suite, os.environ.get("CEGMANDI_DEBIANS"))
     if fault:
-        LEFT_OUT.append(f"{suite}, which debootstrap cannot create: {fault}")
-        return
-    machine = debian_machine.Machine(folder)
+        pytest.skip(f"debootstrap cannot create {suite}: {fault}")
+    machine = debian_machine.Machine(tmp_path / suite)
     try:
         if not machine.start():
-            LEFT_OUT.append(f"{suite}, whose systemd does not start here (see {folder}.log)")
-            return
+            pytest.skip(f"the systemd of {suite} does not start here (see {tmp_path / suite}.log)")
         machine.run("apt-get", "update", "-q")
         # In memory, because a busy disk takes minutes for the syncs of a thousand jobs.
         machine.run("mount", "--mkdir", "-t", "tmpfs", "-o", "size=200m,mode=0711", "tmpfs", SPOOL)
@@ -401,37 +382,6 @@ def life(suite, room, kept, first, second):
         purges(machine, suite)
         moves(machine, second, suite)
     except (OSError, subprocess.SubprocessError) as fault:
-        check(False, f"{suite}: {fault!r}: {machine.run('journalctl', '-u', 'cegmandi', '-n', '30', '--no-pager').stdout}")
+        check(False, f"{fault!r}: {machine.run('journalctl', '-u', 'cegmandi', '-n', '30', '--no-pager').stdout}")
     finally:
         machine.end()
-
-
-def main():
-    words = argparse.ArgumentParser(description=__doc__, formatter_class=argparse.RawDescriptionHelpFormatter)
-    words.add_argument("--programs")
-    words.add_argument("--gate")
-    words.add_argument("--kept")
-    words.add_argument("suites", nargs="*")
-    given = words.parse_args()
-    missing = [name for name in PROGRAMS if not path_of(name, given.programs).exists()]
-    if missing:
-        sys.exit(f"not built: {' '.join(missing)}: run ./build.py first")
-    room = Path(tempfile.mkdtemp(prefix="package-"))
-    refusals(room, given.programs)
-    first, second = packages(room, given.programs, given.gate)
-    linted(first)
-    lacking = debian_machine.lacks()
-    if lacking:
-        LEFT_OUT.append(f"fresh Debians: {lacking}")
-    for suite in [] if lacking else given.suites or ["bookworm", "trixie"]:
-        life(suite, room, given.kept, first, second)
-    if not FAULTS:
-        shutil.rmtree(room, ignore_errors=True)
-    for text in LEFT_OUT:
-        print(f"left out: {text}")
-    print(f"{COUNT} checks, {len(FAULTS)} failed")
-    return 1 if FAULTS else 0
-
-
-if __name__ == "__main__":
-    sys.exit(main())

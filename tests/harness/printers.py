@@ -1,0 +1,72 @@
+"""Network printers, simulated on the loopback address."""
+import socket
+import struct
+import threading
+
+from harness.checks import LONGEST
+
+
+class Printer(threading.Thread):
+    """Listens on the loopback address, and runs the given function for each connection."""
+
+    def __init__(self, serve, times=1, host="127.0.0.1"):
+        super().__init__(daemon=True)
+        family = socket.AF_INET6 if ":" in host else socket.AF_INET
+        self.listener = socket.create_server((host, 0), family=family)
+        self.listener.settimeout(LONGEST)
+        self.port = self.listener.getsockname()[1]
+        self.serve, self.times, self.got, self.accepted = serve, times, [], 0
+        self.start()
+
+    def run(self):
+        for _ in range(self.times):
+            connection, _ = self.listener.accept()
+            self.accepted += 1
+            connection.settimeout(LONGEST)
+            with connection:
+                try:
+                    self.got.append(self.serve(connection))
+                except OSError as error:
+                    self.got.append(error)
+        self.listener.close()
+
+    def all(self):
+        self.join(LONGEST)
+        return self.got
+
+
+def take(connection, most=1 << 30):
+    """The data on a connection up to its end, or up to `most` bytes of it."""
+    taken = bytearray()
+    while len(taken) < most and (piece := connection.recv(min(65_536, most - len(taken)))):
+        taken += piece
+    return bytes(taken)
+
+
+def reset(connection):
+    connection.setsockopt(socket.SOL_SOCKET, socket.SO_LINGER, struct.pack("ii", 1, 0))
+
+
+def reset_after(count):
+    """Resets the connection after `count` bytes have arrived."""
+
+    def serve(connection):
+        taken = take(connection, count)
+        reset(connection)
+        return taken
+
+    return serve
+
+
+def counting(mark):
+    """Reads everything. Returns how many bytes these are, and how often the mark is among them."""
+
+    def serve(connection):
+        taken, found, kept = 0, 0, b""
+        while piece := connection.recv(1 << 20):
+            taken += len(piece)
+            found += (kept + piece).count(mark)
+            kept = (kept + piece)[1 - len(mark):]
+        return taken, found
+
+    return serve
