@@ -1,7 +1,7 @@
 //! `ipp_codec_tests`: decodes and encodes the messages of the standard input, which follow one another.
 //!
 //! The file `stdin` has requests of lp(1), lpstat(1), lpq(1), cancel(1) and ipptool(1) of CUPS 2.4.2, and the answers of its cupsd(8), as
-//! they were sent. `stdout` is written by the model of `tests/ipp_codec.py`. That script and `bench/ipp_codec.py` also run the program on
+//! they were sent. `stdout` is written by the model of `tests/test_ipp_codec.py`. That script and `bench/ipp_codec.py` also run the program on
 //! a longer answer, `data/printer_attributes`.
 //!
 //! | Arguments | Output |
