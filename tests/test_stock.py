@@ -222,17 +222,45 @@ def test_filter(filters, row):
     same(f"how it runs: {said}", way, row.runs)
 
 
+@pytest.mark.parametrize("row", ROWS.backends, ids=lambda row: row.name)
+def test_backend(place, row):
+    missing = stock_backends.missing(place, row.name)
+    if missing:
+        pytest.skip(f"{row.name}: {missing}")
+    way, said = stock_backends.seen(place, row.name)
+    same(f"how it runs: {said}", way, row.runs)
+
+
+@pytest.mark.skipif(not os.access("/usr/lib/cups/backend/socket", os.X_OK), reason="it needs the backend socket (Debian's package cups)")
+def test_a_printer_that_answers(place):
+    """What it sends to the backend `socket` as a later stage is not added to the job."""
+    end, got = stock_backends.answered(place)
+    holds(f"{end}, {len(got)} bytes", end.startswith("9 ") and got == b"x" * 960_000)
+
+
+def test_filters_of_the_chains_are_those_of_convs(place):
+    used = {name for _, cells in ROWS.chains for cell in cells for name in stock_chains.filters_of(cell)}
+    same("the filters of the page", used, {name for _, _, name in stock_chains.conversions(place)} - {"-"})
+
+
+@pytest.mark.needs("cupsfilter")
 @reports_all
-def test_backends(place):
-    stock_backends.try_backends(place, ROWS)
+def test_chains_in_cups(place):
+    missing = stock_chains.missing(place, ROWS)
+    if missing:
+        pytest.skip(missing)
+    stock_chains.ask_cups(place, ROWS)
 
 
+@pytest.mark.parametrize("kind", stock_chains.KINDS)
 @reports_all
-def test_chains(place):
-    stock_chains.try_chains(place, ROWS)
+def test_chains(place, kind):
+    missing = stock_chains.missing(place, ROWS)
+    if missing:
+        pytest.skip(missing)
+    stock_chains.try_kind(place, ROWS, kind)
 
 
-@reports_all
 def test_all_are_in_the_page(place):
-    ROWS.unlisted(place.filters, {row.name for row in ROWS.filters})
-    ROWS.unlisted(place.backends, {row.name for row in ROWS.backends})
+    same("filters", ROWS.unlisted(place.filters, {row.name for row in ROWS.filters}), [])
+    same("backends", ROWS.unlisted(place.backends, {row.name for row in ROWS.backends}), [])

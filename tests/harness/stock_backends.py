@@ -23,6 +23,7 @@ SOCKETS = {
 PRINTERS = ("ipp", "ipps", "http", "https")
 # Those that print to a device, which a terminal represents.
 DEVICES = {"parallel": "parallel:DEVICE", "serial": "serial:DEVICE?baud=9600+bits=8+parity=none+flow=none"}
+HOME = os.path.expanduser("~root/BRF")
 LISTERS = ("driverless", "driverless-fax", "snmp")
 
 # The seconds that a backend has to report that there is no device.
@@ -107,16 +108,13 @@ def to_device(place, name):
 
 def to_home(place, name):
     """cups-brf writes into the folder BRF of the job's user, here root's, which is removed again."""
-    folder = os.path.expanduser("~root/BRF")
-    if os.path.exists(folder):
-        return None, f"{folder} exists, and is not changed"
     end, message = printed(place, name, "cups-brf:/", "root")
     got = b""
-    if os.path.isdir(folder):
-        for file in os.listdir(folder):
-            got += read(os.path.join(folder, file))
-            os.remove(os.path.join(folder, file))
-        os.rmdir(folder)
+    if os.path.isdir(HOME):
+        for file in os.listdir(HOME):
+            got += read(os.path.join(HOME, file))
+            os.remove(os.path.join(HOME, file))
+        os.rmdir(HOME)
     return end.startswith("9 ") and got == TEXT, f"{end}, {got!r:.100}, {message}"
 
 
@@ -131,45 +129,30 @@ def ended(words, environment):
         return None
 
 
+def missing(place, name):
+    """The requirement of a backend that is missing, or None."""
+    path = os.path.join(place.backends, name)
+    if not os.path.isfile(path):
+        return "it is not installed"
+    if not os.access(path, os.X_OK) or (name in (*PRINTERS, "cups-brf", "serial", "lpd") and os.geteuid()):
+        return "this user may not run it"
+    if name == "cups-brf" and os.path.exists(HOME):
+        return f"{HOME} exists, and is not changed"
+    return f"it needs {Cups.missing()}" if name in PRINTERS and Cups.missing() else None
+
+
 def seen(place, name):
-    """How a backend runs, and its messages; None if it cannot be tried here."""
+    """How a backend runs, and its messages."""
     if name in LISTERS:
         status = ended([os.path.join(place.backends, name)], {"PATH": "/usr/bin:/bin"})
         return LISTS, f"its list ends with {status}" if status is not None else f"its list takes more than {FEW_SECONDS} s"
-    if name in PRINTERS:
-        if Cups.missing():
-            return None, Cups.missing()
-        runs, said = to_printer(place, name)
-    elif name in SOCKETS:
-        runs, said = to_socket(place, name)
-    elif name in DEVICES:
-        runs, said = to_device(place, name)
-    elif name == "cups-brf":
-        runs, said = to_home(place, name)
-    else:
-        path, document = os.path.join(place.backends, name), place.write("document", TEXT)
-        status = ended([path, "1", "ann", "A page", "1", "", document], {"PATH": "/usr/bin:/bin", "DEVICE_URI": f"{name}://nothing/"})
-        runs, said = status == 0, f"without its device it ends with {status}"
-    return None if runs is None else AS_IS if runs else NO, said
-
-
-def try_backends(place, rows):
-    for row in rows.backends:
-        path = os.path.join(place.backends, row.name)
-        if not os.path.isfile(path):
-            rows.left_out(row.name, "it is not installed")
-            continue
-        if not os.access(path, os.X_OK) or (row.name in (*PRINTERS, "cups-brf", "serial", "lpd") and os.geteuid()):
-            rows.left_out(row.name, "this user may not run it")
-            continue
-        way, said = seen(place, row.name)
-        if way is None:
-            rows.left_out(row.name, said)
-        elif way == row.runs:
-            rows.agrees(row.name, f"{way}: {said}")
-        else:
-            rows.differs(row.name, f"runs {way}, and not {row.runs}: {said}")
-    try_answers(place, rows)
+    for names, way in ((PRINTERS, to_printer), (SOCKETS, to_socket), (DEVICES, to_device), (("cups-brf",), to_home)):
+        if name in names:
+            runs, said = way(place, name)
+            return AS_IS if runs else NO, said
+    path, document = os.path.join(place.backends, name), place.write("document", TEXT)
+    status = ended([path, "1", "ann", "A page", "1", "", document], {"PATH": "/usr/bin:/bin", "DEVICE_URI": f"{name}://nothing/"})
+    return AS_IS if status == 0 else NO, f"without its device it ends with {status}"
 
 
 ANSWER = b"@PJL USTATUS DEVICE\r\nCODE=10001\r\nONLINE=TRUE\r\n"
@@ -194,12 +177,8 @@ def answers(listener, got):
         got.append(repr(error).encode())
 
 
-def try_answers(place, rows):
-    """Whether a printer's answer to the backend `socket` as a later stage is added to the job."""
-    path = os.path.join(place.backends, "socket")
-    if not os.access(path, os.X_OK):
-        rows.left_out("socket, answered", "it is not installed")
-        return
+def answered(place):
+    """How a job ends whose later stage is the backend `socket`, to a printer that answers, and what the printer has got."""
     first = place.write("first", "#!/bin/sh\nhead -c 960000 /dev/zero | tr '\\0' x\n")
     os.chmod(first, 0o755)
     got = []
@@ -207,9 +186,7 @@ def try_answers(place, rows):
         printer = threading.Thread(target=answers, args=(listener, got))
         printer.start()
         uri = f"socket://127.0.0.1:{listener.getsockname()[1]}/?waiteof=true"
-        programs = f"filter first {first}\nbackend socket {path}\n"
+        programs = f"filter first {first}\nbackend socket {place.backends}/socket\n"
         end, message = place.run(programs, "text/plain document\n", "text/plain test/printer 1 first\n", uri, "test/printer", TEXT)
         printer.join()
-    job = b"".join(got)
-    whole = end.startswith("9 ") and job == b"x" * 960_000
-    rows.check("socket, answered", whole, True, f"prints only the job: {end}, {len(job)} bytes, {message}")
+    return f"{end}, {message}", b"".join(got)

@@ -9,7 +9,7 @@ import re
 import shutil
 import subprocess
 
-from harness.checks import Difference, LONGEST, until
+from harness.checks import check, compare, LONGEST, until
 from harness.service import Client
 from harness.stock_documents import boxes, OFFICE
 
@@ -157,72 +157,59 @@ def wrong_of(place, target, kind, filters, output):
     return "" if pages in (None, 1 if once else COPIES) else f"{pages} pages"
 
 
-def kinds():
-    """The kinds of documents, each with the number of its column."""
-    return [(kind, column) for column, names in enumerate(COLUMNS) for kind in names]
+# The kinds of documents, each with the number of its column.
+KINDS = {kind: column for column, names in enumerate(COLUMNS) for kind in names}
 
 
-def try_chains(place, rows):
-    print(f"the chains, by {'the service' if place.serves() else 'the shell, as the service is not built'}:", flush=True)
-    lines = conversions(place)
-    used = {name for _, cells in rows.chains for cell in cells for name in re.findall(r"`([^`]*)`", cell)}
-    rows.check("convs", sorted(used), sorted({name for _, _, name in lines} - {"-"}), "the page's filters are those of convs")
-    missing = sorted(name for name in used - {"texttoprn"} if not os.path.isfile(os.path.join(place.filters, name)))
-    if not missing:
-        ask_cups(place, rows, lines)
-    for kind, column in kinds():
-        if missing:
-            rows.left_out(kind, f"{', '.join(missing)} is not installed")
-            continue
-        try:
-            try_kind(place, rows, lines, kind, column)
-        except (Difference, OSError) as fault:
-            rows.differs(kind, f"{fault}")
+def filters_of(cell):
+    return re.findall(r"`([^`]*)`", cell)
 
 
-def ask_cups(place, rows, lines):
-    """Compares the page's filters with those that CUPS finds by the same files."""
-    if not shutil.which("cupsfilter"):
-        rows.left_out("cupsfilter", "it is not installed (Debian's package cups)")
-        return
+def missing(place, rows):
+    """The filters of the chains that are not installed, or None."""
+    used = {name for _, cells in rows.chains for cell in cells for name in filters_of(cell)} - {"texttoprn"}
+    absent = sorted(name for name in used if not os.path.isfile(os.path.join(place.filters, name)))
+    return f"it needs {', '.join(absent)}" if absent else None
+
+
+def settings_of(place):
+    """A configuration of CUPS with the office's files of types and conversions."""
     types = os.path.join(place.room, "data", "mime")
     os.makedirs(types)
     for name in ("types", "convs"):
         shutil.copy(os.path.join(place.office, name), os.path.join(types, f"office.{name}"))
     # CUPS knows only the types that a file of types names.
-    place.write("data/mime/more.types", "".join(f"{target}\n" for _, target, _ in lines))
-    settings = place.write("cups-files.conf", f"ServerRoot {place.room}\nDataDir {place.room}/data\nServerBin {os.path.dirname(place.filters)}\n")
-    for kind, column in kinds():
+    place.write("data/mime/more.types", "".join(f"{target}\n" for _, target, _ in conversions(place)))
+    return place.write("cups-files.conf", f"ServerRoot {place.room}\nDataDir {place.room}/data\nServerBin {os.path.dirname(place.filters)}\n")
+
+
+def ask_cups(place, rows):
+    """Compares the page's filters with those that CUPS finds by the same files."""
+    settings = settings_of(place)
+    for kind, column in KINDS.items():
         document = place.write("asked", OFFICE[kind][0])
         for target, cells in rows.chains:
-            filters = re.findall(r"`([^`]*)`", cells[column])
+            filters = filters_of(cells[column])
             # It knows no filters except CUPS's, and counts none as one of its own.
             if filters and "texttoprn" not in filters:
                 words = ["cupsfilter", "-c", settings, "--list-filters", "-m", target, document]
-                filters_found = subprocess.run(words, capture_output=True, text=True, timeout=LONGEST).stdout.split()
-                rows.check("cupsfilter", filters_found, filters, f"{kind} to {target}")
+                compare(f"{kind} to {target}", subprocess.run(words, capture_output=True, text=True, timeout=LONGEST).stdout.split(), filters)
 
 
-def try_kind(place, rows, lines, kind, column):
+def try_kind(place, rows, kind):
+    """Prints a document of a kind on queues of each target."""
+    lines = conversions(place)
     document, media = OFFICE[kind]
     spool = ChainSpool(place, kind)
     results = spool.print([target for target, _ in rows.chains], document)
     for number, ((target, cells), (reply, end)) in enumerate(zip(rows.chains, results), 1):
-        cell, name = cells[column], f"{kind}, {target}"
-        filters = re.findall(r"`([^`]*)`", cell)
-        wanted = f"ok type {media} unprintable" if cell == "none" else f"ok type {media} stages {len(filters) + 1}"
-        if reply != wanted:
-            rows.differs(name, f"{reply}, and not {wanted}")
-        elif cell == "none":
-            rows.agrees(kind, f"{target}: no chain")
-        elif not leads(lines, media, target, filters):
-            rows.differs(name, f"convs has no way by {filters}")
-        else:
-            output = spool.printed(number)
-            wrong = wrong_of(place, target, kind, filters, output) if end.startswith("9 ") else f"state {end}"
-            pages = pages_of(place, output)
-            said = f"{target} by {', '.join(filters) or 'no filter'}: {len(output)} bytes{f', {pages} pages' if pages else ''}"
-            if wrong:
-                rows.differs(name, wrong)
-            else:
-                rows.agrees(kind, said)
+        cell = cells[KINDS[kind]]
+        filters = filters_of(cell)
+        compare(f"{target}: the reply", reply, f"ok type {media} unprintable" if cell == "none" else f"ok type {media} stages {len(filters) + 1}")
+        if cell == "none" or "unprintable" in reply:
+            continue
+        check(leads(lines, media, target, filters), f"{target}: convs has no way by {filters}")
+        output = spool.printed(number)
+        wrong = wrong_of(place, target, kind, filters, output) if end.startswith("9 ") else f"state {end}"
+        check(not wrong, f"{target}: {wrong}")
+        print(f"{target} by {', '.join(filters) or 'no filter'}: {len(output)} bytes, {pages_of(place, output) or 'no'} pages")

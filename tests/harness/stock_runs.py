@@ -5,7 +5,6 @@ import shutil
 import subprocess
 from dataclasses import dataclass
 
-from harness.checks import check
 from harness.programs import SERVICE, SHELL, TOOLS
 
 KEEP = """#!/bin/sh
@@ -43,27 +42,10 @@ class Rows:
         self.backends = [Backend(plain(cells[0]), plain(cells[1]), cells[2]) for cells in cells_of(parts["Backends"])]
         self.chains = [(plain(cells[0]), cells[1:]) for cells in cells_of(parts["An office's documents"])]
 
-    def agrees(self, name, what):
-        print(f"{name:20} {what}", flush=True)
-
-    def differs(self, name, what):
-        check(False, f"{name}: it differs from docs/STOCK.md: {what}")
-
-    def check(self, name, found, wanted, what):
-        if found == wanted:
-            self.agrees(name, what)
-        else:
-            self.differs(name, f"{what}: {found!r:.200}, and not {wanted!r:.200}")
-
-    def left_out(self, name, why):
-        print(f"{name:20} left out: {why}", flush=True)
-
     def unlisted(self, folder, names):
-        """Reports the files of the folder that the page does not have."""
+        """The files of the folder that the page does not have."""
         there = sorted(os.listdir(folder)) if os.path.isdir(folder) else []
-        for name in there:
-            if os.path.isfile(os.path.join(folder, name)) and name not in names and not name.endswith(".sh"):
-                self.differs(name, "it is not in the page")
+        return [name for name in there if os.path.isfile(os.path.join(folder, name)) and name not in names and not name.endswith(".sh")]
 
 
 def cells_of(part):
