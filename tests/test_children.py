@@ -481,7 +481,7 @@ def test_devices(folder):
     folder.program("backend", "daemon", "#!/bin/sh\necho 'file daemon:/ \"A\" \"B\"'\nsleep 600 &\necho $! >>\"$0.pids\"\nsleep 0.3\necho 'file daemon:/late \"A\" \"B\"'\n")
     folder.side()
     for root in ("spool", "absent"):
-        run = subprocess.run([*folder.words()[:1], "--root", root, "--programs", "programs", "--devices"], cwd=folder.path, input=b"jobs\n", capture_output=True, timeout=300)
+        run = subprocess.run([*folder.words()[:1], "--root", root, "--programs", "programs", "--devices"], cwd=folder.path, input=b"jobs\n", capture_output=True, timeout=3 * LONGEST)
         same("devices", (run.returncode, run.stderr), (0, b""))
         wanted = b'direct one:/x "A B" "C" "MFG:X;" ""\nnetwork  a "Unknown" "A"\nfile c "Unknown" "C"\nfile much:/early "A" "B"\nfile endless:/ "A" "B"\n'
         wanted += b'file daemon:/ "A" "B"\nfile daemon:/late "A" "B"\n'

@@ -19,7 +19,7 @@ from pathlib import Path
 import pytest
 
 from harness import journal
-from harness.checks import check, reports_all
+from harness.checks import check, LONGEST, reports_all
 from harness.programs import SHELL
 from harness.service import Client
 
@@ -252,7 +252,7 @@ def continues(place, wanted):
     """The shell opens a copy, finds the wanted jobs and adds one. The documents are in the file. Returns the number of wanted jobs."""
     file = (place / "spool.disk").read_bytes()
     script = 'create hall bo "later" 1 50 ""\njobs\n'
-    run = subprocess.run([SHELL, "--root", place], input=script, capture_output=True, text=True, timeout=120)
+    run = subprocess.run([SHELL, "--root", place], input=script, capture_output=True, text=True, timeout=LONGEST)
     found = {int(line.split()[1]) for line in run.stdout.splitlines() if line.startswith("job ")}
     check(run.returncode == 0 and run.stdout.startswith("ok job "), f"the shell: {run.stdout[:300]}{run.stderr[:300]}")
     check(wanted <= found, f"jobs are missing in a copy: {sorted(wanted - found)[:9]}")

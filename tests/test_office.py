@@ -90,7 +90,7 @@ def test_print_letter_to_file(room):
 def test_serve_an_office(room):
     folder = os.path.join(room, "served")
     words = [os.path.join(ROOT, "examples/office/serve.sh"), folder]
-    ran = subprocess.run(words, capture_output=True, timeout=120)
+    ran = subprocess.run(words, capture_output=True, timeout=LONGEST)
     compare("the status of serve.sh", (ran.returncode, ran.stderr), (0, b""))
     compare("the replies of the service", ran.stdout.decode(), SERVED)
     with open(os.path.join(folder, "hall"), "rb") as file:
@@ -260,7 +260,7 @@ def test_print_pages(room):
     folder = os.path.join(room, "pages")
     example = os.path.join(ROOT, "examples/office")
     words = [os.path.join(example, "pages.sh"), folder, os.path.join(example, "letter.txt"), "2"]
-    ran = subprocess.run(words, capture_output=True, timeout=300)
+    ran = subprocess.run(words, capture_output=True, timeout=3 * LONGEST)
     compare("the status of pages.sh", (ran.returncode, ran.stderr), (0, b""))
     ended = [line.split()[2:4] for line in ran.stdout.decode().splitlines() if line.startswith("job ")]
     compare("the jobs of pages.sh", ended, [[kind, "9"] for kind in PAGES])

@@ -14,12 +14,11 @@ import tempfile
 import pytest
 
 from harness import journal
-from harness.checks import same as check
+from harness.checks import LONGEST as SECONDS, same as check
 from harness.programs import is_sanitized, SHELL
 
 pytestmark = pytest.mark.needs("spool_shell")
 
-SECONDS = 120  # a program that takes longer hangs
 LEAST, MOST = 4_096, 1 << 30  # the sizes of a spool
 LONGEST = 64  # the bytes of the name of a folder
 

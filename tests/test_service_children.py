@@ -5,7 +5,7 @@ import time
 
 import pytest
 
-from harness.checks import holds, same, until
+from harness.checks import holds, LONGEST, same, until
 from harness.child_folder import SIDE_END
 from harness.large_run import TYPE
 from harness.programs import SHELL
@@ -240,7 +240,7 @@ def test_requests_as_quick_as_in_the_shell(folder):
     folder.backend("asks", ASKS_MUCH)
     words = [*folder.before, SHELL, "--root", folder.at("spool"), "--size", str(folder.size), "--programs", folder.at("programs")]
     script = f'queue q asks:/ {TYPE} abort-job\ncreate q ann "" 1 50 ""\nclose 1 f\ndrain 2\njobs\n'
-    ran = subprocess.run(words, input=script, capture_output=True, text=True, timeout=120)
+    ran = subprocess.run(words, input=script, capture_output=True, text=True, timeout=LONGEST)
     holds(f"the job of the shell: {ran.stdout}", ran.returncode == 0 and "job 1 q 9 " in ran.stdout)
     by_shell = took(folder)
     for name in os.listdir(folder.at("spool")):

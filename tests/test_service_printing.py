@@ -8,7 +8,7 @@ import time
 
 import pytest
 
-from harness.checks import Difference, holds, same, until
+from harness.checks import Difference, holds, LONGEST, same, until
 from harness.large_run import TYPE
 from harness.programs import SHELL
 from harness.service import Client, is_there, KEEPS, kept, send_piece, started
@@ -104,7 +104,7 @@ def test_children_as_in_the_shell(folder):
     lines, jobs = ends_script()
     words = [*folder.before, SHELL, "--root", folder.at("spool"), "--size", str(folder.size), *folder.words, "--programs", folder.at("programs")]
     script = "".join(lines) + "drain 20\njobs\nqueues\n"
-    ran = subprocess.run(words, input=script, capture_output=True, text=True, timeout=120)
+    ran = subprocess.run(words, input=script, capture_output=True, text=True, timeout=LONGEST)
     same("the shell", ran.returncode, 0)
     by_shell = results(folder)
     rows = [line for line in ran.stdout.splitlines() if line.startswith(("job ", "queue "))]

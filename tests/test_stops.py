@@ -216,7 +216,7 @@ def write_case(folder, name, version, fuse, done, after):
 
 def served(program, folder):
     """The results of the stored scripts of a folder: those that pass, and the other lines."""
-    done = subprocess.run([program, folder], capture_output=True, text=True, timeout=600)
+    done = subprocess.run([program, folder], capture_output=True, text=True, timeout=5 * LONGEST)
     lines = done.stdout.splitlines()
     return [line[:-3] for line in lines if line.endswith(" ok")], [line for line in lines if not line.endswith(" ok")]
 

@@ -4,7 +4,7 @@ import re
 import subprocess
 import tempfile
 
-from harness.checks import same, until
+from harness.checks import LONGEST, same, until
 from harness.programs import SHELL
 
 TYPES = "a/a txt\n"
@@ -96,7 +96,7 @@ class Folder:
     def run(self, script, status=0, log=None, **how):
         """The replies to a script. Standard error must be `log`, or else have only lines about stages and programs."""
         text = script if isinstance(script, bytes) else "".join(line + "\n" for line in script).encode()
-        run = subprocess.run(self.words(), input=text, cwd=self.path, stdout=subprocess.PIPE, stderr=subprocess.PIPE, timeout=120, **how)
+        run = subprocess.run(self.words(), input=text, cwd=self.path, stdout=subprocess.PIPE, stderr=subprocess.PIPE, timeout=LONGEST, **how)
         same("status", run.returncode, status)
         lines = run.stderr.decode().splitlines()
         same("standard error", lines, log if log is not None else [line for line in lines if LOG_LINE.match(line)])

@@ -132,7 +132,7 @@ class Cups:
     def run(self, *words):
         """Runs one of CUPS's programs for this CUPS, without contacting any other CUPS of the machine."""
         how = {"PATH": "/usr/sbin:/usr/bin:/sbin:/bin", "CUPS_SERVER": self.socket, "HOME": self.folder, "LANG": "C"}
-        ran = subprocess.run(words, env=how, capture_output=True, text=True, timeout=60)
+        ran = subprocess.run(words, env=how, capture_output=True, text=True, timeout=LONGEST)
         if ran.returncode:
             raise OSError(f"{words}: {ran.stderr}")
         return ran.stdout

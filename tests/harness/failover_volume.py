@@ -14,7 +14,7 @@ import subprocess
 import tempfile
 import time
 
-from harness.checks import Difference, until
+from harness.checks import Difference, LONGEST, until
 
 # The bricks' address, which is reached only within these namespaces: the system refuses bricks with the address 127.0.0.1.
 BRICKS = "10.77.0.1"
@@ -54,7 +54,7 @@ INTO = [*NAMESPACES, "sh", "-c", '"$@"; exit $?', "sh"]
 def run(*words, within=None):
     """Runs a program that must succeed, and returns its output. It may run in the network of a host."""
     words = [*(["nsenter", f"--net=/proc/{within}/ns/net"] if within else []), *words]
-    done = subprocess.run(words, capture_output=True, text=True, timeout=120)
+    done = subprocess.run(words, capture_output=True, text=True, timeout=LONGEST)
     if done.returncode:
         raise Difference(f"{' '.join(words)} ended with {done.returncode}: {done.stdout}{done.stderr}")
     return done.stdout

@@ -71,7 +71,7 @@ class ChainSpool:
 
     def print_by_shell(self, commands):
         script = b"".join(b"".join(job) for job in commands) + b"drain 100\njobs\n"
-        lines = subprocess.run(self.words, input=script, capture_output=True, timeout=600).stdout.decode().splitlines()
+        lines = subprocess.run(self.words, input=script, capture_output=True, timeout=5 * LONGEST).stdout.decode().splitlines()
         rows = {int(row.split()[1]): row for row in lines if row.startswith("job ")}
         return [(lines[4 * number - 1], state_of(rows.get(number, ""))) for number in range(1, len(commands) + 1)]
 

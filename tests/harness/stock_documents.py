@@ -7,6 +7,8 @@ import struct
 import subprocess
 import zlib
 
+from harness.checks import LONGEST
+
 TEXT = b"Dear Bo,\ncome. Ann\n"
 PAGE_OF_THE_WEB = b"<!DOCTYPE html>\n<html><body><p>Dear Bo,</p><p>come. Ann</p></body></html>\n"
 BANNER = b"#PDF-BANNER\nTemplate default-testpage.pdf\nShow printer-name\n"
@@ -142,7 +144,7 @@ def boxes(room, output):
     with open(path, "wb") as file:
         file.write(output)
     words = ["gs", "-q", "-dNOPAUSE", "-dBATCH", "-dSAFER", "-sDEVICE=bbox", path]
-    lines = subprocess.run(words, capture_output=True, timeout=300).stderr.splitlines()
+    lines = subprocess.run(words, capture_output=True, timeout=3 * LONGEST).stderr.splitlines()
     return [line.split()[1:] for line in lines if line.startswith(b"%%BoundingBox:")]
 
 

@@ -5,6 +5,7 @@ import shutil
 import subprocess
 from dataclasses import dataclass
 
+from harness.checks import LONGEST
 from harness.programs import SERVICE, SHELL, TOOLS
 
 KEEP = """#!/bin/sh
@@ -114,7 +115,7 @@ class Place:
             script += b"send 1 %d\n%s\n" % (len(piece), piece)
         script += b"close 1 page.document\ndrain 9\njobs\nqueues\n"
         try:
-            ran = subprocess.run(words, input=script, capture_output=True, timeout=300)
+            ran = subprocess.run(words, input=script, capture_output=True, timeout=3 * LONGEST)
         except subprocess.TimeoutExpired:
             return "no end", ""
         lines = ran.stdout.decode(errors="replace").splitlines()
@@ -146,5 +147,5 @@ class Place:
         path = self.write("document", document)
         variables = {"CHARSET": "utf-8", "CONTENT_TYPE": source, "FINAL_CONTENT_TYPE": target, "DEVICE_URI": "keep:/", "LANG": "C"}
         variables |= {"PATH": "/usr/bin:/bin", "PRINTER": "stock", "TMPDIR": self.room}
-        ran = subprocess.run([self.wrapper, name, "1", "ann", "A page", "1", "", path], env=variables, capture_output=True, timeout=300)
+        ran = subprocess.run([self.wrapper, name, "1", "ann", "A page", "1", "", path], env=variables, capture_output=True, timeout=3 * LONGEST)
         return ran.stdout

@@ -6,8 +6,9 @@ import os
 import re
 import subprocess
 
+from harness.checks import LONGEST
+
 SHOWN = 200_000  # bytes of a write that strace shows
-SECONDS = 120
 
 # The calls whose text is the data that is read or written.
 DATA = ("read", "write", "pread64", "pwrite64", "recvfrom", "sendto")
@@ -61,7 +62,7 @@ def run(words, cwd, script, trace, names, inject=None):
     if inject:
         name, number, error = inject
         strace += ["-e", f"inject={name}:error={error}:when={number}"]
-    done = subprocess.run([*strace, *words], cwd=cwd, input=script, capture_output=True, timeout=SECONDS)
+    done = subprocess.run([*strace, *words], cwd=cwd, input=script, capture_output=True, timeout=LONGEST)
     counts = {}
     with open(trace, encoding="ascii") as file:
         lines = [line.rstrip("\n") for line in file]
