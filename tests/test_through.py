@@ -6,8 +6,8 @@
 3. Files that are no chain, and programs that cannot be started: then none is.
 4. SIGTERM to the group ends the programs, and the chain after them, also if one ignores it; SIGKILL ends all.
 5. A network printer behind `appsocket` that resets the connection, cannot be reached, or takes everything.
-6. Rasters of 20 pages at 600 dpi, or with --long of 200, through the filters of CUPS for PWG rasters, PCL and labels, to a network printer
-   that counts pages. With --long the first passes 7 GB.
+6. Rasters of 20 pages at 600 dpi, with --long of 200, or of 2 with an address sanitizer, through the filters of CUPS for PWG rasters, PCL
+   and labels, to a network printer that counts pages. With --long the first passes 7 GB.
 7. A service whose queue prints by a chain: a raster longer than a document may be is printed, a job that is canceled ends all programs of its
    chain before the next one prints, and a filter that fails leaves the verdict to the policy of the queue.
 """
@@ -23,7 +23,7 @@ import pytest
 
 from harness.checks import compare, LONGEST, reports_all, same, until
 from harness.printers import counting, Printer, reset_after, take
-from harness.programs import ROOT, TOOLS
+from harness.programs import is_sanitized, ROOT, TOOLS
 from harness.service import Client
 
 pytestmark = pytest.mark.needs("spool_tools")
@@ -34,6 +34,10 @@ DRIVERS = "/usr/lib/cups/daemon/cups-driverd"
 
 JOB = ["7", "ann", "First page", "3", "media=A4"]
 DPI = 600
+
+# With an address sanitizer `appsocket` sends some megabytes in a second of the processor.
+SHARE = 10 if is_sanitized(TOOLS) else 1
+MANY = 50_000_000 // SHARE
 
 # The start of a program that shows that it ran.
 RAN = '#!/bin/sh\ntouch "$0.ran"\n'
@@ -361,14 +365,14 @@ NETWORK = {"takes all": (take, 0, "ended with status 0", ""),
 @pytest.mark.parametrize("serve, status, end, text", NETWORK.values(), ids=NETWORK)
 def test_a_network_printer(chain, serve, status, end, text):
     it = chain()
-    it.filter("first", "#!/bin/sh\nexec head -c 50000000 /dev/zero\n")
+    it.filter("first", f"#!/bin/sh\nexec head -c {50_000_000 if status else MANY} /dev/zero\n")
     it.lines.append(f"backend appsocket {TOOLS} appsocket")
     printer = Printer(serve)
     out, errors, ended = it.run(uri=f"raster://127.0.0.1:{printer.port}/?waiteof=true")
     same("its end", (out, ended), (b"", status))
     wanted = text + re.escape(f"DEBUG: first {end}\nDEBUG: appsocket ended with status {status}\n")
     same(f"its lines {errors}", re.fullmatch(wanted, errors) is not None, True)
-    same("the bytes", [len(got) for got in printer.all()], [100_000 if status else 50_000_000])
+    same("the bytes", [len(got) for got in printer.all()], [100_000 if status else MANY])
 
 
 def test_a_printer_that_cannot_be_reached(chain):
@@ -416,7 +420,7 @@ FORMATS = {
 @pytest.mark.parametrize("name", FORMATS)
 def test_rasters(chain, is_long, name):
     program, model, size, mark = FORMATS[name]
-    pages = 200 if is_long else 20
+    pages = 200 if is_long else 20 // SHARE
     if is_long and name == "PWG":
         size = (*size[:2], 8, 18, *size[4:])
     it = chain()
