@@ -118,6 +118,8 @@ def test_watch_changes(folder):
     folder.start()
     client, watcher = Client(folder), Client(folder)
     folder.queue(client, "q")
+    # In the same turn the watcher would be sent the new queue.
+    time.sleep(0.2)
     same("watch", watcher.ask("watch\n"), "ok")
     same("nothing has changed", watcher.says_nothing(), True)
     folder.queue(client, "other")
