@@ -6,7 +6,8 @@ It runs crates/spool_service/out/spool_service (built by `rt run` in that crate)
 - `replies`: how long a client waits for a listing while eight queues print, with children that take 5 s (target: 99 of 100 under 50 ms),
   and while eight queues print jobs of 10 ms in turn;
 - `accepted`: jobs of a KiB that are created, sent and closed per second, by 1 to 16 clients on one queue and on eight, while nothing
-  prints. Each is three events, so six syncs. Alternately with them, TIMES times, the same jobs are sent to a private CUPS
+  prints. Each is three events, so six syncs. With `together` a client sends the document and the close without waiting in between, as
+  `spool` does, so a job is four syncs. Alternately with them, TIMES times, the same jobs are sent to a private CUPS
   (tests/harness/cups.py), if Debian's package `cups` is installed and the script runs as root. The script prints the median of each and the
   ratio of the service to CUPS (target: 5 times CUPS with syncs, and at least as much as CUPS without). CUPS's clients keep their
   connection, as those of the service do, and a job is one request, less than the service's three. The script sets two directives of CUPS,
@@ -105,19 +106,23 @@ def ask_for(service, seconds):
 # ---- accepted and printed
 
 
-def submit_some(service, first, count):
+def submit_some(service, first, count, together):
     client = Client(service.folder)
     for number in range(first, first + count):
-        client.submit(service.names[number % len(service.names)], DOCUMENT)
+        job = client.create(service.names[number % len(service.names)])
+        if together:
+            client.finish_at_once(job, DOCUMENT)
+        else:
+            client.finish(job, DOCUMENT)
     client.close()
 
 
-def accepted_by_service(queues, clients):
+def accepted_by_service(queues, clients, together=False):
     """Jobs per second that the service accepts."""
     with RunningService(queues, 0) as service:
         service.say_to_all("disable")
         share = ACCEPTED // clients
-        return ACCEPTED / timed(lambda: at_once([lambda n=n: submit_some(service, n * share, share) for n in range(clients)]))
+        return ACCEPTED / timed(lambda: at_once([lambda n=n: submit_some(service, n * share, share, together) for n in range(clients)]))
 
 
 def accepted_by_cups(queues, clients, syncs, interval, program=False):
@@ -145,6 +150,7 @@ def accepted_by_cups(queues, clients, syncs, interval, program=False):
 # One row of the comparison: its name, and the jobs per second that it accepts from `clients` clients on `queues` queues.
 WAYS = {
     "the service": accepted_by_service,
+    "the service, together": lambda queues, clients: accepted_by_service(queues, clients, True),
     "CUPS, no syncs": lambda queues, clients: accepted_by_cups(queues, clients, False, 30),
     "CUPS, syncs": lambda queues, clients: accepted_by_cups(queues, clients, True, 30),
     "CUPS, syncs at once": lambda queues, clients: accepted_by_cups(queues, clients, True, 0),
@@ -157,7 +163,7 @@ def accepted():
     missing = Cups.missing()
     if missing:
         print(f"  left out: {missing}")
-    ways = {name: way for name, way in WAYS.items() if not missing or name == "the service"}
+    ways = {name: way for name, way in WAYS.items() if not missing or name.startswith("the service")}
     for queues in QUEUES:
         found = {name: [[] for _ in CLIENTS] for name in ways}
         for _ in range(TIMES):

@@ -131,6 +131,14 @@ class Client:
         reply = self.ask(f"close {job} {name}\n")
         holds(f"close: {reply}", reply.startswith("ok type ") and reply.endswith(f" stages {stages}"))
 
+    def finish_at_once(self, job, text, stages=1, name="f"):
+        """Sends a job's document and closes it, without waiting in between."""
+        data = text.encode()
+        self.say(b"send %d %d\n" % (job, len(data)) + data + b"\nclose %d " % job + name.encode() + b"\n")
+        same("send", self.reply(), f"ok bytes {len(data)}")
+        reply = self.reply()
+        holds(f"close: {reply}", reply.startswith("ok type ") and reply.endswith(f" stages {stages}"))
+
     def submit(self, queue, text="x\n", title="t", stages=1, name="f"):
         job = self.create(queue, title)
         self.finish(job, text, stages, name)
