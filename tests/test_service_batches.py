@@ -2,7 +2,6 @@
 
 The service's calls are observed by strace, which also kills it at one of them.
 """
-import os
 import re
 import signal
 import subprocess
