@@ -64,25 +64,13 @@ BUDGET = 30
 # changed.
 REFUSED = re.compile(r'^error: (?:AllocError|AllocFailed \{ \.\. \}|(?:\w+\()*Memory\)*|OutOfMemory|".*")$', re.M)
 
-# Tests that compare the end of a run or the bytes that it read, with out of memory as one more possible answer: their own assertion fails
-# then. And one test whose answer is the same whatever stops the run.
-BY_ANSWER = {
-    "a_checkpoint_raises_an_old_spool",
-    "a_dead_spool_leaves_the_bytes_of_the_reader",
-    "driven_until_it_is_full",
-    "nothing_is_driven_on_a_dead_spool",
-    "parts_are_read",
-    "three_thousand_events_are_kept",
-    "write_that_fails_leaves_any_bytes",
-}
-WHATEVER_STOPS_IT = {"cut_at_each_call"}
+# Tests that compare the end of a run, with out of memory as one more possible answer: their own assertion fails then.
+BY_ANSWER = {"driven_until_it_is_full", "write_that_fails_leaves_any_bytes"}
 
 
 def is_right(name, status, text):
     """Whether a test may end like this after an allocation was refused."""
-    if status == 0:
-        return name in WHATEVER_STOPS_IT
-    return bool(REFUSED.search(text)) or name in BY_ANSWER and "assertion" in text
+    return status != 0 and (bool(REFUSED.search(text)) or name in BY_ANSWER and "assertion" in text)
 
 
 def program_of(crate):

@@ -1,19 +1,13 @@
-//! Tests of the crates on disks: devices, their images, the journal, the areas of a spool and documents.
+//! Tests of devices, of their images, and of the calls that make, open and read a spool.
 //!
-//! The bytes of a device are specified by examples (`decision_examples`). The tests here run disks that fail after each call in
-//! turn, calls that allocate memory, and count the calls of a device.
+//! The bytes of a device are specified by examples (`decision_examples`). `tests/test_images.py` compares the bytes of whole spools, and the
+//! stored scripts run open spools on disks that fail after each call in turn.
 #![tactic(auto)]
 
-#[cfg(test)]
-mod areas;
-#[cfg(test)]
-mod checkpoints;
 #[cfg(test)]
 mod disks;
 #[cfg(test)]
 mod images;
-#[cfg(test)]
-mod joined;
 #[cfg(test)]
 mod journals;
 #[cfg(test)]

@@ -20,8 +20,3 @@ pub fn opened<D: Disk + Drop>(alloc: Global, disk: D) -> Result<Opened<D>, Fail>
         Err(error) => Err(Fail::from(error.fault)),
     }
 }
-
-/// Returns whether `bytes` contains `wanted` at offset `at`.
-pub fn have_at(bytes: &[u8], at: usize, wanted: &[u8]) -> bool {
-    at <= bytes.len() && wanted.len() <= bytes.len() - at && &bytes[at..at + wanted.len()] == wanted
-}

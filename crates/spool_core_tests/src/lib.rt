@@ -1,18 +1,12 @@
-//! Tests of the tables and spools of `job_table` and `spool_core`: whole runs, runs cut by a device that fails, listings that are
-//! loaded, the calls of a checkpoint, spools of an older version, and the texts that a service sends about a table. Events and
-//! rows are encoded in hexadecimal.
+//! Tests of the tables and spools of `job_table` and `spool_core`: runs of events, batches, and the texts that a service sends about a
+//! table. Events and rows are encoded in hexadecimal.
+//!
+//! The stored scripts test checkpoints, spools of an older version, and disks that fail. `decision_examples` has the order of waiting
+//! jobs, and `tests/test_images.py` compares listings that are loaded, and documents, with the bytes of a second encoder.
 #![tactic(auto)]
 
 #[cfg(test)]
 mod batches;
-#[cfg(test)]
-mod checkpoints;
-#[cfg(test)]
-mod indexes;
-#[cfg(test)]
-mod listings;
-#[cfg(test)]
-mod parts;
 #[cfg(test)]
 mod runs;
 #[cfg(test)]
@@ -21,5 +15,3 @@ mod spelled;
 mod spools;
 #[cfg(test)]
 mod texts;
-#[cfg(test)]
-mod versions;

@@ -1,12 +1,10 @@
 //! Lists of events that are replayed, and driven on a spool.
 
-use crate::spelled::{CLOSE, CREATE, QUEUE, bytes_of, events, listing, lists, push_event};
-use crate::spools::{Device, OPENING, closed, driven, drives, made, open, settled};
-use spool_core::{Driven, Ending, Spool, drive, replay};
-use spool_disk::{FuseDisk, MemDisk};
-use spool_types::Event;
+use crate::spelled::{CLOSE, CREATE, QUEUE, bytes_of, events, listing, lists};
+use crate::spools::{Device, closed, driven, made, open};
+use spool_core::{Driven, Spool, replay};
+use spool_disk::MemDisk;
 use std::alloc::Global;
-use std::process::Abort;
 use std::test::*;
 
 // The queue twice, its job, the end of the job's document, and a clock.
@@ -17,10 +15,9 @@ const LISTED: &str = "40 00000001 0000000000000000 \
     41 000171 0003733a2f 0003612f62 00 0000001e 0005 0000 0000 01 00 0000 00 00 \
     42 00000001 000171 000175 0000 0001 32 0000 01 0003612f62 00 00000000 00000000 00000000 01 00 0000000000000000 00 00";
 
-// Returns the rows after the first events of the plan.
-fn rows_after(alloc: Global, count: usize) -> Result<Vec<u8>, Fail> {
-    let count = count.min(PLAN.len());
-    let table = replay(alloc, events(alloc, &PLAN[..count])?)?;
+// Returns the rows after the plan.
+fn planned_rows(alloc: Global) -> Result<Vec<u8>, Fail> {
+    let table = replay(alloc, events(alloc, &PLAN)?)?;
     let rows = listing(alloc, &table);
     drop(table);
     Ok(rows?)
@@ -28,14 +25,14 @@ fn rows_after(alloc: Global, count: usize) -> Result<Vec<u8>, Fail> {
 
 #[test]
 fn refused_events_are_skipped(rt: HostRuntime) -> Result<(), Fail> {
-    let rows = rows_after(rt.alloc(), 5)?;
+    let rows = planned_rows(rt.alloc())?;
     let wanted = bytes_of(rt.alloc(), LISTED)?;
     assert_eq!(rt; rows.as_slice(), wanted.as_slice());
     Ok(())
 }
 
-/// Returns in words the replies to events on a spool, and why the run ended.
-pub fn told(alloc: Global, spool: &mut Spool<Device>, texts: &[&str]) -> Result<String, Fail> {
+// Returns in words the replies to events on a spool, and why the run ended.
+fn told(alloc: Global, spool: &mut Spool<Device>, texts: &[&str]) -> Result<String, Fail> {
     let driven = driven(alloc, spool, texts)?;
     told_of(alloc, &driven)
 }
@@ -78,80 +75,6 @@ fn driven_until_it_is_full(rt: HostRuntime) -> Result<(), Fail> {
         told.as_str(),
         "[Ok(Done), Err(QueueExists), Ok(Number(JobId { number: 1 })), Ok(Done)] Full"
     );
-    Ok(())
-}
-
-// Drives events on a spool with a device that fails within the second event, and then on the dead spool, which shows the rows
-// after the first event.
-fn dies<R: Abort>(
-    rt: &R,
-    alloc: Global,
-    spool: &mut Spool<Device>,
-    rows: &[u8],
-) -> Result<(), Fail> {
-    assert_eq!(rt;
-        drives(alloc, spool, &[QUEUE, CREATE, CLOSE])?,
-        (1, Ending::Disk)
-    );
-    assert!(rt; spool.is_dead());
-    assert_eq!(rt; drives(alloc, spool, &PLAN)?, (0, Ending::Dead));
-    assert_eq!(rt; drives(alloc, spool, &[])?, (0, Ending::End));
-    assert!(rt; lists(alloc, spool.table(), rows)?);
-    Ok(())
-}
-
-// Returns the disk of a spool that died in this way. An event takes four calls.
-fn left_by_the_dead<R: Abort>(rt: &R, alloc: Global, rows: &[u8]) -> Result<MemDisk, Fail> {
-    let mut spool = open(alloc, made(alloc, 198)?, OPENING + 6)?;
-    let outcome = dies(rt, alloc, &mut spool, rows);
-    let disk = closed(spool);
-    outcome?;
-    Ok(disk)
-}
-
-#[test]
-fn nothing_is_driven_on_a_dead_spool(rt: HostRuntime) -> Result<(), Fail> {
-    let rows = rows_after(rt.alloc(), 1)?;
-    let disk = left_by_the_dead(&rt, rt.alloc(), &rows)?;
-    assert!(rt; finds(rt.alloc(), disk, &rows)?.0);
-    Ok(())
-}
-
-// Drives the plan with a device that fails after `calls` calls, including those of the opening. Returns the disk that is left,
-// and the number of answered events.
-fn cut(alloc: Global, calls: u64) -> Result<(MemDisk, usize), Fail> {
-    match Spool::open(alloc, FuseDisk::new(made(alloc, 198)?, calls)) {
-        Ok(mut spool) => {
-            let driven = drives(alloc, &mut spool, &PLAN);
-            let disk = closed(spool);
-            Ok((disk, driven?.0))
-        }
-        Err(error) => Ok((error.disk.into_disk(), 0)),
-    }
-}
-
-// Returns whether an opening yields the table after the first events of the plan.
-fn finds_after(alloc: Global, disk: MemDisk, count: usize) -> Result<(bool, MemDisk), Fail> {
-    let rows = rows_after(alloc, count)?;
-    finds(alloc, disk, &rows)
-}
-
-// Returns whether an opening yields the table after the answered events, or after one more.
-fn keeps_what_was_answered(alloc: Global, calls: u64) -> Result<bool, Fail> {
-    let (disk, answered) = cut(alloc, calls)?;
-    let (acknowledged, disk) = finds_after(alloc, disk, answered)?;
-    let (with_the_next, _) = finds_after(alloc, disk, answered.saturating_add(1))?;
-    Ok(acknowledged || with_the_next)
-}
-
-#[test]
-fn cut_at_each_call(rt: HostRuntime) -> Result<(), Fail> {
-    for calls in 0..32 {
-        assert!(rt;
-            keeps_what_was_answered(rt.alloc(), calls)?,
-            "{calls} calls"
-        );
-    }
     Ok(())
 }
 
@@ -232,84 +155,5 @@ fn each_event_has_its_answer(rt: HostRuntime) -> Result<(), Fail> {
     let found = other_answer(rt.alloc(), &mut spool);
     drop(spool);
     assert_eq!(rt; found?, None);
-    Ok(())
-}
-
-// Adds the event with this encoding, with a number inserted.
-fn add_numbered(
-    alloc: Global,
-    events: &mut Vec<Event>,
-    before: &str,
-    number: u32,
-    behind: &str,
-) -> Result<(), Fail> {
-    let text = format!(in alloc; "{before}{number:08x}{behind}")?;
-    push_event(events, alloc, text.as_str())
-}
-
-// Adds a job of the queue, its cancel, and a clock, all with this number.
-fn add_canceled(alloc: Global, events: &mut Vec<Event>, number: u32) -> Result<(), Fail> {
-    add_numbered(
-        alloc,
-        events,
-        "05 000171 ",
-        number,
-        " 000175 0000 0001 32 0000",
-    )?;
-    add_numbered(alloc, events, "0a ", number, "")?;
-    add_numbered(alloc, events, "0b 00000000", number, "")
-}
-
-// Adds the events of a queue, and of 1,000 jobs that are canceled.
-fn add_canceled_jobs(alloc: Global, events: &mut Vec<Event>) -> Result<(), Fail> {
-    push_event(events, alloc, QUEUE)?;
-    for number in 1..=1_000 {
-        add_canceled(alloc, events, number)?;
-    }
-    Ok(())
-}
-
-fn canceled_jobs(alloc: Global) -> Result<Vec<Event>, Fail> {
-    let mut events = Vec::new(alloc);
-    match add_canceled_jobs(alloc, &mut events) {
-        Ok(()) => Ok(events),
-        Err(fail) => Err(fail),
-    }
-}
-
-// Returns the number of these events that are answered.
-fn answered(alloc: Global, spool: &mut Spool<Device>) -> Result<usize, Fail> {
-    settled(spool)?;
-    let driven = drive(alloc, spool, canceled_jobs(alloc)?);
-    Ok(driven.replies.len())
-}
-
-// Does the same on a new spool. Returns the number and the disk.
-fn filled(alloc: Global) -> Result<(usize, MemDisk), Fail> {
-    let mut spool = open(alloc, made(alloc, 1_048_576)?, u64::MAX)?;
-    let answered = answered(alloc, &mut spool);
-    let disk = closed(spool);
-    Ok((answered?, disk))
-}
-
-// Returns the rows of the table after these events.
-fn canceled_rows(alloc: Global) -> Result<Vec<u8>, Fail> {
-    let table = replay(alloc, canceled_jobs(alloc)?)?;
-    let is_whole = table.jobs().len() == 1_000 && table.now().get() == 1_000;
-    let rows = listing(alloc, &table);
-    drop(table);
-    if is_whole {
-        Ok(rows?)
-    } else {
-        Err(Fail::from("another table"))
-    }
-}
-
-#[test]
-fn three_thousand_events_are_kept(rt: HostRuntime) -> Result<(), Fail> {
-    let rows = canceled_rows(rt.alloc())?;
-    let (answered, disk) = filled(rt.alloc())?;
-    assert_eq!(rt; answered, 3_001);
-    assert!(rt; finds(rt.alloc(), disk, &rows)?.0);
     Ok(())
 }

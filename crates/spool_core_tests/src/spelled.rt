@@ -54,8 +54,8 @@ fn push_events(events: &mut Vec<Event>, alloc: Global, texts: &[&str]) -> Result
     Ok(())
 }
 
-/// Decodes an event and adds it.
-pub fn push_event(events: &mut Vec<Event>, alloc: Global, text: &str) -> Result<(), Fail> {
+// Decodes an event and adds it.
+fn push_event(events: &mut Vec<Event>, alloc: Global, text: &str) -> Result<(), Fail> {
     let event = event(alloc, text)?;
     Ok(events.push(event)?)
 }

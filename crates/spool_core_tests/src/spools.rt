@@ -3,8 +3,8 @@ ghost use Rattle.std.specs.Prelude.{OnOk};
 ghost use Rattle.spool_core.specs.OpenSpools.{IsSettled};
 
 use crate::spelled::events;
-use spool_core::{Driven, Ending, Spool, drive, make};
-use spool_disk::{Disk, FuseDisk, MemDisk};
+use spool_core::{Driven, Spool, drive, make};
+use spool_disk::{FuseDisk, MemDisk};
 use std::alloc::Global;
 use std::test::Fail;
 
@@ -23,15 +23,6 @@ pub fn made(alloc: Global, len: usize) -> Result<MemDisk, Fail> {
     }
 }
 
-/// Returns the same in version 1. Only the byte of the version differs.
-pub fn made_old(alloc: Global, len: usize) -> Result<MemDisk, Fail> {
-    let mut disk = made(alloc, len)?;
-    if 1 < disk.len() {
-        disk.write(1, &[1])?;
-    }
-    Ok(disk)
-}
-
 /// Opens a disk with a device that fails after `calls` calls.
 pub fn open(alloc: Global, disk: MemDisk, calls: u64) -> Result<Spool<Device>, Fail> {
     match Spool::open(alloc, FuseDisk::new(disk, calls)) {
@@ -45,8 +36,8 @@ pub fn closed(spool: Spool<Device>) -> MemDisk {
     spool.into_disk().into_disk()
 }
 
-/// Returns an error if events are staged.
-pub fn settled(spool: &Spool<Device>) -> Result<(), Fail>
+// Returns an error if events are staged.
+fn settled(spool: &Spool<Device>) -> Result<(), Fail>
     ensures { OnOk result (IsSettled spool.now) }
 {
     if spool.is_settled() {
@@ -60,14 +51,4 @@ pub fn settled(spool: &Spool<Device>) -> Result<(), Fail>
 pub fn driven(alloc: Global, spool: &mut Spool<Device>, texts: &[&str]) -> Result<Driven, Fail> {
     settled(spool)?;
     Ok(drive(alloc, spool, events(alloc, texts)?))
-}
-
-/// Returns the number of answered events, and why the run ended.
-pub fn drives(
-    alloc: Global,
-    spool: &mut Spool<Device>,
-    texts: &[&str],
-) -> Result<(usize, Ending), Fail> {
-    let driven = driven(alloc, spool, texts)?;
-    Ok((driven.replies.len(), driven.ending))
 }

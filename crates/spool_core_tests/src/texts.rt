@@ -1,15 +1,17 @@
 //! The texts that the service sends about the jobs and the queues of a table.
 
-use crate::indexes::apply;
 use crate::spelled::event;
 use client_standing::{RoleRules, Standing, Trust};
 use event_records::{Changes, Seen, Subject};
-use job_table::Table;
+use job_table::{PrepareFault, Table};
 use service_texts::{Notes, has_settled, job_told, shown_job};
-use spool_types::{JobId, QueueName};
+use spool_types::{Event, JobId, QueueName};
 use std::alloc::Global;
 use std::process::Abort;
 use std::test::*;
+
+// The place of each event's payload.
+const PAYLOAD: u64 = 1_000;
 
 // Job 1 is processing, job 2 waits until a moment, and job 3 is canceled.
 const EVENTS: &str = "\
@@ -42,6 +44,29 @@ const NEWS: &[u8] =
 
 // What changed last.
 const LAST: &[u8] = b"job 1 q 5 job-printing \"u\" 0 0 \"\"\n";
+
+fn fail_of(fault: PrepareFault) -> Fail {
+    match fault {
+        PrepareFault::Refused(refusal) => Fail::from(refusal),
+        PrepareFault::Memory => Fail::from("memory"),
+    }
+}
+
+// Changes a table by an event.
+fn apply(table: &mut Table, event: Event) -> Result<(), Fail> {
+    match table.prepare(&event) {
+        Ok(()) => {
+            table.commit(event, PAYLOAD);
+            Ok(())
+        }
+        Err(fault) => {
+            // An explicit drop: if the event were dropped at the end of its scope, the proof would split into a case for each
+            // kind of event.
+            drop(event);
+            Err(fail_of(fault))
+        }
+    }
+}
 
 fn fill(alloc: Global, table: &mut Table) -> Result<(), Fail> {
     for line in EVENTS.lines() {
