@@ -1,9 +1,47 @@
 use front_words::{
-    Asked, Hold, JobAct, Moment, QueueAct, Submission, Task, Which, WordsFault, read_words,
-    words_status,
+    Hold, JobAct, Moment, QueueAct, Task, Which, WordsFault, read_words, words_status,
 };
 use program_version::with_version;
 use std::test::Fail;
+
+const LETTER: [&str; 22] = [
+    "/usr/bin/spool", "submit", "office", "a.pdf", "-", "--title", "Letter", "--copies", "3",
+    "--priority", "7", "-o", "sides=two", "--at", "+60", "--by", "4000", "--wait", "-o",
+    "media=A4 fit", "--type", "text/plain",
+];
+
+// Command lines that are refused with a line that says why.
+const REFUSED: [&[&str]; 23] = [
+    &["lp", "-h", "host", "x"],
+    &["lp", "-H", "24:00", "x"],
+    &["lp", "-H", "12:60", "x"],
+    &["lp", "-H", "night", "x"],
+    &["lp", "-i", "7", "-n", "2"],
+    &["lp", "-i", "7", "-H", "restart"],
+    &["lp", "-n", "0", "x"],
+    &["lp", "-q", "101", "x"],
+    &["spool"],
+    &["spool", "print"],
+    &["spool", "submit", "q"],
+    &["spool", "cancel", "x"],
+    &["spool", "cancel", "1", "0"],
+    &["spool", "status", "1", "-q", "x"],
+    &["spool", "status", "1", "--watch"],
+    &["spool", "queue", "add", "a", "b", "--policy", "c"],
+    &["spool", "queue"],
+    &["cancel", "-U", "ann", "1"],
+    &["lpq", "+10"],
+    &["lpstat", "-W", "done"],
+    &["lpmove", "1", "office"],
+    &["lpoptions"],
+    &["lpoptions", "-d", "office", "-o", "a=b"],
+];
+
+const HELPED: [&[&str]; 3] = [
+    &["spool", "--help"],
+    &["spool", "submit", "--help"],
+    &["lpstat", "--help"],
+];
 
 fn task_of<'a>(rt: &HostRuntime, words: &'a [&'a str]) -> Result<Task<'a>, Fail> {
     match read_words(rt.alloc(), words) {
@@ -16,118 +54,236 @@ fn task_of<'a>(rt: &HostRuntime, words: &'a [&'a str]) -> Result<Task<'a>, Fail>
     }
 }
 
-fn is_refused(rt: &HostRuntime, words: &[&str]) -> Result<bool, Fail> {
+// Returns the exit code of a command line that asks for no task, after its text was printed.
+fn refusal(rt: &HostRuntime, words: &[&str]) -> Result<Option<i32>, Fail> {
     match read_words(rt.alloc(), words) {
         Err(WordsFault::Refused(error)) => {
             println!(rt; "{error}")?;
-            Ok(error.exit_code() == 2)
+            Ok(Some(error.exit_code()))
         }
-        _ => Ok(false),
+        _ => Ok(None),
     }
 }
 
-fn submission<'a>(rt: &HostRuntime, words: &'a [&'a str]) -> Result<Submission<'a>, Fail> {
-    match task_of(rt, words)? {
-        Task::Submit(submission) => Ok(submission),
-        _ => Err("another task")?,
-    }
+fn is_letter(task: &Task<'_>) -> bool {
+    let Task::Submit(asked) = task else {
+        return false;
+    };
+    asked.queue == Some("office")
+        && asked.files.as_slice() == ["a.pdf", "-"].as_slice()
+        && asked.title == Some("Letter")
+        && asked.user.is_none()
+        && asked.copies == 3
+        && asked.priority == 7
+        && asked.media == Some("text/plain")
+        && asked.options.as_slice() == ["sides=two", "media=A4 fit"].as_slice()
+        && matches!(asked.hold, Hold::Until(Moment::FromNow(60)))
+        && matches!(asked.by, Some(Moment::Epoch(4000)))
+        && asked.wait
+        && !asked.quiet
+}
+
+fn is_held(task: &Task<'_>) -> bool {
+    let Task::Submit(asked) = task else {
+        return false;
+    };
+    asked.queue == Some("office")
+        && asked.files.as_slice() == ["x"].as_slice()
+        && asked.copies == 2
+        && asked.priority == 100
+        && asked.title == Some("T")
+        && asked.pages == Some("1-2")
+        && asked.quiet
+        && matches!(asked.hold, Hold::Indefinite)
+}
+
+fn is_usual(task: &Task<'_>) -> bool {
+    let Task::Submit(asked) = task else {
+        return false;
+    };
+    asked.queue.is_none() && asked.files.is_empty() && asked.copies == 1 && asked.priority == 50
+}
+
+fn is_by_lpr(task: &Task<'_>) -> bool {
+    let Task::Submit(asked) = task else {
+        return false;
+    };
+    asked.queue == Some("office")
+        && asked.copies == 3
+        && asked.title == Some("T")
+        && matches!(asked.hold, Hold::Indefinite)
+        && asked.files.as_slice() == ["-x"].as_slice()
+}
+
+fn is_at_noon(task: &Task<'_>) -> bool {
+    let Task::Submit(asked) = task else {
+        return false;
+    };
+    asked.quiet
+        && asked.filled
+        && !asked.remove
+        && matches!(asked.hold, Hold::Until(Moment::OfDay(45_000)))
+}
+
+fn is_raw(task: &Task<'_>) -> bool {
+    let Task::Submit(asked) = task else {
+        return false;
+    };
+    asked.remove && asked.raw && asked.quiet
+}
+
+fn is_hold_until_nine(task: &Task<'_>) -> bool {
+    let Task::Jobs { act, jobs } = task else {
+        return false;
+    };
+    matches!(act, JobAct::Hold(Some(Moment::Epoch(9)))) && jobs.as_slice() == [1, 12].as_slice()
+}
+
+fn is_resume(task: &Task<'_>) -> bool {
+    let Task::Jobs { act, jobs } = task else {
+        return false;
+    };
+    matches!(act, JobAct::Resume) && jobs.as_slice() == [7].as_slice()
+}
+
+fn keeps_printing(task: &Task<'_>) -> bool {
+    let Task::Jobs { act, jobs } = task else {
+        return false;
+    };
+    matches!(act, JobAct::CancelOnly) && jobs.as_slice() == [8].as_slice()
+}
+
+fn removes(task: &Task<'_>, jobs: &[u32]) -> bool {
+    let Task::Remove(asked) = task else {
+        return false;
+    };
+    asked.jobs.as_slice() == jobs
+        && asked.queues.as_slice() == ["office"].as_slice()
+        && !asked.purge
+}
+
+fn clears(task: &Task<'_>, queues: &[&str], user: Option<&str>, usual: bool) -> bool {
+    let Task::Clear(asked) = task else {
+        return false;
+    };
+    asked.queues.as_slice() == queues
+        && asked.user == user
+        && asked.usual == usual
+        && asked.purge == user.is_some()
+}
+
+fn is_of_printers(task: &Task<'_>) -> bool {
+    let Task::Lpstat(asked) = task else {
+        return false;
+    };
+    asked.printers == Some("")
+        && asked.usual
+        && asked.jobs == Some("office")
+        && asked.accepting == Some("")
+        && asked.devices.is_none()
+        && !asked.all
+        && !asked.scheduler
+        && asked.names.is_empty()
+}
+
+fn is_of_completed(task: &Task<'_>) -> bool {
+    let Task::Lpstat(asked) = task else {
+        return false;
+    };
+    matches!(asked.which, Which::Completed)
+        && asked.long
+        && asked.users == Some("ann")
+        && asked.jobs.is_none()
+}
+
+fn is_of_ann(task: &Task<'_>) -> bool {
+    let Task::Lpq(asked) = task else {
+        return false;
+    };
+    asked.users.as_slice() == ["ann"].as_slice()
+        && !asked.long
+        && asked.queue == Some("office")
+        && asked.jobs.as_slice() == [3].as_slice()
+        && !asked.all
+}
+
+fn is_watched(task: &Task<'_>) -> bool {
+    let Task::Status(asked) = task else {
+        return false;
+    };
+    asked.json && asked.watch && asked.job.is_none() && asked.queue.is_none()
+}
+
+fn is_said(task: &Task<'_>) -> bool {
+    let Task::Say(asked) = task else {
+        return false;
+    };
+    asked.commands.as_slice() == ["jobs", "queues"].as_slice() && asked.until_end
+}
+
+fn is_followed(task: &Task<'_>) -> bool {
+    matches!(task, Task::Page { file: "x.html", follow: true })
+}
+
+fn is_default(task: &Task<'_>) -> bool {
+    matches!(task, Task::Default { queue: "office" })
+}
+
+fn disables(task: &Task<'_>) -> bool {
+    let Task::Switch { names, act, clears } = task else {
+        return false;
+    };
+    names.as_slice() == ["office", "lab"].as_slice() && matches!(act, QueueAct::Disable) && *clears
+}
+
+fn adds(task: &Task<'_>) -> bool {
+    let Task::Queue { name: "office", act: QueueAct::Add(queue) } = task else {
+        return false;
+    };
+    queue.uri == "socket://p"
+        && queue.media == "application/pdf"
+        && queue.policy == "retry-job"
+        && queue.interval == 30
+        && queue.limit == 0
+}
+
+fn rejects(task: &Task<'_>) -> bool {
+    matches!(task, Task::Queue { name: "office", act: QueueAct::Reject })
+}
+
+fn shows(task: &Task<'_>) -> bool {
+    matches!(task, Task::ShowQueue { name: "office", json: true })
 }
 
 #[test]
 fn submits(rt: HostRuntime) -> Result<(), Fail> {
-    let asked = submission(
-        &rt,
-        &[
-            "/usr/bin/spool",
-            "submit",
-            "office",
-            "a.pdf",
-            "-",
-            "--title",
-            "Letter",
-            "--copies",
-            "3",
-            "--priority",
-            "7",
-            "-o",
-            "sides=two",
-            "--at",
-            "+60",
-            "--by",
-            "4000",
-            "--wait",
-            "-o",
-            "media=A4 fit",
-            "--socket",
-            "/tmp/s",
-            "--type",
-            "text/plain",
-        ],
-    )?;
-    assert!(rt; asked.queue == Some("office"));
-    assert!(rt; asked.files.as_slice() == ["a.pdf", "-"].as_slice());
-    assert!(rt; asked.title == Some("Letter") && asked.user.is_none());
-    assert!(rt; asked.copies == 3 && asked.priority == 7 && asked.media == Some("text/plain"));
-    assert!(rt; asked.options.as_slice() == ["sides=two", "media=A4 fit"].as_slice());
-    assert!(rt; matches!(asked.hold, Hold::Until(Moment::FromNow(60))));
-    assert!(rt; matches!(asked.by, Some(Moment::Epoch(4000))) && asked.wait && !asked.quiet);
+    assert!(rt; is_letter(&task_of(&rt, &LETTER)?));
     Ok(())
 }
 
 #[test]
 fn submits_as_lp(rt: HostRuntime) -> Result<(), Fail> {
-    let asked = submission(
-        &rt,
-        &[
-            "lp", "-d", "office", "-n2", "-q", "100", "-t", "T", "-P", "1-2", "-s", "-H", "hold",
-            "x",
-        ],
-    )?;
-    assert!(rt; asked.queue == Some("office") && asked.files.as_slice() == ["x"].as_slice());
-    assert!(rt; asked.copies == 2 && asked.priority == 100 && asked.title == Some("T"));
-    assert!(rt;
-        asked.pages == Some("1-2") && asked.quiet && matches!(asked.hold, Hold::Indefinite)
-    );
-    let asked = submission(&rt, &["/bin/lp"])?;
-    assert!(rt;
-        asked.queue.is_none() && asked.files.is_empty() && asked.copies == 1 && asked.priority == 50
-    );
-    let asked = submission(
-        &rt,
-        &["lpr", "-Poffice", "-#3", "-J", "T", "-q", "--", "-x"],
-    )?;
-    assert!(rt; asked.queue == Some("office") && asked.copies == 3 && asked.title == Some("T"));
-    assert!(rt;
-        matches!(asked.hold, Hold::Indefinite) && asked.files.as_slice() == ["-x"].as_slice()
-    );
+    let words = ["lp", "-d", "office", "-n2", "-q", "100", "-t", "T", "-P", "1-2", "-s", "-H", "hold", "x"];
+    assert!(rt; is_held(&task_of(&rt, &words)?));
+    assert!(rt; is_usual(&task_of(&rt, &["/bin/lp"])?));
+    let words = ["lp", "-m", "-H", "12:30", "-h", "localhost:631", "-E", "x"];
+    assert!(rt; is_at_noon(&task_of(&rt, &words)?));
+    Ok(())
+}
+
+#[test]
+fn submits_as_lpr(rt: HostRuntime) -> Result<(), Fail> {
+    let words = ["lpr", "-Poffice", "-#3", "-J", "T", "-q", "--", "-x"];
+    assert!(rt; is_by_lpr(&task_of(&rt, &words)?));
+    assert!(rt; is_raw(&task_of(&rt, &["lpr", "-r", "-l", "-p", "-w", "80", "x"])?));
     Ok(())
 }
 
 #[test]
 fn refuses(rt: HostRuntime) -> Result<(), Fail> {
-    assert!(rt; is_refused(&rt, &["lp", "-h", "host", "x"])?);
-    assert!(rt; is_refused(&rt, &["lp", "-H", "24:00", "x"])?);
-    assert!(rt; is_refused(&rt, &["lp", "-H", "12:60", "x"])?);
-    assert!(rt; is_refused(&rt, &["lp", "-H", "night", "x"])?);
-    assert!(rt; is_refused(&rt, &["lp", "-i", "7", "-n", "2"])?);
-    assert!(rt; is_refused(&rt, &["lp", "-i", "7", "-H", "restart"])?);
-    assert!(rt; is_refused(&rt, &["lp", "-n", "0", "x"])?);
-    assert!(rt; is_refused(&rt, &["lp", "-q", "101", "x"])?);
-    assert!(rt; is_refused(&rt, &["spool"])?);
-    assert!(rt; is_refused(&rt, &["spool", "print"])?);
-    assert!(rt; is_refused(&rt, &["spool", "submit", "q"])?);
-    assert!(rt; is_refused(&rt, &["spool", "cancel", "x"])?);
-    assert!(rt; is_refused(&rt, &["spool", "cancel", "1", "0"])?);
-    assert!(rt; is_refused(&rt, &["spool", "status", "1", "-q", "x"])?);
-    assert!(rt; is_refused(&rt, &["spool", "status", "1", "--watch"])?);
-    assert!(rt; is_refused(&rt, &["spool", "queue", "add", "a", "b", "--policy", "c"])?);
-    assert!(rt; is_refused(&rt, &["spool", "queue"])?);
-    assert!(rt; is_refused(&rt, &["cancel", "-U", "ann", "1"])?);
-    assert!(rt; is_refused(&rt, &["lpq", "+10"])?);
-    assert!(rt; is_refused(&rt, &["lpstat", "-W", "done"])?);
-    assert!(rt; is_refused(&rt, &["lpmove", "1", "office"])?);
-    assert!(rt; is_refused(&rt, &["lpoptions"])?);
-    assert!(rt; is_refused(&rt, &["lpoptions", "-d", "office", "-o", "a=b"])?);
+    for words in &REFUSED {
+        assert!(rt; refusal(&rt, words)? == Some(2));
+    }
     Ok(())
 }
 
@@ -140,50 +296,10 @@ fn ends_as_cups_does(rt: HostRuntime) -> Result<(), Fail> {
 }
 
 #[test]
-fn takes_what_cups_takes(rt: HostRuntime) -> Result<(), Fail> {
-    let asked = submission(
-        &rt,
-        &["lp", "-m", "-H", "12:30", "-h", "localhost:631", "-E", "x"],
-    )?;
-    assert!(rt; asked.quiet && asked.filled && !asked.remove);
-    assert!(rt; matches!(asked.hold, Hold::Until(Moment::OfDay(45_000))));
-    let asked = submission(&rt, &["lpr", "-r", "-l", "-p", "-w", "80", "x"])?;
-    assert!(rt; asked.remove && asked.raw && asked.quiet);
-    let Task::Jobs { act, jobs } = task_of(&rt, &["lp", "-i", "lab-7", "-H", "resume"])? else {
-        return Err("another task")?;
-    };
-    assert!(rt; matches!(act, JobAct::Resume) && jobs.as_slice() == [7].as_slice());
-    let Task::Default { queue } = task_of(&rt, &["lpoptions", "-d", "office"])? else {
-        return Err("another task")?;
-    };
-    assert!(rt; queue == "office");
-    let Task::Switch { names, act, clears } = task_of(
-        &rt,
-        &["cupsdisable", "-c", "-r", "no paper", "office", "lab"],
-    )?
-    else {
-        return Err("another task")?;
-    };
-    assert!(rt; names.as_slice() == ["office", "lab"].as_slice());
-    assert!(rt; matches!(act, QueueAct::Disable) && clears);
-    Ok(())
-}
-
-#[test]
 fn helps(rt: HostRuntime) -> Result<(), Fail> {
-    let Err(WordsFault::Refused(error)) = read_words(rt.alloc(), &["spool", "--help"]) else {
-        return Err("no help")?;
-    };
-    println!(rt; "{error}")?;
-    let Err(WordsFault::Refused(error)) = read_words(rt.alloc(), &["spool", "submit", "--help"])
-    else {
-        return Err("no help")?;
-    };
-    println!(rt; "{error}")?;
-    let Err(WordsFault::Refused(error)) = read_words(rt.alloc(), &["lpstat", "--help"]) else {
-        return Err("no help")?;
-    };
-    println!(rt; "{error}")?;
+    for words in &HELPED {
+        assert!(rt; refusal(&rt, words)? == Some(0));
+    }
     Ok(())
 }
 
@@ -200,121 +316,61 @@ fn prints_the_version(rt: HostRuntime) -> Result<(), Fail> {
 
 #[test]
 fn names_jobs(rt: HostRuntime) -> Result<(), Fail> {
-    let Task::Jobs { act, jobs } = task_of(
-        &rt,
-        &["spool", "hold", "1", "office-12", "--until", "9"],
-    )?
-    else {
-        return Err("another task")?;
-    };
-    assert!(rt;
-        matches!(act, JobAct::Hold(Some(Moment::Epoch(9)))) && jobs.as_slice() == [1, 12].as_slice()
-    );
-    let Task::Remove(asked) = task_of(&rt, &["cancel", "a-b-7", "office"])? else {
-        return Err("another task")?;
-    };
-    assert!(rt; asked.jobs.as_slice() == [7].as_slice() && !asked.purge);
-    assert!(rt; asked.queues.as_slice() == ["office"].as_slice());
-    let Task::Jobs { act, jobs } = task_of(&rt, &["spool", "cancel", "8", "--keep-printing"])?
-    else {
-        return Err("another task")?;
-    };
-    assert!(rt; matches!(act, JobAct::CancelOnly) && jobs.as_slice() == [8].as_slice());
-    let Task::Clear(asked) = task_of(&rt, &["cancel", "-u", "ann", "-x", "office"])? else {
-        return Err("another task")?;
-    };
-    assert!(rt; asked.queues.as_slice() == ["office"].as_slice() && !asked.usual);
-    assert!(rt; asked.user == Some("ann") && asked.purge);
-    let Task::Clear(asked) = task_of(&rt, &["lprm", "-P", "office", "-"])? else {
-        return Err("another task")?;
-    };
-    assert!(rt; asked.queues.as_slice() == ["office"].as_slice() && asked.user.is_none());
-    let Task::Clear(asked) = task_of(&rt, &["lprm", "-"])? else {
-        return Err("another task")?;
-    };
-    assert!(rt; asked.queues.is_empty() && asked.usual);
-    let Task::Remove(asked) = task_of(&rt, &["lprm", "-P", "office"])? else {
-        return Err("another task")?;
-    };
-    assert!(rt; asked.jobs.is_empty() && asked.queues.as_slice() == ["office"].as_slice());
+    let words = ["spool", "hold", "1", "office-12", "--until", "9"];
+    assert!(rt; is_hold_until_nine(&task_of(&rt, &words)?));
+    assert!(rt; is_resume(&task_of(&rt, &["lp", "-i", "lab-7", "-H", "resume"])?));
+    assert!(rt; keeps_printing(&task_of(&rt, &["spool", "cancel", "8", "--keep-printing"])?));
     Ok(())
 }
 
 #[test]
-fn tells(rt: HostRuntime) -> Result<(), Fail> {
-    let Task::Lpstat(asked) = task_of(&rt, &["lpstat", "-p", "-d", "-o", "office", "-a"])? else {
-        return Err("another task")?;
-    };
-    assert!(rt;
-        asked.printers == Some("")
-            && asked.usual
-            && asked.jobs == Some("office")
-            && asked.accepting == Some("")
-    );
-    assert!(rt;
-        asked.devices.is_none() && !asked.all && !asked.scheduler && asked.names.is_empty()
-    );
-    let Task::Lpstat(asked) = task_of(&rt, &["lpstat", "-W", "completed", "-l", "-u", "ann"])?
-    else {
-        return Err("another task")?;
-    };
-    assert!(rt; matches!(asked.which, Which::Completed) && asked.long);
-    assert!(rt; asked.users == Some("ann") && asked.jobs.is_none());
-    let Task::Lpq(asked) = task_of(&rt, &["lpq", "-P", "office", "3", "ann"])? else {
-        return Err("another task")?;
-    };
-    assert!(rt; asked.users.as_slice() == ["ann"].as_slice() && !asked.long);
-    assert!(rt;
-        asked.queue == Some("office") && asked.jobs.as_slice() == [3].as_slice() && !asked.all
-    );
-    let Task::Status(asked) = task_of(&rt, &["spool", "status", "--json", "--watch"])? else {
-        return Err("another task")?;
-    };
-    assert!(rt; asked.json && asked.watch && asked.job.is_none() && asked.queue.is_none());
-    let Task::Say(asked) = task_of(&rt, &["spool", "say", "jobs", "--until-end", "queues"])? else {
-        return Err("another task")?;
-    };
-    assert!(rt; asked.commands.as_slice() == ["jobs", "queues"].as_slice() && asked.until_end);
-    let Task::Page { file, follow } = task_of(&rt, &["spool", "page", "x.html", "--follow"])? else {
-        return Err("another task")?;
-    };
-    assert!(rt; file == "x.html" && follow);
+fn cancels(rt: HostRuntime) -> Result<(), Fail> {
+    assert!(rt; removes(&task_of(&rt, &["cancel", "a-b-7", "office"])?, &[7]));
+    assert!(rt; removes(&task_of(&rt, &["lprm", "-P", "office"])?, &[]));
+    let words = ["cancel", "-u", "ann", "-x", "office"];
+    assert!(rt; clears(&task_of(&rt, &words)?, &["office"], Some("ann"), false));
+    Ok(())
+}
+
+#[test]
+fn clears_queues(rt: HostRuntime) -> Result<(), Fail> {
+    let words = ["lprm", "-P", "office", "-"];
+    assert!(rt; clears(&task_of(&rt, &words)?, &["office"], None, false));
+    assert!(rt; clears(&task_of(&rt, &["lprm", "-"])?, &[], None, true));
+    Ok(())
+}
+
+#[test]
+fn lists(rt: HostRuntime) -> Result<(), Fail> {
+    let words = ["lpstat", "-p", "-d", "-o", "office", "-a"];
+    assert!(rt; is_of_printers(&task_of(&rt, &words)?));
+    let words = ["lpstat", "-W", "completed", "-l", "-u", "ann"];
+    assert!(rt; is_of_completed(&task_of(&rt, &words)?));
+    assert!(rt; is_of_ann(&task_of(&rt, &["lpq", "-P", "office", "3", "ann"])?));
+    Ok(())
+}
+
+#[test]
+fn shows_jobs(rt: HostRuntime) -> Result<(), Fail> {
+    assert!(rt; is_watched(&task_of(&rt, &["spool", "status", "--json", "--watch"])?));
+    assert!(rt; is_said(&task_of(&rt, &["spool", "say", "jobs", "--until-end", "queues"])?));
+    assert!(rt; is_followed(&task_of(&rt, &["spool", "page", "x.html", "--follow"])?));
     Ok(())
 }
 
 #[test]
 fn sets_queues(rt: HostRuntime) -> Result<(), Fail> {
-    let Task::Queue { name, act } = task_of(
-        &rt,
-        &[
-            "spool",
-            "queue",
-            "add",
-            "office",
-            "socket://p",
-            "--limit",
-            "0",
-        ],
-    )?
-    else {
-        return Err("another task")?;
-    };
-    let QueueAct::Add(queue) = act else {
-        return Err("another act")?;
-    };
-    assert!(rt; name == "office" && queue.uri == "socket://p" && queue.media == "application/pdf");
-    assert!(rt; queue.policy == "retry-job" && queue.interval == 30 && queue.limit == 0);
-    let Task::Queue { name, act } = task_of(&rt, &["spool", "queue", "reject", "office"])? else {
-        return Err("another task")?;
-    };
-    assert!(rt; name == "office" && matches!(act, QueueAct::Reject));
-    let Task::ShowQueue { name, json } = task_of(
-        &rt,
-        &["spool", "queue", "show", "office", "--json"],
-    )?
-    else {
-        return Err("another task")?;
-    };
-    assert!(rt; name == "office" && json);
+    let words = ["spool", "queue", "add", "office", "socket://p", "--limit", "0"];
+    assert!(rt; adds(&task_of(&rt, &words)?));
+    assert!(rt; rejects(&task_of(&rt, &["spool", "queue", "reject", "office"])?));
+    assert!(rt; shows(&task_of(&rt, &["spool", "queue", "show", "office", "--json"])?));
+    Ok(())
+}
+
+#[test]
+fn switches_queues(rt: HostRuntime) -> Result<(), Fail> {
+    assert!(rt; is_default(&task_of(&rt, &["lpoptions", "-d", "office"])?));
+    let words = ["cupsdisable", "-c", "-r", "no paper", "office", "lab"];
+    assert!(rt; disables(&task_of(&rt, &words)?));
     Ok(())
 }
