@@ -1,0 +1,199 @@
+"""Files of a spool that a power cut may leave while clients send batches: each lists the table before a batch or after it.
+
+A client that sends commands without waiting for the replies makes a batch: the service stages their events and makes them durable together.
+The service is traced while one client, and then many at once, send batches of 2 to 40 events. harness/power_cuts.py derives the files that a
+cut may leave from the calls, and opens them by the shell.
+
+Controls must be seen to fail: the same calls without the first sync of each batch, without the second one, with the gate of the first
+record opened before the first sync, and with the records of a batch opened one by one.
+"""
+import random
+import re
+import signal
+import subprocess
+from contextlib import contextmanager
+
+import pytest
+
+from harness import power_cuts, traces
+from harness.checks import Difference, holds, same, until
+from harness.programs import SHELL
+from harness.service import Client
+
+pytestmark = [pytest.mark.strace, pytest.mark.needs("spool_service", "spool_shell")]
+
+# The names of the calls that are traced.
+NAMES = (*power_cuts.WRITES, *power_cuts.SYNCS, "lseek", "sendto")
+
+# The files that are opened, usually and for the long tests, and the greatest number until a control is seen.
+COUNT, LONG_COUNT, CONTROL = 150, 3_000, 1_000
+
+# The numbers of events of the batches of one client, and how many clients send one at the same time.
+EVENTS, CLIENTS = range(2, 41), 12
+
+DOCUMENT = b"hello\n"
+
+# A moment that does not come during a test.
+FUTURE = 4_000_000_000
+
+
+class ServiceTracing(power_cuts.Tracing):
+    """The steps of a service that was running before: what it writes to a socket acknowledges what was done before."""
+
+    def take_call(self, call):
+        if call.name == "sendto" or (call.name == "write" and any(path.startswith("socket:") for path in call.files)):
+            self.steps.append(power_cuts.Step("reply"))
+        elif call.name != "sendto":
+            super().take_call(call)
+
+
+@contextmanager
+def traced(folder):
+    """The steps of the service meanwhile, once the context has ended."""
+    tracing, out = ServiceTracing(folder.at("spool")), folder.at("calls")
+    command = ["strace", "-y", "-xx", "-qq", "-s", str(traces.SHOWN), "-o", out, "-e", "trace=" + ",".join(NAMES)]
+    with subprocess.Popen([*command, "-p", str(folder.running.pid)], stderr=subprocess.DEVNULL) as strace:
+        until("the trace", lambda: b"TracerPid:\t0\n" not in open(f"/proc/{folder.running.pid}/status", "rb").read())
+        try:
+            yield tracing
+        finally:
+            strace.send_signal(signal.SIGINT)
+    counts = {}
+    with open(out, encoding="ascii") as lines:
+        tracing.take(traces.Call(line.rstrip("\n"), counts) for line in lines if re.match(r"\w+\(.*=", line))
+
+
+def batch(job, count):
+    """Commands of this number of events on an incoming job: its document, its close, holds and releases, and its cancel."""
+    commands = [b"send %d %d\n%s\n" % (job, len(DOCUMENT), DOCUMENT), b"close %d f\n" % job]
+    changes = [b"hold %d %d\n" % (job, FUTURE), b"release %d\n" % job]
+    while len(commands) < count - 1:
+        commands.append(changes[len(commands) % 2])
+    return commands[: count - 1] + [b"cancel %d\n" % job]
+
+
+def held_queue(folder):
+    """A client of a service whose queue prints nothing."""
+    folder.size = 262_144
+    folder.start()
+    client = Client(folder)
+    folder.queue(client, "q")
+    same("disable", client.ask("disable q\n"), "ok")
+    return client
+
+
+def said_well(client, count):
+    replies = [client.reply() for _ in range(count)]
+    holds(f"its replies: {replies}", all(reply.startswith("ok") for reply in replies))
+
+
+def image_of(folder):
+    with open(folder.at("spool", "spool.disk"), "rb") as file:
+        return file.read()
+
+
+def by_one(folder):
+    """The file before, and the steps of one client's batches, each after the replies to the one before."""
+    client = held_queue(folder)
+    jobs = [client.create("q") for _ in EVENTS]
+    before = image_of(folder)
+    with traced(folder) as tracing:
+        for job, count in zip(jobs, EVENTS):
+            client.say(b"".join(batch(job, count)))
+            said_well(client, count)
+    return before, tracing.steps
+
+
+def by_many(folder):
+    """The same of many clients, whose batches come while the service is stopped, so that one turn serves them."""
+    first = held_queue(folder)
+    jobs = [first.create("q") for _ in range(CLIENTS)]
+    clients = [Client(folder) for _ in jobs]
+    for client in clients:
+        holds("a turn of its own", client.ask("cancel 999\n").startswith("error "))
+    before = image_of(folder)
+    with traced(folder) as tracing:
+        folder.running.send_signal(signal.SIGSTOP)
+        for client, job, count in zip(clients, jobs, range(2, 2 + CLIENTS)):
+            client.say(b"".join(batch(job, count)))
+        folder.running.send_signal(signal.SIGCONT)
+        for client, count in zip(clients, range(2, 2 + CLIENTS)):
+            said_well(client, count)
+    return before, tracing.steps
+
+
+def moments_of(steps, before):
+    """The moments of a run. A file at one of them lists the last table that was acknowledged, or the one that a batch is about to make."""
+    moments = list(power_cuts.moments_of(steps, before))
+    holds("a batch is seen whole or not at all", all(len(moment.tables) <= 2 for moment in moments))
+    return moments
+
+
+def check_cuts(run_folder, moments, count, seed):
+    changed = [moment for moment in moments if moment.written]
+    holds("writes are not durable at once", changed)
+    for turn, moment in enumerate(random.Random(seed).choices(changed, k=count)):
+        power_cuts.check(run_folder, moment, random.Random(f"{seed} {turn}"), False)
+
+
+@pytest.fixture(name="run_folder")
+def folder_of_cut_spools(memory_room):
+    return power_cuts.RunFolder(SHELL, memory_room)
+
+
+@pytest.mark.parametrize("way", [by_one, by_many], ids=["one client", "many clients"])
+def test_each_file_has_whole_batches(folder, run_folder, way, is_long, seed):
+    before, steps = way(folder)
+    check_cuts(run_folder, moments_of(steps, before), LONG_COUNT if is_long else COUNT, seed)
+
+
+# ---- controls
+
+def first_gates(steps):
+    """The places at which the gate of a batch's first record is opened: after the sync of its records."""
+    return [at for at in range(1, len(steps)) if power_cuts.is_gate(steps[at]) and steps[at - 1].kind == "sync"]
+
+
+def without_first_syncs(steps):
+    left_out = {at - 1 for at in first_gates(steps)}
+    return [step for at, step in enumerate(steps) if at not in left_out]
+
+
+def without_second_syncs(steps):
+    left_out = {at + 1 for at in first_gates(steps)}
+    return [step for at, step in enumerate(steps) if at not in left_out]
+
+
+def opens_before_the_sync(steps):
+    """The gate of the first record is opened before the sync of the records."""
+    changed = list(steps)
+    for at in first_gates(steps):
+        changed[at - 1], changed[at] = changed[at], changed[at - 1]
+    return changed
+
+
+def opens_one_by_one(steps):
+    """The gates of the further records stay closed, and are opened in turn when that of the first record is open."""
+    changed, later, opening = [], [], set(first_gates(steps))
+    for at, step in enumerate(steps):
+        if at in opening:
+            changed += [step, *later]
+            later = []
+        elif power_cuts.is_gate(step):
+            later.append(step)
+        else:
+            changed.append(step)
+    return changed
+
+
+@pytest.mark.parametrize(
+    "control",
+    [without_first_syncs, without_second_syncs, opens_before_the_sync, opens_one_by_one],
+    ids=lambda control: control.__name__,
+)
+def test_a_service_that_syncs_less_is_seen(folder, run_folder, control, seed):
+    before, steps = by_one(folder)
+    changed = control(steps)
+    holds("the control changes the calls", changed != steps)
+    with pytest.raises(Difference):
+        check_cuts(run_folder, moments_of(changed, before), CONTROL, seed)
