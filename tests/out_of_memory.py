@@ -274,6 +274,7 @@ CONSTANTS = {
     ("spool_runtime", "MOST_ERRORS"): 1,
     ("spool_runtime", "MOST_LINES"): 1,
     ("service_loop", "LONGEST_IDLE"): 1,
+    ("service_loop", "MOST_STAGED"): 1,
     ("spool_service", "MEBIBYTE"): 1,
     ("spool_service", "MOST"): 1,
     ("spool_types", "GREATEST"): 2,

@@ -18,7 +18,7 @@ import pytest
 from harness import power_cuts, traces
 from harness.checks import Difference, holds, same, until
 from harness.programs import SHELL
-from harness.service import Client
+from harness.service import Client, PIECE
 
 pytestmark = [pytest.mark.strace, pytest.mark.needs("spool_service", "spool_shell")]
 
@@ -35,6 +35,9 @@ DOCUMENT = b"hello\n"
 
 # A moment that does not come during a test.
 FUTURE = 4_000_000_000
+
+# Documents that come at the same time, and the bytes of staged events that become durable before the next client is served.
+DOCUMENTS, PART = 40, 1_048_576
 
 
 class ServiceTracing(power_cuts.Tracing):
@@ -72,9 +75,9 @@ def batch(job, count):
     return commands[: count - 1] + [b"cancel %d\n" % job]
 
 
-def held_queue(folder):
+def held_queue(folder, size=262_144):
     """A client of a service whose queue prints nothing."""
-    folder.size = 262_144
+    folder.size = size
     folder.start()
     client = Client(folder)
     folder.queue(client, "q")
@@ -145,6 +148,28 @@ def folder_of_cut_spools(memory_room):
 def test_each_file_has_whole_batches(folder, run_folder, way, is_long, seed):
     before, steps = way(folder)
     check_cuts(run_folder, moments_of(steps, before), LONG_COUNT if is_long else COUNT, seed)
+
+
+def test_a_batch_of_many_documents_has_parts(folder):
+    """Documents that come at the same time become durable in parts of a mebibyte, so that no settle takes long."""
+    first = held_queue(folder, 16_777_216)
+    jobs = [first.create("q") for _ in range(DOCUMENTS)]
+    clients = [Client(folder) for _ in jobs]
+    with traced(folder) as tracing:
+        folder.running.send_signal(signal.SIGSTOP)
+        for client, job in zip(clients, jobs):
+            client.say(b"send %d %d\n%s\n" % (job, PIECE, bytes(PIECE)))
+        folder.running.send_signal(signal.SIGCONT)
+        for client in clients:
+            same("send", client.reply(), f"ok bytes {PIECE}")
+    parts = [0]
+    for step in tracing.steps:
+        if step.kind == "sync":
+            parts.append(0)
+        elif step.kind == "write":
+            parts[-1] += len(step.data)
+    holds("all pieces", sum(parts) > DOCUMENTS * PIECE)
+    holds(f"the bytes before each sync: {parts}", max(parts) < PART + 2 * PIECE)
 
 
 # ---- controls

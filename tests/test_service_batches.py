@@ -1,4 +1,4 @@
-"""Tests of commands that a client sends together: their events become durable with one pair of syncs, and then come their replies.
+"""Tests of commands that come together: their events become durable with one pair of syncs, and then come their replies.
 
 The service's calls are observed by strace, which also kills it at one of them.
 """
@@ -66,6 +66,25 @@ def test_one_pair_of_syncs(folder):
     calls = calls_in(out)
     same("syncs", calls[:2], ["sync", "sync"])
     holds(f"its replies: {calls}", "reply" in calls and "sync" not in calls[2:])
+
+
+def test_clients_share_a_pair_of_syncs(folder):
+    """Commands of 16 clients that come at the same time cost two syncs, and no client gets a reply before these."""
+    first, _ = held_queue(folder)
+    jobs = [first.create("q") for _ in range(16)]
+    clients = [Client(folder) for _ in jobs]
+    for client in clients:
+        holds("it has a place", client.ask("cancel 999\n").startswith("error "))
+    with traced(folder) as out:
+        folder.running.send_signal(signal.SIGSTOP)
+        for client, job in zip(clients, jobs):
+            client.say(b"send %d 6\nhello\n\nclose %d f\n" % (job, job))
+        folder.running.send_signal(signal.SIGCONT)
+        for client in clients:
+            same("replies", [client.reply(), client.reply()], ["ok bytes 6", "ok type application/octet-stream stages 1"])
+    calls = calls_in(out)
+    same("syncs before the first reply", calls[:2], ["sync", "sync"])
+    same("the others are replies", set(calls[2:]), {"reply"})
 
 
 def test_separate_commands(folder):

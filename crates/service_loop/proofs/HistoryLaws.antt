@@ -21,7 +21,6 @@ use Rattle.service_loop.specs.ServiceCalls.{GoesByCalls}
 use Rattle.service_loop.specs.SlotHistories.{AreLoopEvents, AreNotified, AreServedApart, GoesByEvents, HasAdmitted, HasBrought, HasServed, IsLoopEvent, IsServedApart, IsServedRight, LoopEvent, enters, gives_up, notifies, readies, takes_turn, works}
 use Rattle.service_loop.specs.declared.client.Client.{Client}
 use Rattle.service_loop.specs.declared.client.Disconnect.{Disconnect}
-use Rattle.service_loop.specs.declared.client.Turn.{Turn}
 use Rattle.service_loop.proofs.CallLaws.{no_calls}
 use Rattle.client_standing.specs.ClientStanding.{first_standing}
 use Rattle.client_standing.specs.declared.rules.RoleRules.{RoleRules}
@@ -158,18 +157,18 @@ module _ {D L : Type 0} (device : DiskView D) (view : ConnectionView L) where
       are = refl;
     }
 
-    stayed : (e : Engine D) (was : Client L) (turn : Turn) (e1 : Engine D) (is : Option (Client L)) (had : HadTurn device view e was turn e1 is) (disconnect : Option Disconnect) →
-        turn.disconnect ≡ disconnect → IsServedApart device view came was → Apart (unless_parted disconnect had.is)
-    stayed e was turn e1 is had None none apart =
-        let took = had.client_step (ap is_starved none) in
+    stayed : (e : Engine D) (was : Client L) (disconnect : Option Disconnect) (e1 : Engine D) (is : Option (Client L)) (had : HadTurn device view e was disconnect e1 is) →
+        IsServedApart device view came was → Apart (unless_parted disconnect had.is)
+    stayed e was None e1 is had apart =
+        let took = had.client_step refl in
         further was (turns e took.0 e1 had.is) apart took.1
-    stayed e was turn e1 is had (Some disconnect) some apart = tt
+    stayed e was (Some disconnect) e1 is had apart = tt
 
-    turned : (e : Engine D) (was : Option (Client L)) (turn : Option Turn) (e1 : Engine D) (is : Option (Client L)) → SlotHadTurn device view e was turn e1 is → Apart was → Apart is
+    turned : (e : Engine D) (was : Option (Client L)) (turn : Option (Option Disconnect)) (e1 : Engine D) (is : Option (Client L)) → SlotHadTurn device view e was turn e1 is → Apart was → Apart is
     turned e None None e1 is (same, none) apart = subst Apart (sym none) tt
-    turned e None (Some turn) e1 is had apart = absurd had
+    turned e None (Some disconnect) e1 is had apart = absurd had
     turned e (Some was) None e1 is had apart = absurd had
-    turned e (Some was) (Some turn) e1 is had apart = subst Apart (sym had.stays) (stayed e was turn e1 is had turn.disconnect refl apart)
+    turned e (Some was) (Some disconnect) e1 is had apart = subst Apart (sym had.stays) (stayed e was disconnect e1 is had apart)
 
     -- One slot changed.
     one_of : (key : ℕ) (s s1 : Slab (Client L)) → KeepsOthers key s s1 → (Apart (get s key) → Apart (get s1 key)) → AreServedApart device view came s → AreServedApart device view came s1

@@ -7,14 +7,12 @@ use Rattle.spool_engine.specs.EngineRuns.{Engine}
 use Rattle.service_rules.specs.Bounds.{most_clients}
 use Rattle.service_loop.specs.AdmissionViews.{watches}
 use Rattle.service_loop.specs.ClientSlots.{HadTurn, IsSlotNotified, IsSlotSignaled, KeepsOthers, SlotHadTurn, unless_parted}
-use Rattle.service_loop.specs.ClientSteps.{is_starved}
 use Rattle.service_loop.specs.ConnectionViews.{ConnectionView}
 use Rattle.service_loop.specs.Progress.{news_for}
 use Rattle.service_loop.specs.SlotHistories.{HasParted, IsCause, IsLoopEvent, LoopEvent, enters, gives_up, notifies, readies, takes_turn, works}
 use Rattle.service_loop.specs.declared.client.Client.{Client}
 use Rattle.service_loop.specs.declared.client.Disconnect.{Disconnect}
 use Rattle.service_loop.specs.declared.client.Disconnect.TheVariants.{Left, Memory, Device}
-use Rattle.service_loop.specs.declared.client.Turn.{Turn}
 
 no_client : {L : Type 0} (P : Type 0) (c : Client L) (slot : Option (Client L)) → slot ≡ Some c → slot ≡ None → P
 no_client P c slot some none = absurd (let k = sym some ∙ none in cc)
@@ -40,21 +38,21 @@ module _ {D L : Type 0} (device : DiskView D) (view : ConnectionView L) where
   notified news c (Some d) (Some d1) told there none = absurd (cc)
 
   -- Its own turn.
-  parted : (e : Engine D) (c : Client L) (turn : Turn) (new : Engine D) (slot : Option (Client L)) (had : HadTurn device view e c turn new slot) → slot ≡ None → (disconnect : Option Disconnect) →
-      turn.disconnect ≡ disconnect → (turn.disconnect ≡ Some Memory) ⊎ ((turn.disconnect ≡ Some Device) × (new.run_state.spool.dead ≡ true)) ⊎ HasParted device view e c new
-  parted e c turn new slot had none None is = no_client _ had.is slot (had.stays ∙ ap (λ (d : Option Disconnect). unless_parted d had.is) is) none
-  parted e c turn new slot had none (Some Memory) is = inl is
-  parted e c turn new slot had none (Some Device) is = inr (inl (is, had.fails is))
-  parted e c turn new slot had none (Some Left) is =
-      let took = had.client_step (ap is_starved is) in
-      inr (inr (record { is = had.is; actions = took.0; client_step = took.1; left = had.ends.leaves is }))
+  parted : (e : Engine D) (c : Client L) (disconnect : Option Disconnect) (new : Engine D) (slot : Option (Client L)) → HadTurn device view e c disconnect new slot → slot ≡ None →
+      (disconnect ≡ Some Memory) ⊎ ((disconnect ≡ Some Device) × (new.run_state.spool.dead ≡ true)) ⊎ HasParted device view e c new
+  parted e c None new slot had none = no_client _ had.is slot had.stays none
+  parted e c (Some Memory) new slot had none = inl refl
+  parted e c (Some Device) new slot had none = inr (inl (refl, had.leaves.fails refl))
+  parted e c (Some Left) new slot had none =
+      let took = had.client_step refl in
+      inr (inr (record { is = had.is; actions = took.0; client_step = took.1; left = had.leaves.left refl }))
 
-  in_turn : (slots : Slab (Client L)) (e : Engine D) (changed key : ℕ) (was : Option (Client L)) (turn : Option Turn) (new : Engine D) (is : Option (Client L)) (c : Client L) →
+  in_turn : (slots : Slab (Client L)) (e : Engine D) (changed key : ℕ) (was : Option (Client L)) (turn : Option (Option Disconnect)) (new : Engine D) (is : Option (Client L)) (c : Client L) →
       SlotHadTurn device view e was turn new is → was ≡ Some c → is ≡ None → changed ≡ key → IsCause device view e slots (takes_turn changed turn) new key c
   in_turn slots e changed key None turn new is c had there none same = absurd (cc)
   in_turn slots e changed key (Some d) None new is c had there none same = had
-  in_turn slots e changed key (Some d) (Some turn) new is c had there none same =
-      (same, subst (λ (x : Client L). (turn.disconnect ≡ Some Memory) ⊎ ((turn.disconnect ≡ Some Device) × (new.run_state.spool.dead ≡ true)) ⊎ HasParted device view e x new) (let e1 : d ≡ c = cc in e1) (parted e d turn new is had none turn.disconnect refl))
+  in_turn slots e changed key (Some d) (Some disconnect) new is c had there none same =
+      (same, subst (λ (x : Client L). (disconnect ≡ Some Memory) ⊎ ((disconnect ≡ Some Device) × (new.run_state.spool.dead ≡ true)) ⊎ HasParted device view e x new) (let e1 : d ≡ c = cc in e1) (parted e d disconnect new is had none))
 
   pub left_for : (e : Engine D) (s : Slab (Client L)) (x : LoopEvent L) (new : Engine D) (s1 : Slab (Client L)) → IsLoopEvent device view e s x new s1 → (key : ℕ) (c : Client L) → get s key ≡ Some c →
       get s1 key ≡ None → IsCause device view e s x new key c

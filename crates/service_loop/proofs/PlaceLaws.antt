@@ -8,13 +8,11 @@ use Rattle.spool_engine.specs.EngineRuns.{Engine}
 use Rattle.service_loop.specs.ServiceCalls.{GoesByCalls}
 use Rattle.service_loop.specs.ConnectionViews.{ConnectionView}
 use Rattle.service_loop.specs.ClientActions.{Action}
-use Rattle.service_loop.specs.ClientSlots.{HadOwnTurn, HasNoneNow, HasTurn, HaveTurns, KeepsOthers, SlotHadTurn, leaves_more, unless_parted}
-use Rattle.service_loop.specs.Progress.{EndsTurn, IsAtRest, IsBacklogged, IsGiven}
+use Rattle.service_loop.specs.ClientSlots.{HadOwnTurn, HasNoneNow, HasTurn, HaveTurns, KeepsOthers, SlotHadTurn, unless_parted}
+use Rattle.service_loop.specs.Progress.{IsAtRest, IsBacklogged, Leaves}
 use Rattle.service_loop.specs.ClientSteps.{IsClientStep, is_starved}
 use Rattle.service_loop.specs.declared.client.Client.{Client}
 use Rattle.service_loop.specs.declared.client.Disconnect.{Disconnect}
-use Rattle.service_loop.specs.declared.client.Disconnect.TheVariants.{Device}
-use Rattle.service_loop.specs.declared.client.Turn.{Turn}
 
 either : (a b : ℕ) → a < b + 1 → (a < b) ⊎ (a ≡ b)
 either a b lt = grind arith
@@ -24,7 +22,7 @@ module _ {D L : Type 0} (device : DiskView D) (view : ConnectionView L) where
   unfolding HaveTurns
   none_yet e slots = (refl, refl)
 
-  pub one_more : (e : Engine D) (slots : Slab (Client L)) (key : ℕ) (between : Engine D) (mid : Slab (Client L)) (turn : Option Turn) (new : Engine D) (left : Slab (Client L)) →
+  pub one_more : (e : Engine D) (slots : Slab (Client L)) (key : ℕ) (between : Engine D) (mid : Slab (Client L)) (turn : Option (Option Disconnect)) (new : Engine D) (left : Slab (Client L)) →
       HaveTurns device view e slots key between mid → HasTurn device view between mid key turn new left → HaveTurns device view e slots (key + 1) new left
   unfolding HaveTurns
   one_more e slots key between mid turn new left so_far next = rw add-one (between, mid, turn, so_far, next)
@@ -68,13 +66,13 @@ module _ {D L : Type 0} (device : DiskView D) (view : ConnectionView L) where
     others = λ other ne. refl;
   }
 
-  pub had_turn : (e : Engine D) (slots : Slab (Client L)) (key : ℕ) (was is : Client L) (turn : Turn) (e' : Engine D) (left : Slab (Client L)) → get slots key ≡ Some was →
-      GoesByCalls device e e' → (is_starved turn.disconnect ≡ false → (actions : List (Action D)) × IsClientStep device view e was actions e' is) →
-      EndsTurn view e'.run_state.spool.state was turn is → (turn.disconnect ≡ Some Device → e'.run_state.spool.dead ≡ true) →
-      Updates slots left key (unless_parted turn.disconnect is) → HasTurn device view e slots key (Some turn) e' left
-  had_turn e slots key was is turn e' left there calls client_step ends fails updates = record {
-    own = subst (λ (c : Option (Client L)). SlotHadTurn device view e c (Some turn) e' (get left key)) (sym there)
-        (record { calls = calls; is = is; client_step = client_step; ends = ends; fails = fails; stays = updates.changed });
+  pub had_turn : (e : Engine D) (slots : Slab (Client L)) (key : ℕ) (was is : Client L) (disconnect : Option Disconnect) (e' : Engine D) (left : Slab (Client L)) → get slots key ≡ Some was →
+      GoesByCalls device e e' → (is_starved disconnect ≡ false → (actions : List (Action D)) × IsClientStep device view e was actions e' is) →
+      Leaves view e'.run_state.spool was disconnect is →
+      Updates slots left key (unless_parted disconnect is) → HasTurn device view e slots key (Some disconnect) e' left
+  had_turn e slots key was is disconnect e' left there calls client_step leaves updates = record {
+    own = subst (λ (c : Option (Client L)). SlotHadTurn device view e c (Some disconnect) e' (get left key)) (sym there)
+        (record { calls = calls; is = is; client_step = client_step; leaves = leaves; stays = updates.changed });
     others = updates.others;
   }
 
@@ -104,28 +102,22 @@ who_stays : {L : Type 0} (P : Client L → Type 0) (disconnect : Option Disconne
 who_stays P None c holds = holds refl
 who_stays P (Some disconnect) c holds = tt
 
-has_none_now : {L : Type 0} (s : State) (c : Client L) → IsAtRest s c ⊎ IsBacklogged c → HasNoneNow c
+pub has_none_now : {L : Type 0} (s : State) (c : Client L) → IsAtRest s c ⊎ IsBacklogged c → HasNoneNow c
 has_none_now s c (inl (inl waiting)) = inl (ap is_some waiting.1)
 has_none_now s c (inl (inr none)) = inr (inl none)
 has_none_now s c (inr full) = inr (inr full)
 
-module _ {D L : Type 0} (device : DiskView D) (view : ConnectionView L) where
-  -- A client that stays was sent what its connection takes.
-  pub given_there : (e : Engine D) (was : Option (Client L)) (turn : Option Turn) (e' : Engine D) (left : Option (Client L)) → SlotHadTurn device view e was turn e' left → IfSome left IsGiven
-  given_there e None None e' left had = subst (λ (c : Option (Client L)). IfSome c IsGiven) (sym had.1) tt
-  given_there e None (Some turn) e' left had = absurd had
-  given_there e (Some was) None e' left had = absurd had
-  given_there e (Some was) (Some turn) e' left had = subst (λ (c : Option (Client L)). IfSome c IsGiven) (sym had.stays) (who_stays IsGiven turn.disconnect had.is had.ends.given)
+-- What holds of a client that stays holds of its slot.
+pub holds_there : {L : Type 0} (P : Client L → Type 0) (left : Slab (Client L)) (slots : Slab (Client L)) (key : ℕ) (disconnect : Option Disconnect) (c : Client L) →
+    Updates slots left key (unless_parted disconnect c) → (disconnect ≡ None → P c) → IfSome (get left key) P
+holds_there {L} P left slots key disconnect c updates holds = subst (λ (slot : Option (Client L)). IfSome slot P) (sym updates.changed) (who_stays P disconnect c holds)
 
-  -- Nothing can be done for it now, unless its turn left more.
-  pub rests_there : (e : Engine D) (was : Option (Client L)) (turn : Option Turn) (e' : Engine D) (left : Option (Client L)) → SlotHadTurn device view e was turn e' left →
-      leaves_more turn ≡ false → IfSome left HasNoneNow
-  rests_there e None None e' left had none = subst (λ (c : Option (Client L)). IfSome c HasNoneNow) (sym had.1) tt
-  rests_there e None (Some turn) e' left had none = absurd had
-  rests_there e (Some was) None e' left had none = absurd had
-  rests_there e (Some was) (Some turn) e' left had none =
-      subst (λ (c : Option (Client L)). IfSome c HasNoneNow) (sym had.stays)
-      (who_stays HasNoneNow turn.disconnect had.is (λ stays. has_none_now e'.run_state.spool.state had.is (had.ends.rests stays none)))
+-- What holds of a client holds of its slot.
+pub holds_here : {L : Type 0} (P : Client L → Type 0) (slots : Slab (Client L)) (key : ℕ) (c : Client L) → get slots key ≡ Some c → IfSome (get slots key) P → P c
+holds_here {L} P slots key c there holds = subst (λ (slot : Option (Client L)). IfSome slot P) there holds
+
+pub none_there : {L : Type 0} (P : Client L → Type 0) (slots : Slab (Client L)) (key : ℕ) → get slots key ≡ None → IfSome (get slots key) P
+none_there {L} P slots key none = subst (λ (slot : Option (Client L)). IfSome slot P) (sym none) tt
 
 each_of : {L : Type 0} (P : Client L → Type 0) (slots left : Slab (Client L)) (key : ℕ) → KeepsOthers key slots left →
     ((k : ℕ) → k < key → IfSome (get slots k) P) → IfSome (get left key) P → (k : ℕ) → (k < key) ⊎ (k ≡ key) → IfSome (get left k) P

@@ -1,11 +1,11 @@
 -- The end of a client's turn: its unchanged fields, and when it was heard, over two calls.
-use Rattle.std.proofs.Common.{◌≡◌, ◌⊎◌, inl, inr, ℕ, ◌<◌, ◌≤◌, Bool, true, false, ◌&&◌, ◌||◌, cond, nat_lt, ap, refl, ◌∙◌, arith}
+use Rattle.std.proofs.Common.{◌≡◌, ◌⊎◌, inl, inr, ℕ, ◌<◌, ◌≤◌, Bool, true, false, ◌&&◌, ◌||◌, cond, nat_le, nat_lt, is_some, ap, refl, ◌∙◌, arith}
 use Rattle.std.proofs.lemmas.Bool.Decides.{nat_tests}
-use Rattle.spool_types.specs.State.{State}
 use Rattle.service_rules.specs.Bounds.{most_unread}
 use Rattle.service_loop.specs.AdmissionViews.{unread}
 use Rattle.service_loop.specs.ConnectionViews.{ConnectionView}
-use Rattle.service_loop.specs.Progress.{HasLeft, IsAtRest, IsBacklogged, IsUnheard, as_given, heard_after}
+use Rattle.service_loop.specs.ClientSlots.{HasNoneNow}
+use Rattle.service_loop.specs.Progress.{HasLeft, IsUnheard, as_given, heard_after}
 use Rattle.service_loop.specs.declared.client.Client.{Client}
 
 pub given_then : {L : Type 0} (a b c : Client L) → b ≡ as_given a b → c ≡ as_given b c → c ≡ as_given a c
@@ -39,27 +39,28 @@ fewer_by old new P (inr same) = let e = same.1 in omega arith
 
 -- ## The end of a turn
 
-at_rest_still : {L : Type 0} (s : State) (mid new : Client L) → new ≡ as_given mid new → IsAtRest s mid → IsAtRest s new
-at_rest_still s mid new kept (inl waiting) = inl (waiting.0, ap (λ x. x.waits) kept ∙ waiting.1, waiting.2)
-at_rest_still s mid new kept (inr none) = inr (ap (λ x. x.readable) kept ∙ none)
+pub not_less : (n : ℕ) → nat_lt n most_unread ≡ false → most_unread ≤ n
+not_less n none = grind (arith, nat_tests)
 
-backlogged_still : (b more : Bool) (n : ℕ) → b ≡ true → (more || (b && nat_lt n most_unread)) ≡ false → most_unread ≤ n
-backlogged_still b more n full none = grind (arith, nat_tests)
+pub neither : (a b : Bool) → (a || b) ≡ false → (a ≡ false) × (b ≡ false)
+neither false false none = (refl, refl)
+neither false true none = cc
+neither true b none = cc
 
-rests_by : {L : Type 0} (s : State) (mid new : Client L) (is_backlogged more : Bool) → new ≡ as_given mid new → IsAtRest s mid ⊎ (is_backlogged ≡ true) →
-    (more || (is_backlogged && nat_lt (unread new) most_unread)) ≡ false → IsAtRest s new ⊎ IsBacklogged new
-rests_by s mid new is_backlogged more kept (inl rest) none = inl (at_rest_still s mid new kept rest)
-rests_by s mid new is_backlogged more kept (inr full) none = inr (backlogged_still is_backlogged more (unread new) full none)
+still_full : (was : Bool) (n : ℕ) → was ≡ true → (was && nat_lt n most_unread) ≡ false → most_unread ≤ n
+still_full true n full none = not_less n none
+still_full false n full none = cc
 
-no_more : (more other : Bool) → (more || other) ≡ false → more ≡ false
-no_more false other none = refl
-no_more true other none = cc
+at_least : (n : ℕ) → most_unread ≤ n → nat_le most_unread n ≡ true
+at_least n le = grind (arith, nat_tests)
 
--- If nothing more can be done after the replies were written, nothing could be done before.
-pub ends_at_rest : {L : Type 0} (s : State) (mid new : Client L) (more is_backlogged : Bool) → new ≡ as_given mid new → (more ≡ false → IsAtRest s mid ⊎ (is_backlogged ≡ true)) →
-    (more || (is_backlogged && nat_lt (unread new) most_unread)) ≡ false → IsAtRest s new ⊎ IsBacklogged new
-ends_at_rest s mid new more is_backlogged kept rests none =
-    rests_by s mid new is_backlogged more kept (rests (no_more more (is_backlogged && nat_lt (unread new) most_unread) none)) none
+-- If nothing could be done for it before its replies were written, and it did not become able to do more, nothing can be done after.
+pub has_none_still : {L : Type 0} (mid new : Client L) (other : Bool) → new ≡ as_given mid new → ((nat_le most_unread (unread mid) && nat_lt (unread new) most_unread) || other) ≡ false →
+    HasNoneNow mid → HasNoneNow new
+has_none_still mid new other kept none (inl waits) = inl (ap (λ x. is_some x.waits) kept ∙ waits)
+has_none_still mid new other kept none (inr (inl read)) = inr (inl (ap (λ x. x.readable) kept ∙ read))
+has_none_still mid new other kept none (inr (inr full)) =
+    inr (inr (still_full (nat_le most_unread (unread mid)) (unread new) (at_least (unread mid) full) (neither (nat_le most_unread (unread mid) && nat_lt (unread new) most_unread) other none).0))
 
 -- After its replies were written it leaves for the same reasons.
 pub has_left : {L : Type 0} (view : ConnectionView L) (c : Client L) → IsUnheard view c ⊎ ((c.over ≡ true) × (unread c ≡ 0)) → HasLeft view c

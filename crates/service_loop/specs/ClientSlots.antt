@@ -3,17 +3,18 @@ use Rattle.std.specs.Prelude.{◌≡◌, ◌≢◌, ◌⊎◌, ℕ, zero, suc, B
 use Rattle.slab.specs.Slab.{Slab, SameValues, Updates, get}
 use Rattle.spool_disk.specs.Disk.{DiskView}
 use Rattle.spool_engine.specs.EngineRuns.{Engine}
+use Rattle.service_rules.specs.Bounds.{most_clients}
 use Rattle.service_rules.specs.declared.slots.Admission.{Admission}
 use Rattle.service_rules.specs.declared.slots.Admission.TheVariants.{InsteadOf}
 use Rattle.service_loop.specs.ServiceCalls.{GoesByCalls}
 use Rattle.service_loop.specs.AdmissionViews.{watches}
 use Rattle.service_loop.specs.ClientActions.{Action}
 use Rattle.service_loop.specs.ConnectionViews.{ConnectionView, IsUntouched}
-use Rattle.service_loop.specs.Progress.{EndsTurn, IsBacklogged, misses, signed, text_for}
+use Rattle.service_loop.specs.Progress.{IsBacklogged, Leaves, misses, signed, text_for}
 use Rattle.service_loop.specs.ClientSteps.{Goes, IsAdded, IsEntry, IsNotified, IsClientStep, is_starved, status_of}
 use Rattle.service_loop.specs.declared.client.Client.{Client}
 use Rattle.service_loop.specs.declared.client.Disconnect.{Disconnect}
-use Rattle.service_loop.specs.declared.client.Disconnect.TheVariants.{Device}
+use Rattle.service_loop.specs.declared.client.Sending.{Sending}
 use Rattle.service_loop.specs.declared.client.Turn.{Turn}
 
 -- The client in a slot after a turn, or none if it was disconnected.
@@ -21,30 +22,28 @@ abbrev pub unless_parted : {L : Type 0} → Option Disconnect → Client L → O
 unless_parted None c = Some c
 unless_parted (Some disconnect) c = None
 
--- A client had a turn, and left its slot only if it was disconnected. Unless memory ran out for it, the turn was a client step. If it
--- stayed, it was sent what its connection takes, and is at rest unless the turn reports that there is more. If it left because the device
--- failed, the device has failed.
-pub record HadTurn {D L : Type 0} (device : DiskView D) (view : ConnectionView L) (old : Engine D) (was : Client L) (turn : Turn) (new : Engine D) (left : Option (Client L)) : Type 0 where
+-- A client had a turn, and left its slot only if it was disconnected. Unless memory ran out for it, the turn was a client step. It left for
+-- a cause.
+pub record HadTurn {D L : Type 0} (device : DiskView D) (view : ConnectionView L) (old : Engine D) (was : Client L) (disconnect : Option Disconnect) (new : Engine D) (left : Option (Client L)) : Type 0 where
   pub calls : GoesByCalls device old new
   pub is : Client L
-  pub client_step : is_starved turn.disconnect ≡ false → (actions : List (Action D)) × IsClientStep device view old was actions new is
-  pub ends : EndsTurn view new.run_state.spool.state was turn is
-  pub fails : turn.disconnect ≡ Some Device → new.run_state.spool.dead ≡ true
-  pub stays : left ≡ unless_parted turn.disconnect is
+  pub client_step : is_starved disconnect ≡ false → (actions : List (Action D)) × IsClientStep device view old was actions new is
+  pub leaves : Leaves view new.run_state.spool was disconnect is
+  pub stays : left ≡ unless_parted disconnect is
 
--- A slot had a turn. If it was empty, nothing was done.
-abbrev pub SlotHadTurn : {D L : Type 0} → DiskView D → ConnectionView L → Engine D → Option (Client L) → Option Turn → Engine D → Option (Client L) → Type 0
+-- A slot had a turn, with the cause for which its client was disconnected, if it was. If the slot was empty, nothing was done.
+abbrev pub SlotHadTurn : {D L : Type 0} → DiskView D → ConnectionView L → Engine D → Option (Client L) → Option (Option Disconnect) → Engine D → Option (Client L) → Type 0
 SlotHadTurn device view old None None new left = (new ≡ old) × (left ≡ None)
-SlotHadTurn device view old None (Some turn) new left = ⊥
+SlotHadTurn device view old None (Some disconnect) new left = ⊥
 SlotHadTurn device view old (Some was) None new left = ⊥
-SlotHadTurn device view old (Some was) (Some turn) new left = HadTurn device view old was turn new left
+SlotHadTurn device view old (Some was) (Some disconnect) new left = HadTurn device view old was disconnect new left
 
 -- All other slots are unchanged.
 abbrev pub KeepsOthers : {L : Type 0} → ℕ → Slab (Client L) → Slab (Client L) → Type 0
 KeepsOthers key old new = (other : ℕ) → other ≢ key → get new other ≡ get old other
 
 -- The slot had a turn, and no other slot changed.
-pub record HasTurn {D L : Type 0} (device : DiskView D) (view : ConnectionView L) (old : Engine D) (slots : Slab (Client L)) (key : ℕ) (turn : Option Turn) (new : Engine D) (left : Slab (Client L)) : Type 0 where
+pub record HasTurn {D L : Type 0} (device : DiskView D) (view : ConnectionView L) (old : Engine D) (slots : Slab (Client L)) (key : ℕ) (turn : Option (Option Disconnect)) (new : Engine D) (left : Slab (Client L)) : Type 0 where
   pub own : SlotHadTurn device view old (get slots key) turn new (get left key)
   pub others : KeepsOthers key slots left
 
@@ -52,11 +51,22 @@ pub record HasTurn {D L : Type 0} (device : DiskView D) (view : ConnectionView L
 unfoldable pub HaveTurns : {D L : Type 0} → DiskView D → ConnectionView L → Engine D → Slab (Client L) → ℕ → Engine D → Slab (Client L) → Type 0
 HaveTurns device view old slots zero new left = (new ≡ old) × (left ≡ slots)
 HaveTurns {D} {L} device view old slots (suc key) new left =
-    (between : Engine D) × (mid : Slab (Client L)) × (turn : Option Turn) × HaveTurns device view old slots key between mid × HasTurn device view between mid key turn new left
+    (between : Engine D) × (mid : Slab (Client L)) × (turn : Option (Option Disconnect)) × HaveTurns device view old slots key between mid × HasTurn device view between mid key turn new left
+
+-- Each slot had two turns: first requests of all clients were served, and then their replies were written.
+pub record HaveServed {D L : Type 0} (device : DiskView D) (view : ConnectionView L) (old : Engine D) (slots : Slab (Client L)) (new : Engine D) (left : Slab (Client L)) : Type 0 where
+  pub between : Engine D
+  pub mid : Slab (Client L)
+  pub requests : HaveTurns device view old slots most_clients between mid
+  pub replies : HaveTurns device view between mid most_clients new left
 
 -- A slot had its own turn, between some engines.
 abbrev pub HadOwnTurn : {D L : Type 0} → DiskView D → ConnectionView L → Option (Client L) → Option (Client L) → Type 0
-HadOwnTurn {D} device view was left = (old : Engine D) × (turn : Option Turn) × (new : Engine D) × SlotHadTurn device view old was turn new left
+HadOwnTurn {D} device view was left = (old : Engine D) × (turn : Option (Option Disconnect)) × (new : Engine D) × SlotHadTurn device view old was turn new left
+
+-- A slot had its own two turns.
+abbrev pub HadOwnTurns : {D L : Type 0} → DiskView D → ConnectionView L → Option (Client L) → Option (Client L) → Type 0
+HadOwnTurns {D} {L} device view was left = (mid : Option (Client L)) × HadOwnTurn device view was mid × HadOwnTurn device view mid left
 
 -- Nothing can be done for it now, judged by the client alone.
 abbrev pub HasNoneNow : {L : Type 0} → Client L → Type 0
@@ -66,6 +76,11 @@ HasNoneNow c = (is_some c.waits ≡ true) ⊎ (c.readable ≡ false) ⊎ IsBackl
 abbrev pub leaves_more : Option Turn → Bool
 leaves_more None = false
 leaves_more (Some turn) = turn.more
+
+-- Whether the replies that were written left something to do at once.
+abbrev pub goes_on : Option Sending → Bool
+goes_on None = false
+goes_on (Some sending) = sending.more
 
 -- The effect of a notice on a slot: its client was sent its part of it, or it watches and was disconnected because memory ran out.
 abbrev pub IsSlotNotified : {L : Type 0} → (Client L → List ℕ) → Option (Client L) → Option (Client L) → Type 0

@@ -1,7 +1,8 @@
 -- Progress of a client: its replies are written, and its text is read and served, unless its connection reports that this is impossible.
-use Rattle.std.specs.Prelude.{◌≡◌, ◌⊎◌, ℕ, ◌<◌, ◌≤◌, Bool, true, false, cond, nat_le, nat_lt, ◌&&◌, ◌||◌, List, [], ◌++◌, length, codes, None, Some, Ok, IfSome, is_some}
+use Rattle.std.specs.Prelude.{◌≡◌, ◌⊎◌, ℕ, ◌<◌, ◌≤◌, Bool, true, false, cond, nat_eq, nat_le, nat_lt, not, ◌&&◌, ◌||◌, List, [], ◌++◌, length, codes, Option, None, Some, Ok, IfSome, is_some}
 use Rattle.std.specs.Io.KnownBytes.{Consumes, Keeps}
 use Rattle.spool_types.specs.State.{State}
+use Rattle.spool_core.specs.OpenSpools.{OpenSpool}
 use Rattle.service_rules.specs.Bounds.{most_unread}
 use Rattle.service_texts.specs.Notices.{Noted, change_text, told}
 use Rattle.service_texts.specs.Shown.{has_settled}
@@ -12,7 +13,8 @@ use Rattle.client_reader.specs.declared.ask.Ask.{Ask}
 use Rattle.service_loop.specs.AdmissionViews.{unread, watches}
 use Rattle.service_loop.specs.ConnectionViews.{ConnectionView, has_no_more, is_cut, takes_later, takes_no_more}
 use Rattle.service_loop.specs.declared.client.Client.{Client}
-use Rattle.service_loop.specs.declared.client.Disconnect.TheVariants.{Left}
+use Rattle.service_loop.specs.declared.client.Disconnect.{Disconnect}
+use Rattle.service_loop.specs.declared.client.Disconnect.TheVariants.{Device, Left}
 use Rattle.service_loop.specs.declared.client.Step.{Step}
 use Rattle.service_loop.specs.declared.client.Step.TheVariants.{Served, Goes, Rests, Lost}
 use Rattle.service_loop.specs.declared.client.Turn.{Turn}
@@ -138,14 +140,20 @@ IsAtRest s c = ((job : ℕ) × (c.waits ≡ Some job) × (has_settled s job ≡ 
 abbrev pub IsBacklogged : {L : Type 0} → Client L → Type 0
 IsBacklogged c = most_unread ≤ unread c
 
+-- Its text has ended, there is no more to serve, it waits for nothing, and it has all replies.
+abbrev pub has_ended : {L : Type 0} → Client L → Bool → Bool
+has_ended c more = c.over && (not more && (not (is_some c.waits) && nat_eq (unread c) 0))
+
+-- After its replies were written, it can be served again, as too much of them is unread no longer, or it has ended.
+abbrev pub goes_further : {L : Type 0} → Bool → Client L → Bool
+goes_further was_backlogged c = (was_backlogged && nat_lt (unread c) most_unread) || has_ended c false
+
 -- Its connection is lost, or it hung up while it waited for an end, or its text has ended and it has all replies.
 abbrev pub HasLeft : {L : Type 0} → ConnectionView L → Client L → Type 0
 HasLeft view c = IsUnheard view c ⊎ IsCut view c ⊎ ((c.gone ≡ true) × (is_some c.waits ≡ true)) ⊎ ((c.over ≡ true) × (unread c ≡ 0))
 
--- How a turn ends, over the table that it leaves. A client that stays was sent what its connection takes. Unless there is more to do at
--- once, it is at rest or left too much unread.
-pub record EndsTurn {L : Type 0} (view : ConnectionView L) (s : State) (was : Client L) (turn : Turn) (is : Client L) : Type 0 where
-  pub given : turn.disconnect ≡ None → IsGiven is
-  pub rests : turn.disconnect ≡ None → turn.more ≡ false → IsAtRest s is ⊎ IsBacklogged is
-  pub leaves : turn.disconnect ≡ Some Left → HasLeft view is
+-- Why a client is disconnected, if it is: it had left, memory ran out for it, or the device of this spool failed. Its marks stay true.
+pub record Leaves {D L : Type 0} (view : ConnectionView L) (spool : OpenSpool D) (was : Client L) (disconnect : Option Disconnect) (is : Client L) : Type 0 where
+  pub left : disconnect ≡ Some Left → HasLeft view is
+  pub fails : disconnect ≡ Some Device → spool.dead ≡ true
   pub marked : IsMarked view was → IsMarked view is

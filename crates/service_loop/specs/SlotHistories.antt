@@ -20,8 +20,8 @@ use Rattle.service_loop.specs.ConnectionViews.{ConnectionView, IsUntouched, Proo
 use Rattle.service_loop.specs.Progress.{HasLeft, news_for}
 use Rattle.service_loop.specs.ServiceCalls.{GoesByCalls}
 use Rattle.service_loop.specs.declared.client.Client.{Client}
+use Rattle.service_loop.specs.declared.client.Disconnect.{Disconnect}
 use Rattle.service_loop.specs.declared.client.Disconnect.TheVariants.{Device, Memory}
-use Rattle.service_loop.specs.declared.client.Turn.{Turn}
 
 -- ## Events of the loop
 
@@ -34,8 +34,8 @@ pub data LoopEvent (L : Type 0) : Type 0 where
   gives_up : ℕ → ℕ → ℕ → LoopEvent L
   -- A new client with this connection got a free slot.
   enters : L → LoopEvent L
-  -- The slot had its turn.
-  takes_turn : ℕ → Option Turn → LoopEvent L
+  -- The slot had a turn, for requests or for replies, with the cause for which its client was disconnected, if it was.
+  takes_turn : ℕ → Option (Option Disconnect) → LoopEvent L
   -- The watching clients were sent these changes. The last one has this number.
   notifies : Noted → ℕ → LoopEvent L
 
@@ -100,7 +100,7 @@ IsCause device view e slots (readies other writable gone) new key c = ⊥
 IsCause device view e slots (gives_up other now places) new key c = (other ≡ key) × IsAdmission places (heard_of slots) now (InsteadOf other)
 IsCause device view e slots (enters connection) new key c = ⊥
 IsCause device view e slots (takes_turn other None) new key c = ⊥
-IsCause device view e slots (takes_turn other (Some turn)) new key c = (other ≡ key) × ((turn.disconnect ≡ Some Memory) ⊎ ((turn.disconnect ≡ Some Device) × (new.run_state.spool.dead ≡ true)) ⊎ HasParted device view e c new)
+IsCause device view e slots (takes_turn other (Some disconnect)) new key c = (other ≡ key) × ((disconnect ≡ Some Memory) ⊎ ((disconnect ≡ Some Device) × (new.run_state.spool.dead ≡ true)) ⊎ HasParted device view e c new)
 IsCause device view e slots (notifies noted last) new key c = watches c ≡ true
 
 -- ## Each client

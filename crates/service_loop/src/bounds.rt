@@ -6,6 +6,9 @@ pub const PIECE: usize = 16_384;
 /// The most steps in a client's turn. A blank line takes a step too.
 pub const MOST_STEPS: usize = 256;
 
+/// Once the records of the staged events have this many bytes, they become durable before the next client is served.
+pub const MOST_STAGED: u64 = 1_048_576;
+
 /// The most connections accepted in a turn.
 pub const MOST_ACCEPTED: usize = 64;
 

@@ -1,7 +1,7 @@
 //! A client: its unserved text, and the replies that it has not taken.
 //!
 //! At most a piece beyond the beginning of a line is read of its text. Its reader (`client_reader`) returns its requests in order.
-ghost use Rattle.std.specs.Prelude.{◌≡◌, ◌⊎◌, ◌<◌, ◌&&◌, ◌||◌, ℕ, cond, nat_lt, vec_len, is_some, true, false, List, [], None, Some, IfOk, OnOk};
+ghost use Rattle.std.specs.Prelude.{◌≡◌, ◌⊎◌, ◌<◌, ◌&&◌, ◌||◌, ℕ, cond, nat_le, vec_len, is_some, true, false, List, [], None, Some, IfOk, OnOk};
 ghost use Rattle.client_reader.specs.AwaitedRequests.{is_in_send};
 ghost use Rattle.service_rules.specs.Bounds.{most_unread};
 ghost use Rattle.service_rules.specs.Listeners.{may_listen};
@@ -9,9 +9,9 @@ ghost use Rattle.service_loop.specs.ClientListening.{BeginsAtMost, IsHeard};
 ghost use Rattle.service_loop.specs.ServiceCalls.{GoesWithin};
 ghost use Rattle.service_loop.specs.AdmissionViews.{is_listener, listens, unread, watches};
 ghost use Rattle.service_loop.specs.ClientActions.{Action, IsDurable};
-ghost use Rattle.service_loop.specs.Progress.{EndsTurn, HasLeft, HasRead, IsAtRest, IsBacklogged, IsCut, IsGiven, IsMarked, IsReadAs, IsUnheard, as_given, as_read, as_served, as_told, heard_after, misses, news_for, signed, text_for};
+ghost use Rattle.service_loop.specs.Progress.{HasLeft, HasRead, IsAtRest, IsBacklogged, IsCut, IsGiven, IsMarked, IsReadAs, IsUnheard, Leaves, as_given, as_read, as_served, as_told, goes_further, has_ended, heard_after, misses, news_for, signed, text_for};
+ghost use Rattle.service_loop.specs.ClientSlots.{HasNoneNow};
 ghost use Rattle.service_loop.specs.ClientSteps.{Delivers, Goes, GivesNext, IsAdded, IsEntry, IsNotified, IsClientStep, is_starved, status_of};
-ghost use Rattle.service_loop.specs.declared.client.Disconnect.TheVariants as causes;
 
 mod answers;
 mod applied;
@@ -64,15 +64,13 @@ impl From<AllocError> for ClientFault {
     }
 }
 
-/// The result of a client's turn.
+/// The result of the requests of a client's turn.
 #[derive(Clone, Copy)]
 pub struct Turn {
     /// Whether a request was served.
     pub served: bool,
     /// Whether more can be served at once.
     pub more: bool,
-    // Whether serving stopped because too much of its replies was unread.
-    is_backlogged: bool,
     // The places that other clients have that listen.
     listening: Listening,
     /// Whether it requested the end of the service.
@@ -82,17 +80,24 @@ pub struct Turn {
 
 impl Turn {
     fn new(listening: Listening) -> Turn
-        ensures { result ≡ record { served = false; more = false; is_backlogged = false; listening = listening; shutdown = false; disconnect = None } }
+        ensures { result ≡ record { served = false; more = false; listening = listening; shutdown = false; disconnect = None } }
     {
         Turn {
             served: false,
             more: false,
-            is_backlogged: false,
             listening,
             shutdown: false,
             disconnect: None,
         }
     }
+}
+
+/// The result of the replies of a client's turn.
+#[derive(Clone, Copy)]
+pub struct Sending {
+    /// Whether more can be done for it at once.
+    pub more: bool,
+    pub disconnect: Option<Disconnect>,
 }
 
 // The result of a step of a client's turn.
@@ -221,74 +226,117 @@ impl<L: Connection> Client<L> {
         self.replies.len().saturating_sub(self.taken)
     }
 
-    /// Gives the client a turn: writes pending replies, serves some requests and writes their replies. `listening`: the places of the other
-    /// clients that listen.
+    /// Serves requests of the client, up to the bounds of a turn. Their events are staged, and their replies wait for [`Client::send`].
+    /// `listening`: the places of the other clients that listen.
     pub fn serve<D: Disk, C: Children>(
         &mut self,
         shared: &mut Shared<D, C>,
         listening: Listening,
         now: u64,
     ) -> Turn
-        // Unless memory ran out for it, its next requests were answered in order, and it was sent nothing else. What was written to its
-        // connection was written while all events were durable.
+        // Unless memory ran out for it, its next requests were answered in order, and no other text is for it.
         ensures client_step { is_starved result.disconnect ≡ false → (actions : List (Action D)) ×
             IsClientStep D.device L.view shared.old.engine self.old actions shared.new.engine self.new }
 
         // It listens afterwards only if it listened before, or one more client might.
         ensures listens { is_starved result.disconnect ≡ false → BeginsAtMost (may_listen listening) self.old self.new }
 
-        // What its connection takes was written. Unless there is more to do at once, nothing can be done for it now.
-        ensures ends { EndsTurn L.view shared.new.engine.run_state.spool.state self.old result self.new }
-        ensures fails { result.disconnect ≡ Some causes.Device → shared.new.engine.run_state.spool.dead ≡ true }
+        // Unless there is more to do at once, a client that stays is at rest or left too much unread.
+        ensures rests { result.disconnect ≡ None → result.more ≡ false → IsAtRest shared.new.engine.run_state.spool.state self.new ⊎ IsBacklogged self.new }
+        ensures leaves { Leaves L.view shared.new.engine.run_state.spool self.old result.disconnect self.new }
         ensures calls { GoesWithin D.device shared.old.most shared.old.engine shared.new.most shared.new.engine }
     {
         let mut turn = Turn::new(listening);
         match self.try_serve(shared, now, &mut turn) {
-            Ok(disconnect) => turn.disconnect = disconnect,
+            Ok(true) => {}
+            Ok(false) => turn.disconnect = Some(Disconnect::Left),
             Err(ClientFault::Memory) => turn.disconnect = Some(Disconnect::Memory),
         }
         turn
     }
 
-    // Does the same. Returns why the client is disconnected, if it is.
+    // Does the same. Returns whether the client stays.
     fn try_serve<D: Disk, C: Children>(
         &mut self,
         shared: &mut Shared<D, C>,
         now: u64,
         turn: &mut Turn,
-    ) -> Result<Option<Disconnect>, ClientFault>
-        requires { turn.old.is_backlogged ≡ false }
+    ) -> Result<bool, ClientFault>
         ensures client_step { OnOk result ((actions : List (Action D)) ×
             IsClientStep D.device L.view shared.old.engine self.old actions shared.new.engine self.new) }
         ensures listens { OnOk result (BeginsAtMost (may_listen turn.old.listening) self.old self.new) }
-        ensures given { IfOk result (λ cause. cause ≡ None → IsGiven self.new) }
-        ensures rests { IfOk result (λ cause. cause ≡ None → turn.new.more ≡ false → IsAtRest shared.new.engine.run_state.spool.state self.new ⊎ IsBacklogged self.new) }
-        ensures leaves { IfOk result (λ cause. cause ≡ Some causes.Left → HasLeft L.view self.new) }
-        ensures memory { IfOk result (λ cause. is_starved cause ≡ false) }
-        ensures fails { IfOk result (λ cause. cause ≡ Some causes.Device → shared.new.engine.run_state.spool.dead ≡ true) }
+        ensures rests { IfOk result (λ there. there ≡ true → turn.new.more ≡ false → IsAtRest shared.new.engine.run_state.spool.state self.new ⊎ IsBacklogged self.new) }
+        ensures leaves { IfOk result (λ there. there ≡ false → HasLeft L.view self.new) }
         ensures marked { IsMarked L.view self.old → IsMarked L.view self.new }
+        ensures disconnect { turn.new.disconnect ≡ turn.old.disconnect }
+        ensures calls { GoesWithin D.device shared.old.most shared.old.engine shared.new.most shared.new.engine }
+    {
+        if self.has_left_waiting() {
+            return Ok(false);
+        }
+        self.settle_many(shared);
+        if !self.serve_some(shared, now, turn)? {
+            return Ok(false);
+        }
+        Ok(!self.has_ended(turn.more))
+    }
+
+    // Makes the events that other clients staged durable if they are many, so that no settle takes long.
+    fn settle_many<D: Disk, C: Children>(&self, shared: &mut Shared<D, C>)
+        ensures client_step { (actions : List (Action D)) × IsClientStep D.device L.view shared.old.engine self.now actions shared.new.engine self.now }
+        ensures calls { GoesWithin D.device shared.old.most shared.old.engine shared.new.most shared.new.engine }
+    {
+        if shared.has_many_staged() {
+            shared.settle();
+        }
+    }
+
+    // Whether its text has ended, there is no more to serve, it waits for nothing, and it has all replies. A last line without line feed is no
+    // command: the client may have been killed in the middle of it.
+    fn has_ended(&self, more: bool) -> bool
+        ensures { result ≡ has_ended self.now more }
+    {
+        self.over && !more && self.waits.is_none() && self.unread() == 0
+    }
+
+    /// Makes the staged events durable, if any are staged, and then writes the replies that its connection takes.
+    pub fn send<D: Disk, C: Children>(&mut self, shared: &mut Shared<D, C>, now: u64) -> Sending
+        // Nothing is written to its connection before all events are durable, and nothing but its replies then.
+        ensures client_step { (actions : List (Action D)) × IsClientStep D.device L.view shared.old.engine self.old actions shared.new.engine self.new }
+        ensures given { result.disconnect ≡ None → IsGiven self.new }
+        // There is more to do at once exactly if it took so much that it can be served again, or all, so that it can leave.
+        ensures more { result.disconnect ≡ None → result.more ≡ goes_further (nat_le most_unread (unread self.old)) self.new }
+        // Unless there is more to do at once, nothing can be done for it if nothing could be done before.
+        ensures rests { result.disconnect ≡ None → result.more ≡ false → HasNoneNow self.old → HasNoneNow self.new }
+        ensures leaves { Leaves L.view shared.new.engine.run_state.spool self.old result.disconnect self.new }
+        ensures listens { is_listener self.new ≡ is_listener self.old }
         ensures calls { GoesWithin D.device shared.old.most shared.old.engine shared.new.most shared.new.engine }
     {
         if !shared.settle() {
-            return Ok(Some(Disconnect::Device));
+            return Sending {
+                more: false,
+                disconnect: Some(Disconnect::Device),
+            };
         }
+        let was_backlogged = MOST_UNREAD <= self.unread();
         if !self.give(shared, now) {
-            return Ok(Some(Disconnect::Left));
+            return Sending {
+                more: false,
+                disconnect: Some(Disconnect::Left),
+            };
         }
-        if self.has_left_waiting() {
-            return Ok(Some(Disconnect::Left));
+        Sending {
+            more: self.goes_further(was_backlogged),
+            disconnect: None,
         }
-        if !self.serve_some(shared, now, turn)? {
-            return Ok(Some(Disconnect::Left));
-        }
-        if !shared.settle() {
-            return Ok(Some(Disconnect::Device));
-        }
-        if self.end_turn(shared, now, turn) {
-            Ok(None)
-        } else {
-            Ok(Some(Disconnect::Left))
-        }
+    }
+
+    // Whether it can be served again, as too much of its replies is unread no longer, or leave, as it has ended. Its connection may report no
+    // readiness for that.
+    fn goes_further(&self, was_backlogged: bool) -> bool
+        ensures { result ≡ goes_further was_backlogged self.now }
+    {
+        was_backlogged && self.unread() < MOST_UNREAD || self.has_ended(false)
     }
 
     // Whether it has hung up while it waits. A waiting client is not read, so the end of its text is not seen.
@@ -298,30 +346,6 @@ impl<L: Connection> Client<L> {
         self.gone && self.waits.is_some()
     }
 
-    // Writes the replies that its connection takes, after its requests were served. Returns whether the client stays.
-    fn end_turn<D: Disk, C: Children>(
-        &mut self,
-        shared: &Shared<D, C>,
-        now: u64,
-        turn: &mut Turn,
-    ) -> bool
-        requires durable { IsDurable shared.now.engine.run_state.spool }
-        ensures delivers { Delivers L.view self.old self.new }
-        ensures status { status_of self.new ≡ status_of self.old }
-        ensures given { result ≡ true → IsGiven self.new }
-        ensures leaves { result ≡ false → IsUnheard L.view self.new ⊎ ((self.new.over ≡ true) × (unread self.new ≡ 0)) }
-        ensures more { turn.new ≡ record turn.old { more = turn.old.more || (turn.old.is_backlogged && nat_lt (unread self.new) most_unread) } }
-        ensures marked { IsMarked L.view self.old → IsMarked L.view self.new }
-        ensures kept { self.new ≡ as_given self.old self.new }
-    {
-        // A last line without line feed is no command: the client may have been killed in the middle of it.
-        let ended = self.over && !turn.more && !turn.is_backlogged && self.waits.is_none();
-        let there = self.give(shared, now);
-        // It took so much that it can be served again, and its connection may report no readiness for that.
-        turn.more = turn.more || turn.is_backlogged && self.unread() < MOST_UNREAD;
-        there && (!ended || 0 < self.unread())
-    }
-
     // Serves complete requests, up to the bounds of a turn. Returns whether the client stays.
     fn serve_some<D: Disk, C: Children>(
         &mut self,
@@ -329,11 +353,10 @@ impl<L: Connection> Client<L> {
         now: u64,
         turn: &mut Turn,
     ) -> Result<bool, ClientFault>
-        requires { turn.old.is_backlogged ≡ false }
         ensures client_step { OnOk result ((actions : List (Action D)) ×
             IsClientStep D.device L.view shared.old.engine self.old actions shared.new.engine self.new) }
         ensures listens { OnOk result (BeginsAtMost (may_listen turn.old.listening) self.old self.new) }
-        ensures rests { IfOk result (λ there. there ≡ true → turn.new.more ≡ false → IsAtRest shared.new.engine.run_state.spool.state self.new ⊎ (turn.new.is_backlogged ≡ true)) }
+        ensures rests { IfOk result (λ there. there ≡ true → turn.new.more ≡ false → IsAtRest shared.new.engine.run_state.spool.state self.new ⊎ IsBacklogged self.new) }
         ensures leaves { IfOk result (λ there. there ≡ false → IsCut L.view self.new) }
         ensures marked { IsMarked L.view self.old → IsMarked L.view self.new }
         ensures disconnect { turn.new.disconnect ≡ turn.old.disconnect }
@@ -343,8 +366,7 @@ impl<L: Connection> Client<L> {
         let mut served = 0;
         for _ in 0..MOST_STEPS {
             if !is_served_on(served, self.unread()) {
-                turn.is_backlogged = MOST_UNREAD <= self.unread();
-                turn.more = !turn.is_backlogged;
+                turn.more = self.unread() < MOST_UNREAD;
                 break;
             }
             match self.step(shared, now, turn)? {

@@ -1,4 +1,5 @@
 //! The clients, each in its own slot.
+ghost use Rattle.std.specs.Option.{option_map};
 ghost use Rattle.std.specs.Prelude.{◌≡◌, ◌+◌, ◌<◌, ◌≤◌, ◌||◌, ℕ, cond, min, true, false, None, IfOk, IfSome, OnOk};
 ghost use Rattle.service_rules.specs.Bounds.{most_clients};
 ghost use Rattle.service_rules.specs.ClientAdmission.{IsAdmission};
@@ -7,12 +8,12 @@ ghost use Rattle.service_loop.specs.ClientListening.{listeners_below};
 ghost use Rattle.slab.specs.Slab.{get, slab_len};
 ghost use Rattle.service_loop.specs.ServiceCalls.{GoesWithin};
 ghost use Rattle.service_loop.specs.AdmissionViews.{heard_of, is_watched};
-ghost use Rattle.service_loop.specs.ClientSlots.{HadOwnTurn, HasNoneNow, HasTurn, HaveTurns, IsEntered, IsLetIn, IsSlotSignaled, IsSlotNotified, KeepsOthers};
+ghost use Rattle.service_loop.specs.ClientSlots.{HadOwnTurns, HasNoneNow, HasTurn, HaveServed, HaveTurns, IsEntered, IsLetIn, IsSlotSignaled, IsSlotNotified, KeepsOthers, goes_on, leaves_more};
 ghost use Rattle.service_loop.specs.Progress.{IsGiven, news_for};
 ghost use Rattle.service_loop.specs.ClientSteps.{is_starved};
 ghost use Rattle.service_loop.specs.SlotHistories.{HasAdmitted};
 
-use crate::client::{Client, Disconnect, Turn};
+use crate::client::{Client, Disconnect, Sending, Turn};
 use crate::connection::Connection;
 use crate::listener::Listener;
 use crate::listeners::{count_listeners, end_of_keys, listening_of, one_if};
@@ -205,13 +206,14 @@ impl<L: Connection> Clients<L> {
         false
     }
 
-    /// Gives each client a turn.
+    /// Gives each client a turn: serves requests of all clients, makes their events durable together, and then writes the replies. If the
+    /// device fails, no reply is written, and all clients are disconnected.
     pub fn serve<D: Disk, C: Children>(&mut self, shared: &mut Shared<D, C>, now: u64) -> Turns
-        // The slots had their turns in order, each on the engine that the previous one left.
-        ensures turns { HaveTurns D.device L.view shared.old.engine self.old.slots MOST_CLIENTS shared.new.engine self.new.slots }
+        // The slots had their turns in order, each on the engine that the previous one left: first for requests, and then for replies.
+        ensures turns { HaveServed D.device L.view shared.old.engine self.old.slots shared.new.engine self.new.slots }
         ensures calls { GoesWithin D.device shared.old.most shared.old.engine shared.new.most shared.new.engine }
-        // Each client had its own turn, and nothing else changed it.
-        ensures own { (key : ℕ) → key < MOST_CLIENTS → HadOwnTurn D.device L.view (get self.old.slots key) (get self.new.slots key) }
+        // Each client had its own turns, and nothing else changed it.
+        ensures own { (key : ℕ) → key < MOST_CLIENTS → HadOwnTurns D.device L.view (get self.old.slots key) (get self.new.slots key) }
         ensures others { (key : ℕ) → MOST_CLIENTS ≤ key → get self.new.slots key ≡ get self.old.slots key }
 
         // Clients that listen leave a quarter of the places to others.
@@ -228,6 +230,27 @@ impl<L: Connection> Clients<L> {
             shutdown: false,
             starved: 0,
         };
+        self.serve_requests(shared, now, &mut turns);
+        let more = self.send_replies(shared, now);
+        turns.more = either(turns.more, more);
+        turns
+    }
+
+    // Serves requests of each client.
+    fn serve_requests<D: Disk, C: Children>(
+        &mut self,
+        shared: &mut Shared<D, C>,
+        now: u64,
+        turns: &mut Turns,
+    )
+        requires { turns.old ≡ record { served = false; more = false; shutdown = false; starved = 0 } }
+        ensures turns { HaveTurns D.device L.view shared.old.engine self.old.slots MOST_CLIENTS shared.new.engine self.new.slots }
+        ensures calls { GoesWithin D.device shared.old.most shared.old.engine shared.new.most shared.new.engine }
+        ensures counted { self.new.listeners ≡ listeners_below self.new.slots most_clients }
+        ensures few { listeners_below self.old.slots most_clients ≤ most_listeners self.old.places → self.new.listeners ≤ most_listeners self.old.places }
+        ensures places { self.new.places ≡ self.old.places }
+        ensures rests { turns.new.more ≡ false → (key : ℕ) → key < MOST_CLIENTS → IfSome (get self.new.slots key) HasNoneNow }
+    {
         self.listeners = count_listeners(&self.slots);
         let end = end_of_keys(&self.slots);
         for key in 0..end {
@@ -235,10 +258,60 @@ impl<L: Connection> Clients<L> {
                 turns.add(turn);
             }
         }
-        turns
     }
 
-    // Gives the client in this slot a turn, and frees the slot if the client is disconnected.
+    // Makes all staged events durable, and writes the replies of each client. Returns whether there is more to do at once.
+    fn send_replies<D: Disk, C: Children>(&mut self, shared: &mut Shared<D, C>, now: u64) -> bool
+        requires counted { self.old.listeners ≡ listeners_below self.old.slots most_clients }
+        ensures turns { HaveTurns D.device L.view shared.old.engine self.old.slots MOST_CLIENTS shared.new.engine self.new.slots }
+        ensures calls { GoesWithin D.device shared.old.most shared.old.engine shared.new.most shared.new.engine }
+        ensures counted { self.new.listeners ≡ listeners_below self.new.slots most_clients }
+        ensures few { self.new.listeners ≤ self.old.listeners }
+        ensures places { self.new.places ≡ self.old.places }
+        ensures given { (key : ℕ) → key < MOST_CLIENTS → IfSome (get self.new.slots key) IsGiven }
+        ensures rests { result ≡ false → ((key : ℕ) → key < MOST_CLIENTS → IfSome (get self.old.slots key) HasNoneNow) → (key : ℕ) → key < MOST_CLIENTS → IfSome (get self.new.slots key) HasNoneNow }
+    {
+        let mut more = false;
+        let end = end_of_keys(&self.slots);
+        for key in 0..end {
+            if let Some(sending) = self.send_at(shared, key, now) {
+                more = either(more, sending.more);
+            }
+        }
+        more
+    }
+
+    // Writes the replies of the client in this slot, and frees the slot if the client is disconnected.
+    fn send_at<D: Disk, C: Children>(
+        &mut self,
+        shared: &mut Shared<D, C>,
+        key: usize,
+        now: u64,
+    ) -> Option<Sending>
+        requires key { key < MOST_CLIENTS }
+        requires counted { self.old.listeners ≡ listeners_below self.old.slots most_clients }
+        ensures turn { HasTurn D.device L.view shared.old.engine self.old.slots key (option_map (λ sending. sending.disconnect) result) shared.new.engine self.new.slots }
+        ensures calls { GoesWithin D.device shared.old.most shared.old.engine shared.new.most shared.new.engine }
+        ensures counted { self.new.listeners ≡ listeners_below self.new.slots most_clients }
+        ensures few { self.new.listeners ≤ self.old.listeners }
+        ensures places { self.new.places ≡ self.old.places }
+        ensures given { IfSome (get self.new.slots key) IsGiven }
+        ensures rests { goes_on result ≡ false → IfSome (get self.old.slots key) HasNoneNow → IfSome (get self.new.slots key) HasNoneNow }
+    {
+        let client = self.slots.get_mut(key)?;
+        let listens = one_if(client.is_listener());
+        let sending = client.send(shared, now);
+        if sending.disconnect.is_some() {
+            shared
+                .known
+                .leave(shared.engine.table(), client.made_jobs());
+            self.slots.try_remove(key);
+            self.listeners -= listens;
+        }
+        Some(sending)
+    }
+
+    // Serves requests of the client in this slot, and frees the slot if the client is disconnected.
     fn serve_at<D: Disk, C: Children>(
         &mut self,
         shared: &mut Shared<D, C>,
@@ -247,7 +320,8 @@ impl<L: Connection> Clients<L> {
     ) -> Option<Turn>
         requires key { key < MOST_CLIENTS }
         requires counted { self.old.listeners ≡ listeners_below self.old.slots most_clients }
-        ensures turn { HasTurn D.device L.view shared.old.engine self.old.slots key result shared.new.engine self.new.slots }
+        ensures turn { HasTurn D.device L.view shared.old.engine self.old.slots key (option_map (λ turn. turn.disconnect) result) shared.new.engine self.new.slots }
+        ensures rests { leaves_more result ≡ false → IfSome (get self.new.slots key) HasNoneNow }
         ensures calls { GoesWithin D.device shared.old.most shared.old.engine shared.new.most shared.new.engine }
         ensures counted { self.new.listeners ≡ listeners_below self.new.slots most_clients }
         ensures few { self.old.listeners ≤ most_listeners self.old.places → self.new.listeners ≤ most_listeners self.old.places }
@@ -270,6 +344,13 @@ impl<L: Connection> Clients<L> {
         }
         Some(turn)
     }
+}
+
+// Whether one of two holds.
+fn either(one: bool, other: bool) -> bool
+    ensures { result ≡ (one || other) }
+{
+    one || other
 }
 
 // Sends `error busy` to a client without a slot.

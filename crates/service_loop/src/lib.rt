@@ -12,8 +12,9 @@
 //! 1. `Service::wait` waits until a connection is ready, but at most until the next check of the children or the next due time
 //!    (`Service::pause`), and marks the clients that are ready.
 //! 2. `Service::let_in` accepts up to 64 new clients.
-//! 3. `Service::serve_clients` gives each client a turn (`Client::serve`, `client.rt`), handles `shutdown`, and sends signals to the
-//!    children that must end (`Endings::act`, `endings.rt`).
+//! 3. `Service::serve_clients` serves requests of each client (`Client::serve`, `client.rt`), makes the events of all of them durable and
+//!    writes the replies (`Client::send`), handles `shutdown`, and sends signals to the children that must end (`Endings::act`,
+//!    `endings.rt`).
 //! 4. `Service::refresh_time` sends the engine the time if a stage may end that is retried after an interval. `Service::tick` makes one tick
 //!    of the engine (`Shared::tick`, `shared.rt`).
 //! 5. `Service::maintain` sends the engine commands: the time, purges of ended jobs, the cancel of an abandoned job, and a checkpoint
@@ -26,13 +27,14 @@
 //!
 //! # Where a reply is made
 //!
-//! `Client::serve` writes pending replies and then makes up to 256 steps (`Client::step`). A step takes the next request from the client's
-//! reader (`client_reader`) and answers it, or reads more text. Each reply is appended to the client's buffer; only `Client::write_some`
-//! writes the buffer to the connection.
+//! `Client::serve` makes up to 256 steps (`Client::step`). A step takes the next request from the client's reader (`client_reader`) and
+//! answers it, or reads more text. Each reply is appended to the client's buffer; only `Client::write_some` writes the buffer to the
+//! connection.
 //!
-//! The commands of a turn are staged, and one settle makes their events durable together (`Shared::settle`) before the replies are written.
-//! If the device fails at the settle, nothing more is written, and the client is disconnected: it knows of no command of the turn whether it
-//! was done.
+//! The commands of all clients in a turn of the loop are staged. The first client whose replies are written makes their events durable
+//! together (`Shared::settle`), with one pair of syncs for all clients. Once the records of the staged events have a mebibyte, they become
+//! durable before the next client is served (`Client::settle_many`). If the device fails at a settle, nothing more is written, and all
+//! clients are disconnected: a client knows of no command without a reply whether it was done.
 //!
 //! | Reply to | Made by |
 //! |---|---|
@@ -85,34 +87,35 @@
 //!   `drain` is answered with one tick.
 //! - **Durable replies.** Bytes are written to a client only while all events are durable: each write is an action of the client's turn
 //!   (`delivers`), which only such a state allows (`IsAction`, `IsDurable`), and the turn wrote the bytes of these actions and no others
-//!   (`wrote` of `GoesGiving`, in `client_step` of `Client::serve`). So a client that reads a reply knows that no crash takes back what it
-//!   says. A crash within the turn of a client leaves none of its commands or all of them ([`spool_engine::batches_are_whole`]), unless one
-//!   of them is a checkpoint or a `round`. In a turn in which memory runs out for the client, `Client::write_some` still requires a durable
-//!   state (`durable`), but no clause lists what was written.
+//!   (`wrote` of `GoesGiving`, in `client_step` of `Client::send`). So a client that reads a reply knows that no crash takes back what it
+//!   says. A crash before a settle leaves none of the staged events, and a crash in it none or all of them
+//!   ([`spool_engine::batches_are_whole`]). A checkpoint or a `round` of a client makes the events before it durable first.
 //! - **Tokens.** `Shared::execute` notes a created job for the token of its options and forgets a purged job that is gone; each other entry
 //!   stays as it was (`known` of `Shared::execute`, `entry_after`).
-//! - **Isolation.** A client's turn is a client step (`client_step` of `Client::serve`, `IsClientStep`): actions that answer, one for one
-//!   and in order, the first requests of its own connection. Their texts, each byte once, follow the texts sent before (`Goes`). An action
-//!   is a command served by the engine, one tick for a `round` or a `drain`, a word of the service answered from the current table, or the
-//!   end of the job that the client waits for (`IsAction`). While a client waits for a job's end nothing else is done for it. Each action
-//!   continues from the run state that the previous one left (`AreActions`).
+//! - **Isolation.** A client's turns are client steps (`client_step` of `Client::serve` and of `Client::send`, `IsClientStep`): actions that
+//!   answer, one for one and in order, the first requests of its own connection. Their texts, each byte once, follow the texts sent before
+//!   (`Goes`). An action is a command served by the engine, one tick for a `round` or a `drain`, a word of the service answered from the
+//!   current table, or the end of the job that the client waits for (`IsAction`). While a client waits for a job's end nothing else is done
+//!   for it. Each action continues from the run state that the previous one left (`AreActions`).
 //! - **Roles.** Each action is done by the roles for the client at that moment (`IsByRole`, `client_roles`): a request is denied exactly if
 //!   they do not allow it (`denies`), and then nothing is done, so a command that is not allowed has no turn of the engine. A listing
 //!   shows title and user of a job only if the client may see them (`shown_answer`). So `history` of [`Service::serve`] carries the table
 //!   of roles.
-//! - **The reserve.** A request whose event would take room from the reserve of the journal is answered with `error full`, and nothing is done
-//!   (`reserved` of `Client::answer`, `is_reserved`). Such an answer is an action of its own (`reserves`). A checkpoint is wanted then.
-//! - **All clients.** Each slot has its turn, on the engine that the previous slot left (`turns` of `Clients::serve`, `HaveTurns`), and
-//!   only its own turn changes a client (`own`, `others`, `HadOwnTurn`). No other client changes when a watching client is sent what
-//!   changed (`told` of `Clients::notify`: that text, with or without `missed` before it, or none of it), when a connection is ready
-//!   (`Clients::signal`), or when a client is admitted; nothing has been read from the new connection then (`lets_in` of `Clients::admit`).
+//! - **The reserve.** A request whose event would take room from the reserve of the journal is answered with `error full`, and nothing is
+//!   done (`reserved` of `Client::answer`, `is_reserved`). Such an answer is an action of its own (`reserves`). A checkpoint is wanted then.
+//! - **All clients.** Each slot has its turn for requests, on the engine that the previous slot left, and then each has its turn for replies
+//!   (`turns` of `Clients::serve`, `HaveServed`, `HaveTurns`). Only its own turns change a client (`own`, `others`, `HadOwnTurns`). No other
+//!   client changes when a watching client is sent what changed (`told` of `Clients::notify`: that text, with or without `missed` before it,
+//!   or none of it), when a connection is ready (`Clients::signal`), or when a client is admitted; nothing has been read from the new
+//!   connection then (`lets_in` of `Clients::admit`).
 //! - **History** (`history` of [`Service::serve`], `GoesByEvents`). However `serve` ends, its engine and the slots of its clients changed by
 //!   events of the loop alone, in one list: calls of the service itself, readiness, admissions, turns and notices. So each text that a
 //!   client was sent is an answer of its own turn, given on the engine of that moment, or a notice, perhaps after `missed`.
 //! - [`clients_leave_for_a_cause`]: in such an event a client leaves its slot only in its own turn (for a cause of `leaves`, or because
-//!   memory ran out or the device failed), because memory ran out for a notice while it watched, or because it was idle when a new client found no free slot.
-//! - [`clients_of_a_service_stay_apart`]: each client that has a slot after such events was admitted in one of them, nothing having been read
-//!   from its connection, and made client steps since. Each moment of a service is the end of a list of its events.
+//!   memory ran out or the device failed), because memory ran out for a notice while it watched, or because it was idle when a new client
+//!   found no free slot.
+//! - [`clients_of_a_service_stay_apart`]: each client that has a slot after such events was admitted in one of them, nothing having been
+//!   read from its connection, and made client steps since. Each moment of a service is the end of a list of its events.
 //! - [`clients_of_the_loop_stay_apart`]: over any list of a client's steps since its admission, its actions answer the first of the
 //!   requests in its connection's bytes, whatever may follow them (`asks`). So a last line without its line feed is never served. The bytes
 //!   written to its connection, followed by the replies not taken, are the texts of those actions (`texts`). Its rights are those of the
@@ -126,27 +129,27 @@
 //!   the clock reports its last result, no due time is left unsent (`KeepsTime`, `IsTimely`). Each time that it reports is at least the
 //!   table's moment (`table` of [`Times::system`]).
 //! - **Waits.** The wait of a turn is at most the time until the next check of the children, by how long the last child ran, and until
-//!   maintenance has something to do; and at most a second while the journal is full, an end was requested, or a client could not be accepted
-//!   (`wait` of `Service::pause`, `loop_wait`; `lasted` of `Service::note_times`). A minute after it was requested, an end is reached
-//!   (`IsEndedBy`). A fault of the device ends the service in the turn that met it (`alive` of `Service::turn`).
+//!   maintenance has something to do; and at most a second while the journal is full, an end was requested, or a client could not be
+//!   accepted (`wait` of `Service::pause`, `loop_wait`; `lasted` of `Service::note_times`). A minute after it was requested, an end is
+//!   reached (`IsEndedBy`). A fault of the device ends the service in the turn that met it (`alive` of `Service::turn`).
 //! - **Progress.** After the turns each remaining client was sent all that its connection takes: nothing is unread, or its connection is
 //!   marked as taking nothing now (`given` of `Clients::serve`, `IsGiven`). Unless the turn reports that there is more to do at once,
 //!   nothing can be done for the client now: it waits for a job's end, its connection is marked as having nothing to read now, or it left
-//!   too much unread (`rests` of `Clients::serve`, `HasNoneNow`; `ends` of `Client::serve`, `EndsTurn`).
+//!   too much unread (`rests` of `Clients::serve`, `HasNoneNow`).
 //! - On connections that report the result of their last read and write the marks are true: a connection that is not read or not written
-//!   reported last that nothing comes or that it takes nothing now (`IsMarked`). A client is disconnected in its turn only if its
-//!   connection is lost, it hung up while it waited, its text has ended and it has taken all replies, or memory ran out or the device failed (`leaves`). A read
-//!   takes a piece, finds none now, or finds the end (`HasRead`). Readiness sets the marks of the connection (`signed`).
+//!   reported last that nothing comes or that it takes nothing now (`IsMarked`). A client is disconnected in its turn only if its connection
+//!   is lost, it hung up while it waited, its text has ended and it has taken all replies, or memory ran out or the device failed (`leaves`,
+//!   `Leaves`). A read takes a piece, finds none now, or finds the end (`HasRead`). Readiness sets the marks of the connection (`signed`).
 //! - **Records** (`events.rt`). Exactly the events that the engine accepted are recorded: those of a command by its answer (`recorded` of
-//!   `Shared::execute`, `HasRecordedCommand`), also the jobs that a Clock changes, from any sender, and those of a tick by the engine's report
-//!   (`recorded` of `Shared::tick`). An event changes its job or its queue, and the queue of its job if it starts or ends an attempt
+//!   `Shared::execute`, `HasRecordedCommand`), also the jobs that a Clock changes, from any sender, and those of a tick by the engine's
+//!   report (`recorded` of `Shared::tick`). An event changes its job or its queue, and the queue of its job if it starts or ends an attempt
 //!   (`subjects_of`), and no other. If memory runs out for a queue's name, all changes so far are forgotten, and each client that asks for
 //!   them is sent `missed`. The times of jobs and queues are recorded with the moment of the turn (`HasSeenDeed`).
 //! - **Watching clients.** At the end of a turn each watching client is sent a line for each job and each queue that changed since the last
-//!   notice, each once, as far as it may see them (`news_for`, `noted_since`), or nothing if too much is unread, and then `missed` before the
-//!   next notice (`told` of `Clients::notify`, `text_for`, `misses`). A client that said `watch N` is first sent what changed after change N
-//!   (`Shared::push_changes_since`, `watch_text`), and each notice with the number of the last change. A change of the turn of its request may
-//!   be sent in both.
+//!   notice, each once, as far as it may see them (`news_for`, `noted_since`), or nothing if too much is unread, and then `missed` before
+//!   the next notice (`told` of `Clients::notify`, `text_for`, `misses`). A client that said `watch N` is first sent what changed after
+//!   change N (`Shared::push_changes_since`, `watch_text`), and each notice with the number of the last change. A change of the turn of its
+//!   request may be sent in both.
 //! - **Running children.** The service asks its engine which children run, and in which process group.
 //! - **Due times.** `Maintenance::look` takes the earliest moment that changes something about a job from the table (`due`, `next_due` of
 //!   `job_table`). [`nothing_is_due_before`]: before it the clock changes no row, starts no job and changes no shown state, so an idle
@@ -155,11 +158,11 @@
 //! - **Purges.** `Maintenance::look` takes the first 1,024 ended jobs and their number from the table (`listed`, `AreListed`, `ended`). A
 //!   purged job is removed from the list and no longer counted (`crossed`, `counted` of `Maintenance::purge`). Each purge is a command that
 //!   the engine answers (`purged`).
-//! - **Abandoned jobs.** An incoming job whose client has disconnected, and to which nothing was sent for `Keeping::incoming`, is canceled, one a
-//!   turn (`found`, `canceled` of `Maintenance::cancel_abandoned`). Such jobs are checked at most once a second (`next`), and the wait of the loop
-//!   ends in time for it (`wait` of `Service::pause`).
-//! - **Retries.** Before a tick that may see the end of a last stage of a queue with an interval, or start one, the engine is sent the time if
-//!   the table's moment is earlier (`sent` of `Maintenance::refresh_time`, `may_retry`). Otherwise nothing is sent (`idle`).
+//! - **Abandoned jobs.** An incoming job whose client has disconnected, and to which nothing was sent for `Keeping::incoming`, is canceled,
+//!   one a turn (`found`, `canceled` of `Maintenance::cancel_abandoned`). Such jobs are checked at most once a second (`next`), and the wait
+//!   of the loop ends in time for it (`wait` of `Service::pause`).
+//! - **Retries.** Before a tick that may see the end of a last stage of a queue with an interval, or start one, the engine is sent the time
+//!   if the table's moment is earlier (`sent` of `Maintenance::refresh_time`, `may_retry`). Otherwise nothing is sent (`idle`).
 //! - **Checkpoints.** A checkpoint is wanted by the room that the last one left (`wants_checkpoint`, `left` of `checkpoint`), before the
 //!   first one by half of the disk (`keeping_of` of `spool_service`). It is a command that the engine answers (`answered`).
 //! - **Admission.** A new client is admitted according to when each client was heard last and which clients listen (`admission` of
@@ -168,8 +171,8 @@
 //!   (`listeners` of `Clients::serve`). A client begins to listen only if it may, by how many others do and how many of them are of its
 //!   user (`listens` of `Client::serve`, `listening_of`); otherwise its request is answered `error busy` (`turns_away`, `IsAction`). Clients
 //!   that have proved nothing count as one user (`is_same_user`).
-//! - **Signs of life.** A step leaves the moment when its client was heard, unless it answered a request, or read bytes of a send (`heard` of
-//!   `Client::step`, `IsHeard`), or the client took bytes (`heard` of `Client::give`).
+//! - **Signs of life.** A step leaves the moment when its client was heard, unless it answered a request, or read bytes of a send (`heard`
+//!   of `Client::step`, `IsHeard`), or the client took bytes (`heard` of `Client::give`).
 //! - **Children to end.** A child that must end is noted by its process group, once (`group` of `Endings::ask`, `with_ending`). It is sent
 //!   SIGTERM, and SIGKILL no sooner than 10 s later (`signal_of`). The children still noted are those noted before whose job still runs a
 //!   child in that group (`kept` of `Endings::act`, `is_current`). If [`Signals`] reports the signals that it sends, they were sent their
@@ -177,18 +180,18 @@
 //!
 //! # Not proved
 //!
-//! - That the loop requests the right decision, with the right values, at the right moment: a turn waits at most as long as `pause`
-//!   returns, makes a checkpoint when one is wanted, ends children, and sends watching clients what changed. That is read in the code.
-//!   `tests/test_service_*.py` show it for the program: clients that stall, flood, never read, or are too many; slow children and children that
-//!   must end; kills; a requested end.
+//! - That the loop requests the right decision, with the right values, at the right moment: a turn waits at most as long as `pause` returns,
+//!   makes a checkpoint when one is wanted, ends children, and sends watching clients what changed. That is read in the code.
+//!   `tests/test_service_*.py` show it for the program: clients that stall, flood, never read, or are too many; slow children and children
+//!   that must end; kills; a requested end.
 //! - The sockets of the program report their rules and nothing else (`SocketConnection` of `spool_service`), so the clauses on connections
 //!   say nothing of their bytes and proofs. The code is the same.
 //! - If a client is disconnected because memory ran out, no clause states its replies or its calls in that turn, only that no other client
 //!   is changed.
 //! - No clause states that a turn that leaves more to do has done something, or that a new client gets a slot. So these bodies meet their
 //!   clauses: a `serve_clients` that serves no client and reports that there is more; a `wait` that fails at once; a `note_readiness`,
-//!   `let_in`, `handle_turns`, `make_checkpoint`, `note_moment`, `log_events` or `notify_changes` that does nothing; an `end_children` of `Shared` that
-//!   does nothing.
+//!   `let_in`, `handle_turns`, `make_checkpoint`, `note_moment`, `log_events` or `notify_changes` that does nothing; an `end_children` of
+//!   `Shared` that does nothing.
 //! - No clause states which marks a command or a tick leaves (`full`, `active`, `watched` of `Shared`), how many starts a tick is given
 //!   (`starts`).
 //! - No clause states what sockets, clocks and signals do, or which process group the system gives a child. From its start on the number of

@@ -27,6 +27,7 @@ ghost use Rattle.spool_engine.specs.EngineRuns.{CommandStep, is_round};
 ghost use Rattle.spool_engine.specs.StagedSteps.{IsStagingTick, SettlesTo, TakesStagingStep};
 ghost use Rattle.print_rounds.specs.RunStates.{RunState};
 
+use crate::bounds::MOST_STAGED;
 use crate::endings::Endings;
 use crate::events::{Records, expect};
 use crate::known_jobs::{ExpectedToken, KnownJobs, job_sent_to};
@@ -67,6 +68,8 @@ pub(crate) struct Shared<D: Disk, C: Children> {
     pub active: bool,
     /// Whether the service must end: no further job is started then.
     pub ends: bool,
+    // The room of the journal when the staged events last became durable.
+    settled_room: u64,
 }
 
 impl<D: Disk, C: Children> Shared<D, C> {
@@ -98,6 +101,7 @@ impl<D: Disk, C: Children> Shared<D, C> {
             full: false,
             active: true,
             ends: false,
+            settled_room: 0,
         }
     }
 
@@ -134,10 +138,17 @@ impl<D: Disk, C: Children> Shared<D, C> {
         ensures fails { result ≡ false → self.new.engine.run_state.spool.dead ≡ true }
         ensures mime { self.new.engine.mime ≡ self.old.engine.mime }
         ensures place { self.new.engine.place ≡ self.old.engine.place }
-        ensures kept { self.new ≡ record self.old { engine = self.new.engine } }
+        ensures kept { self.new ≡ record self.old { engine = self.new.engine; settled_room = self.new.settled_room } }
         ensures calls { GoesWithin D.device self.old.most self.old.engine self.new.most self.new.engine }
     {
-        self.engine.settle()
+        let durable = self.engine.settle();
+        self.settled_room = self.engine.room();
+        durable
+    }
+
+    /// Returns whether the records of the staged events are so many that they must become durable before more are staged.
+    pub fn has_many_staged(&self) -> bool {
+        MOST_STAGED <= self.settled_room.saturating_sub(self.engine.room())
     }
 
     /// Cancels a job, and notes in the same step that its running child must end. Returns the answer to the cancel. If memory runs out for

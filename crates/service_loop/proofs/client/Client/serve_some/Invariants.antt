@@ -13,7 +13,6 @@ invariant-loop g l = record {
   calls : GoesWithin g.D.Disk.device l.fn.shared.most l.fn.shared.engine l.shared.most l.shared.engine;
   stepped : Stepped g.D.Disk.device g.L.Connection.view l.fn.shared.engine l.fn.self l.shared.engine l.self;
   marked : IsMarked g.L.Connection.view l.fn.self → IsMarked g.L.Connection.view l.self;
-  is_backlogged : l.turn.is_backlogged ≡ false;
   more : l.turn.more ≡ true;
   disconnect : l.turn.disconnect ≡ l.fn.turn.disconnect;
   listening : l.turn.listening ≡ l.fn.turn.listening;

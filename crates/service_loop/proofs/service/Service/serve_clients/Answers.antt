@@ -1,12 +1,15 @@
 -- The turns of all clients; what follows changes no client.
 use Rattle.std.proofs.Common.{ap, ◌∙◌}
 use Rattle.service_loop.proofs.CallLaws.{within_kept}
-use Rattle.service_loop.proofs.HistoryLaws.{history_kept, history_turns}
+use Rattle.service_loop.proofs.HistoryLaws.{history_kept, history_then, history_turns}
 use Rattle.service_loop.proofs.service.Service.serve_clients.Goals as goal
 
 pub returns-clause-history : goal.returns-clause-history
 returns-clause-history g c =
-    history_kept _ _ _ _ _ _ _ _ (history_turns _ _ _ _ 1000 _ _ c.serve-turns.ensures.turns) (ap (λ s. s.engine) c.end_children.ensures ∙ c.handle_turns.ensures.engine)
+    let served = c.serve-turns.ensures.turns in
+    history_kept _ _ _ _ _ _ _ _
+    (history_then _ _ _ _ served.between served.mid _ _ (history_turns _ _ _ _ 1000 _ _ served.requests) (history_turns _ _ _ _ 1000 _ _ served.replies))
+    (ap (λ s. s.engine) c.end_children.ensures ∙ c.handle_turns.ensures.engine)
     (ap (λ s. s.slots) c.handle_turns.ensures.clients)
 
 pub returns-clause-calls : goal.returns-clause-calls
