@@ -5,9 +5,9 @@ It runs crates/spool_service/out/spool_service (built by `rt run` in that crate)
 
 - `replies`: how long a client waits for a listing while eight queues print, with children that take 5 s (target: 99 of 100 under 50 ms),
   and while eight queues print jobs of 10 ms in turn;
-- `accepted`: jobs of a KiB that are created, sent and closed per second, by 1 to 16 clients on one queue and on eight, while nothing
-  prints. Each is three events, so six syncs. With `together` a client sends the document and the close without waiting in between, as
-  `spool` does, so a job is four syncs. Alternately with them, TIMES times, the same jobs are sent to a private CUPS
+- `accepted`: jobs of a KiB that are created, sent and closed per second, by 1 to 63 clients on one queue and on eight, while nothing
+  prints. Each is three events, so six syncs, which it shares with the jobs of other clients in the same turns. With `together` a client
+  sends the document and the close without waiting in between, as `spool` does, so a job is four syncs. Alternately with them, TIMES times, the same jobs are sent to a private CUPS
   (tests/harness/cups.py), if Debian's package `cups` is installed and the script runs as root. The script prints the median of each and the
   ratio of the service to CUPS (target: 5 times CUPS with syncs, and at least as much as CUPS without). CUPS's clients keep their
   connection, as those of the service do, and a job is one request, less than the service's three. The script sets two directives of CUPS,
@@ -38,7 +38,7 @@ from harness.cups import Connection, Cups
 from harness.programs import SERVICE
 from harness.service import Client, Folder
 
-CLIENTS = (1, 4, 16)
+CLIENTS = (1, 4, 16, 63)
 QUEUES = (1, 8)
 # The number of jobs that are accepted in a run, and the number that are printed in a run, which also enables queues.
 ACCEPTED = 192
@@ -117,12 +117,18 @@ def submit_some(service, first, count, together):
     client.close()
 
 
+def share_of(clients, count=ACCEPTED):
+    """The jobs of each client, so that all have about this number."""
+    return max(1, count // clients)
+
+
 def accepted_by_service(queues, clients, together=False):
     """Jobs per second that the service accepts."""
     with RunningService(queues, 0) as service:
         service.say_to_all("disable")
-        share = ACCEPTED // clients
-        return ACCEPTED / timed(lambda: at_once([lambda n=n: submit_some(service, n * share, share, together) for n in range(clients)]))
+        share = share_of(clients)
+        tasks = [lambda n=n: submit_some(service, n * share, share, together) for n in range(clients)]
+        return share * clients / timed(lambda: at_once(tasks))
 
 
 def accepted_by_cups(queues, clients, syncs, interval, program=False):
@@ -131,20 +137,20 @@ def accepted_by_cups(queues, clients, syncs, interval, program=False):
         for number in range(queues):
             cups.queue(f"q{number}")
             cups.hold(f"q{number}")
-        count = ACCEPTED // 4 if program else ACCEPTED
+        share = share_of(clients, ACCEPTED // 4 if program else ACCEPTED)
         document = cups.write("document", DOCUMENT)
 
         def submit_share(first):
             connection = None if program else Connection(cups)
-            for number in range(first, first + count // clients):
+            for number in range(first, first + share):
                 queue = f"q{number % queues}"
                 if program:
                     cups.run("lp", "-d", queue, document)
                 else:
                     connection.submit(queue, DOCUMENT.encode())
 
-        tasks = [lambda n=n: submit_share(n * (count // clients)) for n in range(clients)]
-        return count / timed(lambda: at_once(tasks))
+        tasks = [lambda n=n: submit_share(n * share) for n in range(clients)]
+        return share * clients / timed(lambda: at_once(tasks))
 
 
 # One row of the comparison: its name, and the jobs per second that it accepts from `clients` clients on `queues` queues.

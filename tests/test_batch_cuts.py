@@ -31,6 +31,9 @@ COUNT, LONG_COUNT, CONTROL = 150, 3_000, 1_000
 # The numbers of events of the batches of one client, and how many clients send one at the same time.
 EVENTS, CLIENTS = range(2, 41), 12
 
+# The number of events of the batch that is cut at each byte.
+CUT = 12
+
 DOCUMENT = b"hello\n"
 
 # A moment that does not come during a test.
@@ -148,6 +151,27 @@ def folder_of_cut_spools(memory_room):
 def test_each_file_has_whole_batches(folder, run_folder, way, is_long, seed):
     before, steps = way(folder)
     check_cuts(run_folder, moments_of(steps, before), LONG_COUNT if is_long else COUNT, seed)
+
+
+def test_a_batch_that_is_cut_at_a_byte(folder, run_folder):
+    """If the writes of a batch end at any byte, the file lists the table before the batch or after it."""
+    client = held_queue(folder)
+    job = client.create("q")
+    file = bytearray(image_of(folder))
+    with traced(folder) as tracing:
+        client.say(b"".join(batch(job, CUT)))
+        said_well(client, CUT)
+    writes = [step for step in tracing.steps if step.kind == "write"]
+    after = bytearray(file)
+    for step in writes:
+        after[step.at : step.at + len(step.data)] = step.data
+    tables = [power_cuts.table_of(bytes(file)), power_cuts.table_of(bytes(after))]
+    for step in writes:
+        for place, byte in enumerate(step.data, step.at):
+            file[place] = byte
+            moment = power_cuts.Moment(bytes(file), [], (power_cuts.NAME,), tables, frozenset(), frozenset())
+            power_cuts.check(run_folder, moment, random.Random(0), False)
+    same("all is written", file, after)
 
 
 def test_a_batch_of_many_documents_has_parts(folder):

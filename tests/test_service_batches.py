@@ -114,6 +114,27 @@ def test_a_kill_at_a_sync(folder, number):
         same("printed", folder.printed(), "hello\n")
 
 
+@pytest.mark.parametrize("call, number", [*(("pwrite64", number) for number in (1, 2, 7, 16, 31)), ("fdatasync", 1), ("fdatasync", 2)])
+def test_a_call_that_fails_in_a_batch(folder, call, number):
+    """If the disk fails within a turn, no client gets a reply, and none of the turn's events remains or all."""
+    first, _ = held_queue(folder)
+    jobs = [first.create("q") for _ in range(8)]
+    clients = [Client(folder) for _ in jobs]
+    for client in clients:
+        holds("it has a place", client.ask("cancel 999\n").startswith("error "))
+    with traced(folder, "-e", f"trace={call}", "-e", f"inject={call}:error=EIO:when={number}"):
+        folder.running.send_signal(signal.SIGSTOP)
+        for client, job in zip(clients, jobs):
+            client.say(b"send %d 6\nhello\n\nclose %d f\n" % (job, job))
+        folder.running.send_signal(signal.SIGCONT)
+        for client in clients:
+            same("it sends nothing", client.is_closed(), True)
+        same("it ends", folder.running.wait(), 1)
+    folder.start()
+    states = {tuple(Client(folder).fields(job)[name] for name in ("size", "state")) for job in jobs}
+    holds(f"none or all: {states}", states in ({("0", "4")}, {("6", "3")}))
+
+
 def test_a_refused_command_among_others(folder):
     """A command that is refused changes nothing, and the commands around it are done."""
     client, job = held_queue(folder)
