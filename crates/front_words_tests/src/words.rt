@@ -4,10 +4,136 @@ use front_words::{
 use program_version::with_version;
 use std::test::Fail;
 
-const LETTER: [&str; 22] = [
-    "/usr/bin/spool", "submit", "office", "a.pdf", "-", "--title", "Letter", "--copies", "3",
-    "--priority", "7", "-o", "sides=two", "--at", "+60", "--by", "4000", "--wait", "-o",
-    "media=A4 fit", "--type", "text/plain",
+// What a command line asks for.
+#[derive(Clone, Copy)]
+enum Wanted {
+    Letter,
+    Held,
+    Usual,
+    AtNoon,
+    ByLpr,
+    Raw,
+    HoldUntilNine,
+    Resume,
+    KeepsPrinting,
+    RemovesOne,
+    RemovesCurrent,
+    ClearsOfAnn,
+    ClearsOffice,
+    ClearsUsual,
+    OfPrinters,
+    OfCompleted,
+    OfAnn,
+    Watched,
+    Said,
+    Followed,
+    Adds,
+    Rejects,
+    Shows,
+    IsDefault,
+    Disables,
+}
+
+// Command lines, and what each asks for.
+const TASKS: [(&[&str], Wanted); 25] = [
+    (
+        &[
+            "/usr/bin/spool",
+            "submit",
+            "office",
+            "a.pdf",
+            "-",
+            "--title",
+            "Letter",
+            "--copies",
+            "3",
+            "--priority",
+            "7",
+            "-o",
+            "sides=two",
+            "--at",
+            "+60",
+            "--by",
+            "4000",
+            "--wait",
+            "-o",
+            "media=A4 fit",
+            "--type",
+            "text/plain",
+        ],
+        Wanted::Letter,
+    ),
+    (
+        &[
+            "lp", "-d", "office", "-n2", "-q", "100", "-t", "T", "-P", "1-2", "-s", "-H", "hold",
+            "x",
+        ],
+        Wanted::Held,
+    ),
+    (&["/bin/lp"], Wanted::Usual),
+    (
+        &["lp", "-m", "-H", "12:30", "-h", "localhost:631", "-E", "x"],
+        Wanted::AtNoon,
+    ),
+    (
+        &["lpr", "-Poffice", "-#3", "-J", "T", "-q", "--", "-x"],
+        Wanted::ByLpr,
+    ),
+    (&["lpr", "-r", "-l", "-p", "-w", "80", "x"], Wanted::Raw),
+    (
+        &["spool", "hold", "1", "office-12", "--until", "9"],
+        Wanted::HoldUntilNine,
+    ),
+    (&["lp", "-i", "lab-7", "-H", "resume"], Wanted::Resume),
+    (
+        &["spool", "cancel", "8", "--keep-printing"],
+        Wanted::KeepsPrinting,
+    ),
+    (&["cancel", "a-b-7", "office"], Wanted::RemovesOne),
+    (&["lprm", "-P", "office"], Wanted::RemovesCurrent),
+    (
+        &["cancel", "-u", "ann", "-x", "office"],
+        Wanted::ClearsOfAnn,
+    ),
+    (&["lprm", "-P", "office", "-"], Wanted::ClearsOffice),
+    (&["lprm", "-"], Wanted::ClearsUsual),
+    (
+        &["lpstat", "-p", "-d", "-o", "office", "-a"],
+        Wanted::OfPrinters,
+    ),
+    (
+        &["lpstat", "-W", "completed", "-l", "-u", "ann"],
+        Wanted::OfCompleted,
+    ),
+    (&["lpq", "-P", "office", "3", "ann"], Wanted::OfAnn),
+    (&["spool", "status", "--json", "--watch"], Wanted::Watched),
+    (
+        &["spool", "say", "jobs", "--until-end", "queues"],
+        Wanted::Said,
+    ),
+    (&["spool", "page", "x.html", "--follow"], Wanted::Followed),
+    (
+        &[
+            "spool",
+            "queue",
+            "add",
+            "office",
+            "socket://p",
+            "--limit",
+            "0",
+        ],
+        Wanted::Adds,
+    ),
+    (&["spool", "queue", "reject", "office"], Wanted::Rejects),
+    (
+        &["spool", "queue", "show", "office", "--json"],
+        Wanted::Shows,
+    ),
+    (&["lpoptions", "-d", "office"], Wanted::IsDefault),
+    (
+        &["cupsdisable", "-c", "-r", "no paper", "office", "lab"],
+        Wanted::Disables,
+    ),
 ];
 
 // Command lines that are refused with a line that says why.
@@ -222,7 +348,13 @@ fn is_said(task: &Task<'_>) -> bool {
 }
 
 fn is_followed(task: &Task<'_>) -> bool {
-    matches!(task, Task::Page { file: "x.html", follow: true })
+    matches!(
+        task,
+        Task::Page {
+            file: "x.html",
+            follow: true
+        }
+    )
 }
 
 fn is_default(task: &Task<'_>) -> bool {
@@ -237,7 +369,11 @@ fn disables(task: &Task<'_>) -> bool {
 }
 
 fn adds(task: &Task<'_>) -> bool {
-    let Task::Queue { name: "office", act: QueueAct::Add(queue) } = task else {
+    let Task::Queue {
+        name: "office",
+        act: QueueAct::Add(queue),
+    } = task
+    else {
         return false;
     };
     queue.uri == "socket://p"
@@ -248,34 +384,63 @@ fn adds(task: &Task<'_>) -> bool {
 }
 
 fn rejects(task: &Task<'_>) -> bool {
-    matches!(task, Task::Queue { name: "office", act: QueueAct::Reject })
+    matches!(
+        task,
+        Task::Queue {
+            name: "office",
+            act: QueueAct::Reject
+        }
+    )
 }
 
 fn shows(task: &Task<'_>) -> bool {
-    matches!(task, Task::ShowQueue { name: "office", json: true })
+    matches!(
+        task,
+        Task::ShowQueue {
+            name: "office",
+            json: true
+        }
+    )
+}
+
+fn is_wanted(task: &Task<'_>, wanted: Wanted) -> bool {
+    match wanted {
+        Wanted::Letter => is_letter(task),
+        Wanted::Held => is_held(task),
+        Wanted::Usual => is_usual(task),
+        Wanted::AtNoon => is_at_noon(task),
+        Wanted::ByLpr => is_by_lpr(task),
+        Wanted::Raw => is_raw(task),
+        Wanted::HoldUntilNine => is_hold_until_nine(task),
+        Wanted::Resume => is_resume(task),
+        Wanted::KeepsPrinting => keeps_printing(task),
+        Wanted::RemovesOne => removes(task, &[7]),
+        Wanted::RemovesCurrent => removes(task, &[]),
+        Wanted::ClearsOfAnn => clears(task, &["office"], Some("ann"), false),
+        Wanted::ClearsOffice => clears(task, &["office"], None, false),
+        Wanted::ClearsUsual => clears(task, &[], None, true),
+        Wanted::OfPrinters => is_of_printers(task),
+        Wanted::OfCompleted => is_of_completed(task),
+        Wanted::OfAnn => is_of_ann(task),
+        Wanted::Watched => is_watched(task),
+        Wanted::Said => is_said(task),
+        Wanted::Followed => is_followed(task),
+        Wanted::Adds => adds(task),
+        Wanted::Rejects => rejects(task),
+        Wanted::Shows => shows(task),
+        Wanted::IsDefault => is_default(task),
+        Wanted::Disables => disables(task),
+    }
 }
 
 #[test]
-fn submits(rt: HostRuntime) -> Result<(), Fail> {
-    assert!(rt; is_letter(&task_of(&rt, &LETTER)?));
-    Ok(())
-}
-
-#[test]
-fn submits_as_lp(rt: HostRuntime) -> Result<(), Fail> {
-    let words = ["lp", "-d", "office", "-n2", "-q", "100", "-t", "T", "-P", "1-2", "-s", "-H", "hold", "x"];
-    assert!(rt; is_held(&task_of(&rt, &words)?));
-    assert!(rt; is_usual(&task_of(&rt, &["/bin/lp"])?));
-    let words = ["lp", "-m", "-H", "12:30", "-h", "localhost:631", "-E", "x"];
-    assert!(rt; is_at_noon(&task_of(&rt, &words)?));
-    Ok(())
-}
-
-#[test]
-fn submits_as_lpr(rt: HostRuntime) -> Result<(), Fail> {
-    let words = ["lpr", "-Poffice", "-#3", "-J", "T", "-q", "--", "-x"];
-    assert!(rt; is_by_lpr(&task_of(&rt, &words)?));
-    assert!(rt; is_raw(&task_of(&rt, &["lpr", "-r", "-l", "-p", "-w", "80", "x"])?));
+fn asks_for_a_task(rt: HostRuntime) -> Result<(), Fail> {
+    for (words, wanted) in &TASKS {
+        for word in *words {
+            print!(rt; "{word} ")?;
+        }
+        assert!(rt; is_wanted(&task_of(&rt, words)?, *wanted));
+    }
     Ok(())
 }
 
@@ -311,66 +476,5 @@ fn prints_the_version(rt: HostRuntime) -> Result<(), Fail> {
     let text = format!(in rt.alloc(); "{error}")?;
     assert_eq!(rt; text.as_str(), with_version!("spool (Cegmandi) ", "\n"));
     assert!(rt; error.exit_code() == 0);
-    Ok(())
-}
-
-#[test]
-fn names_jobs(rt: HostRuntime) -> Result<(), Fail> {
-    let words = ["spool", "hold", "1", "office-12", "--until", "9"];
-    assert!(rt; is_hold_until_nine(&task_of(&rt, &words)?));
-    assert!(rt; is_resume(&task_of(&rt, &["lp", "-i", "lab-7", "-H", "resume"])?));
-    assert!(rt; keeps_printing(&task_of(&rt, &["spool", "cancel", "8", "--keep-printing"])?));
-    Ok(())
-}
-
-#[test]
-fn cancels(rt: HostRuntime) -> Result<(), Fail> {
-    assert!(rt; removes(&task_of(&rt, &["cancel", "a-b-7", "office"])?, &[7]));
-    assert!(rt; removes(&task_of(&rt, &["lprm", "-P", "office"])?, &[]));
-    let words = ["cancel", "-u", "ann", "-x", "office"];
-    assert!(rt; clears(&task_of(&rt, &words)?, &["office"], Some("ann"), false));
-    Ok(())
-}
-
-#[test]
-fn clears_queues(rt: HostRuntime) -> Result<(), Fail> {
-    let words = ["lprm", "-P", "office", "-"];
-    assert!(rt; clears(&task_of(&rt, &words)?, &["office"], None, false));
-    assert!(rt; clears(&task_of(&rt, &["lprm", "-"])?, &[], None, true));
-    Ok(())
-}
-
-#[test]
-fn lists(rt: HostRuntime) -> Result<(), Fail> {
-    let words = ["lpstat", "-p", "-d", "-o", "office", "-a"];
-    assert!(rt; is_of_printers(&task_of(&rt, &words)?));
-    let words = ["lpstat", "-W", "completed", "-l", "-u", "ann"];
-    assert!(rt; is_of_completed(&task_of(&rt, &words)?));
-    assert!(rt; is_of_ann(&task_of(&rt, &["lpq", "-P", "office", "3", "ann"])?));
-    Ok(())
-}
-
-#[test]
-fn shows_jobs(rt: HostRuntime) -> Result<(), Fail> {
-    assert!(rt; is_watched(&task_of(&rt, &["spool", "status", "--json", "--watch"])?));
-    assert!(rt; is_said(&task_of(&rt, &["spool", "say", "jobs", "--until-end", "queues"])?));
-    assert!(rt; is_followed(&task_of(&rt, &["spool", "page", "x.html", "--follow"])?));
-    Ok(())
-}
-
-#[test]
-fn sets_queues(rt: HostRuntime) -> Result<(), Fail> {
-    let words = ["spool", "queue", "add", "office", "socket://p", "--limit", "0"];
-    assert!(rt; adds(&task_of(&rt, &words)?));
-    assert!(rt; rejects(&task_of(&rt, &["spool", "queue", "reject", "office"])?));
-    assert!(rt; shows(&task_of(&rt, &["spool", "queue", "show", "office", "--json"])?));
-    Ok(())
-}
-
-#[test]
-fn switches_queues(rt: HostRuntime) -> Result<(), Fail> {
-    assert!(rt; is_default(&task_of(&rt, &["lpoptions", "-d", "office"])?));
-    let words = ["cupsdisable", "-c", "-r", "no paper", "office", "lab"];
-    assert!(rt; disables(&task_of(&rt, &words)?));
     Ok(())
 }
