@@ -236,16 +236,14 @@ def test_a_spool_that_stays_full(folder):
     client = Client(folder)
     folder.queue(client, "q")
     same("disable", client.ask("disable q\n"), "ok")
-    names = []
 
-    def is_full():
-        """Adds queues until none fits: perhaps only until the next checkpoint, if the disk is slow."""
-        for length in (900, 100, 1):
-            while client.ask(f"queue n{len(names)} slow:/{'0' * length} {TYPE} abort-job 0 0\n") == "ok":
-                names.append(f"n{len(names)}")
-        return "spool: checkpoint failed\n" in folder.log()
+    def add(prefix, length):
+        """Adds queues until none fits. Their commands come together, so no checkpoint is made between them."""
+        client.say("".join(f"queue {prefix}{number} slow:/{'0' * length} {TYPE} abort-job 0 0\n" for number in range(32)))
+        return [f"{prefix}{number}" for number in range(32) if client.reply() == "ok"]
 
-    until("a failed checkpoint", is_full)
+    names = [*add("n", 215), *add("m", 1)]
+    until("a failed checkpoint", lambda: "spool: checkpoint failed\n" in folder.log())
     made = checkpoints(folder)
     same("a checkpoint", client.ask("checkpoint\n"), "error full")
     same("another job", client.ask('create q u "t" 1 50 ""\n'), "error full")
