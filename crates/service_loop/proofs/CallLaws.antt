@@ -1,5 +1,5 @@
 -- The engine of a service changes by calls.
-use Rattle.std.proofs.Common.{◌≡◌, ◌≤◌, ℕ, Bool, true, false, cond, List, [], ◌∷◌, ◌++◌, Option, None, Some, IfSome, inl, inr, refl, ap, sym, ◌∙◌, subst}
+use Rattle.std.proofs.Common.{◌≡◌, ◌≤◌, ℕ, Bool, true, false, cond, List, [], ◌∷◌, ◌++◌, Option, None, Some, IfSome, IsSome, inl, inr, refl, ap, sym, ◌∙◌, subst}
 use Rattle.spool_types.specs.State.{State}
 use Rattle.spool_types.specs.declared.event.Event.{Event}
 use Rattle.spool_types.specs.declared.event.Event.TheVariants.{Purge}
@@ -12,6 +12,7 @@ use Rattle.command_lines.specs.declared.command.Command.{Command}
 use Rattle.command_lines.specs.declared.command.Command.TheVariants as commands
 use Rattle.command_lines.specs.declared.command.Command.TheVariants.{Apply}
 use Rattle.command_lines.specs.declared.command.Creation.{Creation}
+use Rattle.spool_core.specs.OpenSpools.{IsSettled as NoneStaged}
 use Rattle.child_pipeline.specs.StageSlots.{Slots}
 use Rattle.print_rounds.specs.RunStates.{RunState}
 use Rattle.print_rounds.specs.StageHistory.{keys_in}
@@ -26,6 +27,7 @@ use Rattle.spool_engine.specs.EngineRuns.{Engine, CommandStep, AreCommandSteps, 
 use Rattle.spool_engine.specs.Mime.{Mime}
 use Rattle.spool_engine.specs.Script.{asks, creating, meaning, says}
 use Rattle.spool_engine.specs.EngineTicks.{Ticked}
+use Rattle.service_loop.specs.ClientActions.{IsDurable}
 use Rattle.service_loop.specs.ServiceCalls.{AreWithin, GoesByCalls, GoesWithin, HasAnswered, HasLimit, HasAnsweredAll, IsWithin, purges, ServiceLife, IsServiceLife, AreServiceLives, IsServiceHistory, keys_ordered}
 
 -- ## Commands without rounds
@@ -222,6 +224,22 @@ module _ {D : Type 0} (device : DiskView D) where
       LeavesOnly device e.run_state.spool.disk e1.run_state.spool.disk (IsAlongCalls e.mime e.run_state goes.calls)
   along_service e e1 goes run =
       subst (λ (s : RunState D). LeavesOnly device e.run_state.spool.disk s.spool.disk (IsAlongCalls e.mime e.run_state goes.calls)) goes.last run
+
+  -- The same after calls that left nothing staged.
+  pub along_after : (old mid new : Engine D) (before : GoesByCalls device old mid) (after : GoesByCalls device mid new) →
+      (AreCalls (setting device old.mime old.place) old.run_state (before.calls ++ after.calls) → NoneStaged (last_by old.run_state before.calls).spool →
+      (last_by old.run_state before.calls).spool.dead ≡ false → IsSome (device.bytes (last_by old.run_state before.calls).spool.disk) →
+      LeavesOnly device (last_by old.run_state before.calls).spool.disk (last_by old.run_state (before.calls ++ after.calls)).spool.disk (IsAlongCalls old.mime (last_by old.run_state before.calls) after.calls)) →
+      IsDurable mid.run_state.spool → IsSome (device.bytes mid.run_state.spool.disk) →
+      LeavesOnly device mid.run_state.spool.disk new.run_state.spool.disk (IsAlongCalls old.mime mid.run_state after.calls)
+  unfolding calls_then
+  along_after old mid new before after law (alive, none) tells =
+      let both = calls_then old mid new before after in
+      let back = sym before.last in
+      let run = law both.are (subst (λ (s : RunState D). NoneStaged s.spool) back (λ works. none)) (subst (λ (s : RunState D). s.spool.dead ≡ false) back alive)
+      (subst (λ (s : RunState D). IsSome (device.bytes s.spool.disk)) back tells) in
+      subst (λ (s : RunState D). LeavesOnly device s.spool.disk new.run_state.spool.disk (IsAlongCalls old.mime s after.calls)) before.last
+      (subst (λ (t : RunState D). LeavesOnly device (last_by old.run_state before.calls).spool.disk t.spool.disk (IsAlongCalls old.mime (last_by old.run_state before.calls) after.calls)) both.last run)
 
   -- ## Lives
 

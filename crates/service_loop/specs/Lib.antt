@@ -15,6 +15,7 @@ pub mod SlotHistories
 pub mod ClientSteps
 pub mod KnownJobs
 pub mod LoopWaits
+pub mod StagedRoom
 pub mod TakenRoom
 pub mod RetryClocks
 pub mod AbandonedJobs

@@ -7,6 +7,7 @@ ghost use Rattle.service_rules.specs.Bounds.{most_unread};
 ghost use Rattle.service_rules.specs.Listeners.{may_listen};
 ghost use Rattle.service_loop.specs.ClientListening.{BeginsAtMost, IsHeard};
 ghost use Rattle.service_loop.specs.ServiceCalls.{GoesWithin};
+ghost use Rattle.service_loop.specs.StagedRoom.{has_many_staged};
 ghost use Rattle.service_loop.specs.AdmissionViews.{is_listener, listens, unread, watches};
 ghost use Rattle.service_loop.specs.ClientActions.{Action, IsDurable};
 ghost use Rattle.service_loop.specs.Progress.{HasLeft, HasRead, IsAtRest, IsBacklogged, IsCut, IsGiven, IsMarked, IsReadAs, IsUnheard, Leaves, as_given, as_read, as_served, as_told, goes_further, has_ended, heard_after, misses, news_for, signed, text_for};
@@ -283,6 +284,7 @@ impl<L: Connection> Client<L> {
 
     // Makes the events that other clients staged durable if they are many, so that no settle takes long.
     fn settle_many<D: Disk, C: Children>(&self, shared: &mut Shared<D, C>)
+        ensures few { has_many_staged shared.new.settled_room shared.new.engine.run_state.spool.room ≡ false }
         ensures client_step { (actions : List (Action D)) × IsClientStep D.device L.view shared.old.engine self.now actions shared.new.engine self.now }
         ensures calls { GoesWithin D.device shared.old.most shared.old.engine shared.new.most shared.new.engine }
     {

@@ -21,7 +21,7 @@ ghost use Rattle.client_reader.specs.ReaderCalls.{AreFirstOf};
 ghost use Rattle.service_loop.specs.ServiceCalls.{GoesByCalls, GoesWithin, ServiceLife, IsServiceHistory, keys_ordered};
 ghost use Rattle.client_standing.specs.ClientStanding.{first_standing};
 ghost use Rattle.service_loop.specs.ConnectionViews.{ProofStep};
-ghost use Rattle.service_loop.specs.ClientActions.{asks_in, proofs_in, standing_after_all, texts_in};
+ghost use Rattle.service_loop.specs.ClientActions.{IsDurable, asks_in, proofs_in, standing_after_all, texts_in};
 ghost use Rattle.job_table.specs.DueTimes.{next_due};
 ghost use Rattle.service_loop.specs.Due.{IsQuietUntil};
 ghost use Rattle.service_loop.specs.ClientSteps.{AreClientSteps, HasAll, IsEntry, ClientStep, actions_of};
@@ -105,12 +105,18 @@ pub fn services_keep_their_limit<D: Disk>()
         count_running old.run_state.slots ≤ most → count_running new.run_state.slots ≤ left }
 {}
 
-/// *A crash*, through the service: from any moment on, as long as the engine changes by calls, a crash leaves the table of that moment or
-/// the table after a prefix of the events since then.
+/// *A crash*, through the service: as long as the engine changes by calls, a crash leaves the table of any earlier moment at which all events
+/// were durable, or the table after a prefix of the events since then.
 pub fn crashes_lose_no_call<D: Disk>()
-    ensures { (old new : Engine D) (goes : GoesByCalls D.device old new) → IsKept D.device old.run_state.spool →
+    // From the beginning.
+    ensures calls { (old new : Engine D) (goes : GoesByCalls D.device old new) → IsKept D.device old.run_state.spool →
         old.run_state.spool.dead ≡ false → IsSome (D.device.bytes old.run_state.spool.disk) →
         LeavesOnly D.device old.run_state.spool.disk new.run_state.spool.disk (IsAlongCalls old.mime old.run_state goes.calls) }
+    // From each moment at which all events are durable. Bytes are written to clients at such moments alone, so no later crash takes a reply
+    // back.
+    ensures durable { (old mid new : Engine D) (before : GoesByCalls D.device old mid) (after : GoesByCalls D.device mid new) →
+        IsKept D.device old.run_state.spool → IsDurable mid.run_state.spool → IsSome (D.device.bytes mid.run_state.spool.disk) →
+        LeavesOnly D.device mid.run_state.spool.disk new.run_state.spool.disk (IsAlongCalls old.mime mid.run_state after.calls) }
 {
     crashes_between_calls::<D>();
 }

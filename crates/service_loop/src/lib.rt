@@ -80,7 +80,7 @@
 //! - [`services_order_no_stage_twice`]: over any number of services, each made on the state that the previous one left plus perhaps further
 //!   events, no stage of an attempt is ordered twice, if the children report their orders. A life of a service may have no call, if its
 //!   first wait fails; as a life of an engine it has a run of no commands.
-//! - [`crashes_lose_no_call`]: for each moment when the disk has not failed, a later crash leaves the table of that moment, or the table
+//! - [`crashes_lose_no_call`]: for each moment at which all events are durable, a later crash leaves the table of that moment, or the table
 //!   after a prefix of the events since then.
 //! - **Commands and ticks.** `Shared::execute` executes a command as the engine does, and its event is staged (`executed`,
 //!   `TakesStagingStep`). `Shared::tick` settles the staged events and is one tick of the engine (`tick`, `IsStagingTick`). A `round` or a

@@ -1,5 +1,5 @@
 //! State that clients and maintenance share: the engine, and the record of its changes.
-ghost use Rattle.std.specs.Prelude.{◌≡◌, ◌≤◌, ◌++◌, ℕ, true, false, codes, length, List, Option, [], IfOk, IfSome, OnErr, OnOk, Some, map};
+ghost use Rattle.std.specs.Prelude.{◌≡◌, ◌≤◌, ◌++◌, ℕ, true, false, codes, length, max, List, Option, [], IfOk, IfSome, OnErr, OnOk, Some, map};
 ghost use Rattle.std.specs.FinMap as finite;
 ghost use Rattle.std.specs.Option.{option_map};
 ghost use Rattle.service_texts.specs.LeftJobs.{has_left};
@@ -21,6 +21,7 @@ ghost use Rattle.spool_types.specs.declared.event.Reply.TheVariants.{Done};
 ghost use Rattle.service_loop.specs.RecordedEvents.{HasRecordedAll, HasRecordedCommand, happened_deed};
 ghost use Rattle.service_loop.specs.RetryClocks.{is_row_in_last_stage, may_end, may_retry};
 ghost use Rattle.service_loop.specs.ServiceCalls.{GoesWithin};
+ghost use Rattle.service_loop.specs.StagedRoom.{has_many_staged};
 ghost use Rattle.spool_engine.specs.EventSteps.{setting};
 ghost use Rattle.spool_engine.specs.AnswerTexts.{answer_text};
 ghost use Rattle.spool_engine.specs.EngineRuns.{CommandStep, is_round};
@@ -68,7 +69,7 @@ pub(crate) struct Shared<D: Disk, C: Children> {
     pub active: bool,
     /// Whether the service must end: no further job is started then.
     pub ends: bool,
-    // The room of the journal when the staged events last became durable.
+    // The room of the journal when the staged events last became durable or, if it is greater, after the last checkpoint.
     settled_room: u64,
 }
 
@@ -86,7 +87,9 @@ impl<D: Disk, C: Children> Shared<D, C> {
         ensures area { result.area ≡ area }
         ensures marks { (result.started ≡ false) × (result.watched ≡ false) × (result.full ≡ false) × (result.active ≡ true) × (result.ends ≡ false) }
         ensures none { (result.endings.list.items ≡ []) × (result.records ≡ records) × (result.known ≡ known) }
+        ensures room { result.settled_room ≡ engine.run_state.spool.room }
     {
+        let settled_room = engine.room();
         Shared {
             alloc,
             engine,
@@ -101,7 +104,7 @@ impl<D: Disk, C: Children> Shared<D, C> {
             full: false,
             active: true,
             ends: false,
-            settled_room: 0,
+            settled_room,
         }
     }
 
@@ -116,6 +119,8 @@ impl<D: Disk, C: Children> Shared<D, C> {
         ensures known { IfOk result (λ answer. (token : List ℕ) → entry_for self.new.known.tokens token
             ≡ entry_after self.new.engine.run_state.spool.state (expected_token self.old.engine.run_state.spool.state command) answer token (entry_for self.old.known.tokens token)) }
         ensures err { OnErr result ((self.new.engine ≡ self.old.engine) × (self.new.records ≡ self.old.records)) }
+        // A checkpoint makes room. The bytes staged since are counted from there.
+        ensures room { OnOk result (self.new.settled_room ≡ max self.old.settled_room self.new.engine.run_state.spool.room) }
         ensures calls { GoesWithin D.device self.old.most self.old.engine self.new.most self.new.engine }
     {
         self.active = true;
@@ -128,6 +133,7 @@ impl<D: Disk, C: Children> Shared<D, C> {
             .record_command(&expected, &answer, self.engine.table());
         settle_token(&mut self.known, &token, &answer, self.engine.table());
         self.known.note_sent(sent_to, &answer);
+        self.settled_room = self.settled_room.max(self.engine.room());
         Ok(answer)
     }
 
@@ -138,6 +144,7 @@ impl<D: Disk, C: Children> Shared<D, C> {
         ensures fails { result ≡ false → self.new.engine.run_state.spool.dead ≡ true }
         ensures mime { self.new.engine.mime ≡ self.old.engine.mime }
         ensures place { self.new.engine.place ≡ self.old.engine.place }
+        ensures room { self.new.settled_room ≡ self.new.engine.run_state.spool.room }
         ensures kept { self.new ≡ record self.old { engine = self.new.engine; settled_room = self.new.settled_room } }
         ensures calls { GoesWithin D.device self.old.most self.old.engine self.new.most self.new.engine }
     {
@@ -147,7 +154,9 @@ impl<D: Disk, C: Children> Shared<D, C> {
     }
 
     /// Returns whether the records of the staged events are so many that they must become durable before more are staged.
-    pub fn has_many_staged(&self) -> bool {
+    pub fn has_many_staged(&self) -> bool
+        ensures { result ≡ has_many_staged self.now.settled_room self.now.engine.run_state.spool.room }
+    {
         MOST_STAGED <= self.settled_room.saturating_sub(self.engine.room())
     }
 
