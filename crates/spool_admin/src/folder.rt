@@ -5,11 +5,10 @@ ghost use Rattle.spool_runtime.specs.ProgramFaults.{IsOfFolder};
 use spool_disk::FileDisk;
 use spool_runtime::{ShellFault, SpoolFolder, new_file, remove_if_there};
 use std::fs;
-use std::fs::{File, Files, Metadata, OpenFile, OpenOptions};
+use std::fs::{File, Metadata, OpenFile, OpenOptions};
 use std::io::{ErrorKind, Write};
 use std::os::unix::fs::{MetadataExt, OpenOptionsExt, fchown};
 use std::path::Path;
-use std::time::Clock;
 use whole_writes::write_zeros;
 
 /// A folder that no other program owns meanwhile.
@@ -22,10 +21,7 @@ pub struct Folder<'a> {
 
 impl<'a> Folder<'a> {
     /// Takes ownership of the folder, which must exist.
-    pub fn own<R: Files<File = File> + Clock + AllocGlobal>(
-        rt: &R,
-        dir: &'a str,
-    ) -> Result<Folder<'a>, ShellFault>
+    pub fn own(rt: &HostRuntime, dir: &'a str) -> Result<Folder<'a>, ShellFault>
         ensures { IfErr result IsOfFolder }
     {
         let owned = SpoolFolder::own(rt, dir)?;
@@ -40,7 +36,7 @@ impl<'a> Folder<'a> {
     }
 
     /// Returns whether the name exists.
-    pub fn has<R: Files + AllocGlobal>(&self, rt: &R, name: &str) -> Result<bool, ShellFault>
+    pub fn has(&self, rt: &HostRuntime, name: &str) -> Result<bool, ShellFault>
         ensures { IfErr result IsOfFolder }
     {
         let path = self.path.join(rt.alloc(), name)?;
@@ -52,7 +48,7 @@ impl<'a> Folder<'a> {
     }
 
     /// Returns the metadata of the file with this name.
-    pub fn about<R: Files + AllocGlobal>(&self, rt: &R, name: &str) -> Result<Metadata, ShellFault>
+    pub fn about(&self, rt: &HostRuntime, name: &str) -> Result<Metadata, ShellFault>
         ensures { IfErr result IsOfFolder }
     {
         let path = self.path.join(rt.alloc(), name)?;
@@ -60,12 +56,7 @@ impl<'a> Folder<'a> {
     }
 
     /// Renames a file, and syncs the folder.
-    pub fn rename<R: Files + AllocGlobal>(
-        &self,
-        rt: &R,
-        from: &str,
-        to: &str,
-    ) -> Result<(), ShellFault>
+    pub fn rename(&self, rt: &HostRuntime, from: &str, to: &str) -> Result<(), ShellFault>
         ensures { IfErr result IsOfFolder }
     {
         let from = self.path.join(rt.alloc(), from)?;
@@ -75,7 +66,7 @@ impl<'a> Folder<'a> {
     }
 
     /// Removes the file with this name, if it exists, and syncs the folder.
-    pub fn remove<R: Files + AllocGlobal>(&self, rt: &R, name: &str) -> Result<(), ShellFault>
+    pub fn remove(&self, rt: &HostRuntime, name: &str) -> Result<(), ShellFault>
         ensures { IfErr result IsOfFolder }
     {
         let path = self.path.join(rt.alloc(), name)?;
@@ -84,11 +75,7 @@ impl<'a> Folder<'a> {
     }
 
     /// Returns the text of the file with this name, or nothing if it does not exist.
-    pub fn text<R: Files<File = File> + AllocGlobal>(
-        &self,
-        rt: &R,
-        name: &str,
-    ) -> Result<Option<String>, ShellFault>
+    pub fn text(&self, rt: &HostRuntime, name: &str) -> Result<Option<String>, ShellFault>
         ensures { IfErr result IsOfFolder }
     {
         let path = self.path.join(rt.alloc(), name)?;
@@ -100,12 +87,7 @@ impl<'a> Folder<'a> {
     }
 
     /// Creates a file with this text, and syncs it. Does not sync the folder.
-    pub fn put_text<R: Files<File = File> + AllocGlobal>(
-        &self,
-        rt: &R,
-        name: &str,
-        text: &str,
-    ) -> Result<(), ShellFault>
+    pub fn put_text(&self, rt: &HostRuntime, name: &str, text: &str) -> Result<(), ShellFault>
         ensures { IfErr result IsOfFolder }
     {
         let path = self.path.join(rt.alloc(), name)?;
@@ -115,9 +97,9 @@ impl<'a> Folder<'a> {
     }
 
     /// Creates a file of `size` zeros, with the owner and the mode that `about` has, and syncs both the file and the folder.
-    pub fn put_zeros<R: Files<File = File> + AllocGlobal>(
+    pub fn put_zeros(
         &self,
-        rt: &R,
+        rt: &HostRuntime,
         name: &str,
         size: u64,
         about: &Metadata,

@@ -10,16 +10,10 @@ use spool_core::{OpenError, OpenFault, Spool};
 use spool_disk::Disk;
 use spool_runtime::SpoolFolder;
 use std::alloc::Global;
-use std::fs::{File, Files};
-use std::time::Clock;
 
 /// Gives the spool of a folder a file of `size` bytes. After a fault the old spool exists unchanged, unless the last sync of the
 /// folder failed: then the new file already has the name.
-pub fn grow<R: Files<File = File> + Clock + AllocGlobal>(
-    rt: &R,
-    dir: &str,
-    size: u64,
-) -> Result<(), AdminFault> {
+pub fn grow(rt: &HostRuntime, dir: &str, size: u64) -> Result<(), AdminFault> {
     let folder = SpoolFolder::own(rt, dir)?;
     let old = find(rt.alloc(), folder.device_there(rt)?)?;
     if size < old.account.size {

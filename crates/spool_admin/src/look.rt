@@ -6,16 +6,10 @@ ghost use Rattle.spool_admin.specs.Look.{account_text, area_text, jobs_text, lin
 use crate::found::{Account, JobCounts, find};
 use spool_runtime::{ShellFault, SpoolFolder};
 use std::alloc::{AllocError, Global};
-use std::fs::{File, Files};
 use std::io::Write;
-use std::time::Clock;
 
 /// Prints the figures of a folder's spool, and changes nothing.
-pub fn look<R: Files<File = File> + Clock + AllocGlobal, W: Write>(
-    rt: &R,
-    dir: &str,
-    writer: &mut W,
-) -> Result<(), ShellFault> {
+pub fn look<W: Write>(rt: &HostRuntime, dir: &str, writer: &mut W) -> Result<(), ShellFault> {
     let folder = SpoolFolder::own(rt, dir)?;
     let found = match find(rt.alloc(), folder.device_there(rt)?) {
         Ok(found) => found,

@@ -5,13 +5,11 @@ use crate::whole::whole_spool;
 use spool_disk::FileDisk;
 use spool_runtime::SpoolFolder;
 use spool_types::QueueName;
-use std::fs::{File, Files};
-use std::time::Clock;
 
 /// Edits a queue of the folder's spool. After a fault the old spool exists unchanged, unless the last sync of the folder failed: then
 /// the new file already has the name.
-pub fn edit_queue<R: Files<File = File> + Clock + AllocGlobal>(
-    rt: &R,
+pub fn edit_queue(
+    rt: &HostRuntime,
     dir: &str,
     name: &QueueName,
     edit: &QueueEdit,
@@ -28,8 +26,8 @@ pub fn edit_queue<R: Files<File = File> + Clock + AllocGlobal>(
 }
 
 // Makes the new file, complete and synced, under the name of an unfinished one. Nothing is made for an edit that is refused.
-fn write_edited<R: Files<File = File> + Clock + AllocGlobal>(
-    rt: &R,
+fn write_edited(
+    rt: &HostRuntime,
     folder: &SpoolFolder<'_>,
     name: &QueueName,
     edit: &QueueEdit,

@@ -8,7 +8,6 @@ use crate::whole::whole_spool;
 use crate::words::Split;
 use spool_disk::FileDisk;
 use spool_runtime::ShellFault;
-use std::fs::{File, Files};
 use std::time::Clock;
 
 // The name of a spool's file.
@@ -28,17 +27,14 @@ const NEXT_RECORD: &str = "spool.split.new";
 
 /// Moves the queues, with their jobs, to a spool of their own in the other folder. If an earlier call with the same words was
 /// killed after its change over, finishes that split and does nothing else. If it was killed before, undoes it and begins again.
-pub fn split<R: Files<File = File> + Clock + AllocGlobal>(
-    rt: &R,
-    asked: &Split<'_>,
-) -> Result<(), AdminFault> {
+pub fn split(rt: &HostRuntime, asked: &Split<'_>) -> Result<(), AdminFault> {
     let source = Folder::own(rt, asked.from)?;
     let target = Folder::own(rt, asked.into)?;
     split_into(rt, &source, &target, asked)
 }
 
-fn split_into<R: Files<File = File> + Clock + AllocGlobal>(
-    rt: &R,
+fn split_into(
+    rt: &HostRuntime,
     source: &Folder<'_>,
     target: &Folder<'_>,
     asked: &Split<'_>,
@@ -56,10 +52,7 @@ fn split_into<R: Files<File = File> + Clock + AllocGlobal>(
 
 // Returns whether the earlier call has made its change over. That call may have been killed before the change was synced, so that
 // a power cut would still undo it. So this function syncs it.
-fn was_changed_over<R: Files<File = File> + AllocGlobal>(
-    rt: &R,
-    source: &Folder<'_>,
-) -> Result<bool, AdminFault> {
+fn was_changed_over(rt: &HostRuntime, source: &Folder<'_>) -> Result<bool, AdminFault> {
     if source.has(rt, REST)? {
         return Ok(false);
     }
@@ -68,8 +61,8 @@ fn was_changed_over<R: Files<File = File> + AllocGlobal>(
 }
 
 // Splits the spool, if no earlier call has left anything.
-fn begin<R: Files<File = File> + Clock + AllocGlobal>(
-    rt: &R,
+fn begin(
+    rt: &HostRuntime,
     source: &Folder<'_>,
     target: &Folder<'_>,
     words: &str,
@@ -91,8 +84,8 @@ fn begin<R: Files<File = File> + Clock + AllocGlobal>(
 }
 
 // Gives the rest the spool's name. From then on the jobs of the queues are only in the part.
-fn change_over<R: Files<File = File> + AllocGlobal>(
-    rt: &R,
+fn change_over(
+    rt: &HostRuntime,
     source: &Folder<'_>,
     target: &Folder<'_>,
     part: &str,
@@ -109,8 +102,8 @@ fn change_over<R: Files<File = File> + AllocGlobal>(
 }
 
 // Creates the two files, complete and synced, under names that are not served.
-fn prepare<R: Files<File = File> + Clock + AllocGlobal>(
-    rt: &R,
+fn prepare(
+    rt: &HostRuntime,
     source: &Folder<'_>,
     target: &Folder<'_>,
     part: &str,
@@ -128,8 +121,8 @@ fn prepare<R: Files<File = File> + Clock + AllocGlobal>(
 }
 
 // Creates the two empty files, in the folders of the whole and of the part.
-fn begin_halves<R: Files<File = File> + Clock + AllocGlobal>(
-    rt: &R,
+fn begin_halves(
+    rt: &HostRuntime,
     source: &Folder<'_>,
     target: &Folder<'_>,
     part: &str,
@@ -144,11 +137,7 @@ fn begin_halves<R: Files<File = File> + Clock + AllocGlobal>(
 }
 
 // Creates a file for the rows that stay.
-fn begin_rest<R: Files<File = File> + Clock + AllocGlobal>(
-    rt: &R,
-    source: &Folder<'_>,
-    size: u64,
-) -> Result<FileDisk, AdminFault> {
+fn begin_rest(rt: &HostRuntime, source: &Folder<'_>, size: u64) -> Result<FileDisk, AdminFault> {
     source.remove(rt, REST)?;
     let disk = source.owned.next_device(rt, size)?;
     match source.rename(rt, NEXT, REST) {
@@ -161,8 +150,8 @@ fn begin_rest<R: Files<File = File> + Clock + AllocGlobal>(
 }
 
 // Notes the split before anything is created in the other folder.
-fn record<R: Files<File = File> + AllocGlobal>(
-    rt: &R,
+fn record(
+    rt: &HostRuntime,
     source: &Folder<'_>,
     part: &str,
     words: &str,
@@ -174,8 +163,8 @@ fn record<R: Files<File = File> + AllocGlobal>(
 }
 
 // Gives the part its own name, and removes the record.
-fn finish<R: Files<File = File> + AllocGlobal>(
-    rt: &R,
+fn finish(
+    rt: &HostRuntime,
     source: &Folder<'_>,
     target: &Folder<'_>,
     part: &str,
@@ -194,8 +183,8 @@ fn finish<R: Files<File = File> + AllocGlobal>(
 
 // Undoes a split whose change over was not made. Removes `spool.rest` after the record, because its absence would mean that the
 // change over was made.
-fn give_up<R: Files<File = File> + AllocGlobal>(
-    rt: &R,
+fn give_up(
+    rt: &HostRuntime,
     source: &Folder<'_>,
     target: &Folder<'_>,
     part: &str,
@@ -207,11 +196,7 @@ fn give_up<R: Files<File = File> + AllocGlobal>(
 }
 
 // Returns the name of the part of a split that was begun, if any. Fails if its words are not these.
-fn begun<R: Files<File = File> + AllocGlobal>(
-    rt: &R,
-    source: &Folder<'_>,
-    words: &str,
-) -> Result<Option<String>, AdminFault> {
+fn begun(rt: &HostRuntime, source: &Folder<'_>, words: &str) -> Result<Option<String>, AdminFault> {
     let Some(text) = source.text(rt, RECORD)? else {
         return Ok(None);
     };
@@ -222,7 +207,7 @@ fn begun<R: Files<File = File> + AllocGlobal>(
 }
 
 // Returns a name for the part that no other split has: the time, in nanoseconds.
-fn part_now<R: Clock + AllocGlobal>(rt: &R) -> Result<String, AdminFault> {
+fn part_now(rt: &HostRuntime) -> Result<String, AdminFault> {
     let now = match rt.since_1970() {
         Ok(now) => now,
         Err(error) => return Err(AdminFault::from(ShellFault::from(error))),

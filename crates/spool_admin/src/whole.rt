@@ -5,14 +5,12 @@ use crate::fault::AdminFault;
 use spool_core::Spool;
 use spool_disk::Disk;
 use spool_runtime::{NamedDisk, SpoolFolder};
-use std::fs::{File, Files};
-use std::time::Clock;
 
 /// Returns the folder's spool, and the length of its file. Writes nothing.
-pub fn whole_spool<'r, R: Files<File = File> + Clock + AllocGlobal>(
-    rt: &'r R,
+pub fn whole_spool<'r>(
+    rt: &'r HostRuntime,
     folder: &SpoolFolder<'_>,
-) -> Result<(Spool<NamedDisk<'r, R>>, u64), AdminFault>
+) -> Result<(Spool<NamedDisk<'r>>, u64), AdminFault>
     ensures settled { IfOk result (λ found. found.0.held ≡ None) }
 {
     let disk = folder.device_there(rt)?;

@@ -11,7 +11,6 @@ use crate::device_lines::lines_of;
 use crate::fault::ShellFault;
 use std::alloc::{AllocError, Global};
 use std::fs;
-use std::fs::{File, Files};
 use std::io::ErrorKind;
 
 // The system's file with the status of this process.
@@ -22,7 +21,7 @@ const STATUS: &str = "/proc/self/status";
 const IGNORED: &[u8] = b"SigIgn:";
 
 /// Fails with `Ignored` if SIGCHLD is ignored, so that the ends of children cannot be known.
-pub fn check_child_ends<R: Files<File = File> + AllocGlobal>(rt: &R) -> Result<(), ShellFault> {
+pub fn check_child_ends(rt: &HostRuntime) -> Result<(), ShellFault> {
     match fs::read_to_string(rt, STATUS) {
         Ok(status) => check_status(rt.alloc(), status.as_bytes()),
         Err(error) if error.kind() == ErrorKind::OutOfMemory => Err(ShellFault::Memory),

@@ -10,7 +10,7 @@ use child_pipeline::Order;
 use filter_args::{ChildFile, Place};
 use spool_types::LONGEST_DOCUMENT;
 use std::alloc::{AllocError, Global};
-use std::fs::{File, Files, OpenOptions};
+use std::fs::{File, OpenOptions};
 use std::io::{ErrorKind, Read, Write};
 use std::os::unix::fs::FileExt;
 use std::path::Path;
@@ -49,7 +49,7 @@ impl ChildPaths {
     }
 
     /// Removes the files that exist and, with `side`, the socket, but not the folder. Errors are ignored.
-    pub fn remove<R: Files>(&self, rt: &R, side: bool) {
+    pub fn remove(&self, rt: &HostRuntime, side: bool) {
         for path in [&self.input, &self.output, &self.errors] {
             let _ = fs::remove_file(rt, path.as_str());
         }
@@ -82,7 +82,7 @@ fn folder_path(alloc: Global, place: &Place, order: &Order) -> Result<String, Al
 
 /// Makes a file that only its owner may read. If the name is taken, it first removes the file that a crash left there,
 /// or the link: a link is never followed. Usually the name is free, so removal is not tried first.
-pub(crate) fn make_file<R: Files<File = File>>(rt: &R, path: &str) -> io::Result<File> {
+pub(crate) fn make_file(rt: &HostRuntime, path: &str) -> io::Result<File> {
     let path = Path::new(path);
     match new_file(rt, path) {
         Err(error) if error.kind() == ErrorKind::AlreadyExists => {
@@ -102,7 +102,7 @@ pub(crate) fn probe_path(alloc: Global, place: &Place) -> Result<String, AllocEr
 
 /// Opens the output file, which must exist, to pass it to the child as its standard output. The file is locked while a
 /// process of the child has it open, so that the next opening sees which children still run ([`crate::leftovers`]).
-pub(crate) fn output_to_hand<R: Files<File = File>>(rt: &R, path: &str) -> io::Result<File> {
+pub(crate) fn output_to_hand(rt: &HostRuntime, path: &str) -> io::Result<File> {
     let output = OpenOptions::new().write(true).open(rt, path)?;
     if output.try_lock().is_err() {
         return Err(io::Error::from(ErrorKind::ResourceBusy));
@@ -111,11 +111,7 @@ pub(crate) fn output_to_hand<R: Files<File = File>>(rt: &R, path: &str) -> io::R
 }
 
 /// Makes a file with these bytes.
-pub(crate) fn make_file_of<R: Files<File = File>>(
-    rt: &R,
-    path: &str,
-    bytes: &[u8],
-) -> io::Result<()> {
+pub(crate) fn make_file_of(rt: &HostRuntime, path: &str, bytes: &[u8]) -> io::Result<()> {
     make_file(rt, path)?.write_all(bytes)
 }
 

@@ -20,7 +20,7 @@ ghost use Rattle.std.specs.Prelude.{◌≡◌, None, [], IfOk, IfSome, string_by
 ghost use Rattle.spool_runtime.specs.ChildUsers.{HasUsualLimits, IsAmong, IsUserOf, lock_name, run_folder, run_name, run_user_of, user_prefix};
 
 use std::alloc::{AllocError, Global};
-use std::fs::{DirBuilder, File, Files, OpenOptions, Permissions, TryLockError};
+use std::fs::{DirBuilder, File, OpenOptions, Permissions, TryLockError};
 use std::io::ErrorKind;
 use std::os::unix::fs::{DirBuilderExt, OpenOptionsExt, PermissionsExt, lchown};
 use std::process::Stdio;
@@ -141,8 +141,8 @@ pub(crate) fn script_input(taken: &Option<TakenUser>) -> io::Result<Stdio> {
 }
 
 /// Returns a user for a child: the first that no child has, or the last, which children share.
-pub(crate) fn take_user<R: Files<File = File> + AllocGlobal>(
-    rt: &R,
+pub(crate) fn take_user(
+    rt: &HostRuntime,
     root: &str,
     users: &[ChildUser],
 ) -> io::Result<Option<TakenUser>>
@@ -159,8 +159,8 @@ pub(crate) fn take_user<R: Files<File = File> + AllocGlobal>(
 }
 
 // Returns the first user that no child has, and its locked file.
-fn first_free<R: Files<File = File> + AllocGlobal>(
-    rt: &R,
+fn first_free(
+    rt: &HostRuntime,
     root: &str,
     users: &[ChildUser],
 ) -> io::Result<Option<(ChildUser, File)>>
@@ -175,11 +175,7 @@ fn first_free<R: Files<File = File> + AllocGlobal>(
 }
 
 /// Returns the locked file of a user, or `None` if a child has the user.
-pub(crate) fn free_lock<R: Files<File = File> + AllocGlobal>(
-    rt: &R,
-    root: &str,
-    uid: u32,
-) -> io::Result<Option<File>> {
+pub(crate) fn free_lock(rt: &HostRuntime, root: &str, uid: u32) -> io::Result<Option<File>> {
     let path = lock_path(rt.alloc(), root, uid)?;
     let file = OpenOptions::new()
         .write(true)
@@ -225,7 +221,7 @@ pub(crate) fn run_path(alloc: Global, root: &str) -> Result<String, AllocError>
 }
 
 /// Makes the folder of a child, for its user alone. Replaces an empty one that a crash left.
-pub(crate) fn make_folder<R: Files>(rt: &R, path: &str, user: ChildUser) -> io::Result<()> {
+pub(crate) fn make_folder(rt: &HostRuntime, path: &str, user: ChildUser) -> io::Result<()> {
     let mut builder = DirBuilder::new();
     builder.mode(FOLDER_MODE);
     match builder.create(rt, path) {
@@ -239,12 +235,12 @@ pub(crate) fn make_folder<R: Files>(rt: &R, path: &str, user: ChildUser) -> io::
 }
 
 /// Gives a document to the user of a child, who may read it.
-pub(crate) fn give_document<R: Files>(rt: &R, path: &str, user: ChildUser) -> io::Result<()> {
+pub(crate) fn give_document(rt: &HostRuntime, path: &str, user: ChildUser) -> io::Result<()> {
     fs::set_permissions(rt, path, Permissions::from_mode(DOCUMENT_MODE))?;
     give(rt, path, user)
 }
 
 /// Gives a file or a socket to the user of a child. A link is not followed.
-pub(crate) fn give<R: Files>(rt: &R, path: &str, user: ChildUser) -> io::Result<()> {
+pub(crate) fn give(rt: &HostRuntime, path: &str, user: ChildUser) -> io::Result<()> {
     lchown(rt, path, Some(user.uid), Some(user.gid))
 }

@@ -33,11 +33,10 @@ use crate::ownership::{LOCK, locked, take};
 use spool_core::make;
 use spool_disk::FileDisk;
 use std::alloc::AllocError;
-use std::fs::{File, Files, Metadata, OpenFile, OpenOptions};
+use std::fs::{File, Metadata, OpenFile, OpenOptions};
 use std::io::ErrorKind;
 use std::os::unix::fs::{MetadataExt, OpenOptionsExt, fchown};
 use std::path::Path;
-use std::time::Clock;
 use std::{fs, io};
 use whole_writes::write_zeros;
 
@@ -58,10 +57,7 @@ pub struct SpoolFolder<'a> {
 impl<'a> SpoolFolder<'a> {
     /// Takes the folder, which must exist. Fails with `Disk` if another program owns it or may own it. Nothing has
     /// changed then, except that the lock's file exists.
-    pub fn own<R: Files<File = File> + Clock + AllocGlobal>(
-        rt: &R,
-        dir: &'a str,
-    ) -> Result<SpoolFolder<'a>, ShellFault>
+    pub fn own(rt: &HostRuntime, dir: &'a str) -> Result<SpoolFolder<'a>, ShellFault>
         ensures { IfErr result IsOfFolder }
     {
         let path = Path::new(dir);
@@ -70,11 +66,7 @@ impl<'a> SpoolFolder<'a> {
     }
 
     /// Opens the spool's file. If its name is free, makes it with `size` bytes. An existing file is not changed.
-    pub fn device<'r, R: Files<File = File> + Clock + AllocGlobal>(
-        &self,
-        rt: &'r R,
-        size: u64,
-    ) -> Result<NamedDisk<'r, R>, ShellFault>
+    pub fn device<'r>(&self, rt: &'r HostRuntime, size: u64) -> Result<NamedDisk<'r>, ShellFault>
         ensures { IfErr result IsOfFolder }
     {
         let file = self.file(rt, size)?;
@@ -85,10 +77,7 @@ impl<'a> SpoolFolder<'a> {
     }
 
     /// Opens the spool's file, which must exist.
-    pub fn device_there<'r, R: Files<File = File> + Clock + AllocGlobal>(
-        &self,
-        rt: &'r R,
-    ) -> Result<NamedDisk<'r, R>, ShellFault>
+    pub fn device_there<'r>(&self, rt: &'r HostRuntime) -> Result<NamedDisk<'r>, ShellFault>
         ensures { IfErr result IsOfFolder }
     {
         let path = self.path.join(rt.alloc(), NAME)?;
@@ -97,7 +86,7 @@ impl<'a> SpoolFolder<'a> {
     }
 
     /// Returns the size of the spool's file, in bytes.
-    pub fn disk_size<R: Files<File = File> + AllocGlobal>(&self, rt: &R) -> Result<u64, ShellFault>
+    pub fn disk_size(&self, rt: &HostRuntime) -> Result<u64, ShellFault>
         ensures { IfErr result IsOfFolder }
     {
         let path = self.path.join(rt.alloc(), NAME)?;
@@ -109,11 +98,7 @@ impl<'a> SpoolFolder<'a> {
     /// of an unfinished file until [`replace_device`](SpoolFolder::replace_device) renames it. An unfinished file of an
     /// earlier attempt is removed first. Fails with `NoFile` if the spool's file is not a regular file or has another
     /// name too.
-    pub fn next_device<R: Files<File = File> + Clock + AllocGlobal>(
-        &self,
-        rt: &R,
-        size: u64,
-    ) -> Result<FileDisk, ShellFault>
+    pub fn next_device(&self, rt: &HostRuntime, size: u64) -> Result<FileDisk, ShellFault>
         ensures { IfErr result IsOfFolder }
     {
         let path = self.path.join(rt.alloc(), NAME)?;
@@ -131,10 +116,7 @@ impl<'a> SpoolFolder<'a> {
     }
 
     /// Renames the unfinished file, which must be whole and synced, to the spool's file. The old file is replaced.
-    pub fn replace_device<R: Files<File = File> + AllocGlobal>(
-        &self,
-        rt: &R,
-    ) -> Result<(), ShellFault>
+    pub fn replace_device(&self, rt: &HostRuntime) -> Result<(), ShellFault>
         ensures { IfErr result IsOfFolder }
     {
         let unfinished = self.path.join(rt.alloc(), UNFINISHED)?;
@@ -144,7 +126,7 @@ impl<'a> SpoolFolder<'a> {
     }
 
     /// Removes the unfinished file if it exists.
-    pub fn remove_unfinished<R: Files + AllocGlobal>(&self, rt: &R) -> Result<(), ShellFault>
+    pub fn remove_unfinished(&self, rt: &HostRuntime) -> Result<(), ShellFault>
         ensures { IfErr result IsOfFolder }
     {
         let unfinished = self.path.join(rt.alloc(), UNFINISHED)?;
@@ -152,11 +134,7 @@ impl<'a> SpoolFolder<'a> {
     }
 
     // Returns the file as the spool's disk.
-    fn disk<'r, R: Files<File = File> + AllocGlobal>(
-        &self,
-        rt: &'r R,
-        file: File,
-    ) -> Result<NamedDisk<'r, R>, ShellFault>
+    fn disk<'r>(&self, rt: &'r HostRuntime, file: File) -> Result<NamedDisk<'r>, ShellFault>
         ensures { IfErr result IsOfFolder }
     {
         let path = self.named(rt, NAME)?;
@@ -167,11 +145,7 @@ impl<'a> SpoolFolder<'a> {
     }
 
     // Opens or makes the spool's file, and locks it.
-    fn file<R: Files<File = File> + Clock + AllocGlobal>(
-        &self,
-        rt: &R,
-        size: u64,
-    ) -> Result<File, ShellFault>
+    fn file(&self, rt: &HostRuntime, size: u64) -> Result<File, ShellFault>
         ensures { IfErr result IsOfFolder }
     {
         let path = self.path.join(rt.alloc(), NAME)?;
@@ -183,19 +157,14 @@ impl<'a> SpoolFolder<'a> {
     }
 
     // Returns the path of this name in the folder.
-    fn named<R: AllocGlobal>(&self, rt: &R, name: &str) -> Result<String, AllocError> {
+    fn named(&self, rt: &HostRuntime, name: &str) -> Result<String, AllocError> {
         let path = self.path.join(rt.alloc(), name)?;
         String::from_str(rt.alloc(), path.as_path().as_str())
     }
 
     // Makes the spool's file. Removes the unfinished file of an earlier start first, and its own unfinished file if a
     // step fails.
-    fn make_device<R: Files<File = File> + Clock + AllocGlobal>(
-        &self,
-        rt: &R,
-        path: Path<'_>,
-        size: u64,
-    ) -> Result<File, ShellFault>
+    fn make_device(&self, rt: &HostRuntime, path: Path<'_>, size: u64) -> Result<File, ShellFault>
         ensures { IfErr result IsOfFolder }
     {
         let unfinished = self.path.join(rt.alloc(), UNFINISHED)?;
@@ -209,7 +178,7 @@ impl<'a> SpoolFolder<'a> {
 }
 
 // Returns whether the name is free: not even a link to nothing has it.
-fn is_absent<R: Files>(rt: &R, path: Path<'_>) -> io::Result<bool> {
+fn is_absent(rt: &HostRuntime, path: Path<'_>) -> io::Result<bool> {
     match fs::symlink_metadata(rt, path) {
         Ok(_) => Ok(false),
         Err(error) if error.kind() == ErrorKind::NotFound => Ok(true),
@@ -218,7 +187,7 @@ fn is_absent<R: Files>(rt: &R, path: Path<'_>) -> io::Result<bool> {
 }
 
 /// Removes the file or the link of this name. Succeeds if the name is free.
-pub fn remove_if_there<R: Files>(rt: &R, path: Path<'_>) -> io::Result<()>
+pub fn remove_if_there(rt: &HostRuntime, path: Path<'_>) -> io::Result<()>
     ensures { IfErr result (λ error. error_kind error ≢ ErrorKind.NotFound) }
 {
     match fs::remove_file(rt, path) {
@@ -228,7 +197,7 @@ pub fn remove_if_there<R: Files>(rt: &R, path: Path<'_>) -> io::Result<()>
 }
 
 // Opens and locks the file, which must exist.
-fn open_device<R: Files<File = File> + Clock>(rt: &R, path: Path<'_>) -> Result<File, ShellFault>
+fn open_device(rt: &HostRuntime, path: Path<'_>) -> Result<File, ShellFault>
     ensures { IfErr result IsOfFolder }
 {
     let file = OpenOptions::new().read(true).write(true).open(rt, path)?;
@@ -236,8 +205,8 @@ fn open_device<R: Files<File = File> + Clock>(rt: &R, path: Path<'_>) -> Result<
 }
 
 // Makes a whole spool under the unfinished name, and then renames it.
-fn finish_device<R: Files<File = File> + Clock>(
-    rt: &R,
+fn finish_device(
+    rt: &HostRuntime,
     unfinished: Path<'_>,
     path: Path<'_>,
     size: u64,
@@ -253,8 +222,8 @@ fn finish_device<R: Files<File = File> + Clock>(
 }
 
 // Makes a file of zeros, with the owner and the mode of the file that it will replace.
-fn begin_next<R: Files<File = File> + Clock>(
-    rt: &R,
+fn begin_next(
+    rt: &HostRuntime,
     unfinished: Path<'_>,
     replaced: &Metadata,
     size: u64,
@@ -280,7 +249,7 @@ fn make_spool(file: &File) -> Result<(), ShellFault>
 }
 
 /// Makes an empty file that only its owner may read. Fails if the name is taken.
-pub fn new_file<R: Files<File = File>>(rt: &R, path: Path<'_>) -> io::Result<File> {
+pub fn new_file(rt: &HostRuntime, path: Path<'_>) -> io::Result<File> {
     OpenOptions::new()
         .read(true)
         .write(true)

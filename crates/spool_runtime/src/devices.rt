@@ -20,12 +20,11 @@ use crate::fault::ShellFault;
 use crate::script::push_program;
 use program_lists::{ListedProgram, ProgramList};
 use std::alloc::{AllocError, Global};
-use std::fs::Files;
 use std::io::{ErrorKind, PipeReader, Read, Write};
 use std::os::fd::OwnedFd;
 use std::os::unix::net::UnixStream;
-use std::process::{Child, ChildStdout, Command, OpenProcess, Processes, Stdio};
-use std::time::{Clock, Duration};
+use std::process::{Child, ChildStdout, Command, Stdio};
+use std::time::Duration;
 use std::{io, thread};
 
 // Runs a backend without environment variables.
@@ -87,11 +86,11 @@ fn print_told<W: Write>(
 
 /// Runs each backend as a child process. Nothing is known of its output before it runs.
 #[derive(Clone, Copy)]
-pub struct ChildDiscovery<'a, R> {
-    pub rt: &'a R,
+pub struct ChildDiscovery<'a> {
+    pub rt: &'a HostRuntime,
 }
 
-impl<'a, R: Files + Processes + Clock + AllocGlobal> Discovery for ChildDiscovery<'a, R> {
+impl<'a> Discovery for ChildDiscovery<'a> {
     fn ask(&self, program: &ListedProgram) -> io::Result<Vec<u8>> {
         let alloc = self.rt.alloc();
         let (reader, writer) = io::pipe(self.rt)?;
@@ -125,17 +124,17 @@ fn impatient(reader: PipeReader) -> io::Result<ChildStdout> {
 // A running backend and its output. Processes that it left may keep the pipe open. So once the backend has ended, its
 // output is complete with the bytes in the pipe.
 #[derive(Drop)]
-struct Telling<'a, R, P: OpenProcess + Drop> {
-    rt: &'a R,
+struct Telling<'a> {
+    rt: &'a HostRuntime,
     pipe: ChildStdout,
-    child: Child<P>,
+    child: Child,
     ended: bool,
 }
 
-impl<'a, R: Clock, P: OpenProcess + Drop> Telling<'a, R, P> {
+impl<'a> Telling<'a> {
     // Returns its output up to the limit, and the backend, which must be waited for. The closed pipe ends a backend
     // that continues to print.
-    fn all(self, alloc: Global) -> (io::Result<Vec<u8>>, Child<P>) {
+    fn all(self, alloc: Global) -> (io::Result<Vec<u8>>, Child) {
         let mut telling = self;
         let told = read_at_most(alloc, &mut telling, MOST_LINES);
         let Telling { child, .. } = telling;
@@ -143,7 +142,7 @@ impl<'a, R: Clock, P: OpenProcess + Drop> Telling<'a, R, P> {
     }
 }
 
-impl<'a, R: Clock, P: OpenProcess + Drop> Read for Telling<'a, R, P> {
+impl<'a> Read for Telling<'a> {
     fn read(&mut self, buf: &mut [u8]) -> io::Result<usize> {
         match self.pipe.read(buf) {
             Err(error) if error.kind() == ErrorKind::WouldBlock => {

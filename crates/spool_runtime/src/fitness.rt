@@ -3,10 +3,9 @@
 use log::{Log, error};
 use program_fitness::obstacle_of_program;
 use program_lists::{ListedProgram, ProgramList};
-use std::fs::{File, Files};
 
 /// Logs a line for each program in the file of programs that cannot be run as it is.
-pub fn log_programs<L: Log, R: Files<File = File>>(log: &L, rt: &R, list: &ProgramList) {
+pub fn log_programs<L: Log>(log: &L, rt: &HostRuntime, list: &ProgramList) {
     for filter in list.filters() {
         log_program(log, rt, "filter", filter.name.as_str(), &filter.program);
     }
@@ -18,13 +17,7 @@ pub fn log_programs<L: Log, R: Files<File = File>>(log: &L, rt: &R, list: &Progr
     }
 }
 
-fn log_program<L: Log, R: Files<File = File>>(
-    log: &L,
-    rt: &R,
-    kind: &str,
-    name: &str,
-    program: &ListedProgram,
-) {
+fn log_program<L: Log>(log: &L, rt: &HostRuntime, kind: &str, name: &str, program: &ListedProgram) {
     if let Some(obstacle) = obstacle_of_program(rt, program) {
         error!(log; "{kind} {name}: {obstacle}");
     }

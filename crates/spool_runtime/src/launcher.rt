@@ -85,12 +85,11 @@ use program_fitness::obstacle_of;
 use program_lists::{ListedProgram, ProgramList};
 use spool_types::{Exit, JobId, LONGEST_DOCUMENT};
 use std::alloc::{AllocError, Global};
-use std::fs::{File, Files};
+use std::fs::File;
 use std::io::Read;
-use std::net::Net;
 use std::os::unix::process::ExitStatusExt;
-use std::process::{Child, ExitStatus, OpenProcess, Processes, Stdio};
-use std::time::{Clock, Duration, Instant};
+use std::process::{Child, ExitStatus, Stdio};
+use std::time::{Duration, Instant};
 use std::{fs, io, thread};
 
 // The number of bytes of standard output that are read. One more than a document may have is enough to know that the
@@ -111,9 +110,9 @@ const NOTHING: &str = "/dev/null";
 
 /// Runs the programs of a list, with their files in the folder of a place. Logs failures.
 #[derive(Drop)]
-pub struct Launcher<'a, L, R> {
+pub struct Launcher<'a, L> {
     log: &'a L,
-    rt: &'a R,
+    rt: &'a HostRuntime,
     /// The folder, locale and search path of its children.
     pub place: Place,
     /// The programs that it can run, and the program that ends side channels.
@@ -133,18 +132,18 @@ pub struct Launcher<'a, L, R> {
 
 /// A child that runs, or that has ended and is not finished.
 #[derive(Drop)]
-pub struct RunningChild<P: OpenProcess + Drop> {
+pub struct RunningChild {
     run: StageRun,
     // The number of the child's process, which is that of its process group. The session of the child has that number
     // or, with a side channel, the number of the process's only child.
     group: u32,
-    begun: BegunChild<P>,
+    begun: BegunChild,
 }
 
 // A child that was started, and its files.
 #[derive(Drop)]
-struct BegunChild<P: OpenProcess + Drop> {
-    child: Child<P>,
+struct BegunChild {
+    child: Child,
     paths: ChildPaths,
     // Whether it has a folder of its own.
     has_folder: bool,
@@ -153,16 +152,16 @@ struct BegunChild<P: OpenProcess + Drop> {
 }
 
 // A child that was started, and its side channel.
-type Launched<P> = (BegunChild<P>, Option<SideLine>);
+type Launched = (BegunChild, Option<SideLine>);
 
 /// Returns a launcher for the children of a folder's spool, and their place. There is a side channel if the list has a
 /// program that ends it. The children have no users and the default limits.
-pub fn launcher_in<'a, L: Log, R: Files<File = File> + Net + Processes + Clock + AllocGlobal>(
+pub fn launcher_in<'a, L: Log>(
     log: &'a L,
-    rt: &'a R,
+    rt: &'a HostRuntime,
     dir: &str,
     list: ProgramList,
-) -> Result<(Launcher<'a, L, R>, Place), AllocError>
+) -> Result<(Launcher<'a, L>, Place), AllocError>
     ensures place { IfOk result (λ made. IsPlace dir.entry.now (is_some list.side) made.1) }
     ensures launcher { IfOk result (λ made. IsPlace dir.entry.now (is_some list.side) made.0.place) }
     ensures list { IfOk result (λ made. made.0.list ≡ list) }
@@ -176,9 +175,9 @@ pub fn launcher_in<'a, L: Log, R: Files<File = File> + Net + Processes + Clock +
     Ok((launcher, place))
 }
 
-impl<'a, L: Log, R: Files<File = File> + Net + Processes + Clock + AllocGlobal> Launcher<'a, L, R> {
+impl<'a, L: Log> Launcher<'a, L> {
     /// Returns a launcher for the children of this place, without users and with the default limits.
-    pub fn new(log: &'a L, rt: &'a R, place: Place, list: ProgramList) -> Launcher<'a, L, R>
+    pub fn new(log: &'a L, rt: &'a HostRuntime, place: Place, list: ProgramList) -> Launcher<'a, L>
         ensures place { result.place ≡ place }
         ensures list { result.list ≡ list }
         ensures users { result.settings.users.items ≡ [] }
@@ -200,7 +199,7 @@ impl<'a, L: Log, R: Files<File = File> + Net + Processes + Clock + AllocGlobal> 
     }
 
     /// Returns the launcher with these users and limits for its children.
-    pub fn with_settings(self, settings: ChildSettings) -> Launcher<'a, L, R>
+    pub fn with_settings(self, settings: ChildSettings) -> Launcher<'a, L>
         ensures settings { result.settings ≡ settings }
         ensures place { result.place ≡ self.entry.place }
         ensures list { result.list ≡ self.entry.list }
@@ -221,7 +220,7 @@ impl<'a, L: Log, R: Files<File = File> + Net + Processes + Clock + AllocGlobal> 
     }
 
     // Starts the child of an order. Tries again after a shortage, while the starts of this round may wait.
-    fn start_patiently(&mut self, order: &Order) -> Result<BegunChild<R::Started>, Reason> {
+    fn start_patiently(&mut self, order: &Order) -> Result<BegunChild, Reason> {
         if self.blind {
             return Err(Reason::Blind);
         }
@@ -237,7 +236,7 @@ impl<'a, L: Log, R: Files<File = File> + Net + Processes + Clock + AllocGlobal> 
     }
 
     // Starts the child of an order, and serves its side channel from then on.
-    fn launch_with_side(&mut self, order: &Order) -> Result<BegunChild<R::Started>, Reason> {
+    fn launch_with_side(&mut self, order: &Order) -> Result<BegunChild, Reason> {
         if self.sides.reserve().is_err() {
             return Err(Reason::Refused);
         }
@@ -249,7 +248,7 @@ impl<'a, L: Log, R: Files<File = File> + Net + Processes + Clock + AllocGlobal> 
     }
 
     // Starts the child of an order, if its program is in the list and can be run.
-    fn launch(&self, order: &Order) -> Result<Launched<R::Started>, Reason>
+    fn launch(&self, order: &Order) -> Result<Launched, Reason>
         ensures unlisted { program_for self.now.list order.now.program ≡ None → IsErr result }
     {
         let Some(program) = self.listed(&order.program) else {
@@ -283,7 +282,7 @@ impl<'a, L: Log, R: Files<File = File> + Net + Processes + Clock + AllocGlobal> 
         program: &ListedProgram,
         paths: ChildPaths,
         order: &Order,
-    ) -> Result<Launched<R::Started>, Reason> {
+    ) -> Result<Launched, Reason> {
         let root = self.place.root.as_str();
         let taken = match take_user(self.rt, root, self.users_for(program)) {
             Ok(taken) => taken,
@@ -319,7 +318,7 @@ impl<'a, L: Log, R: Files<File = File> + Net + Processes + Clock + AllocGlobal> 
         paths: &ChildPaths,
         taken: &Option<TakenUser>,
         order: &Order,
-    ) -> io::Result<(Child<R::Started>, File, File, Option<SideLine>)> {
+    ) -> io::Result<(Child, File, File, Option<SideLine>)> {
         let user = run_user(taken);
         let input = self.make_input(paths, &order.input, user)?;
         let output = make_file(self.rt, paths.output.as_str())?;
@@ -416,9 +415,8 @@ impl<'a, L: Log, R: Files<File = File> + Net + Processes + Clock + AllocGlobal> 
     }
 }
 
-impl<'a, L: Log, R: Files<File = File> + Net + Processes + Clock + AllocGlobal> Children
-    for Launcher<'a, L, R> {
-    type Ticket = RunningChild<R::Started>;
+impl<'a, L: Log> Children for Launcher<'a, L> {
+    type Ticket = RunningChild;
 
     ghost tells = { λ _. None };
 
@@ -429,7 +427,7 @@ impl<'a, L: Log, R: Files<File = File> + Net + Processes + Clock + AllocGlobal> 
 
     ghost rooms = { λ _ start_room _. IsSomeAnd start_room (λ n. n ≤ 4) };
 
-    fn start(&mut self, order: Order) -> Result<RunningChild<R::Started>, ChildFault> {
+    fn start(&mut self, order: Order) -> Result<RunningChild, ChildFault> {
         self.patience.begin(order.queue.as_str());
         self.descriptors.take();
         let started = self.start_patiently(&order);
@@ -463,7 +461,7 @@ impl<'a, L: Log, R: Files<File = File> + Net + Processes + Clock + AllocGlobal> 
         }
     }
 
-    fn finish(&mut self, ticket: RunningChild<R::Started>) -> Result<Finish, ChildFault> {
+    fn finish(&mut self, ticket: RunningChild) -> Result<Finish, ChildFault> {
         let RunningChild { run, begun, .. } = ticket;
         self.patience.renew();
         match self.end(&run, begun) {
@@ -480,12 +478,12 @@ impl<'a, L: Log, R: Files<File = File> + Net + Processes + Clock + AllocGlobal> 
         }
     }
 
-    fn has_ended(&mut self, ticket: &mut RunningChild<R::Started>) -> bool {
+    fn has_ended(&mut self, ticket: &mut RunningChild) -> bool {
         self.serve_sides();
         !is_running(&mut ticket.begun.child)
     }
 
-    fn group(ticket: &RunningChild<R::Started>) -> u32 {
+    fn group(ticket: &RunningChild) -> u32 {
         ticket.group
     }
 
@@ -500,7 +498,7 @@ impl<'a, L: Log, R: Files<File = File> + Net + Processes + Clock + AllocGlobal> 
     }
 }
 
-impl<'a, L: Log, R: Files<File = File> + Net + Processes + Clock + AllocGlobal> Launcher<'a, L, R> {
+impl<'a, L: Log> Launcher<'a, L> {
     // Returns whether the folder has room for a child's files. If memory for the test runs out, returns true, and the
     // start finds out.
     fn has_folder_room(&mut self) -> bool {
@@ -529,7 +527,7 @@ impl<'a, L: Log, R: Files<File = File> + Net + Processes + Clock + AllocGlobal> 
     }
 
     // Serves all side channels until this child has ended or none is open. Then closes the side channel of this child.
-    fn attend(&mut self, job: JobId, child: &mut Child<R::Started>) {
+    fn attend(&mut self, job: JobId, child: &mut Child) {
         let mut pause = 0;
         for _ in 0..u64::MAX {
             if self.sides.are_closed() || !is_running(child) {
@@ -542,7 +540,7 @@ impl<'a, L: Log, R: Files<File = File> + Net + Processes + Clock + AllocGlobal> 
     }
 
     // Waits for a child, and reads its output and standard error. Removes its files in any case.
-    fn end(&mut self, run: &StageRun, begun: BegunChild<R::Started>) -> Result<Finish, Reason> {
+    fn end(&mut self, run: &StageRun, begun: BegunChild) -> Result<Finish, Reason> {
         let BegunChild {
             child,
             paths,
@@ -594,7 +592,7 @@ fn run_user(taken: &Option<TakenUser>) -> Option<RunUser>
     }
 }
 
-fn is_running<P: OpenProcess + Drop>(child: &mut Child<P>) -> bool {
+fn is_running(child: &mut Child) -> bool {
     matches!(child.try_wait(), Ok(None))
 }
 

@@ -18,7 +18,7 @@ use filter_args::ChildFile;
 use log::{Log, error};
 use std::alloc::AllocError;
 use std::fs;
-use std::fs::{File, Files, TryLockError};
+use std::fs::{File, TryLockError};
 
 // The child of a file, as the file's name shows it.
 #[derive(Clone, Copy)]
@@ -38,11 +38,7 @@ impl LeftChild<'_> {
 
 /// Removes the files that children of an earlier program left in the folder, and logs the children that still run. The
 /// spool must be open, and none of its children started.
-pub(crate) fn clear_leftovers<L: Log, R: Files<File = File> + Clone + Drop + AllocGlobal>(
-    log: &L,
-    rt: &R,
-    dir: &str,
-) {
+pub(crate) fn clear_leftovers<L: Log>(log: &L, rt: &HostRuntime, dir: &str) {
     let Ok(entries) = fs::read_dir(rt, dir) else {
         return;
     };
@@ -54,7 +50,7 @@ pub(crate) fn clear_leftovers<L: Log, R: Files<File = File> + Clone + Drop + All
 }
 
 // Removes the file of this name, if it belongs to a child that does not run.
-fn clear<L: Log, R: Files<File = File> + AllocGlobal>(log: &L, rt: &R, dir: &str, name: &str) {
+fn clear<L: Log>(log: &L, rt: &HostRuntime, dir: &str, name: &str) {
     let Some((file, child)) = child_of(name) else {
         return;
     };
@@ -76,18 +72,14 @@ fn log_leftover<L: Log>(log: &L, child: LeftChild<'_>) {
     error!(log; "job {job} attempt {attempt} stage {stage}: a child of an earlier run is still running");
 }
 
-fn remove<R: Files + AllocGlobal>(rt: &R, dir: &str, name: &str) -> Result<(), AllocError> {
+fn remove(rt: &HostRuntime, dir: &str, name: &str) -> Result<(), AllocError> {
     let path = format!(in rt.alloc(); "{dir}/{name}")?;
     let _ = fs::remove_file(rt, path.as_str());
     Ok(())
 }
 
 // Returns whether a process still has the standard output of this child open.
-fn runs<R: Files<File = File> + AllocGlobal>(
-    rt: &R,
-    dir: &str,
-    child: LeftChild<'_>,
-) -> Result<bool, AllocError> {
+fn runs(rt: &HostRuntime, dir: &str, child: LeftChild<'_>) -> Result<bool, AllocError> {
     let LeftChild {
         job,
         attempt,
@@ -99,7 +91,7 @@ fn runs<R: Files<File = File> + AllocGlobal>(
 
 /// Returns whether another process holds the lock of this file. Anything but a regular file, such as a link or a pipe,
 /// is not opened.
-pub(crate) fn is_locked<R: Files<File = File>>(rt: &R, path: &str) -> bool {
+pub(crate) fn is_locked(rt: &HostRuntime, path: &str) -> bool {
     match fs::symlink_metadata(rt, path) {
         Ok(found) if found.is_file() => {}
         _ => return false,

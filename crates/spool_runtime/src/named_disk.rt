@@ -17,7 +17,7 @@ ghost use Rattle.spool_runtime.specs.NamedDisk.{named_len, named_faults, seen_of
 
 use crate::device::new_file;
 use spool_disk::{DeviceFault, Disk};
-use std::fs::{File, Files};
+use std::fs::File;
 use std::io::ErrorKind;
 use std::os::unix::fs::{FileExt, MetadataExt};
 use std::path::Path;
@@ -28,8 +28,8 @@ const BLOCK: usize = 65_536;
 
 /// The file of a spool, in its folder. Nobody else may change its length.
 #[derive(Drop)]
-pub struct NamedDisk<'a, R> {
-    rt: &'a R,
+pub struct NamedDisk<'a> {
+    rt: &'a HostRuntime,
     folder: File,
     // The path of the lock's file, and the file.
     lock: (String, File),
@@ -41,17 +41,17 @@ pub struct NamedDisk<'a, R> {
     faults: u64,
 }
 
-impl<'a, R: Files<File = File>> NamedDisk<'a, R> {
+impl<'a> NamedDisk<'a> {
     /// Returns the disk of a file that is open for reading and writing, has this name in this folder, and keeps its
     /// present length. Returns the system's error if the length cannot be read.
     pub(crate) fn new(
-        rt: &'a R,
+        rt: &'a HostRuntime,
         folder: File,
         lock: (String, File),
         path: String,
         unfinished: String,
         file: File,
-    ) -> io::Result<NamedDisk<'a, R>>
+    ) -> io::Result<NamedDisk<'a>>
         ensures { IfOk result (λ disk. named_faults disk ≡ 0) }
     {
         let len = file.metadata()?.len();
@@ -129,7 +129,7 @@ impl<'a, R: Files<File = File>> NamedDisk<'a, R> {
 }
 
 // Returns whether this path refers to this file.
-fn has_name<R: Files>(rt: &R, path: &str, file: &File) -> io::Result<bool> {
+fn has_name(rt: &HostRuntime, path: &str, file: &File) -> io::Result<bool> {
     let named = match fs::metadata(rt, path) {
         Err(error) if error.kind() == ErrorKind::NotFound => return Ok(false),
         found => found?,
@@ -151,7 +151,7 @@ fn copy_bytes(from: &File, to: &File, count: u64) -> io::Result<()> {
     to.write_all_at(&bytes[..rest as usize], count - rest)
 }
 
-impl<'a, R: Files<File = File>> Disk for NamedDisk<'a, R> {
+impl<'a> Disk for NamedDisk<'a> {
     ghost device = { seen_of_named };
 
     ghost lawful = { record {

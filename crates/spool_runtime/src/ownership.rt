@@ -18,11 +18,11 @@ ghost use Rattle.spool_runtime.specs.ProgramFaults.{IsOfFolder, kept_out, of_loc
 
 use crate::device::new_file;
 use crate::fault::{DiskCause, ShellFault};
-use std::fs::{File, Files, OpenOptions, TryLockError};
+use std::fs::{File, OpenOptions, TryLockError};
 use std::io::ErrorKind;
 use std::os::unix::fs::{MetadataExt, fchown};
 use std::path::Path;
-use std::time::{Clock, Duration};
+use std::time::Duration;
 use std::{io, thread};
 
 /// The name of the lock's file in its folder.
@@ -36,10 +36,7 @@ const WAIT: u64 = 20;
 
 /// Takes the folder of this path. Returns the folder and the lock's file, both locked. The folder is owned as long as
 /// both are open.
-pub(crate) fn take<R: Files<File = File> + Clock + AllocGlobal>(
-    rt: &R,
-    path: Path<'_>,
-) -> Result<(File, File), ShellFault>
+pub(crate) fn take(rt: &HostRuntime, path: Path<'_>) -> Result<(File, File), ShellFault>
     ensures { IfErr result IsOfFolder }
 {
     // By this name only a folder can be opened. By its own name a pipe would wait for a process that writes to it.
@@ -61,7 +58,7 @@ pub(crate) fn take<R: Files<File = File> + Clock + AllocGlobal>(
 
 /// Returns the file, locked until it is closed. A program that was killed while it started a child holds its lock for
 /// some milliseconds longer, until the child runs. So this waits for a moment.
-pub(crate) fn locked<R: Clock>(rt: &R, file: File) -> Result<File, ShellFault>
+pub(crate) fn locked(rt: &HostRuntime, file: File) -> Result<File, ShellFault>
     ensures { IfErr result IsOfFolder }
 {
     wait_for_lock(rt, &file)?;
@@ -69,7 +66,7 @@ pub(crate) fn locked<R: Clock>(rt: &R, file: File) -> Result<File, ShellFault>
 }
 
 /// Locks the file or the folder. Waits up to one second for another program's lock.
-fn wait_for_lock<R: Clock>(rt: &R, file: &File) -> Result<(), TryLockError> {
+fn wait_for_lock(rt: &HostRuntime, file: &File) -> Result<(), TryLockError> {
     for _ in 0..MOST_WAITS {
         match file.try_lock() {
             Err(TryLockError::WouldBlock) => thread::sleep(rt, Duration::from_millis(WAIT)),
@@ -104,7 +101,7 @@ impl From<TryLockError> for ShellFault {
 
 // Opens the lock's file, and makes it if it does not exist. If two programs make it, one of them succeeds, and both
 // open it.
-fn open_lock<R: Files<File = File>>(rt: &R, path: Path<'_>, folder: &File) -> io::Result<File> {
+fn open_lock(rt: &HostRuntime, path: Path<'_>, folder: &File) -> io::Result<File> {
     match open_there(rt, path) {
         Err(error) if error.kind() == ErrorKind::NotFound => {}
         opened => return opened,
@@ -117,7 +114,7 @@ fn open_lock<R: Files<File = File>>(rt: &R, path: Path<'_>, folder: &File) -> io
 
 // Makes the lock's file. Gives it to the owner of the folder if that is allowed, as it is for the superuser. Otherwise
 // a user who inspects a spool could lock out its owner.
-fn new_lock<R: Files<File = File>>(rt: &R, path: Path<'_>, folder: &File) -> io::Result<File> {
+fn new_lock(rt: &HostRuntime, path: Path<'_>, folder: &File) -> io::Result<File> {
     let file = new_file(rt, path)?;
     let owner = folder.metadata()?;
     let _ = fchown(&file, Some(owner.uid()), Some(owner.gid()));
@@ -125,7 +122,7 @@ fn new_lock<R: Files<File = File>>(rt: &R, path: Path<'_>, folder: &File) -> io:
 }
 
 // Opens an existing file, for writing too, since some file systems lock no other files.
-fn open_there<R: Files<File = File>>(rt: &R, path: Path<'_>) -> io::Result<File> {
+fn open_there(rt: &HostRuntime, path: Path<'_>) -> io::Result<File> {
     OpenOptions::new().read(true).write(true).open(rt, path)
 }
 

@@ -25,21 +25,17 @@ use spool_engine::Engine;
 use std::alloc::Global;
 use std::fs::{File, Files};
 use std::io::{Read, Write};
-use std::net::Net;
-use std::process::Processes;
-use std::time::Clock;
 
 /// Prints the devices, or serves the commands over a spool, as the arguments ask.
-pub fn run<L, H, R: Read, W: Write>(
+pub fn run<L, R: Read, W: Write>(
     logged: &L,
-    rt: &H,
+    rt: &HostRuntime,
     words: ShellWords<'_>,
     reader: &mut R,
     writer: &mut W,
 ) -> Result<(), ShellFault>
 where
     L: Files<File = File> + AllocGlobal + Log,
-    H: Files<File = File> + Net + Processes + Clock + Clone + Drop + AllocGlobal,
     // If devices are asked for, no command is read.
     ensures devices { words.entry.devices ≡ true → R.remaining reader.new ≡ R.remaining reader.old }
 {
@@ -72,9 +68,9 @@ fn serve_memory<R: Read, W: Write>(
 }
 
 // Serves the commands over the spool of a folder, with the programs of the list as children.
-fn serve_folder<L, H, R: Read, W: Write>(
+fn serve_folder<L, R: Read, W: Write>(
     log: &L,
-    rt: &H,
+    rt: &HostRuntime,
     dir: &str,
     words: ShellWords<'_>,
     programs: ProgramList,
@@ -84,7 +80,6 @@ fn serve_folder<L, H, R: Read, W: Write>(
 ) -> Result<(), ShellFault>
 where
     L: Log,
-    H: Files<File = File> + Net + Processes + Clock + Clone + Drop + AllocGlobal,
 {
     log_programs(log, rt, &programs);
     let children = launcher_in(log, rt, dir, programs)?;
@@ -92,9 +87,9 @@ where
 }
 
 // Serves the commands with these children.
-fn serve_children<L, H, C, R: Read, W: Write>(
+fn serve_children<L, C, R: Read, W: Write>(
     log: &L,
-    rt: &H,
+    rt: &HostRuntime,
     dir: &str,
     words: ShellWords<'_>,
     children: (C, Place),
@@ -104,7 +99,6 @@ fn serve_children<L, H, C, R: Read, W: Write>(
 ) -> Result<(), ShellFault>
 where
     L: Log,
-    H: Files<File = File> + Clock + Clone + Drop + AllocGlobal,
     C: Children + Drop,
 {
     let (folder, mut engine) = open_folder_engine(log, rt, dir, words.size, children, rules)?;
@@ -119,17 +113,16 @@ where
 /// Returns a folder, which the program owns until the value is dropped, and an engine over the spool in it. If the
 /// spool does not exist, makes one of `size` bytes. After the spool is open, removes the files that children of an
 /// earlier program left.
-pub fn open_folder_engine<'a, L, H, C>(
+pub fn open_folder_engine<'a, L, C>(
     log: &L,
-    rt: &'a H,
+    rt: &'a HostRuntime,
     dir: &'a str,
     size: u64,
     children: (C, Place),
     rules: (Types, Convs),
-) -> Result<(SpoolFolder<'a>, Engine<NamedDisk<'a, H>, C>), ShellFault>
+) -> Result<(SpoolFolder<'a>, Engine<NamedDisk<'a>, C>), ShellFault>
 where
     L: Log,
-    H: Files<File = File> + Clock + Clone + Drop + AllocGlobal,
     C: Children + Drop,
     ensures opened { IfOk result (λ opened. IsSetUp (database rules.0 rules.1 children.1) children.1 (C.tells children.0) opened.1) }
     ensures fault { IfErr result IsOfOpening }

@@ -37,13 +37,12 @@ use crate::device::remove_if_there;
 use side_channel::{Device, Fed, Session, SideFault};
 use spool_types::JobId;
 use std::alloc::{AllocError, Global};
-use std::fs::{Files, Permissions};
+use std::fs::Permissions;
 use std::io::{ErrorKind, Read, Write};
-use std::net::Net;
 use std::os::unix::fs::PermissionsExt;
 use std::os::unix::net::{UnixListener, UnixStream};
 use std::path::Path;
-use std::time::{Clock, Duration, Instant};
+use std::time::{Duration, Instant};
 use std::{fs, io, thread};
 
 // How many clients of a child are answered in all, and how many at once.
@@ -143,7 +142,7 @@ impl SideLines {
     }
 
     /// Gives the channels a turn, `since` milliseconds after the last one. Returns whether something has arrived.
-    pub fn serve<R: Clock + AllocGlobal>(&mut self, rt: &R, since: u64) -> bool {
+    pub fn serve(&mut self, rt: &HostRuntime, since: u64) -> bool {
         if !self.poll(rt.alloc(), since) {
             return false;
         }
@@ -154,7 +153,7 @@ impl SideLines {
     }
 
     // Polls the channels on which something has arrived, as long as the turn that began at `start` goes on.
-    fn poll_more<R: Clock + AllocGlobal>(&mut self, rt: &R, start: Instant) {
+    fn poll_more(&mut self, rt: &HostRuntime, start: Instant) {
         let mut quiet = 0;
         for polls in 0..=MOST_POLLS {
             let Ok(passed) = start.elapsed(rt) else {
@@ -197,12 +196,7 @@ impl SideLines {
 impl SideLine {
     /// Makes the socket of this job's child, which only its owner may use. A file that a crash left under this name is
     /// removed first.
-    pub fn bind<R: Files + Net + AllocGlobal>(
-        rt: &R,
-        path: &str,
-        job: JobId,
-        device: Device,
-    ) -> io::Result<SideLine>
+    pub fn bind(rt: &HostRuntime, path: &str, job: JobId, device: Device) -> io::Result<SideLine>
         ensures { IfOk result (λ line. line.device ≡ device) }
     {
         remove_if_there(rt, Path::new(path))?;

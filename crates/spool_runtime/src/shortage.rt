@@ -9,10 +9,9 @@ ghost use Rattle.spool_runtime.specs.Shortage.{begins_round, short_number, short
 
 use crate::child_files::make_file_of;
 use spool_types::QueueName;
-use std::fs::{self, File, Files};
 use std::io::ErrorKind;
-use std::time::{Clock, Duration, Instant};
-use std::{io, thread};
+use std::time::{Duration, Instant};
+use std::{fs, io, thread};
 use thiserror::Error;
 
 // The system's numbers of the errors for too many open files, of the process and of the system.
@@ -88,7 +87,7 @@ struct Sight {
 
 impl Sight {
     // Returns the result of a test that was made now.
-    fn new<R: Clock>(rt: &R, is_there: bool) -> Sight {
+    fn new(rt: &HostRuntime, is_there: bool) -> Sight {
         let at = if is_there {
             Instant::now(rt).ok()
         } else {
@@ -98,7 +97,7 @@ impl Sight {
     }
 
     // Returns whether the test succeeded a moment ago.
-    fn is_fresh<R: Clock>(&self, rt: &R) -> bool {
+    fn is_fresh(&self, rt: &HostRuntime) -> bool {
         let Some(at) = self.at else {
             return false;
         };
@@ -127,7 +126,7 @@ impl Descriptors {
 
     /// Returns the number of starts that the free descriptors allow, at most four. A result of a moment ago is not
     /// tested again unless it is used up.
-    pub fn count_starts<R: Files<File = File> + Clock>(&mut self, rt: &R) -> usize
+    pub fn count_starts(&mut self, rt: &HostRuntime) -> usize
         ensures { result ≤ 4 }
     {
         if self.left == 0 || !self.sight.is_fresh(rt) {
@@ -144,13 +143,13 @@ impl Descriptors {
 }
 
 // Returns for how many starts descriptors can be opened at once, in addition to the spare ones. They are closed again.
-fn count_openable<R: Files<File = File>>(rt: &R) -> usize {
+fn count_openable(rt: &HostRuntime) -> usize {
     open_others(rt, SPARE + MOST_PLACES * DESCRIPTORS).saturating_sub(SPARE) / DESCRIPTORS
 }
 
 // Returns how many descriptors can be opened at once, at most `most`. Each stays open while the others are opened. They
 // are not put into a list: a test that ran out of memory would report no descriptors although there are some.
-fn open_others<R: Files<File = File>>(rt: &R, most: usize) -> usize
+fn open_others(rt: &HostRuntime, most: usize) -> usize
     ensures { result ≤ most }
 {
     if most == 0 {
@@ -181,7 +180,7 @@ impl FolderRoom {
     }
 
     /// Returns whether there is room. A success of a moment ago is not tested again.
-    pub fn is_there<R: Files<File = File> + Clock>(&mut self, rt: &R, probe: &str) -> bool {
+    pub fn is_there(&mut self, rt: &HostRuntime, probe: &str) -> bool {
         if self.sight.is_fresh(rt) {
             return true;
         }
@@ -192,7 +191,7 @@ impl FolderRoom {
 }
 
 // Returns whether there is room for a file of 64 KiB, which is made and removed.
-fn has_room_for<R: Files<File = File>>(rt: &R, probe: &str) -> bool {
+fn has_room_for(rt: &HostRuntime, probe: &str) -> bool {
     let made = make_file_of(rt, probe, &[0u8; ROOM]);
     let _ = fs::remove_file(rt, probe);
     match made {
@@ -237,12 +236,12 @@ impl Patience {
     }
 
     /// Notes that a start failed for a shortage.
-    pub fn fail<R: Clock>(&mut self, rt: &R) {
+    pub fn fail(&mut self, rt: &HostRuntime) {
         self.failed = Instant::now(rt).ok();
     }
 
     /// Returns whether a start failed for a shortage less than two seconds ago, and no child was finished since.
-    pub fn is_short<R: Clock>(&self, rt: &R) -> bool {
+    pub fn is_short(&self, rt: &HostRuntime) -> bool {
         let Some(failed) = self.failed else {
             return false;
         };
@@ -267,7 +266,7 @@ impl Patience {
     }
 
     /// Waits once, unless this round's starts have waited enough. Returns whether it waited.
-    pub fn wait<R: Clock>(&mut self, rt: &R) -> bool {
+    pub fn wait(&mut self, rt: &HostRuntime) -> bool {
         if self.hurried || self.left == 0 {
             return false;
         }

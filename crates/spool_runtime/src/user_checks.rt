@@ -21,10 +21,10 @@ use crate::script::own_word;
 use crate::shell::push_number;
 use log::{Log, error};
 use std::alloc::{AllocError, Global};
-use std::fs::{DirBuilder, File, Files, Metadata, Permissions};
+use std::fs::{DirBuilder, Metadata, Permissions};
 use std::io::ErrorKind;
 use std::os::unix::fs::{DirBuilderExt, MetadataExt, PermissionsExt};
-use std::process::{Command, Processes, Stdio};
+use std::process::{Command, Stdio};
 use std::{fs, io};
 use thiserror::Error;
 
@@ -68,15 +68,14 @@ pub(crate) enum UserFault {
 /// Prepares the folder for children that run as these users, and tests the users. The program must own the folder.
 /// Fails with `Users` if a user cannot be used, and logs why.
 #[tactic(auto, using(crate::proofs::UserFaults::of_folder))]
-pub fn prepare_users<L, R>(
+pub fn prepare_users<L>(
     log: &L,
-    rt: &R,
+    rt: &HostRuntime,
     dir: &str,
     users: &[ChildUser],
 ) -> Result<(), ShellFault>
 where
     L: Log,
-    R: Files<File = File> + Processes + Clone + Drop + AllocGlobal,
     ensures none { users.entry.now ≡ [] → result ≡ Ok tt }
     ensures fault { IfErr result IsOfUsers }
 {
@@ -116,7 +115,7 @@ where
 
 // Lets all search the spool's folder, and makes the folder of the children's folders. Returns its owner, the user of
 // this program.
-fn open_way<R: Files<File = File>>(rt: &R, dir: &str, run: &str) -> io::Result<u32> {
+fn open_way(rt: &HostRuntime, dir: &str, run: &str) -> io::Result<u32> {
     let mode = fs::metadata(rt, dir)?.permissions().mode();
     fs::set_permissions(rt, dir, Permissions::from_mode(mode | SEARCH))?;
     make_run(rt, run)?;
@@ -129,7 +128,7 @@ fn open_way<R: Files<File = File>>(rt: &R, dir: &str, run: &str) -> io::Result<u
 }
 
 // Makes the folder, unless its name is taken.
-fn make_run<R: Files>(rt: &R, run: &str) -> io::Result<()> {
+fn make_run(rt: &HostRuntime, run: &str) -> io::Result<()> {
     let mut builder = DirBuilder::new();
     builder.mode(RUN_MODE);
     match builder.create(rt, run) {
@@ -140,9 +139,9 @@ fn make_run<R: Files>(rt: &R, run: &str) -> io::Result<()> {
 
 // Tests a user, and logs why it cannot be used.
 #[tactic(auto, using(crate::proofs::UserFaults::of_folder))]
-fn check_user<L: Log, R: Processes + AllocGlobal>(
+fn check_user<L: Log>(
     log: &L,
-    rt: &R,
+    rt: &HostRuntime,
     run: &str,
     service: u32,
     run_user: RunUser,
@@ -188,13 +187,7 @@ fn fault_of_code(code: Option<i32>) -> Option<UserFault>
 }
 
 // Removes the folders that children of an earlier run left, except those of children that still run.
-fn clear_folders<L: Log, R: Files<File = File> + Processes + Clone + Drop + AllocGlobal>(
-    log: &L,
-    rt: &R,
-    dir: &str,
-    run: &str,
-    service: u32,
-) {
+fn clear_folders<L: Log>(log: &L, rt: &HostRuntime, dir: &str, run: &str, service: u32) {
     let Ok(entries) = fs::read_dir(rt, run) else {
         return;
     };
@@ -205,27 +198,14 @@ fn clear_folders<L: Log, R: Files<File = File> + Processes + Clone + Drop + Allo
     }
 }
 
-fn clear_folder<L: Log, R: Files<File = File> + Processes + AllocGlobal>(
-    log: &L,
-    rt: &R,
-    dir: &str,
-    run: &str,
-    service: u32,
-    name: &str,
-) {
+fn clear_folder<L: Log>(log: &L, rt: &HostRuntime, dir: &str, run: &str, service: u32, name: &str) {
     if let Ok(false) = try_clear(rt, dir, run, service, name) {
         error!(log; "folder {run}/{name} cannot be removed");
     }
 }
 
 // Removes a folder of this name, if no child has it. Returns whether nothing is left to be removed.
-fn try_clear<R: Files<File = File> + Processes + AllocGlobal>(
-    rt: &R,
-    dir: &str,
-    run: &str,
-    service: u32,
-    name: &str,
-) -> io::Result<bool> {
+fn try_clear(rt: &HostRuntime, dir: &str, run: &str, service: u32, name: &str) -> io::Result<bool> {
     let path = format!(in rt.alloc(); "{run}/{name}")?;
     let found = fs::symlink_metadata(rt, path.as_str())?;
     let output = format!(in rt.alloc(); "{dir}/out-{name}")?;
@@ -258,8 +238,8 @@ fn owner_of(found: &Metadata) -> ChildUser {
 }
 
 // Runs a script as a user, and returns its exit status, or `None` if it has none.
-fn run_as<R: Processes + AllocGlobal>(
-    rt: &R,
+fn run_as(
+    rt: &HostRuntime,
     run_user: RunUser,
     script: &str,
     path: &str,
@@ -285,17 +265,33 @@ fn user_command(
 {
     let mut command = Command::new(alloc, TIMEOUT)?;
     command.env_clear();
+    push_user_words(alloc, &mut command, run_user, script, path)?;
+    Ok(command)
+}
+
+// Adds its arguments to the command, which has none.
+fn push_user_words(
+    alloc: Global,
+    command: &mut Command,
+    run_user: RunUser,
+    script: &str,
+    path: &str,
+) -> Result<(), AllocError>
+    requires { command_args command.old ≡ [] }
+    ensures args { OnOk result (command_args command.new ≡ user_command_words run_user script.now path.now) }
+    ensures program { OnOk result (command_program command.new ≡ command_program command.old) }
+    ensures env { OnOk result (SameEnv command.old command.new) }
+{
     push_words(
-        &mut command,
+        command,
         &["-s", "KILL", "10", "/usr/bin/setpriv", "--reuid"],
     )?;
-    push_number(alloc, &mut command, run_user.user.uid)?;
-    push_words(&mut command, &["--regid"])?;
-    push_number(alloc, &mut command, run_user.user.gid)?;
-    push_words(&mut command, &RIGHTS)?;
-    push_words(&mut command, &["/bin/sh", "-c"])?;
-    push_script(&mut command, run_user, script, path)?;
-    Ok(command)
+    push_number(alloc, command, run_user.user.uid)?;
+    push_words(command, &["--regid"])?;
+    push_number(alloc, command, run_user.user.gid)?;
+    push_words(command, &RIGHTS)?;
+    push_words(command, &["/bin/sh", "-c"])?;
+    push_script(command, run_user, script, path)
 }
 
 // Adds a script, its name and its parameters.
