@@ -125,7 +125,7 @@
 //! # Not proved
 //!
 //! - That a call without an allocator allocates nothing. Promised is only that such calls cannot fail.
-//!   (`tests/allocations.py` counts allocations.)
+//!   (`tests/test_allocations.py` counts allocations.)
 //! - What removing a row costs.
 //! - That [`Table::next`] inspects no row of a job.
 //!

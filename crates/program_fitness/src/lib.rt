@@ -10,7 +10,7 @@
 //!
 //! # Not proved
 //!
-//! - The system's reports about a file. `tests/children.py` tests them.
+//! - The system's reports about a file. `tests/test_children.py` tests them.
 #![tactic(auto)]
 
 ghost use Rattle.std.specs.Prelude.{◌≡◌, IsTrue, Some};

@@ -32,9 +32,10 @@
 //!
 //! # Not proved
 //!
-//! - What [`FileDisk`] does with its bytes: a body that does nothing meets its clauses. Tests run it on a real file, and `tests/syncs.py`
-//!   observes its calls.
-//! - A power cut of a real device: `tests/cuts.py` builds the files that one may leave from the program's calls, provided fsync works.
+//! - What [`FileDisk`] does with its bytes: a body that does nothing meets its clauses. Tests run it on a real file, and
+//!   `tests/test_syncs.py` observes its calls.
+//! - A power cut of a real device: `tests/test_power_cuts.py` builds the files that one may leave from the program's calls, provided fsync
+//!   works.
 //!
 //! # Errors
 //!

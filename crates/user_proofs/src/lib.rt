@@ -29,7 +29,7 @@
 //!
 //! # Not proved
 //!
-//! - That the system reports the owner and the device of a folder: `std` has no word for them. `tests/service_proof.py` shows it.
+//! - That the system reports the owner and the device of a folder: `std` has no word for them. `tests/test_service_proof.py` shows it.
 //!
 //! # Errors
 //!

@@ -16,9 +16,9 @@
 //!
 //! - What is logged. If memory for the name of a child runs out, its lines say `a child`; if it runs out for the queue, the user and the
 //!   title, they are left out. If memory for a line of standard error runs out,
-//!   the line is left out. `tests/clean_output.py` shows what the log has of a hostile child.
-//! - That a ticket has the group of the inner ticket: a group has no contract. `one_of_several_children_is_ended` of `tests/service.py`
-//!   shows it.
+//!   the line is left out. `tests/test_clean_output.py` shows what the log has of a hostile child.
+//! - That a ticket has the group of the inner ticket: a group has no contract. `test_one_of_several_children_is_ended` of
+//!   `tests/test_service_printing.py` shows it.
 #![tactic(auto)]
 
 mod watched;
