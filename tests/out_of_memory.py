@@ -264,7 +264,7 @@ CONSTANTS = {
     ("service_client", "MOST_UNANSWERED"): 1,
     ("spool_front", "GREATEST_MOMENT"): 1,
     ("spool_front", "GREATEST_ROOM"): 1,
-    ("spool_front", "GREATEST_SIZE"): 1,
+    ("service_replies", "GREATEST_SIZE"): 1,
     ("spool_front", "MEBIBYTE"): 1,
     ("spool_front", "MOST_PATIENCE"): 1,
     ("spool_front", "PIECE"): 1,

@@ -8,7 +8,7 @@ use Rattle.front_submission.specs.declared.reply.Shown.{Shown}
 use Rattle.front_submission.specs.declared.reply.Shown.TheVariants.{Arriving}
 use Rattle.front_texts.specs.JobRows.{job_row}
 use Rattle.front_texts.specs.declared.job_line.JobLine.{JobLine}
-use Rattle.spool_front.specs.ServiceReplies.{has_reason}
+use Rattle.service_replies.specs.ServiceReplies.{has_reason}
 use Rattle.spool_front.specs.declared.commands.Draft.{Draft}
 
 -- The job is incoming and has the draft's queue and this owner.

@@ -11,7 +11,6 @@ pub mod FoundJobs
 pub mod StatusPages
 pub mod DocumentPieces
 pub mod QueueChoice
-pub mod ServiceReplies
 pub mod Submissions
 pub mod EnvironmentValues
 pub mod Proofs

@@ -12,6 +12,8 @@ use Rattle.front_submission.specs.declared.step.End.{End}
 use Rattle.front_submission.specs.declared.step.End.TheVariants.{Accepted, Unprintable}
 use Rattle.front_submission.specs.declared.step.Step.{Step}
 use Rattle.front_submission.specs.declared.step.Step.TheVariants.{Holding, Closing, Checking, Ended}
+use Rattle.front_texts.specs.declared.states.JobState.{JobState}
+use Rattle.front_texts.specs.declared.states.JobState.TheVariants.{Canceled, Aborted, Completed}
 use Rattle.spool_front.specs.FoundJobs.{with_job}
 use Rattle.spool_front.specs.declared.commands.Draft.{Draft}
 use Rattle.spool_front.specs.declared.printing.Told.{Told}
@@ -103,3 +105,10 @@ is_refused filled (Some size) = filled && (size == 0)
 -- A file is removed if this was requested, and its job was accepted.
 abbrev pub is_removed : Bool → ℕ → Bool
 is_removed remove status = remove && (status == 0)
+
+-- The exit status for a job that the program waits for, once the job has ended.
+abbrev pub status_at : JobState → Option ℕ
+status_at Completed = Some 0
+status_at Canceled = Some 5
+status_at Aborted = Some 5
+status_at state = None

@@ -17,7 +17,6 @@ use crate::fault::Fault;
 use crate::moments::moment_in;
 use crate::proving::first_exchange;
 use crate::reasons::reason_and_hint;
-use crate::replies::is_gone;
 use cause_sentences::cause_sentence;
 use front_proof::Caller;
 use front_texts::{
@@ -25,6 +24,7 @@ use front_texts::{
     read_queue_line,
 };
 use service_client::Mirror;
+use service_replies::is_gone;
 use std::alloc::{AllocError, Global};
 use std::os::unix::net::UnixStream;
 use std::time::Duration;

@@ -22,7 +22,7 @@
 //! - [`connection`]: the socket of a service, over which `service_client` speaks the protocol. [`client`]: commands and replies over a
 //!   connection, and reconnecting.
 //! - [`proving`]: the proof of the user. [`denials`]: explanations of denied commands.
-//! - [`commands`], [`replies`]: the bytes of each command, and the meaning of each reply (`SentCommands`, `ServiceReplies`).
+//! - [`commands`]: the bytes of each command (`SentCommands`). `service_replies` has the meaning of each reply.
 //! - [`submit`]: submits one document as one job, by the decisions of `front_submission`. [`document`]: the pieces of a document.
 //!   [`draft`]: the fields of its job. [`moments`]: moments by the time of the service. [`printing`]: printing files. [`progress`]: the line
 //!   that shows how much was sent.
@@ -138,7 +138,6 @@ mod programs;
 mod progress;
 mod proving;
 mod reasons;
-mod replies;
 mod room;
 mod say;
 mod services;

@@ -2,8 +2,7 @@
 ghost use Rattle.std.specs.Prelude.{◌≡◌, IsTrue};
 ghost use Rattle.std.specs.Io.KnownBytes.{IsAtEnd};
 ghost use Rattle.spool_front.specs.JobDrafts.{IsLastPart};
-ghost use Rattle.spool_front.specs.ServiceReplies.{status_at};
-ghost use Rattle.spool_front.specs.Submissions.{is_refused, is_removed, told_of, was_closed};
+ghost use Rattle.spool_front.specs.Submissions.{is_refused, is_removed, status_at, told_of, was_closed};
 
 use crate::client::{Client, pause};
 use crate::commands::Draft;

@@ -2,7 +2,7 @@
 ghost use Rattle.std.specs.Prelude.{◌≡◌};
 ghost use Rattle.std.specs.List.{after_first, before_first};
 ghost use Rattle.front_texts.specs.ReplyLines.{is_space};
-ghost use Rattle.spool_front.specs.ServiceReplies.{bytes_as, closed_as, done_as, failed_as, has_reason, is_gone, job_as, reply_as, reply_in, shown_as, shown_of, type_as};
+ghost use Rattle.service_replies.specs.ServiceReplies.{bytes_as, closed_as, done_as, failed_as, has_reason, is_gone, job_as, reply_as, reply_in, shown_as, shown_of, type_as};
 
 use command_lines::job_number;
 use front_submission::{Reply, Shown};

@@ -6,7 +6,7 @@ use Rattle.command_lines.specs.CommandGrammar.{is_word, job_in}
 use Rattle.front_texts.specs.ReplyLines.{Last, done, refused, failed, last_line, is_space}
 use Rattle.front_texts.specs.declared.job_shown.JobShown.{JobShown}
 use Rattle.front_texts.specs.declared.states.JobState.{JobState}
-use Rattle.front_texts.specs.declared.states.JobState.TheVariants.{Canceled, Aborted, Completed}
+use Rattle.front_texts.specs.declared.states.JobState.TheVariants.{Aborted}
 use Rattle.front_submission.specs.declared.reply.Reply.{Reply}
 use Rattle.front_submission.specs.declared.reply.Reply.TheVariants.{Created, Sent, Closed, Done, Gone, Later, NotIncoming, Denied, Unclear}
 use Rattle.front_submission.specs.declared.reply.Shown.{Shown}
@@ -92,10 +92,3 @@ abbrev pub shown_of : JobShown → Shown
 shown_of job =
     shown_as (is_some job.job_status.media) job.job_status.state
     (has_reason (codes "no-filter") job.job_status.reason) (has_reason (codes "job-incoming") job.job_status.reason) job.job_status.size
-
--- The exit status for a job that the program waits for, once the job has ended.
-abbrev pub status_at : JobState → Option ℕ
-status_at Completed = Some 0
-status_at Canceled = Some 5
-status_at Aborted = Some 5
-status_at state = None
