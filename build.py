@@ -26,7 +26,7 @@ from pathlib import Path
 
 TOP = Path(__file__).resolve().parent
 TIMES = TOP / "build-times.txt"
-PROGRAMS = ["spool_service", "spool_shell", "spool_front", "spool_admin", "spool_tools"]
+PROGRAMS = ["spool_service", "spool_shell", "spool_front", "spool_ipp", "spool_admin", "spool_tools"]
 TICKS = os.sysconf("SC_CLK_TCK")
 # Memory of a proof, in bytes: a large crate over all libraries takes less.
 MEMORY = 4 << 30

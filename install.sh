@@ -10,10 +10,10 @@
 #   PREFIX/bin                   spool; with --lp also lp, lpr, lpstat, cancel, lpq, lprm, lpoptions, lpmove, cupsenable, cupsdisable,
 #                                cupsaccept and cupsreject
 #   PREFIX/lib/cegmandi/bin      these, without --lp, so that they do not replace those of CUPS: put this folder first in PATH
-#   PREFIX/sbin                  spool_shell, spool_service, spool_admin
-#   PREFIX/lib/cegmandi          spool_tools, copy-spool.py, import-cups.py, job-log.py, watch-spool.py, through, the wrappers of
-#                                stock filters and their PPD, and the manifest: the list of all installed files
-#   PREFIX/lib/systemd/system    cegmandi.service
+#   PREFIX/sbin                  spool_shell, spool_service, spool_ipp, spool_admin
+#   PREFIX/lib/cegmandi          spool_tools, avahi-service.py, copy-spool.py, import-cups.py, job-log.py, watch-spool.py, through, the
+#                                wrappers of stock filters and their PPD, and the manifest: the list of all installed files
+#   PREFIX/lib/systemd/system    cegmandi.service, cegmandi-ipp.service
 #   PREFIX/lib/sysusers.d        cegmandi.conf: the users of the unit, for systemd-sysusers(8)
 #   PREFIX/share                 man pages, the completions for bash, zsh and fish, the README and the examples
 #   /etc/cegmandi                the files that the unit names, with the stock filters of CUPS if /usr/lib/cups/filter exists or with
@@ -182,11 +182,11 @@ program() {
 
 programs() {
     front "$1"
-    for name in spool_shell spool_service spool_admin; do
+    for name in spool_shell spool_service spool_ipp spool_admin; do
         program "$1" $name "$prefix/sbin/$name"
     done
     program "$1" spool_tools "$library/spool_tools"
-    for name in copy-spool.py import-cups.py job-log.py watch-spool.py through with-cups-env as-pages; do
+    for name in avahi-service.py copy-spool.py import-cups.py job-log.py watch-spool.py through with-cups-env as-pages; do
         "$1" file 755 "$here/examples/office/$name" "$library/$name"
     done
     "$1" file 644 "$here/examples/office/paper.ppd" "$library/paper.ppd"
@@ -206,9 +206,11 @@ front() {
     done
 }
 
-# The systemd unit, and the files that it names.
+# The systemd units, and the files that they name.
 unit() {
-    "$1" file 644 "$(filled examples/office/cegmandi.service)" "$prefix/lib/systemd/system/cegmandi.service"
+    for name in cegmandi.service cegmandi-ipp.service; do
+        "$1" file 644 "$(filled examples/office/$name)" "$prefix/lib/systemd/system/$name"
+    done
     "$1" file 644 "$here/examples/office/cegmandi.sysusers" "$prefix/lib/sysusers.d/cegmandi.conf"
     named=$(grep -o '@sysconfdir@/cegmandi/[A-Za-z0-9._-]*' "$here/examples/office/cegmandi.service" | sed 's|.*/||' | sort -u)
     for name in $named; do
@@ -251,7 +253,7 @@ if [ -n "$remove" ]; then
     exit 0
 fi
 
-for name in spool_front spool_shell spool_service spool_admin spool_tools; do
+for name in spool_front spool_shell spool_service spool_ipp spool_admin spool_tools; do
     [ -x "$(built $name)" ] || fail "$(built $name) does not exist: run ./build.py first"
 done
 : > "$work/made"

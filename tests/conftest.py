@@ -36,7 +36,7 @@ else:
 
 # The Debian package of each command that a test may need.
 PACKAGES = {
-    "chromium": "chromium", "cupsfilter": "cups", "debootstrap": "debootstrap", "dpkg-deb": "dpkg", "gcc": "gcc", "mandoc": "mandoc", "rt": "",
+    "chromium": "chromium", "cupsfilter": "cups", "debootstrap": "debootstrap", "dpkg-deb": "dpkg", "gcc": "gcc", "ipptool": "cups-ipp-utils", "mandoc": "mandoc", "rt": "",
     "lintian": "lintian", "lpr": "cups-bsd", "lpstat": "cups-client", "nsenter": "util-linux", "setpriv": "util-linux", "shellcheck": "shellcheck",
     "systemd-nspawn": "systemd-container", "useradd": "passwd", "valgrind": "valgrind", "zsh": "zsh",
 }

@@ -39,6 +39,7 @@ PROMISED = {
     "full-counts-less",
     "gate-with-payload",
     "header-in-one-write",
+    "holds-a-whole-document",
     "ignores-requested-attributes",
     "keeps-after-full",
     "keeps-control-characters",
@@ -69,6 +70,7 @@ PROMISED = {
 
 # The promises name these too.
 DEAR = {
+    "answers-before-the-close",
     "ends-two-collections",
     "forgets-a-running-child",
     "leaves-out-a-hold",

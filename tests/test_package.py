@@ -32,7 +32,7 @@ from harness import debian_machine
 from harness.checks import check, reports_all
 from harness.programs import GIVEN, path_of, ROOT
 
-PROGRAMS = ["spool_front", "spool_shell", "spool_service", "spool_admin", "spool_tools"]
+PROGRAMS = ["spool_front", "spool_shell", "spool_service", "spool_ipp", "spool_admin", "spool_tools"]
 GATE = os.environ.get("CEGMANDI_GATE")
 
 pytestmark = [pytest.mark.root, pytest.mark.needs("dpkg-deb", *PROGRAMS)]

@@ -26,6 +26,7 @@ def path_of(name):
 SHELL = path_of("spool_shell")
 SERVICE = path_of("spool_service")
 FRONT = path_of("spool_front")
+IPP = path_of("spool_ipp")
 ADMIN = path_of("spool_admin")
 TOOLS = path_of("spool_tools")
 SCRIPTS = path_of("spool_scripts")

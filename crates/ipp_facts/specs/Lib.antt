@@ -1,0 +1,3 @@
+pub mod JobReports
+pub mod QueueReports
+pub mod ServiceErrors

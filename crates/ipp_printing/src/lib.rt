@@ -1,0 +1,23 @@
+//! The jobs of the service that the documents of an IPP client become.
+//!
+//! A [`PrintingJob`] has the decisions of a submission (`ipp_submission`) and what its commands need: names, options, the piece that is sent.
+//! Its caller sends [`PrintingJob::command`], and reports the reply ([`PrintingJob::heard`]) or its loss ([`PrintingJob::lost`]).
+//!
+//! # Promises
+//!
+//! - [`PrintingJob::heard`]: exactly the transition of the submission for the reply, whose meaning `service_replies` defines (`heard`). A
+//!   search for a job has two replies, of which the first may only state the number (`hears`).
+//! - [`PrintingJob::lost`], [`PrintingJob::give_up`], [`PrintingJob::is_over`]: exactly the transition and the test of the submission.
+//!
+//! # Not proved
+//!
+//! - That the command is that of the submission's request. `tests/test_ipp.py` shows it.
+//!
+//! # Errors
+//!
+//! Out of memory.
+#![tactic(auto)]
+
+mod printing;
+
+pub use printing::{DocumentName, PrintingJob, RAW, hold_line, job_line};

@@ -1,0 +1,331 @@
+//! A job of a client, whose documents become jobs of the service.
+ghost use Rattle.std.specs.Prelude.{◌≡◌, ◌⊎◌, ℕ, List, [], false, IfOk, OnErr, OnOk};
+ghost use Rattle.ipp_submission.specs.JobParts.{current, given_up, heard_in, is_ended, lost_in, next_request};
+ghost use Rattle.ipp_printing.specs.PrintingJobs.{HearsSome, is_search, meaning, rows_reply, submission_of};
+
+use command_lines::push_quoted;
+use front_submission::{Found, Own, Reply, Request, Shown, Step};
+use ipp_access::Place;
+use ipp_facts::{error_in, shown_in};
+use ipp_options::Hold;
+use ipp_requests::ServiceError;
+use ipp_submission::Submission;
+use service_client::send_text;
+use service_replies::{reply_in, shown_of};
+use std::alloc::{AllocError, Global};
+use std::str;
+
+/// The type of any bytes. A queue of this type prints each document as it is.
+pub const RAW: &str = "application/octet-stream";
+
+const NO_JOBS: Found = Found {
+    own: None,
+    another: None,
+};
+
+/// The name and the type of a document.
+#[derive(Drop)]
+pub struct DocumentName {
+    pub name: String,
+    /// The type, unless it is to be detected.
+    pub media: Option<String>,
+}
+
+/// A job that is being created.
+#[derive(Drop)]
+pub struct PrintingJob {
+    pub submission: Submission,
+    /// `create` and its words before the options.
+    pub create: Vec<u8>,
+    pub options: String,
+    pub token: String,
+    pub hold: Hold,
+    pub user: String,
+    /// Where the client came from.
+    pub place: Place,
+    pub documents: Vec<DocumentName>,
+    /// Whether the queue prints any document as it is.
+    pub is_raw: bool,
+    /// Whether the document of the last part has begun.
+    pub has_document: bool,
+    /// The piece that is sent.
+    pub piece: Vec<u8>,
+    /// The job that a search has found.
+    pub found: Option<u32>,
+    /// The last error of the service.
+    pub error: ServiceError,
+    /// Whether the service has put the last command off.
+    pub is_put_off: bool,
+    /// When a client used it last, in seconds.
+    pub used: u64,
+}
+
+impl PrintingJob {
+    /// Returns the number of the job of the first part, if there is one.
+    pub fn number(&self) -> Option<u32> {
+        match self.submission.parts().first() {
+            Some(step) => number_in(*step),
+            None => None,
+        }
+    }
+
+    /// Returns whether nothing more happens: the jobs are closed, or the submission has failed.
+    pub fn is_over(&self) -> bool
+        ensures { result ≡ is_ended (current (submission_of self.now)) }
+    {
+        self.submission.is_over()
+    }
+
+    /// Notes that the client gives the job up.
+    pub fn give_up(&mut self)
+        ensures { submission_of self.new ≡ given_up (submission_of self.old) }
+    {
+        self.submission.give_up();
+    }
+
+    /// Returns when a client used the job last, in seconds.
+    pub fn used(&self) -> u64 {
+        self.used
+    }
+
+    /// Notes that a client uses the job now.
+    pub fn note_use(&mut self, seconds: u64) {
+        self.used = seconds;
+    }
+
+    /// Returns the next command, if there is one.
+    pub fn command(&self, alloc: Global) -> Result<Option<Vec<u8>>, AllocError> {
+        let next = self.submission.request();
+        let line = match next.request {
+            Request::Create => self.create_line(alloc, next.part)?,
+            Request::Find => match self.found {
+                Some(job) => job_line(alloc, "job", job)?,
+                None => self.find_line(alloc, next.part)?,
+            },
+            Request::Send { job, .. } => send_text(alloc, job, self.piece.as_slice())?,
+            Request::Show { job } => job_line(alloc, "job", job)?,
+            Request::Hold { job } => hold_line(alloc, job, &self.hold)?,
+            Request::Close { job } => self.close_line(alloc, next.part, job)?,
+            Request::Cancel { job } => job_line(alloc, "cancel", job)?,
+            Request::Read { .. } | Request::Nothing => return Ok(None),
+        };
+        Ok(Some(line))
+    }
+
+    fn create_line(&self, alloc: Global, part: usize) -> Result<Vec<u8>, AllocError> {
+        let mut line = Vec::from_slice(alloc, self.create.as_slice())?;
+        let options = self.options.as_str();
+        let token = self.token.as_str();
+        let blank = if options.is_empty() { "" } else { " " };
+        let text = format!(in alloc; "{options}{blank}submission={token}-{part}")?;
+        push_quoted(&mut line, text.as_str())?;
+        line.extend_from_slice(b"\n")?;
+        Ok(line)
+    }
+
+    fn find_line(&self, alloc: Global, part: usize) -> Result<Vec<u8>, AllocError> {
+        let token = self.token.as_str();
+        let text = format!(in alloc; "find {token}-{part}\n")?;
+        Vec::from_slice(alloc, text.as_bytes())
+    }
+
+    fn close_line(&self, alloc: Global, part: usize, job: u32) -> Result<Vec<u8>, AllocError> {
+        let text = format!(in alloc; "close {job} ")?;
+        let mut line = Vec::from_slice(alloc, text.as_bytes())?;
+        match self.documents.get(part) {
+            Some(document) => push_quoted(&mut line, document.name.as_str())?,
+            None => push_quoted(&mut line, "document")?,
+        }
+        if let Some(media) = self.media(part) {
+            line.extend_from_slice(b" ")?;
+            line.extend_from_slice(media.as_bytes())?;
+        }
+        line.extend_from_slice(b"\n")?;
+        Ok(line)
+    }
+
+    // Returns the type of a document, unless it is to be detected.
+    fn media(&self, part: usize) -> Option<&str> {
+        if self.is_raw {
+            return Some(RAW);
+        }
+        match self.documents.get(part) {
+            Some(document) => match &document.media {
+                Some(media) => Some(media.as_str()),
+                None => None,
+            },
+            None => None,
+        }
+    }
+
+    /// Takes the reply to the command.
+    pub fn heard(&mut self, alloc: Global, reply: &service_client::Reply) -> Result<(), AllocError>
+        ensures hears { OnOk result (HearsSome (submission_of self.old) (submission_of self.new)) }
+        ensures heard { OnOk result (is_search (next_request (submission_of self.old)) ≡ false → (last : List ℕ) × ((last ≡ reply.now.last.items) ⊎ (last ≡ []))
+            × (submission_of self.new ≡ heard_in (submission_of self.old) (meaning (next_request (submission_of self.old)) last reply.now.rows.items))) }
+        ensures err { OnErr result (submission_of self.new ≡ submission_of self.old) }
+    {
+        let last = match str::from_utf8(reply.last.as_slice()) {
+            Ok(last) => last,
+            Err(_) => "",
+        };
+        self.take(alloc, last, reply.rows.as_slice())
+    }
+
+    // Takes a reply with this last line.
+    fn take(&mut self, alloc: Global, last: &str, rows: &[Vec<u8>]) -> Result<(), AllocError>
+        ensures hears { OnOk result (HearsSome (submission_of self.old) (submission_of self.new)) }
+        ensures heard { OnOk result (is_search (next_request (submission_of self.old)) ≡ false →
+            submission_of self.new ≡ heard_in (submission_of self.old) (meaning (next_request (submission_of self.old)) last.now rows.now)) }
+        ensures err { OnErr result (submission_of self.new ≡ submission_of self.old) }
+    {
+        let reply = reply_in(last);
+        self.note(last, reply);
+        match self.submission.request().request {
+            Request::Find => self.heard_search(alloc, reply, rows),
+            Request::Show { .. } => self.heard_rows(alloc, reply, rows),
+            _ => {
+                self.submission.heard(reply);
+                Ok(())
+            }
+        }
+    }
+
+    // Notes the error of a reply, and whether the service has put the command off.
+    fn note(&mut self, last: &str, reply: Reply)
+        ensures { submission_of self.new ≡ submission_of self.old }
+    {
+        self.is_put_off = matches!(reply, Reply::Later);
+        if matches!(
+            reply,
+            Reply::Later | Reply::Denied | Reply::NotIncoming | Reply::Gone
+        ) {
+            self.error = error_in(last);
+        }
+    }
+
+    // Takes the reply to `job N`.
+    fn heard_rows(
+        &mut self,
+        alloc: Global,
+        reply: Reply,
+        rows: &[Vec<u8>],
+    ) -> Result<(), AllocError>
+        ensures ok { OnOk result (submission_of self.new ≡ heard_in (submission_of self.old) (rows_reply reply rows.now)) }
+        ensures err { OnErr result (submission_of self.new ≡ submission_of self.old) }
+    {
+        let reply = rows_reply(alloc, reply, rows)?;
+        self.submission.heard(reply);
+        Ok(())
+    }
+
+    // A search has two commands: the number of the job, and its state.
+    fn heard_search(
+        &mut self,
+        alloc: Global,
+        reply: Reply,
+        rows: &[Vec<u8>],
+    ) -> Result<(), AllocError>
+        ensures ok { OnOk result (HearsSome (submission_of self.old) (submission_of self.new)) }
+        ensures err { OnErr result (submission_of self.new ≡ submission_of self.old) }
+    {
+        if self.found.is_none() {
+            self.heard_number(reply);
+            return Ok(());
+        }
+        let found = found_in(alloc, rows, self.found)?;
+        self.found = None;
+        self.submission.heard(Reply::Jobs { found });
+        Ok(())
+    }
+
+    // Takes the number of the job, whose state is asked for next.
+    fn heard_number(&mut self, reply: Reply)
+        ensures { HearsSome (submission_of self.old) (submission_of self.new) }
+    {
+        match reply {
+            Reply::Created { job } => self.found = Some(job),
+            Reply::Gone => self.submission.heard(Reply::Jobs { found: NO_JOBS }),
+            reply => self.submission.heard(reply),
+        }
+    }
+
+    /// Notes that the connection was lost before the reply.
+    pub fn lost(&mut self)
+        ensures { submission_of self.new ≡ lost_in (submission_of self.old) }
+    {
+        self.found = None;
+        self.is_put_off = false;
+        self.submission.lost();
+    }
+}
+
+// Returns what a reply to `job N` means.
+fn rows_reply(alloc: Global, reply: Reply, rows: &[Vec<u8>]) -> Result<Reply, AllocError>
+    ensures { IfOk result (λ found. found ≡ rows_reply reply rows.now) }
+{
+    if rows.is_empty() {
+        return Ok(reply);
+    }
+    match shown_in(alloc, rows)? {
+        Some(job) => Ok(Reply::Job {
+            shown: shown_of(&job),
+        }),
+        None => Ok(Reply::Unclear),
+    }
+}
+
+// Returns the job of a search, if it is still incoming.
+fn found_in(alloc: Global, rows: &[Vec<u8>], job: Option<u32>) -> Result<Found, AllocError> {
+    let mut found = NO_JOBS;
+    let Some(job) = job else {
+        return Ok(found);
+    };
+    if let Some(shown) = shown_in(alloc, rows)? {
+        if let Shown::Arriving { size } = shown_of(&shown) {
+            found.own = Some(Own { job, size });
+        }
+    }
+    Ok(found)
+}
+
+fn number_in(step: Step) -> Option<u32> {
+    match step {
+        Step::Reading { job, .. }
+        | Step::Sending { job, .. }
+        | Step::Measuring { job, .. }
+        | Step::Holding { job, .. }
+        | Step::Closing { job, .. }
+        | Step::Checking { job, .. }
+        | Step::Canceling { job, .. } => Some(job),
+        Step::Ended { end } => match end {
+            front_submission::End::Accepted { job }
+            | front_submission::End::Unprintable { job }
+            | front_submission::End::Unknown { job } => Some(job),
+            front_submission::End::Refused { job, .. } => job,
+        },
+        Step::Creating { .. } | Step::Finding | Step::Clearing { .. } => None,
+    }
+}
+
+/// Returns a command with the number of a job.
+pub fn job_line(alloc: Global, word: &str, job: u32) -> Result<Vec<u8>, AllocError> {
+    let text = format!(in alloc; "{word} {job}\n")?;
+    Vec::from_slice(alloc, text.as_bytes())
+}
+
+/// Returns `hold`, or `release` for no hold.
+pub fn hold_line(alloc: Global, job: u32, hold: &Hold) -> Result<Vec<u8>, AllocError> {
+    match hold {
+        Hold::Free => job_line(alloc, "release", job),
+        Hold::Indefinite => {
+            let text = format!(in alloc; "hold {job} indefinite\n")?;
+            Vec::from_slice(alloc, text.as_bytes())
+        }
+        Hold::Until(moment) => {
+            let seconds = moment.get();
+            let text = format!(in alloc; "hold {job} {seconds}\n")?;
+            Vec::from_slice(alloc, text.as_bytes())
+        }
+    }
+}

@@ -1,0 +1,2 @@
+pub mod LinkStates
+pub mod UnwrittenBytes

@@ -1,0 +1,37 @@
+//! The work of IPP requests: the commands that each sends to the service, and its answer.
+//!
+//! [`begin`] reads a message and returns an answer, or a [`Task`] with its first command. The caller sends the command and passes the reply on
+//! ([`Task::heard`]), or reports that it is lost ([`Task::lost`]), until the task is done. A task that takes a document takes its parts from
+//! the connection ([`Task::go_on`]).
+//!
+//! # Promises
+//!
+//! - *Accepted*: a request that creates a job, sends a document or closes a job is answered with success only if another document may follow,
+//!   or if the service has accepted the job of each document ([`Task::heard`], [`Task::go_on`]: `accepted`).
+//! - [`Task::lost`], [`Task::deserted`]: only a lost reply, or a service that is away for too long, changes the submission of a request
+//!   (`submission`).
+//!
+//! # Not proved
+//!
+//! - That only replies and what the client has sent change the submission ([`Task::heard`], [`Task::go_on`]): read in the code.
+//! - That [`begin`] begins the work of the message's operation, and that the commands and the attributes of answers are the right ones.
+//!   `tests/test_ipp.py` shows both with the programs of CUPS.
+//!
+//! # Errors
+//!
+//! Out of memory. A refusal of the service becomes the status of the answer.
+#![tactic(auto)]
+
+mod answers;
+mod job_changes;
+mod listing;
+mod new_jobs;
+mod requests;
+mod submitting;
+mod tasks;
+mod world;
+
+pub use answers::{Header, answer};
+pub use requests::{Begun, Caller, Parked, begin};
+pub use tasks::{Outcome, Task};
+pub use world::{TIME_OUT, World};

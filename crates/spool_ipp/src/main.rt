@@ -1,0 +1,100 @@
+//! The IPP front: prints the documents of IPP clients through the service.
+//!
+//! Arguments: `--service SOCKET [--listen ADDRESS:PORT] [--socket SOCKET] [--operators-socket SOCKET] [--printers FILE] [--convs FILE]
+//! [--default QUEUE] [--name HOST] [--behind-tls] [--end FILE]`, or `--version` ([`words`]).
+//!
+//! # Parts
+//!
+//! `ipp_loop` contains the loop, which knows no socket and no clock. This crate implements its traits:
+//!
+//! - [`words`]: the arguments, and the files that they name.
+//! - [`names`]: removes a socket that no program serves, so that its name is free.
+//! - [`sockets`]: the listening sockets, the connections of clients and that to the service.
+//! - [`clocks`]: the clocks of the system, and its random numbers.
+//!
+//! # Errors
+//!
+//! A line on standard error and status 1, or status 2 for invalid arguments.
+#![tactic(auto)]
+
+mod clocks;
+mod names;
+mod sockets;
+mod words;
+
+use clocks::SystemTimes;
+use ipp_loop::Front;
+use ipp_sockets::Times;
+use program_version::VERSION;
+use sockets::MioSockets;
+use std::process::ExitCode;
+use std::{env, io};
+use words::{Mistake, StartFault, Words, read_words, world_of};
+
+fn main(rt: HostRuntime) -> ExitCode {
+    let given = match given_words(&rt) {
+        Ok(given) => given,
+        Err(error) => return failed(&rt, &StartFault::System(error)),
+    };
+    if is_version(given.as_slice()) {
+        let _ = println!(rt; "spool_ipp {VERSION}");
+        return ExitCode::SUCCESS;
+    }
+    match read_words(given.as_slice()) {
+        Ok(words) => match run(&rt, &words) {
+            Ok(()) => ExitCode::SUCCESS,
+            Err(fault) => failed(&rt, &fault),
+        },
+        Err(mistake) => {
+            report(&rt, mistake);
+            ExitCode::from(2)
+        }
+    }
+}
+
+// Returns the arguments, without the name of the program.
+fn given_words(rt: &HostRuntime) -> io::Result<Vec<String>> {
+    let mut given = env::args(rt)?;
+    let _ = given.next();
+    Ok(given.collect(rt.alloc())?)
+}
+
+fn is_version(given: &[String]) -> bool {
+    match given {
+        [word] => word.as_str() == "--version",
+        _ => false,
+    }
+}
+
+// Reports invalid arguments.
+fn report(rt: &HostRuntime, mistake: Mistake<'_>) {
+    let _ = match mistake {
+        Mistake::Invalid { option, value } => {
+            eprintln!(rt; "spool_ipp: invalid argument: {option} {value}")
+        }
+        Mistake::NoValue { option } => eprintln!(rt; "spool_ipp: {option} needs a value"),
+        Mistake::NoService => eprintln!(rt; "spool_ipp: --service SOCKET is required"),
+    };
+}
+
+// Reports why the program cannot go on.
+fn failed(rt: &HostRuntime, fault: &StartFault) -> ExitCode {
+    let _ = match fault {
+        StartFault::System(error) => eprintln!(rt; "spool_ipp: {error}"),
+        StartFault::Printers(number, reason) => {
+            eprintln!(rt; "spool_ipp: the file of printers, line {number}: {reason}")
+        }
+    };
+    ExitCode::FAILURE
+}
+
+fn run(rt: &HostRuntime, words: &Words<'_>) -> Result<(), StartFault> {
+    let mut times = SystemTimes::new(rt);
+    let seconds = times.seconds();
+    let world = world_of(rt, words, seconds)?;
+    let mut sockets = MioSockets::new(rt, words)?;
+    let millis = times.millis();
+    let mut front = Front::new(rt.alloc(), world, millis)?;
+    front.serve(&mut sockets, &mut times)?;
+    Ok(())
+}

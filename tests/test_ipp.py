@@ -1,0 +1,428 @@
+"""Tests of the IPP front, by the clients of CUPS and by messages of their own."""
+import os
+import signal
+import subprocess
+import time
+from pathlib import Path
+from xml.etree import ElementTree
+
+import pytest
+
+from harness.checks import holds, same, until
+from harness.cups import Cups
+from harness.ipp import (
+    BOOLEAN, CANCEL_JOB, CREATE_JOB, Connection, GET_JOB, GET_JOBS, GET_PRINTER, INTEGER, Ipp, JOB, KEYWORD, MIME, NAME, PAUSE_PRINTER,
+    PRINT_JOB, RELEASE_JOB, SEND_DOCUMENT, VALIDATE_JOB, attribute, job_of, message,
+)
+from harness.service import Client, KEEPS, kept
+
+pytestmark = pytest.mark.needs("spool_ipp")
+
+# Some statuses (RFC 8011, appendix B).
+OK, BAD, FORBIDDEN, NOT_AUTHORIZED, NOT_POSSIBLE, NOT_FOUND, FORMAT, VALUES, NO_OPERATION, VERSION, TEMPORARY = (
+    0x0000, 0x0400, 0x0401, 0x0403, 0x0404, 0x0406, 0x040A, 0x040B, 0x0501, 0x0503, 0x0505,
+)
+
+
+# A page in PDF.
+PAGE = """%PDF-1.4
+1 0 obj
+<< /Type /Catalog /Pages 2 0 R >>
+endobj
+2 0 obj
+<< /Type /Pages /Kids [3 0 R] /Count 1 >>
+endobj
+3 0 obj
+<< /Type /Page /Parent 2 0 R /MediaBox [0 0 595 842] /Contents 4 0 R /Resources << >> >>
+endobj
+4 0 obj
+<< /Length 30 >>
+stream
+100 100 m 400 700 l 4 w S     
+endstream
+endobj
+trailer
+<< /Root 1 0 R /Size 5 >>
+%%EOF
+"""
+
+
+@pytest.fixture
+def ipp(folder):
+    """The front of a service with a queue `q` whose backend keeps each document."""
+    folder.backend("keeps", KEEPS)
+    folder.start()
+    folder.queue(Client(folder), "q", scheme="keeps")
+    folder.write("printers", "pages-per-minute 20\nmake-and-model Generic Printer\nresolutions 600\noutput-bins face-down\n")
+    with Ipp(folder, "--default", "q", "--printers", folder.at("printers")) as front:
+        yield front
+
+
+def is_kept(folder, job, data):
+    until(f"the bytes of job {job}", lambda: os.path.exists(folder.at(f"kept-{job}")))
+    same(f"job {job}", kept(folder, job), data)
+
+
+# ---- the programs of CUPS
+
+@pytest.mark.needs("lpstat")
+@pytest.mark.parametrize("way", ["address", "local"])
+def test_programs_of_cups(folder, ipp, way):
+    """lp, lpstat and cancel, over TCP and over the socket."""
+    server = getattr(ipp, way)
+    data = b"A letter.\n" * 30_000
+    job = ipp.lp("-d", "q", server=server, data=data)
+    is_kept(folder, job, data)
+    same("lpstat -d", ipp.run("lpstat", "-d", server=server), "system default destination: q\n")
+    said = ipp.run("lpstat", "-p", "-a", server=server)
+    holds(said, "printer q is idle" in said and "q accepting requests" in said)
+    until("completed", lambda: f"q-{job}" in ipp.run("lpstat", "-W", "completed", "-o", server=server))
+    held = ipp.lp("-d", "q", "-H", "indefinite", server=server, data=b"held")
+    same("held", Client(folder).state(held), "4 job-hold-until-specified")
+    holds("lpstat -o", f"q-{held}" in ipp.run("lpstat", "-o", server=server))
+    same("cancel", ipp.run("cancel", f"q-{held}", server=server), "")
+    same("canceled", Client(folder).state(held), "7 canceled")
+    holds("no printer", "lp: " in ipp.lp("-d", "nowhere", server=server, status=1, data=b"x"))
+
+
+@pytest.mark.needs("lpstat")
+def test_release_by_lp(folder, ipp):
+    job = ipp.lp("-d", "q", "-H", "23:59", data=b"later")
+    holds("held until", "hold-until" in Client(folder).fields(job))
+    ipp.run("lp", "-i", f"q-{job}", "-H", "resume")
+    is_kept(folder, job, b"later")
+
+
+@pytest.mark.needs("lpr")
+def test_programs_of_berkeley(folder, ipp):
+    """lpr, lpq and lprm."""
+    ipp.run("lpr", "-P", "q", data=b"by lpr")
+    is_kept(folder, 1, b"by lpr")
+    job = ipp.lp("-d", "q", "-H", "indefinite", data=b"held")
+    said = ipp.run("lpq", "-P", "q")
+    holds(said, f" {job} " in said)
+    ipp.run("lprm", "-P", "q", str(job))
+    same("canceled", Client(folder).state(job), "7 canceled")
+
+
+@pytest.mark.needs("lpstat")
+def test_several_documents(folder, ipp):
+    """The documents of one lp become jobs, and none prints before the last is whole."""
+    paths = []
+    for name in ("one", "two", "three"):
+        folder.write(name, name * 40_000)
+        paths.append(folder.at(name))
+    ipp.lp("-d", "q", *paths)
+    for job, name in ((1, "one"), (2, "two"), (3, "three")):
+        is_kept(folder, job, name.encode() * 40_000)
+
+
+@pytest.mark.needs("lpstat")
+def test_commands_of_operators(folder, ipp):
+    """Printers are changed over the socket of operators only."""
+    for server in (ipp.address, ipp.local):
+        ipp.run("cupsdisable", "q", server=server, status=1)
+    ipp.run("cupsdisable", "q", server=ipp.operators)
+    same("stopped", Client(folder).listing("queues\n")[0].split()[2], "5")
+    holds("lpstat -p", "disabled" in ipp.run("lpstat", "-p"))
+    ipp.run("cupsenable", "q", server=ipp.operators)
+    ipp.run("cupsreject", "q", server=ipp.operators)
+    ipp.lp("-d", "q", status=1, data=b"x")
+    ipp.run("cupsaccept", "q", server=ipp.operators)
+    ipp.lp("-d", "q", data=b"x")
+
+
+@pytest.mark.cups
+@pytest.mark.root
+def test_cups_elsewhere(folder, ipp):
+    """A CUPS of another machine has the printer by `lpadmin -m everywhere`, and prints through it."""
+    missing = Cups.missing()
+    if missing:
+        pytest.skip(f"it needs {missing}")
+    folder.queue(Client(folder), "pdf", scheme="keeps", target="application/pdf")
+    folder.write("page.pdf", PAGE)
+    with Cups() as cups:
+        cups.run("lpadmin", "-p", "far", "-E", "-v", ipp.uri("pdf"), "-m", "everywhere")
+        cups.run("lp", "-d", "far", folder.at("page.pdf"))
+        until("the job", lambda: 1 in Client(folder).states())
+        until("its end", lambda: Client(folder).state(1).startswith("9"))
+        holds("a document in PDF", kept(folder, 1).startswith(b"%PDF"))
+        until("the job of CUPS", lambda: "far-1" in cups.run("lpstat", "-W", "completed", "-o"))
+
+
+@pytest.mark.needs("ipptool")
+@pytest.mark.parametrize("version", ["1.1", "2.0"])
+def test_suite_of_cups(folder, ipp, version):
+    """The suites of ipptool(1): no test fails."""
+    folder.queue(Client(folder), "slow", seconds=1)
+    folder.write("letter.txt", "A letter.\n" * 100)
+    words = ["ipptool", "-I", "-t", "-T", "30", "-V", version, "-f", folder.at("letter.txt"), ipp.uri("slow"), f"ipp-{version}.test"]
+    said = subprocess.run(words, capture_output=True, text=True, timeout=600).stdout
+    failed = [line for line in said.splitlines() if line.rstrip().endswith("[FAIL]")]
+    passed = said.count("[PASS]")
+    holds(f"{passed} passed, {len(failed)} failed:\n{said[-8000:]}", not failed and passed >= 30)
+
+
+# ---- messages
+
+def test_print_and_show(folder, ipp):
+    answer = ipp.ask(PRINT_JOB, attribute(NAME, "job-name", "a \"title\""), document=b"hello")
+    same("status", answer[0], OK)
+    job = job_of(answer)
+    is_kept(folder, job, b"hello")
+    status, groups = ipp.ask(GET_JOB, attribute(INTEGER, "job-id", job))
+    same("status", status, OK)
+    same("title", groups[1][1]["job-name"], ["a \"title\""])
+    same("uri", groups[1][1]["job-uri"], ["ipp://localhost/jobs/%d" % job])
+    status, groups = ipp.ask(GET_JOBS, attribute(KEYWORD, "which-jobs", "completed"))
+    same("jobs", [group["job-id"] for tag, group in groups if tag == JOB], [[job]])
+
+
+def test_statuses(folder, ipp):
+    """A row for each check (RFC 8011, 4.1)."""
+    same("no operation", ipp.ask(0x0999)[0], NO_OPERATION)
+    same("version", ipp.ask(GET_PRINTER, version=(3, 0))[0], VERSION)
+    same("request number", ipp.ask(GET_PRINTER, number=0)[0], BAD)
+    same("no job", ipp.ask(GET_JOB, attribute(INTEGER, "job-id", 99))[0], NOT_FOUND)
+    same("format", ipp.ask(VALIDATE_JOB, attribute(MIME, "document-format", "x/none"))[0], OK)
+    same("hold", ipp.ask(PRINT_JOB, job=[attribute(KEYWORD, "job-hold-until", "some-day")], document=b"x")[0], VALUES)
+    same("no jobs", Client(folder).states(), {})
+    with Connection(ipp.connect()) as line:
+        same("no queue", line.ask(message(GET_PRINTER, f"ipp://{ipp.address}/printers/none"))[0], NOT_FOUND)
+        same("current job", line.ask(message(CANCEL_JOB, ipp.uri(), attribute(INTEGER, "job-id", 0)))[0], OK)
+
+
+def test_unsupported_attributes(folder, ipp):
+    """They are named in the answer, and refused with fidelity."""
+    color = [attribute(INTEGER, "number-up", 3)]
+    status, groups = ipp.ask(PRINT_JOB, job=color, document=b"x")
+    same("status", status, 0x0001)
+    same("names", list(next(group for tag, group in groups if tag == 5)), ["number-up"])
+    status, groups = ipp.ask(PRINT_JOB, attribute(BOOLEAN, "ipp-attribute-fidelity", True), job=color, document=b"x")
+    same("status", status, VALUES)
+
+
+def test_own_jobs_only(folder, ipp):
+    """A client changes the jobs of the user whom it names, if they came by its own way."""
+    hold = [attribute(KEYWORD, "job-hold-until", "indefinite")]
+    job = attribute(INTEGER, "job-id", job_of(ipp.ask(PRINT_JOB, job=hold, document=b"x")))
+    same("another user", ipp.ask(CANCEL_JOB, job, user="bert")[0], NOT_AUTHORIZED)
+    same("release", ipp.ask(RELEASE_JOB, job)[0], OK)
+    by_socket = ipp.lp("-d", "q", "-U", "anna", "-H", "indefinite", server=ipp.local, data=b"x")
+    same("another way", ipp.ask(CANCEL_JOB, attribute(INTEGER, "job-id", by_socket))[0], NOT_AUTHORIZED)
+    same("it waits", Client(folder).state(by_socket), "4 job-hold-until-specified")
+    same("printers", ipp.ask(PAUSE_PRINTER)[0], FORBIDDEN)
+
+
+def test_documents_in_turn(folder, ipp):
+    """Create-Job, and Send-Document twice."""
+    job = job_of(ipp.ask(CREATE_JOB))
+    number = attribute(INTEGER, "job-id", job)
+    same("another user", ipp.ask(SEND_DOCUMENT, number, attribute(BOOLEAN, "last-document", True), user="bert")[0], NOT_AUTHORIZED)
+    first = ipp.ask(SEND_DOCUMENT, number, attribute(BOOLEAN, "last-document", False), document=b"first")
+    same("first", first[0], OK)
+    time.sleep(0.3)
+    same("nothing is printed", Client(folder).state(job), "4 job-incoming")
+    same("second", ipp.ask(SEND_DOCUMENT, number, attribute(BOOLEAN, "last-document", True), document=b"second")[0], OK)
+    is_kept(folder, job, b"first")
+    is_kept(folder, job + 1, b"second")
+    again = ipp.ask(SEND_DOCUMENT, number, attribute(BOOLEAN, "last-document", True), document=b"x")
+    same("a job with its document", again[0], NOT_POSSIBLE)
+
+
+def test_service_file_of_avahi(ipp):
+    script = Path(__file__).resolve().parent.parent / "examples/office/avahi-service.py"
+    made = subprocess.run([script, "--server", ipp.address, "q"], capture_output=True, text=True)
+    same("errors", (made.stderr, made.returncode), ("", 0))
+    service = ElementTree.fromstring(made.stdout).find("service")
+    same("type", (service.findtext("type"), service.findtext("port")), ("_ipp._tcp", str(ipp.port)))
+    records = dict(record.text.split("=", 1) for record in service.iter("txt-record"))
+    same("queue", (records["rp"], records["ty"], records["Color"]), ("printers/q", "Generic Printer", "F"))
+    same("over the socket", subprocess.run([script, "--server", ipp.local, "--port", str(ipp.port), "q"], capture_output=True, text=True).stdout, made.stdout)
+    missing = subprocess.run([script, "--server", ipp.address, "none"], capture_output=True, text=True)
+    same("no printer", (missing.stdout, missing.returncode), ("", 1))
+
+
+# ---- connections
+
+def test_pieces_of_a_request(folder, ipp):
+    """A request byte by byte has the same answer."""
+    body = message(PRINT_JOB, ipp.uri()) + b"slow"
+    head = f"POST / HTTP/1.1\r\nHost: localhost\r\nContent-Type: application/ipp\r\nContent-Length: {len(body)}\r\n\r\n"
+    with Connection(ipp.connect()) as line:
+        for byte in head.encode() + body:
+            line.say(bytes([byte]))
+        same("status of HTTP", line.reply()[0], 200)
+    is_kept(folder, 1, b"slow")
+
+
+def test_requests_at_once(folder, ipp):
+    """Requests that are sent before the first reply are answered in their order."""
+    with Connection(ipp.connect()) as line:
+        for number in range(1, 6):
+            line.post(message(PRINT_JOB, ipp.uri(), number=number) + b"%d" % number)
+        for number in range(1, 6):
+            status, content = line.reply()
+            same("status of HTTP", status, 200)
+            same("request", int.from_bytes(content[4:8], "big"), number)
+    for number in range(1, 6):
+        is_kept(folder, number, b"%d" % number)
+
+
+def test_bad_requests_of_http(ipp):
+    rows = [
+        (b"GET / HTTP/1.1\r\nHost: evil.example\r\n\r\n", 403),
+        (b"PUT / HTTP/1.1\r\nHost: localhost\r\nContent-Length: 0\r\n\r\n", 405),
+        (b"POST / HTTP/1.1\r\nHost: localhost\r\nContent-Type: application/ipp\r\n\r\n", 411),
+        (b"POST / HTTP/1.1\r\nHost: localhost\r\nContent-Type: text/plain\r\nContent-Length: 1\r\n\r\nx", 415),
+        (b"POST / HTTP/1.1\r\nHost: localhost\r\nContent-Type: application/ipp\r\nContent-Length: 1\r\n\r\nx", 400),
+        (b"POST / HTTP/1.1\r\nHost: localhost\r\nContent-Length: 1\r\nTransfer-Encoding: chunked\r\n\r\n", 400),
+        (b"GET /none HTTP/1.1\r\nHost: localhost\r\n\r\n", 404),
+        (b"GET /" + b"x" * 20_000, 414),
+        (b"nonsense\r\n\r\n", 400),
+    ]
+    for text, status in rows:
+        with Connection(ipp.connect()) as line:
+            line.say(text)
+            same(f"{text[:60]}", (line.reply() or (0,))[0], status)
+
+
+def test_pages(folder, ipp):
+    job = ipp.lp("-d", "q", "-t", "<b>bold</b>", "-H", "indefinite", data=b"x")
+    for path, words in (("/", b"&lt;b&gt;bold"), ("/printers/q", b"&lt;b&gt;bold"), ("/metrics", b'cegmandi_jobs{state="held"} 1\n')):
+        with Connection(ipp.connect()) as line:
+            line.say(f"GET {path} HTTP/1.1\r\nHost: {ipp.address}\r\n\r\n".encode())
+            status, content = line.reply()
+            same(path, status, 200)
+            holds(content.decode(), words in content and b"<b>" not in content)
+    with Connection(ipp.connect()) as line:
+        line.say(b"GET /printers/none HTTP/1.1\r\nHost: localhost\r\n\r\nHEAD / HTTP/1.1\r\nHost: localhost\r\n\r\n")
+        same("no printer", line.reply()[0], 404)
+    same("held", Client(folder).state(job), "4 job-hold-until-specified")
+
+
+def test_client_gone_within_its_document(folder, ipp):
+    """Its job is canceled."""
+    body = message(PRINT_JOB, ipp.uri())
+    head = "POST / HTTP/1.1\r\nHost: localhost\r\nContent-Type: application/ipp\r\nContent-Length: 100000\r\n\r\n"
+    with Connection(ipp.connect()) as line:
+        line.say(head.encode() + body + b"x" * 20_000)
+        until("its job", lambda: Client(folder).states())
+    until("canceled", lambda: Client(folder).states() == {1: "7 canceled"})
+
+
+def test_half_closed(folder, ipp):
+    """A client that sends nothing more gets its answer, and one that cuts its request off gets one, too."""
+    body = message(PRINT_JOB, ipp.uri()) + b"whole"
+    head = "POST / HTTP/1.1\r\nHost: localhost\r\nContent-Type: application/ipp\r\nContent-Length: %d\r\n\r\n"
+    with Connection(ipp.connect()) as line:
+        line.say((head % len(body)).encode() + body)
+        line.connection.shutdown(1)
+        same("whole", line.reply()[0], 200)
+    with Connection(ipp.connect()) as line:
+        line.say((head % (len(body) + 1)).encode() + body)
+        line.connection.shutdown(1)
+        same("cut off", line.reply()[0], 400)
+    is_kept(folder, 1, b"whole")
+
+
+@pytest.mark.long
+def test_slow_clients(ipp):
+    """A head that is not whole within ten seconds, and a body whose next bytes do not come within a minute, are answered."""
+    head = b"POST / HTTP/1.1\r\nHost: localhost\r\nContent-Type: application/ipp\r\nContent-Length: 1000\r\n\r\n"
+    begun = time.monotonic()
+    with Connection(ipp.connect()) as slow, Connection(ipp.connect()) as body:
+        body.say(head + message(PRINT_JOB, ipp.uri()))
+        # Bytes that come now and then do not count: the head as a whole must come in time.
+        for byte in head[:8]:
+            slow.say(bytes([byte]))
+            time.sleep(1)
+            same("another client", ipp.ask(GET_PRINTER)[0], OK)
+        slow.connection.settimeout(30)
+        same("head", slow.reply()[0], 408)
+        holds("in ten seconds", 9 < time.monotonic() - begun < 20)
+        body.connection.settimeout(90)
+        same("body", body.reply()[0], 408)
+        holds("in a minute", 55 < time.monotonic() - begun < 90)
+
+
+def test_more_clients_than_places(ipp):
+    """A client without a place is answered, and one that is idle gives its place up."""
+    idle = [ipp.connect() for _ in range(64)]
+    time.sleep(1.5)
+    with Connection(ipp.connect()) as line:
+        same("a place", line.ask(message(GET_PRINTER, ipp.uri()))[0], OK)
+    for connection in idle[1:]:
+        connection.sendall(b"POST / HTTP/1.1\r\n")
+    time.sleep(0.5)
+    busy = [ipp.connect() for _ in range(2)]
+    busy[0].sendall(b"POST / HTTP/1.1\r\n")
+    said = []
+    for connection in busy:
+        connection.settimeout(2)
+        try:
+            said.append(connection.recv(100))
+        except OSError:
+            said.append(b"")
+    holds(f"no place: {said}", any(b"503" in text for text in said))
+    for connection in idle + busy:
+        connection.close()
+
+
+# ---- the service and the end
+
+def test_service_restarts(folder, ipp):
+    """A request that is open while the service is away is answered after it came back."""
+    folder.kill()
+    with Connection(ipp.connect()) as line:
+        line.post(message(PRINT_JOB, ipp.uri()) + b"patient")
+        time.sleep(1)
+        folder.start()
+        status, content = line.reply()
+        same("status", (status, content[2:4]), (200, b"\0\0"))
+    is_kept(folder, 1, b"patient")
+
+
+def test_service_killed_within_documents(folder, ipp):
+    """Documents that come while the service is killed again and again are printed once each, or the client gets an error."""
+    told = {}
+    for number in range(12):
+        if number % 3 == 1:
+            folder.kill()
+            folder.start()
+        data = b"%d " % number * 30_000
+        with Connection(ipp.connect()) as line:
+            line.post(message(PRINT_JOB, ipp.uri(), number=number + 1) + data[:100_000])
+            if number % 3 == 0:
+                folder.kill()
+                folder.start()
+            status, content = line.reply()
+            same("status", (status, content[2:4]), (200, b"\0\0"))
+            told[number] = data[:100_000]
+    until("all", lambda: sum(name.startswith("kept-") and not name.endswith(".new") for name in os.listdir(folder.path)) >= len(told))
+    found = sorted(kept(folder, name[5:]) for name in os.listdir(folder.path) if name.startswith("kept-"))
+    same("the documents", found, sorted(told.values()))
+
+
+@pytest.mark.long
+def test_service_away(folder, ipp):
+    """A request is answered with an error if the service is away for more than 30 seconds."""
+    os.kill(folder.running.pid, signal.SIGSTOP)
+    try:
+        with Connection(ipp.connect()) as line:
+            line.connection.settimeout(60)
+            line.post(message(PRINT_JOB, ipp.uri()) + b"x")
+            status, content = line.reply()
+            same("status", (status, content[2:4]), (200, b"\5\5"))
+    finally:
+        os.kill(folder.running.pid, signal.SIGCONT)
+
+
+def test_end(folder, ipp):
+    """At its end it waits for open requests, and answers those that stay open."""
+    with Connection(ipp.connect()) as line:
+        line.say(b"POST / HTTP/1.1\r\nHost: localhost\r\nContent-Type: application/ipp\r\nContent-Length: 100000\r\n\r\n")
+        line.say(message(PRINT_JOB, ipp.uri()))
+        until("its job", lambda: Client(folder).states())
+        ipp.stop()
+        same("status", line.reply()[0], 503)
