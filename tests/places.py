@@ -1,5 +1,5 @@
 #!/usr/bin/env python3
-"""Lists the places that a new event, field or version of the format touches: places.py [--list [event|field|version|newest]]
+"""Lists the places that a new event, field or version of the format touches: places.py [--list [event|field|version|newest] | --count]
 
 With --list it prints, for each of these, the places in the tree that name an existing one, which is the one to copy, and the further
 steps. Without a word after --list it prints all four lists. A place is a function or a type of src/, a definition of specs/ or proofs/, a
@@ -7,7 +7,9 @@ table at the head of a file (`the table`), or the answers of a function named af
 examples, edits and the crates of the front are left out. For a version, proofs are left out too, and so are crates that use the name for
 something else.
 
-Without --list it checks that each file and each name with a remark is still in these lists, that each path named here or in CONTRIBUTING.md
+With --count it prints how many places name the event and the field if tests, examples and the crates of the front count too.
+
+Without a word it checks that each file and each name with a remark is still in these lists, that each path named here or in CONTRIBUTING.md
 exists, and that the edit shown in CONTRIBUTING.md applies. It takes a second. The last line is `none`, with status 0. Otherwise it prints
 the errors and ends with status 1.
 """
@@ -102,9 +104,11 @@ FIELD = Listing(
         "command_lines/src/reply.rt": {"push_sizes": "Only for a field that `jobs` shows."},
         "service_texts/specs/Shown.antt": {"job_counts": "Only for a field that `job` shows."},
         "service_texts/src/job_texts.rt": {"push_counts": "Only for a field that `job` shows."},
+        "ipp_facts/specs/JobReports.antt": {"IsReportOf": "Only for a field that an attribute of IPP shows."},
+        "ipp_facts/src/shown_jobs.rt": {"facts_with": "Only for a field that an attribute of IPP shows."},
     },
     """
-Eight of these places change `pages` or show it, so a field that is only stored needs thirteen.
+Ten of these places change `pages` or show it, so a field that is only stored needs thirteen.
 
 1. If the field is shown, also change `front_texts`, which reads the replies to `jobs` and `job`.
 2. A field that is set when the job is made is also a field of `NewJob` (`spool_types/src/event.rt`) and of the event Create.
@@ -176,9 +180,10 @@ In these places a further version replaces `Two`, unless they distinguish the tw
 
 LISTS = {"event": EVENT, "field": FIELD, "version": VERSION, "newest": NEWEST}
 
-# Crates that are left out: crates of tests, of examples and of the front, and crates that use `One` or `Two` for something else.
+# Crates that are left out: crates of tests, of examples and of the front, and crates that use the name for something else.
 ASIDE = re.compile(r".*_(tests|examples|scripts)|front_.*|spool_front")
-OTHERS = {"One": ("side_channel", "spool_runtime"), "Two": ("side_channel",)}
+NO_CRATE = re.compile(r"")
+OTHERS = {"Release": ("ipp_names",), "One": ("side_channel", "spool_runtime"), "Two": ("side_channel",)}
 
 IMPORT = {
     ".rt": re.compile(r"^ *(pub(\([a-z]+\))? )?(ghost )?use .*?;$", re.MULTILINE | re.DOTALL),
@@ -218,14 +223,14 @@ def name_in_logic(lines, number):
     return DEFINITION.match(head)[1]
 
 
-def places(listing):
-    """The names of the places, by the path of their file below crates/."""
+def places(listing, aside=ASIDE, parts=None):
+    """The names of the places, by the path of their file below crates/, without the crates of these names."""
     found = {}
-    for crate in crates():
+    for crate in crates(aside):
         functions = set()
         if crate.name in OTHERS.get(listing.name, ()):
             continue
-        for file in files_of(crate, listing.parts):
+        for file in files_of(crate, parts or listing.parts):
             lines = code_of(file)
             naming = name_in_code if file.suffix == ".rt" else name_in_logic
             names = [naming(lines, n) for n, line in enumerate(lines) if re.search(listing.word, line)]
@@ -237,10 +242,10 @@ def places(listing):
     return found
 
 
-def crates():
-    """The crates with code of the programs, lowest first."""
+def crates(aside):
+    """The crates whose names do not match, lowest first."""
     named = [it.partition(":")[0] for it in (HERE / "crates.txt").read_text().splitlines() if not it.startswith("#")]
-    return [CRATES / it.split()[0] for it in named if it.strip() and not ASIDE.fullmatch(it.split()[0])]
+    return [CRATES / it.split()[0] for it in named if it.strip() and not aside.fullmatch(it.split()[0])]
 
 
 def files_of(crate, parts):
@@ -299,6 +304,11 @@ def faults():
 
 def main():
     words = sys.argv[1:]
+    if words == ["--count"]:
+        for listing in (EVENT, FIELD):
+            found = places(listing, NO_CRATE, (*PARTS, "tests"))
+            print(f"{listing.title}: {sum(len(names) for names in found.values())} places in {len(found)} files name {listing.name}")
+        return 0
     if words[:1] == ["--list"] and set(words[1:]) <= set(LISTS):
         for name in words[1:] or LISTS:
             print("\n".join(shown(LISTS[name])))

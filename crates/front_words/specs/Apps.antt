@@ -1,12 +1,13 @@
 -- The command of each form, as clap reads it.
-use Rattle.std.specs.Prelude.{ℕ, [], ◌∷◌, codes, true}
+use Rattle.std.specs.Prelude.{ℕ, [], ◌∷◌, ◌++◌, codes, true}
 use Rattle.clap.specs.Simple.{on_top}
 use Rattle.clap.specs.Words.{App, Rule, Text, new_app, with_rule}
 use Rattle.front_words.specs.CommandOptions.{flag_rule, letter_flag_rule, letter_rule, listed, named_app, needed, several, task_app, text_rule, word_rule}
+use Rattle.front_words.specs.PlainActs.{word_for}
 use Rattle.front_words.specs.declared.commands.Base.{Base}
 use Rattle.front_words.specs.declared.commands.Base.TheVariants.{Task, Program, Spool}
 use Rattle.front_words.specs.declared.forms.Form.{Form}
-use Rattle.front_words.specs.declared.forms.Form.TheVariants.{Submit, Status, Queues, Watch, Cancel, Hold, Release, Purge, End}
+use Rattle.front_words.specs.declared.forms.Form.TheVariants.{Submit, Status, Queues, Watch, Cancel, Hold, Plain}
 use Rattle.front_words.specs.declared.forms.Form.TheVariants.{QueueShow, QueueAdd, QueueSet, QueueAccept, QueueReject, QueueEnable, QueueDisable}
 use Rattle.front_words.specs.declared.forms.Form.TheVariants.{Devices, Check, Page, Say, Lp, Lpr, Lpstat, CancelJobs, Lpq, Lprm, Other}
 use Rattle.front_words.specs.declared.forms.Form.TheVariants.{Lpoptions, Lpmove, CupsEnable, CupsDisable, CupsAccept, CupsReject}
@@ -236,9 +237,7 @@ name_of Queues = codes "spool queues"
 name_of Watch = codes "spool watch"
 name_of Cancel = codes "spool cancel"
 name_of Hold = codes "spool hold"
-name_of Release = codes "spool release"
-name_of Purge = codes "spool purge"
-name_of End = codes "spool end"
+name_of (Plain act) = codes "spool " ++ word_for act
 name_of QueueShow = codes "spool queue show"
 name_of QueueAdd = codes "spool queue add"
 name_of QueueSet = codes "spool queue set"
@@ -277,9 +276,7 @@ app_for Queues = queues_app
 app_for Watch = json_app (codes "spool watch")
 app_for Cancel = stop_app
 app_for Hold = hold_app
-app_for Release = jobs_app (codes "spool release")
-app_for Purge = jobs_app (codes "spool purge")
-app_for End = jobs_app (codes "spool end")
+app_for (Plain act) = jobs_app (codes "spool " ++ word_for act)
 app_for QueueShow = show_app
 app_for QueueAdd = add_app
 app_for QueueSet = set_app

@@ -89,7 +89,7 @@ pub record IsSubmission (form : Form) (found : List Row) (s : Submission) : Type
   pub priority : number_or 1 100 50 (first_of (codes "priority") found) ≡ Some s.priority
   pub media : option_map (λ text. text.now) s.media ≡ first_of (codes "type") found
   pub options : map (λ text. text.now) s.options.items ≡ all_in (codes "option") found
-  pub pages : option_map (λ text. text.now) s.pages ≡ first_of (codes "pages") found
+  pub page_ranges : option_map (λ text. text.now) s.page_ranges ≡ first_of (codes "pages") found
   pub hold : hold_of found ≡ Some s.hold
   pub by : moment_or_none (first_of (codes "by") found) ≡ Some s.by
   pub wait : s.wait ≡ is_told (first_of (codes "wait") found)
@@ -385,9 +385,7 @@ IsTask form_is.Queues found asked = asked ≡ task_is.Queues (is_told (first_of 
 IsTask form_is.Watch found asked = asked ≡ task_is.Watch (is_told (first_of (codes "json") found))
 IsTask form_is.Cancel found asked = IsStop found asked
 IsTask form_is.Hold found asked = IsJobs (until_of found) found asked
-IsTask form_is.Release found asked = IsJobs (Some act_is.Release) found asked
-IsTask form_is.Purge found asked = IsJobs (Some act_is.Purge) found asked
-IsTask form_is.End found asked = IsJobs (Some act_is.End) found asked
+IsTask (form_is.Plain act) found asked = IsJobs (Some (act_is.Plain act)) found asked
 IsTask form_is.QueueShow found asked = IsShow found asked
 IsTask form_is.QueueAdd found asked = IsQueue (IsAdd found) found asked
 IsTask form_is.QueueSet found asked = IsQueue (IsSet found) found asked
@@ -421,9 +419,7 @@ FitTask form_is.Queues found = ⊤
 FitTask form_is.Watch found = ⊤
 FitTask form_is.Cancel found = FitJobs found
 FitTask form_is.Hold found = FitHold found
-FitTask form_is.Release found = FitJobs found
-FitTask form_is.Purge found = FitJobs found
-FitTask form_is.End found = FitJobs found
+FitTask (form_is.Plain act) found = FitJobs found
 FitTask form_is.QueueShow found = FitQueue found
 FitTask form_is.QueueAdd found = FitNew found
 FitTask form_is.QueueSet found = FitQueue found

@@ -3,11 +3,13 @@ use Rattle.std.specs.Prelude.{ℕ, List, [], ◌∷◌, Option, None, Some, code
 use Rattle.std.specs.Str.{bytes_eq}
 use Rattle.clap.specs.Words.{Text}
 use Rattle.front_words.specs.ArgumentValues.{last_part}
+use Rattle.front_words.specs.PlainActs.{act_named}
 use Rattle.front_words.specs.declared.forms.Form.{Form}
-use Rattle.front_words.specs.declared.forms.Form.TheVariants.{Submit, Status, Queues, Watch, Cancel, Hold, Release, Purge, End}
+use Rattle.front_words.specs.declared.forms.Form.TheVariants.{Submit, Status, Queues, Watch, Cancel, Hold, Plain}
 use Rattle.front_words.specs.declared.forms.Form.TheVariants.{QueueShow, QueueAdd, QueueSet, QueueAccept, QueueReject, QueueEnable, QueueDisable}
 use Rattle.front_words.specs.declared.forms.Form.TheVariants.{Devices, Check, Page, Say, Lp, Lpr, Lpstat, CancelJobs, Lpq, Lprm, Other}
 use Rattle.front_words.specs.declared.forms.Form.TheVariants.{Lpoptions, Lpmove, CupsEnable, CupsDisable, CupsAccept, CupsReject}
+use Rattle.front_words.specs.declared.plain_acts.PlainAct.{PlainAct}
 
 -- A program's name: the part after the last slash of its path.
 abbrev pub base_name : Text → Text
@@ -35,6 +37,11 @@ form_of_program name =
     else (if bytes_eq name (codes "lpmove") then Some Lpmove
     else form_of_switch name)))))))
 
+-- The tasks that need nothing but jobs.
+abbrev pub plain_form : Option PlainAct → Form
+plain_form (Some act) = Plain act
+plain_form None = Other
+
 -- The tasks of `spool` of one word.
 abbrev pub form_of_task : Text → Form
 form_of_task task =
@@ -44,14 +51,11 @@ form_of_task task =
     else (if bytes_eq task (codes "watch") then Watch
     else (if bytes_eq task (codes "cancel") then Cancel
     else (if bytes_eq task (codes "hold") then Hold
-    else (if bytes_eq task (codes "release") then Release
-    else (if bytes_eq task (codes "purge") then Purge
-    else (if bytes_eq task (codes "end") then End
     else (if bytes_eq task (codes "devices") then Devices
     else (if bytes_eq task (codes "check") then Check
     else (if bytes_eq task (codes "page") then Page
     else (if bytes_eq task (codes "say") then Say
-    else Other))))))))))))
+    else plain_form (act_named task))))))))))
 
 -- The tasks of two words: `queue` and an action.
 abbrev pub form_of_act : Text → Form

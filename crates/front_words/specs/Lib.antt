@@ -1,3 +1,4 @@
+pub mod PlainActs
 pub mod Forms
 pub mod WordFaults
 pub mod CommandOptions

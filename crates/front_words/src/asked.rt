@@ -1,5 +1,7 @@
 //! The tasks that a command line can ask for.
 
+use crate::plain_acts::PlainAct;
+
 /// The task of a command line, and the services it is for.
 #[derive(Drop)]
 pub struct Asked<'a> {
@@ -90,8 +92,8 @@ pub struct Submission<'a> {
     pub media: Option<&'a str>,
     /// The options as given: each is `NAME=VALUE`, or several of these separated by blanks.
     pub options: Vec<&'a str>,
-    /// The page ranges, which become the option `page-ranges=PAGES`.
-    pub pages: Option<&'a str>,
+    /// The pages to print, which become the option `page-ranges=PAGES`.
+    pub page_ranges: Option<&'a str>,
     /// Whether and until when the job is held.
     pub hold: Hold,
     /// The moment by which the job must have started.
@@ -141,13 +143,10 @@ pub enum JobAct {
     CancelOnly,
     /// Hold the job until this moment, or until it is released.
     Hold(Option<Moment>),
-    Release,
     /// Release the job, unless it is not held.
     Resume,
-    /// Remove the ended job.
-    Purge,
-    /// Terminate the running filter or backend of the job, so that its queue continues.
-    End,
+    /// Any other action.
+    Plain(PlainAct),
 }
 
 /// Which jobs are shown, and how.

@@ -1,8 +1,10 @@
 //! The form of a command line: a task of `spool`, or a program with its own name.
 ghost use Rattle.std.specs.Prelude.{◌≡◌, drop, map};
-ghost use Rattle.front_words.specs.Forms.{form_in, form_of_act, form_of_program, form_of_switch, form_of_task, queue_form, refusal_status, skipped, spool_form};
+ghost use Rattle.front_words.specs.Forms.{form_in, form_of_act, form_of_program, form_of_switch, form_of_task, plain_form, queue_form, refusal_status, skipped, spool_form};
+ghost use Rattle.front_words.specs.PlainActs.{act_named};
 
 use crate::given::last_part;
+use crate::plain_acts::{PlainAct, act_named};
 use std::convert::AsStr;
 
 /// The form of a command line. Each form has its own options.
@@ -14,9 +16,8 @@ pub enum Form {
     Watch,
     Cancel,
     Hold,
-    Release,
-    Purge,
-    End,
+    /// An action that needs nothing but jobs.
+    Plain(PlainAct),
     QueueShow,
     QueueAdd,
     QueueSet,
@@ -167,12 +168,6 @@ fn form_of_task(task: &str) -> Form
         Form::Cancel
     } else if task == "hold" {
         Form::Hold
-    } else if task == "release" {
-        Form::Release
-    } else if task == "purge" {
-        Form::Purge
-    } else if task == "end" {
-        Form::End
     } else if task == "devices" {
         Form::Devices
     } else if task == "check" {
@@ -182,7 +177,17 @@ fn form_of_task(task: &str) -> Form
     } else if task == "say" {
         Form::Say
     } else {
-        Form::Other
+        plain_form(task)
+    }
+}
+
+// Returns the form of an action that needs nothing but jobs.
+fn plain_form(task: &str) -> Form
+    ensures { result ≡ plain_form (act_named task.now) }
+{
+    match act_named(task) {
+        Some(act) => Form::Plain(act),
+        None => Form::Other,
     }
 }
 

@@ -39,6 +39,7 @@ mod forms;
 mod given;
 mod options;
 mod parameters;
+mod plain_acts;
 mod programs;
 mod reading;
 mod tables;
@@ -49,4 +50,5 @@ pub use asked::{
     Submission, Task, Which,
 };
 pub use fault::WordsFault;
+pub use plain_acts::PlainAct;
 pub use words::{read_words, words_status};

@@ -218,7 +218,7 @@ fn is_held(task: &Task<'_>) -> bool {
         && asked.copies == 2
         && asked.priority == 100
         && asked.title == Some("T")
-        && asked.pages == Some("1-2")
+        && asked.page_ranges == Some("1-2")
         && asked.quiet
         && matches!(asked.hold, Hold::Indefinite)
 }

@@ -23,7 +23,7 @@ job_rows s j =
     ∷ row (codes "job-hold-until") JobTemplate (map keyword_value (hold_words j))
     ∷ row (codes "job-hold-until-time") JobTemplate (of_option date_value j.held_until)
     ∷ row (codes "job-id") JobDescription (one (integer_of j.id))
-    ∷ row (codes "job-impressions-completed") JobDescription (one (integer_of j.pages))
+    ∷ row (codes "job-impressions-completed") JobDescription (one (integer_of j.impressions))
     ∷ row (codes "job-k-octets") JobDescription (one (integer_of (kilo_octets j.size)))
     ∷ row (codes "job-more-info") JobDescription (one (uri_value (page_uri s jobs_path (decimal j.id))))
     ∷ row (codes "job-name") JobDescription (title_values j)

@@ -25,7 +25,7 @@ abbrev pub number_of : JobFacts → JobNumber → ℕ
 number_of j numbers.Id = j.id
 number_of j numbers.Copies = j.copies
 number_of j numbers.Priority = j.priority
-number_of j numbers.Pages = j.pages
+number_of j numbers.Impressions = j.impressions
 number_of j numbers.KiloOctets = kilo_octets j.size
 number_of j numbers.Documents = documents j
 

@@ -53,7 +53,7 @@ pub struct JobFacts {
     /// The bytes of the document that were sent.
     pub size: u32,
     /// Pages printed in the newest attempt.
-    pub pages: u32,
+    pub impressions: u32,
     /// The type of the document, after the job was closed.
     pub format: Option<MediaName>,
     pub created: Reached,

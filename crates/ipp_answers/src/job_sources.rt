@@ -36,7 +36,7 @@ pub enum JobNumber {
     Id,
     Copies,
     Priority,
-    Pages,
+    Impressions,
     KiloOctets,
     Documents,
 }

@@ -61,7 +61,7 @@ static JOB: [JobRow<'static>; 26] = [
     JobRow {
         name: "job-impressions-completed",
         group: AttributeGroup::JobDescription,
-        source: Number(JobNumber::Pages),
+        source: Number(JobNumber::Impressions),
     },
     JobRow {
         name: "job-k-octets",

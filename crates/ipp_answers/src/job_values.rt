@@ -49,7 +49,7 @@ fn number_of(job: &JobFacts, number: JobNumber) -> u64
         JobNumber::Id => u64::from(job.id.get()),
         JobNumber::Copies => u64::from(job.copies.get()),
         JobNumber::Priority => u64::from(job.priority.get()),
-        JobNumber::Pages => u64::from(job.pages),
+        JobNumber::Impressions => u64::from(job.impressions),
         JobNumber::KiloOctets => kilo_octets(job.size),
         JobNumber::Documents => documents(job),
     }

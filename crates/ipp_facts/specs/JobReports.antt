@@ -56,7 +56,7 @@ IsReportOf job facts =
     × (facts.copies ≡ job.asked.copies)
     × (facts.priority ≡ job.asked.priority)
     × (facts.size ≡ job.job_status.size)
-    × (facts.pages ≡ job.job_status.pages)
+    × (facts.impressions ≡ job.job_status.pages)
     × (facts.format ≡ option_and_then (text_in is_media_type) job.job_status.media)
     × (reached_at facts.created ≡ reached_by job.times.created)
     × (reached_at facts.started ≡ reached_by job.times.started)

@@ -73,7 +73,7 @@ fn facts_with(alloc: Global, job: JobShown, reason: JobReason) -> Result<JobFact
         copies: asked.copies,
         priority: asked.priority,
         size: job_status.size,
-        pages: job_status.pages,
+        impressions: job_status.pages,
         format,
         created: reached(times.created),
         started: reached(times.started),

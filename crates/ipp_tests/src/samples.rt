@@ -85,7 +85,7 @@ pub fn job(alloc: Global, user: Option<UserName>) -> Result<JobFacts, TextFault>
         copies: Copies::new(2).ok_or(TextFault::Bad)?,
         priority: Priority::new(50).ok_or(TextFault::Bad)?,
         size: 1_025,
-        pages: 3,
+        impressions: 3,
         format: None,
         created: at(NOW - 60),
         started: Reached::Unknown,

@@ -5,8 +5,9 @@ use Rattle.command_lines.specs.CommandGrammar.{is_word}
 use Rattle.front_texts.specs.Lpstat.{is_processing}
 use Rattle.front_texts.specs.StateWords.{is_ended}
 use Rattle.front_texts.specs.declared.job_line.JobLine.{JobLine}
+use Rattle.front_words.specs.PlainActs.{word_for}
 use Rattle.front_words.specs.declared.asked.JobAct.{JobAct}
-use Rattle.front_words.specs.declared.asked.JobAct.TheVariants.{Cancel, CancelOnly, Hold, Release, Resume, Purge, End}
+use Rattle.front_words.specs.declared.asked.JobAct.TheVariants.{Cancel, CancelOnly, Hold, Resume, Plain}
 use Rattle.front_words.specs.declared.asked.QueueAct.{QueueAct}
 use Rattle.front_words.specs.declared.asked.QueueAct.TheVariants.{Add, Set, Accept, Reject, Enable, Disable}
 use Rattle.spool_front.specs.SentCommands.{hold_line, info_line, job_line, name_line, queue_line}
@@ -20,10 +21,8 @@ use Rattle.spool_front.specs.declared.fault.Fault.TheVariants.{Refused}
 abbrev pub act_line : Clocks → JobAct → ℕ → List ℕ
 act_line c Cancel job = job_line (codes "stop") job
 act_line c CancelOnly job = job_line (codes "cancel") job
-act_line c Release job = job_line (codes "release") job
 act_line c Resume job = job_line (codes "release") job
-act_line c Purge job = job_line (codes "purge") job
-act_line c End job = job_line (codes "end") job
+act_line c (Plain act) job = job_line (word_for act) job
 act_line c (Hold None) job = hold_line job Released
 act_line c (Hold (Some moment)) job = hold_line job (Reached (second_of c moment))
 

@@ -5,10 +5,12 @@ use Rattle.std.specs.Global.{Global}
 use Rattle.command_lines.specs.CommandGrammar.{is_word}
 use Rattle.front_proof.specs.Denials.{denied_job, denied_to_all}
 use Rattle.front_proof.specs.Standings.{Standing, unproved}
+use Rattle.front_words.specs.PlainActs.{word_for}
 use Rattle.front_words.specs.declared.asked.JobAct.{JobAct}
-use Rattle.front_words.specs.declared.asked.JobAct.TheVariants.{Cancel, CancelOnly, Hold, Release, Resume, Purge, End}
+use Rattle.front_words.specs.declared.asked.JobAct.TheVariants.{Cancel, CancelOnly, Hold, Resume, Plain}
 use Rattle.front_words.specs.declared.asked.QueueAct.{QueueAct}
 use Rattle.front_words.specs.declared.asked.QueueAct.TheVariants.{Add, Set, Accept, Reject, Enable, Disable}
+use Rattle.front_words.specs.declared.plain_acts.PlainAct.TheVariants.{Purge}
 use Rattle.spool_front.specs.declared.fault.Fault.{Fault}
 use Rattle.spool_front.specs.declared.fault.Fault.TheVariants.{Refused, Denied}
 
@@ -32,13 +34,11 @@ abbrev pub act_word : JobAct → List ℕ
 act_word Cancel = codes "cancel"
 act_word CancelOnly = codes "cancel"
 act_word (Hold moment) = codes "hold"
-act_word Release = codes "release"
 act_word Resume = codes "release"
-act_word Purge = codes "purge"
-act_word End = codes "end"
+act_word (Plain act) = word_for act
 
 abbrev pub is_purge : JobAct → Bool
-is_purge Purge = true
+is_purge (Plain Purge) = true
 is_purge act = false
 
 -- A client that the service was not asked about is unproved.

@@ -22,9 +22,9 @@ abbrev pub option_text : List ℕ → List ℕ
 option_text text = text ++ codes " "
 
 -- The option for the page ranges.
-abbrev pub pages_option : Option (List ℕ) → List ℕ
-pages_option None = []
-pages_option (Some pages) = codes "page-ranges=" ++ option_text pages
+abbrev pub page_ranges_option : Option (List ℕ) → List ℕ
+page_ranges_option None = []
+page_ranges_option (Some ranges) = codes "page-ranges=" ++ option_text ranges
 
 abbrev pub raw_option : Bool → List ℕ
 raw_option raw = cond raw (codes "raw ") []
@@ -32,7 +32,7 @@ raw_option raw = cond raw (codes "raw ") []
 -- The requested options, each followed by a blank, `raw` if it is set, the page ranges, and the token.
 abbrev pub options_of : Submission → List ℕ → List ℕ
 options_of asked token =
-    flat_map (λ option. option_text option.now) asked.options.items ++ raw_option asked.raw ++ pages_option (option_map (λ pages. pages.now) asked.pages) ++ token
+    flat_map (λ option. option_text option.now) asked.options.items ++ raw_option asked.raw ++ page_ranges_option (option_map (λ ranges. ranges.now) asked.page_ranges) ++ token
 
 -- A question mark in place of a control character.
 abbrev pub plain_char : ℕ → ℕ

@@ -10,7 +10,7 @@ use crate::fault::{Fault, first_failure};
 use crate::services::{Services, all_queues, client_at, has_queue, only_socket, queue_of};
 use crate::tasks::act_by;
 use front_texts::{JobLine, JobState};
-use front_words::{Clear, JobAct, Removal};
+use front_words::{Clear, JobAct, PlainAct, Removal};
 use std::alloc::{AllocError, Global};
 
 /// Cancels the jobs of queues that have not ended.
@@ -73,7 +73,7 @@ fn stop_all(
     if !purge {
         return Ok(status);
     }
-    let purged = act_by(rt, client, JobAct::Purge, numbers)?;
+    let purged = act_by(rt, client, JobAct::Plain(PlainAct::Purge), numbers)?;
     Ok(first_failure(status, purged))
 }
 

@@ -6,7 +6,7 @@ ghost use Rattle.spool_front.specs.DeniedCommands.{IsExplained, act_word, is_den
 
 use crate::fault::Fault;
 use front_proof::{Caller, denied_job, denied_to_all};
-use front_words::{JobAct, QueueAct};
+use front_words::{JobAct, PlainAct, QueueAct};
 use std::alloc::{AllocError, Global};
 
 /// Returns the fault of an action on a job, with an explanation if the service denied it.
@@ -74,7 +74,7 @@ fn job_text(
 fn is_purge(act: JobAct) -> bool
     ensures { result ≡ is_purge act }
 {
-    matches!(act, JobAct::Purge)
+    matches!(act, JobAct::Plain(PlainAct::Purge))
 }
 
 fn act_word(act: JobAct) -> &'static str
@@ -83,9 +83,8 @@ fn act_word(act: JobAct) -> &'static str
     match act {
         JobAct::Cancel | JobAct::CancelOnly => "cancel",
         JobAct::Hold(_) => "hold",
-        JobAct::Release | JobAct::Resume => "release",
-        JobAct::Purge => "purge",
-        JobAct::End => "end",
+        JobAct::Resume => "release",
+        JobAct::Plain(act) => act.word(),
     }
 }
 

@@ -2,7 +2,7 @@
 ghost use Rattle.std.specs.Prelude.{◌≡◌, ◌++◌, IfOk, IfSome, OnOk, is_some, string_bytes, unwrap_or};
 ghost use Rattle.std.specs.Option.{option_map};
 ghost use Rattle.spool_front.specs.ServiceMoments.{second_of};
-ghost use Rattle.spool_front.specs.JobDrafts.{option_text, options_of, pages_option, plain_char, plain_text, raw_option, until_of};
+ghost use Rattle.spool_front.specs.JobDrafts.{option_text, options_of, page_ranges_option, plain_char, plain_text, raw_option, until_of};
 
 use crate::commands::{Draft, Until};
 use crate::fault::Fault;
@@ -134,7 +134,7 @@ fn options_of(alloc: Global, asked: &Submission<'_>, token: &str) -> Result<Stri
         push_option(&mut options, option)?;
     }
     push_raw(&mut options, asked.raw)?;
-    push_pages(&mut options, asked.pages)?;
+    push_page_ranges(&mut options, asked.page_ranges)?;
     options.push_str(token)?;
     Ok(options)
 }
@@ -148,14 +148,14 @@ fn push_raw(options: &mut String, raw: bool) -> Result<(), AllocError>
     Ok(())
 }
 
-fn push_pages(options: &mut String, pages: Option<&str>) -> Result<(), AllocError>
-    ensures { OnOk result (string_bytes options.new ≡ string_bytes options.old ++ pages_option (option_map (λ pages. pages.now) pages.entry)) }
+fn push_page_ranges(options: &mut String, ranges: Option<&str>) -> Result<(), AllocError>
+    ensures { OnOk result (string_bytes options.new ≡ string_bytes options.old ++ page_ranges_option (option_map (λ ranges. ranges.now) ranges.entry)) }
 {
-    let Some(pages) = pages else {
+    let Some(ranges) = ranges else {
         return Ok(());
     };
     options.push_str("page-ranges=")?;
-    push_option(options, pages)?;
+    push_option(options, ranges)?;
     Ok(())
 }
 

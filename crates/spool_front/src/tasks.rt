@@ -438,9 +438,8 @@ fn act_line(alloc: Global, clocks: Clocks, act: JobAct, job: u32) -> Result<Vec<
     match act {
         JobAct::Cancel => job_line(alloc, "stop", job),
         JobAct::CancelOnly => job_line(alloc, "cancel", job),
-        JobAct::Release | JobAct::Resume => job_line(alloc, "release", job),
-        JobAct::Purge => job_line(alloc, "purge", job),
-        JobAct::End => job_line(alloc, "end", job),
+        JobAct::Resume => job_line(alloc, "release", job),
+        JobAct::Plain(act) => job_line(alloc, act.word(), job),
         JobAct::Hold(None) => hold_line(alloc, job, Until::Released),
         JobAct::Hold(Some(moment)) => {
             hold_line(alloc, job, Until::Reached(clocks.second_of(moment)))

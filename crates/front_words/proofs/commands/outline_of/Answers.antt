@@ -19,14 +19,8 @@ returns-in-Cancel c = rw c.in-Cancel.is refl
 pub returns-in-Hold : goal.returns-in-Hold
 returns-in-Hold c = rw c.in-Hold.is refl
 
-pub returns-in-Release : goal.returns-in-Release
-returns-in-Release c = rw c.in-Release.is refl
-
-pub returns-in-Purge : goal.returns-in-Purge
-returns-in-Purge c = rw c.in-Purge.is refl
-
-pub returns-in-End : goal.returns-in-End
-returns-in-End c = rw c.in-End.is refl
+pub returns-in-Plain : goal.returns-in-Plain
+returns-in-Plain c = rw c.in-Plain.is refl
 
 pub returns-in-QueueShow : goal.returns-in-QueueShow
 returns-in-QueueShow c = rw c.in-QueueShow.is refl
