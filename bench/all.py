@@ -1,9 +1,9 @@
 #!/usr/bin/env python3
 """Runs the benchmarks one after the other, and prints a table of all: all.py [--list] [--plots] [NAME..]
 
-Each benchmark is a script of this folder, such as `opening`; without NAME all are run, which takes about an hour. A row has the seconds that
-it took and the load of the machine before and after it; its figures follow. On a busy machine the figures mean little: only the
-ratios of one run can be compared with those of another. --list prints the purpose of each benchmark.
+Each benchmark is a script of this folder, such as `opening`; without NAME all are run, which takes about an hour and a half. A row has the
+seconds that it took and the load of the machine before and after it; its figures follow. On a busy machine the figures mean little: only
+the ratios of one run can be compared with those of another. --list prints the purpose of each benchmark.
 
 --plots draws how the time of some things grows (bench/plots.py), with matplotlib (Debian's package python3-matplotlib).
 

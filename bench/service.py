@@ -26,6 +26,7 @@ It runs crates/spool_service/out/spool_service (built by `rt run` in that crate)
 No test checks them. The script prints the load of the machine before and after: on a busy machine the figures mean little. It takes about
 five minutes. With PART only these parts are run.
 """
+import functools
 import os
 import statistics
 import sys
@@ -52,11 +53,11 @@ PIECE = 65_536
 
 
 class RunningService:
-    """A service in a folder of its own, with `queues` queues."""
+    """A service in a folder of its own, with `queues` queues and a spool of `size` bytes."""
 
-    def __init__(self, queues, seconds, program=None):
+    def __init__(self, queues, seconds, program=None, size=67_108_864):
         self.folder = Folder()
-        self.folder.size = 67_108_864
+        self.folder.size = size
         if program:
             self.folder.write("programs", f"backend slow {program}\n")
         self.names = [f"q{number}" for number in range(queues)]
@@ -141,7 +142,7 @@ def accepted_by_cups(queues, clients, syncs, interval, program=False):
         document = cups.write("document", DOCUMENT)
 
         def submit_share(first):
-            connection = None if program else Connection(cups)
+            connection = None if program else Connection(cups.socket)
             for number in range(first, first + share):
                 queue = f"q{number % queues}"
                 if program:
@@ -171,17 +172,27 @@ def accepted():
         print(f"  left out: {missing}")
     ways = {name: way for name, way in WAYS.items() if not missing or name.startswith("the service")}
     for queues in QUEUES:
-        found = {name: [[] for _ in CLIENTS] for name in ways}
-        for _ in range(TIMES):
-            for place, clients in enumerate(CLIENTS):
-                for name, way in ways.items():
-                    found[name][place].append(way(queues, clients))
-        middle = {name: [statistics.median(runs) for runs in rates] for name, rates in found.items()}
-        for name, rates in middle.items():
-            shown = ", ".join(f"{clients} {rate:.0f}" for clients, rate in zip(CLIENTS, rates))
-            above = ", ".join(f"{mine / rate:.2f}" for mine, rate in zip(middle["the service"], rates))
-            ratio = "" if name == "the service" else f"; the service's ratio {above}"
-            print(f"  jobs accepted per second on {queues} queues by {name}, by clients: {shown}{ratio}", flush=True)
+        here = {name: functools.partial(way, queues) for name, way in ways.items()}
+        print_rates(f"jobs accepted per second on {queues} queues, by clients", CLIENTS, medians(here, CLIENTS))
+
+
+def medians(ways, places):
+    """The median of each way in each place. The ways take turns, so that other load on the machine affects all of them."""
+    found = {name: [[] for _ in places] for name in ways}
+    for _ in range(TIMES):
+        for number, place in enumerate(places):
+            for name, way in ways.items():
+                found[name][number].append(way(place))
+    return {name: [statistics.median(runs) for runs in rates] for name, rates in found.items()}
+
+
+def print_rates(title, places, rates):
+    """Prints the rates of each way in each place, and the ratios of the first way to the others."""
+    first = next(iter(rates))
+    for name, row in rates.items():
+        shown = ", ".join(f"{place} {rate:,.1f}" for place, rate in zip(places, row))
+        above = ", ".join(f"{mine / rate:.2f}" for mine, rate in zip(rates[first], row))
+        print(f"  {title}: {name}: {shown}" + ("" if name == first else f"; ratio of {first} {above}"), flush=True)
 
 
 def printed():
@@ -261,12 +272,17 @@ def main():
     Folder.service = os.path.abspath(sys.argv[1] if len(sys.argv) > 1 else SERVICE)
     if not os.path.exists(Folder.service):
         sys.exit("no program: run `rt run` in crates/spool_service first")
-    parts = {part.__name__: part for part in (replies, accepted, printed, work, memory)}
+    run_parts(replies, accepted, printed, work, memory)
+
+
+def run_parts(*parts):
+    """Runs these parts, or those that the arguments name, with the load of the machine before and after."""
+    named = {part.__name__: part for part in parts}
     print(f"load of the machine: {os.getloadavg()[0]:.1f}")
-    for name in sys.argv[2:] or parts:
+    for name in sys.argv[2:] or named:
         print(name, flush=True)
-        parts[name]()
-    print(f"load of the machine: {os.getloadavg()[0]:.1f}")
+        named[name]()
+    print(f"load of the machine: {os.getloadavg()[0]:.1f}", flush=True)
 
 
 if __name__ == "__main__":

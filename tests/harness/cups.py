@@ -4,7 +4,7 @@ It runs in a folder, on a socket in that folder and a port of the loopback addre
 and cups-client, and must be run as root, because CUPS must start as root.
 
 `Cups.missing()` names a requirement that is missing, or returns None. `Connection` is a connection of a client, which is kept
-between its requests.
+between its requests. It can also be one to the IPP front.
 """
 import os
 import shutil
@@ -59,6 +59,9 @@ DirtyCleanInterval {interval}
   </Limit>
 </Policy>
 """
+
+# The beginning of the attribute that has the number of a job.
+JOB_NUMBER = b"\x21\x00\x06job-id\x00\x04"
 
 
 class Cups:
@@ -147,23 +150,28 @@ class Cups:
 
 
 class Connection:
-    """A connection to CUPS over its socket, which is kept between requests (IPP over HTTP/1.1)."""
+    """A connection to a server over the socket with this path, which is kept between requests (IPP over HTTP/1.1)."""
 
-    PRINT_JOB, CREATE_JOB, SEND_DOCUMENT = 0x0002, 0x0005, 0x0006
+    PRINT_JOB, CREATE_JOB, SEND_DOCUMENT, GET_JOBS, GET_PRINTER = 0x0002, 0x0005, 0x0006, 0x000A, 0x000B
 
-    def __init__(self, cups):
+    def __init__(self, path):
         self.connection = socket.socket(socket.AF_UNIX)
         self.connection.settimeout(LONGEST)
-        self.connection.connect(cups.socket)
+        self.connection.connect(path)
         self.held = b""
 
     def close(self):
         self.connection.close()
 
     def submit(self, queue, document):
-        """Creates a job by one request, which CUPS has accepted when it replies. Returns the job's number."""
+        """Creates a job by one request, which the server has accepted when it replies. Returns the job's number."""
         asked = self.about(queue) + attribute(0x49, "document-format", b"application/octet-stream")
         return self.asked(self.PRINT_JOB, queue, asked, document)
+
+    def begin(self, queue, length):
+        """Sends a Print-Job without its document, which has this length."""
+        asked = self.about(queue) + attribute(0x49, "document-format", b"application/octet-stream")
+        self.connection.sendall(self.request(self.PRINT_JOB, queue, asked, length))
 
     def submit_by_two(self, queue, document):
         """Creates a job by two requests, as the program lp does."""
@@ -179,16 +187,27 @@ class Connection:
 
     def asked(self, operation, queue, attributes, document=b""):
         """The number of the job in a reply."""
-        head = struct.pack(">BBhi", 2, 0, operation, 1) + b"\1"
-        head += attribute(0x47, "attributes-charset", b"utf-8") + attribute(0x48, "attributes-natural-language", b"en")
-        body = head + attributes + b"\3" + document
-        path = f"POST /printers/{queue} HTTP/1.1\r\nHost: localhost\r\nContent-Type: application/ipp\r\nContent-Length: {len(body)}\r\n\r\n"
-        self.connection.sendall(path.encode() + body)
+        reply = self.exchange(operation, queue, attributes, document)
+        at = reply.find(JOB_NUMBER)
+        return struct.unpack(">i", reply[at + 11 : at + 15])[0] if 0 <= at else None
+
+    def exchange(self, operation, queue, attributes, document=b""):
+        """The message of a reply."""
+        self.connection.sendall(self.request(operation, queue, attributes, len(document)) + document)
         reply = self.answer()
         if len(reply) < 8 or 0xFF < struct.unpack(">h", reply[2:4])[0]:
-            raise OSError(f"CUPS refused a request: {reply[:80]!r}")
-        at = reply.find(b"\x21\x00\x06job-id\x00\x04")
-        return struct.unpack(">i", reply[at + 11 : at + 15])[0] if 0 <= at else None
+            raise OSError(f"the server refused a request: {reply[:80]!r}")
+        return reply
+
+    @staticmethod
+    def request(operation, queue, attributes, length):
+        """A request whose document, of this length, follows."""
+        head = struct.pack(">BBhi", 2, 0, operation, 1) + b"\1"
+        head += attribute(0x47, "attributes-charset", b"utf-8") + attribute(0x48, "attributes-natural-language", b"en")
+        body = head + attributes + b"\3"
+        length += len(body)
+        path = f"POST /printers/{queue} HTTP/1.1\r\nHost: localhost\r\nContent-Type: application/ipp\r\nContent-Length: {length}\r\n\r\n"
+        return path.encode() + body
 
     def answer(self):
         """The body of the next reply."""
@@ -220,7 +239,7 @@ class Connection:
     def more(self):
         piece = self.connection.recv(65_536)
         if not piece:
-            raise OSError("CUPS closed the connection")
+            raise OSError("the server closed the connection")
         self.held += piece
 
 

@@ -3,7 +3,6 @@ import os
 import socket
 import struct
 import subprocess
-import time
 
 from harness.checks import holds, LONGEST, same, until
 from harness.programs import IPP
@@ -23,19 +22,20 @@ def free_port():
 
 
 class Ipp:
-    """The front of a service's folder. `local` is its socket for all users, and `operators` that of operators."""
+    """The front of a service's folder. `local` is its socket for all users, `operators` that of operators, and `service` that of the service."""
 
     def __init__(self, folder, *words):
         self.folder = folder
         self.port = free_port()
         self.address = f"127.0.0.1:{self.port}"
         self.local, self.operators = folder.at("ipp.sock"), folder.at("operators.sock")
+        self.service = folder.socket
         self.end_file = folder.at("ipp.end")
         self.words = list(words)
         self.running = None
 
     def start(self):
-        words = ["--service", self.folder.socket, "--listen", self.address, "--socket", self.local, "--operators-socket", self.operators]
+        words = ["--service", self.service, "--listen", self.address, "--socket", self.local, "--operators-socket", self.operators]
         with open(self.folder.at("ipp.log"), "ab") as log:
             self.running = subprocess.Popen([IPP, *words, "--end", self.end_file, *self.words], stdin=subprocess.DEVNULL, stderr=log)
         until("the IPP front", self.serves)
@@ -43,7 +43,9 @@ class Ipp:
     def serves(self):
         same("the front", self.running.poll(), None)
         try:
-            self.connect().close()
+            # It listens there last.
+            with socket.socket(socket.AF_UNIX) as probe:
+                probe.connect(self.operators)
             return True
         except OSError:
             return False
@@ -193,8 +195,3 @@ def read(body):
 def job_of(answer):
     """The number of the job of an answer."""
     return next(group["job-id"][0] for tag, group in answer[1] if tag == JOB)
-
-
-def wait_until_bound(path):
-    until(path, lambda: os.path.exists(path))
-    time.sleep(0.05)

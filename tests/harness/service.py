@@ -299,8 +299,7 @@ class Folder:
 
     def memory(self):
         """The resident memory of the service, in KiB."""
-        with open(f"/proc/{self.running.pid}/status") as file:
-            return next(int(line.split()[1]) for line in file if line.startswith("VmRSS"))
+        return memory_of(self.running.pid)
 
     def descriptors(self):
         return len(os.listdir(f"/proc/{self.running.pid}/fd"))
@@ -433,6 +432,12 @@ def with_socket(folder, path, act):
         return act()
     finally:
         folder.socket = usual
+
+
+def memory_of(process, field="VmRSS"):
+    """The memory of a process in KiB: what is resident now, or with `VmHWM` the most that was."""
+    with open(f"/proc/{process}/status", encoding="ascii") as file:
+        return next(int(line.split()[1]) for line in file if line.startswith(field))
 
 
 def work_of(process):

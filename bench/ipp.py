@@ -1,0 +1,209 @@
+#!/usr/bin/env python3
+"""Measures the IPP front next to CUPS, by the same client: ipp.py [PROGRAM [PART..]]
+
+It runs crates/spool_ipp/out/spool_ipp (built by `rt run` in that crate) or PROGRAM over crates/spool_service/out/spool_service, with the spool
+in TMPDIR. In the same runs, in turn with it, the same requests are sent to a private CUPS (tests/harness/cups.py), if Debian's package `cups`
+is installed and the script runs as root. Both are asked over their Unix sockets by a client that keeps its connection:
+
+- `print_job`: documents that are accepted per second by Print-Job, of 1 to 4,096 KiB, on 1 to 32 connections, while nothing prints. The
+  targets: the rate of CUPS without syncs on 8 and on 32 connections, 0.8 of it on one, and 5 times the rate of CUPS with syncs;
+- `create_job`: the same by Create-Job and Send-Document, the two requests of the program lp;
+- `printer`: answers to Get-Printer-Attributes per second, with all attributes;
+- `listing`: answers to Get-Jobs per second for 500 and 10,000 jobs, with the attributes that `lpstat -o` requests;
+- `memory`: the most memory that each has resident while 40 clients send documents of 16 MiB slowly. The target of the front is 256 KiB for
+  each client. Only 12 MiB of each document are sent, because not all of them have room in the largest spool.
+
+`no syncs`, `syncs` and `syncs at once` of CUPS are those of service.py. CUPS syncs no document with any of them, while the service syncs
+each piece. The front makes three events of a job with a short document, and so six syncs, which it shares with other jobs of the same
+turns.
+
+The script prints medians of several runs, and the ratios of the front to CUPS. Times depend on the machine and its disk, so only the ratios
+are of interest. The client is one process, whose own time is in all rates alike. No test checks them. The script prints the load of the
+machine before and after: on a busy machine the figures mean little. It takes about half an hour. With PART only these parts are run.
+"""
+import contextlib
+import functools
+import os
+import statistics
+import sys
+import time
+from collections import namedtuple
+
+from harness import ipp
+from harness.checks import at_once, same, timed
+from harness.cups import attribute, Connection, Cups, JOB_NUMBER
+from harness.programs import IPP, unbuilt
+from harness.service import memory_of
+from service import medians, print_rates, run_parts, RunningService, share_of, TIMES
+
+CONNECTIONS = (1, 8, 32)
+# The length of a document in KiB, and the number of documents in a run.
+DOCUMENTS = {1: 192, 8: 192, 64: 192, 4_096: 32}
+QUEUE = "q0"
+SPOOL = 1_073_741_824
+ANSWERS = 192
+LISTED = {500: 24, 10_000: 4}
+FILLING = 8
+# The clients that send slowly, the length of a document, and the bytes of it that are sent, in pieces with a pause between them.
+SLOW, LONG, SENT, PIECE, PAUSE = 40, 16_777_216, 12_582_912, 65_536, 0.05
+
+# The attributes of a job that `lpstat -o` requests.
+COLUMNS = (
+    "job-id", "job-k-octets", "job-name", "job-originating-user-name", "job-printer-state-message", "job-printer-uri", "job-state-reasons",
+    "time-at-creation",
+)
+
+# A server that runs: its socket, and its process.
+Server = namedtuple("Server", "socket process")
+
+
+@contextlib.contextmanager
+def front():
+    """The front of a service with a queue that prints nothing."""
+    with RunningService(1, 0, size=SPOOL) as service:
+        service.say_to_all("disable")
+        with ipp.Ipp(service.folder) as started:
+            yield Server(started.local, started.running.pid)
+
+
+@contextlib.contextmanager
+def cups(syncs, interval):
+    """CUPS with a queue that prints nothing."""
+    with Cups(syncs, interval) as started:
+        started.queue(QUEUE)
+        started.hold(QUEUE)
+        yield Server(started.socket, started.program.pid)
+
+
+SERVERS = {
+    "the front": front,
+    "CUPS, no syncs": lambda: cups(False, 30),
+    "CUPS, syncs": lambda: cups(True, 30),
+    "CUPS, syncs at once": lambda: cups(True, 0),
+}
+
+
+def servers(*names):
+    """The servers with these names that this machine has, or all."""
+    missing = Cups.missing()
+    if missing:
+        print(f"  left out: {missing}")
+    return {name: way for name, way in SERVERS.items() if (not names or name in names) and (not missing or way is front)}
+
+
+def rate(server, connections, count, act):
+    """How often per second this many connections together do something, `count` times in all."""
+
+    def share():
+        connection = Connection(server.socket)
+        for _ in range(share_of(connections, count)):
+            act(connection)
+        connection.close()
+
+    return share_of(connections, count) * connections / timed(lambda: at_once([share] * connections))
+
+
+# ---- documents
+
+
+def accepted(server, submit, length, count, connections):
+    """Documents per second that a server accepts."""
+    with server() as started:
+        return rate(started, connections, count, lambda connection: submit(connection, QUEUE, b"x" * length))
+
+
+def documents(name, submit):
+    for kibibytes, count in DOCUMENTS.items():
+        ways = {key: functools.partial(accepted, server, submit, kibibytes * 1_024, count) for key, server in servers().items()}
+        print_rates(f"documents of {kibibytes} KiB by {name} per second, by connections", CONNECTIONS, medians(ways, CONNECTIONS))
+
+
+def print_job():
+    documents("Print-Job", Connection.submit)
+
+
+def create_job():
+    documents("Create-Job and Send-Document", Connection.submit_by_two)
+
+
+# ---- answers
+
+
+def printer():
+    def answered(server, connections):
+        with server() as started:
+            return rate(started, connections, ANSWERS, ask_for_printer)
+
+    ways = {name: functools.partial(answered, server) for name, server in servers("the front", "CUPS, no syncs").items()}
+    print_rates("answers to Get-Printer-Attributes per second, by connections", CONNECTIONS, medians(ways, CONNECTIONS))
+
+
+def ask_for_printer(connection):
+    connection.exchange(Connection.GET_PRINTER, QUEUE, connection.about(QUEUE))
+
+
+def listing():
+    """The servers have the same jobs, which are created once, and answer in turn."""
+    with contextlib.ExitStack() as stack:
+        started = {name: stack.enter_context(server()) for name, server in servers("the front", "CUPS, no syncs").items()}
+        before = 0
+        for jobs, count in LISTED.items():
+            for server in started.values():
+                rate(server, FILLING, jobs - before, lambda connection: connection.submit(QUEUE, b"x"))
+            before = before + (jobs - before) // FILLING * FILLING
+            ways = {name: functools.partial(listed, server, before, count) for name, server in started.items()}
+            print_rates(f"answers to Get-Jobs per second with {before} jobs, by connections", CONNECTIONS[:1], medians(ways, CONNECTIONS[:1]))
+
+
+def listed(server, jobs, count, connections):
+    return rate(server, connections, count, lambda connection: same("jobs", ask_for_jobs(connection), jobs))
+
+
+def ask_for_jobs(connection):
+    """The number of jobs of a listing."""
+    first, *others = (name.encode() for name in COLUMNS)
+    asked = attribute(0x44, "requested-attributes", first) + b"".join(attribute(0x44, "", name) for name in others)
+    return connection.exchange(Connection.GET_JOBS, QUEUE, connection.about(QUEUE) + asked).count(JOB_NUMBER)
+
+
+# ---- memory
+
+
+def memory():
+    for name, server in servers("the front", "CUPS, no syncs").items():
+        idle, busy = zip(*(memory_of_slow(server) for _ in range(TIMES)))
+        each = statistics.median(after - before for before, after in zip(idle, busy)) / SLOW
+        shown = f"idle {statistics.median(idle)} KiB, with {SLOW} clients {statistics.median(busy)} KiB, {each:.0f} KiB a client"
+        print(f"  memory of {name}: {shown}", flush=True)
+
+
+def memory_of_slow(server):
+    """The memory of a server in KiB, idle and while clients send documents slowly."""
+    with server() as started:
+        connection = Connection(started.socket)
+        ask_for_printer(connection)
+        idle = memory_of(started.process)
+        clients = [Connection(started.socket) for _ in range(SLOW)]
+        for client in clients:
+            client.begin(QUEUE, LONG)
+        for _ in range(SENT // PIECE):
+            for client in clients:
+                client.connection.sendall(b"x" * PIECE)
+            time.sleep(PAUSE)
+        busy = memory_of(started.process, "VmHWM")
+        for client in clients:
+            client.close()
+        return idle, busy
+
+
+def main():
+    ipp.IPP = os.path.abspath(sys.argv[1] if len(sys.argv) > 1 else IPP)
+    if not os.path.exists(ipp.IPP):
+        sys.exit("no program: run `rt run` in crates/spool_ipp first")
+    if unbuilt("spool_service"):
+        sys.exit(f"it needs {unbuilt('spool_service')}")
+    run_parts(print_job, create_job, printer, listing, memory)
+
+
+if __name__ == "__main__":
+    main()
