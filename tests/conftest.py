@@ -20,9 +20,10 @@ import pytest
 
 from harness import programs
 from harness.child_folder import Folder as ChildFolder
+from harness.ipp import Ipp
 from harness.large_run import adopt, Place
 from harness.people import People
-from harness.service import Folder as ServiceFolder
+from harness.service import Client, Folder as ServiceFolder, KEEPS
 
 try:
     import hypothesis
@@ -177,6 +178,18 @@ def folder(request):
     yield made
     made.end()
     kept_if_failed(request, made.path)
+
+
+@pytest.fixture
+def ipp(folder):
+    """The IPP front of a service with a queue `q` whose backend keeps each document."""
+    skip_without("spool_ipp")
+    folder.backend("keeps", KEEPS)
+    folder.start()
+    folder.queue(Client(folder), "q", scheme="keeps")
+    folder.write("printers", "pages-per-minute 20\nmake-and-model Generic Printer\nresolutions 600\noutput-bins face-down\n")
+    with Ipp(folder, "--default", "q", "--printers", folder.at("printers")) as front:
+        yield front
 
 
 @pytest.fixture
