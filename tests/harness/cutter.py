@@ -1,0 +1,86 @@
+"""A proxy that cuts a connection at a byte."""
+import select
+import socket
+import struct
+import threading
+
+from harness.checks import until
+
+# The two directions of a connection.
+REQUESTS, REPLIES = "requests", "replies"
+
+
+class Cutter:
+    """Passes the bytes of each connection to `listener` on to one that `connect` makes, during a `with`. `cut` chooses where the next cut is, and
+    `passed` counts the bytes of each direction. With `is_abrupt` a cut resets the connection.
+    """
+
+    def __init__(self, listener, connect, is_abrupt=False):
+        self.listener, self.connect, self.is_abrupt = listener, connect, is_abrupt
+        self.lock = threading.Lock()
+        self.side, self.left = None, 0
+        self.passed = {REQUESTS: 0, REPLIES: 0}
+        self.clients = []
+
+    def __enter__(self):
+        threading.Thread(target=self.accept, daemon=True).start()
+        return self
+
+    def __exit__(self, *fault):
+        self.listener.shutdown(socket.SHUT_RDWR)
+        self.cut_all()
+        self.listener.close()
+
+    def accept(self):
+        while True:
+            try:
+                client, _ = self.listener.accept()
+            except OSError:
+                return
+            self.clients.append(client)
+            threading.Thread(target=self.serve, args=(client,), daemon=True).start()
+
+    def serve(self, client):
+        """Passes the bytes of a client and of its server on, until an end or the cut."""
+        try:
+            with self.connect() as server:
+                ways = {client: (REQUESTS, server), server: (REPLIES, client)}
+                while all(self.passes(source, *ways[source]) for source in select.select(list(ways), [], [])[0]):
+                    pass
+                self.note_end(client, server)
+        except OSError:
+            pass
+        client.close()
+        self.clients.remove(client)
+
+    def passes(self, source, side, target):
+        """Passes on the bytes that have come. Returns whether the connection continues."""
+        piece = source.recv(65_536)
+        with self.lock:
+            is_cut = self.side == side and self.left <= len(piece)
+            allowed = self.left if is_cut else len(piece)
+            self.left -= allowed if self.side == side else 0
+            self.side = None if is_cut else self.side
+            self.passed[side] += allowed
+        target.sendall(piece[:allowed])
+        return bool(piece) and not is_cut
+
+    def note_end(self, *ends):
+        """The connections are reset when they are closed."""
+        if self.is_abrupt:
+            for end in ends:
+                end.setsockopt(socket.SOL_SOCKET, socket.SO_LINGER, struct.pack("ii", 1, 0))
+
+    def cut(self, side, count):
+        """Cuts the connection after this number of further bytes of this direction, or not at all."""
+        with self.lock:
+            self.side, self.left = side, count
+
+    def cut_all(self):
+        """Cuts each connection now, and waits for that."""
+        for client in list(self.clients):
+            try:
+                client.shutdown(socket.SHUT_RDWR)
+            except OSError:
+                pass
+        until("the ends of the connections", lambda: not self.clients)
