@@ -11,7 +11,7 @@ from concurrent.futures import ProcessPoolExecutor
 
 import pytest
 
-from harness.checks import at_once, Difference, holds, LONGEST, same, until
+from harness.checks import at_once, Difference, holds, LONGEST, same, timed, until
 from harness.cutter import Cutter, REPLIES, REQUESTS
 from harness.ipp import (
     attribute, BOOLEAN, CANCEL_JOB, Connection, CREATE_JOB, GET_JOB, GET_JOBS, GET_PRINTER, INTEGER, Ipp, job_of, KEYWORD, message, MIME,
@@ -330,19 +330,24 @@ def test_framing_of_bodies(folder, ipp):
 # ---- more clients than are served
 
 
-def replies_of(port, uri, count):
-    """The times of replies to a client that asks again and again, and how often it had to connect again."""
-    times, line, losses = [], None, -1
-    for _ in range(count):
-        began, answer = time.monotonic(), None
+class Asking:
+    """A client that asks again and again. It connects again if its place was taken, which counts as a part of the reply."""
+
+    def __init__(self, ipp):
+        self.ipp, self.line, self.losses = ipp, None, -1
+
+    def asked(self):
+        """The seconds until the reply."""
+        return timed(self.ask)
+
+    def ask(self):
+        answer = None
         while answer is None:
-            if line is None:
-                line, losses = Connection(socket.create_connection(("127.0.0.1", port), timeout=LONGEST)), losses + 1
-            answer = answered(line, message(GET_PRINTER, uri))
-            line = line if answer else None
+            if self.line is None:
+                self.line, self.losses = Connection(self.ipp.connect()), self.losses + 1
+            answer = answered(self.line, message(GET_PRINTER, self.ipp.uri()))
+            self.line = self.line if answer else None
         same("status", answer[0], OK)
-        times.append(time.monotonic() - began)
-    return times, losses
 
 
 def connect_for_nothing(port, count, stride):
@@ -363,19 +368,18 @@ def connect_for_nothing(port, count, stride):
 
 @pytest.mark.alone
 def test_thousands_of_connections(ipp, is_long):
-    """While 10,000 other clients connect, 99 of 100 replies to a client take hardly longer than usually. A client whose place was taken connects
-    again, which counts as a part of its reply.
-    """
-    count, made = 2_000 if is_long else 200, 0
-    with ProcessPoolExecutor(1) as asking:
-        usual, _ = asking.submit(replies_of, ipp.port, ipp.uri(), count).result()
-        meanwhile = asking.submit(replies_of, ipp.port, ipp.uri(), count)
-        while made < (10_000 if is_long else 500) or not meanwhile.done():
-            connect_for_nothing(ipp.port, 100, 40)
-            made += 100
-        busy, losses = meanwhile.result()
-    ours, theirs = (sorted(times)[len(times) * 99 // 100] for times in (busy, usual))
-    print(f"{made} connections; 99 of 100 replies within {1000 * ours:.1f} ms, usually {1000 * theirs:.1f} ms; {losses} times connected again")
+    """While 10,000 other clients connect, 99 of 100 replies to a client take hardly longer than usually."""
+    client, meanwhile, count = Asking(ipp), [], 1_000 if is_long else 50
+    usual = [client.asked() for _ in range(count)]
+    with ProcessPoolExecutor(1) as others:
+        flood = None
+        while flood is None or not flood.done() or len(meanwhile) < count:
+            if flood is None or flood.done():
+                flood = others.submit(connect_for_nothing, ipp.port, 10_000 if is_long else 500, 40)
+            meanwhile.append(client.asked())
+        flood.result()
+    ours, theirs = (sorted(times)[len(times) * 99 // 100] for times in (meanwhile, usual))
+    print(f"{len(meanwhile)} replies, 99 of 100 within {1000 * ours:.1f} ms, usually {1000 * theirs:.1f} ms; connected again {client.losses} times")
     holds("replies meanwhile", ours <= MOST_DELAY * theirs + SLACK)
 
 
