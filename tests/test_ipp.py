@@ -179,7 +179,9 @@ def test_cups_elsewhere(folder, far):
         until(f"its end, for {name}", lambda: Client(folder).state(job).startswith("9"))
         fields = Client(folder).fields(job)
         same("title and copies", (fields["title"], fields["copies"]), (f'"{name}"', "2"))
-        holds(fields["options"], "media=iso_a4_210x297mm " in fields["options"] and "print-quality=5 " in fields["options"])
+        # CUPS sends the size by the name of the command line, or by that of PWG 5101.1.
+        holds(fields["options"], any(f"media={name} " in fields["options"] for name in ("A4", "iso_a4_210x297mm")))
+        holds(fields["options"], "print-quality=5 " in fields["options"])
         holds(f"a document in PDF, for {name}", kept(folder, job).startswith(b"%PDF"))
         until(f"the job of CUPS, for {name}", lambda: f"far-{job} " in far.run("lpstat", "-W", "completed", "-o"))
 
