@@ -17,7 +17,7 @@ import pytest
 
 from harness import journal
 from harness.admin import image_of_rows
-from harness.checks import LONGEST, same
+from harness.checks import holds, LONGEST, same
 from harness.journal import close
 from harness.programs import path_of
 from harness.stories import of_q, Q, spelled
@@ -414,7 +414,7 @@ WHOLE = {
 
 
 def marks_of(name, row):
-    """The needs of a row, and whether it is expected to fail."""
+    """The needs of a row."""
     # A program with an address sanitizer takes terabytes of address space.
     needed = [f"plain {row.program}" if "prlimit" in row.before else row.program, *row.before[:1 if row.before == NOBODY else 0]]
     needed += ["spool_shell"] if "owned" in {does[0] for does in row.does} else []
@@ -423,17 +423,33 @@ def marks_of(name, row):
         yield pytest.mark.root
     if "strace" in row.before:
         yield pytest.mark.strace
+
+
+def expected(name):
+    """The mark of a row whose text lacks a part."""
     if name in LACKS or name not in WHOLE:
-        yield pytest.mark.xfail(strict=True, reason=LACKS.get(name, "it has no cause"))
+        yield pytest.mark.xfail(strict=True, reason=LACKS.get(name, "its text lacks the path, the reason or what to do"))
 
 
-@pytest.mark.parametrize("row", [pytest.param(row, id=name, marks=list(marks_of(name, row))) for name, row in TABLE.items()])
-def test_fault(row, room):
-    """The program of a row ends with its text and its status."""
+def outcome(row, room):
+    """The status of the program of a row, and its text."""
     with contextlib.ExitStack() as held:
         place = Room(room, held)
         for name, *words in row.does:
             getattr(place, name)(*words)
         status, errors = place.run(row)
-        same("standard error", errors.replace(room, "AT"), row.text)
-        same("the status", status, row.status)
+        return status, errors.replace(room, "AT")
+
+
+@pytest.mark.parametrize("row", [pytest.param(row, id=name, marks=list(marks_of(name, row))) for name, row in TABLE.items()])
+def test_status(row, room):
+    """The program of a row ends with its status, and says why."""
+    status, text = outcome(row, room)
+    same("the status", status, row.status)
+    holds("a text", text)
+
+
+@pytest.mark.parametrize("row", [pytest.param(row, id=name, marks=[*marks_of(name, row), *expected(name)]) for name, row in TABLE.items()])
+def test_text(row, room):
+    """The program of a row prints its text."""
+    same("standard error", outcome(row, room)[1], row.text)

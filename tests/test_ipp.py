@@ -164,6 +164,8 @@ def far(folder, ipp):
     folder.queue(Client(folder), "pdf", scheme="keeps", target="application/pdf")
     with Cups() as cups:
         cups.run("lpadmin", "-p", "far", "-E", "-v", ipp.uri("pdf"), "-m", "everywhere")
+        # lpadmin does not wait for the PPD. Until then CUPS sends the options as the command line has them.
+        until("the PPD of the printer", lambda: any(Path(cups.folder).rglob("far.ppd")))
         yield cups
 
 
@@ -179,9 +181,7 @@ def test_cups_elsewhere(folder, far):
         until(f"its end, for {name}", lambda: Client(folder).state(job).startswith("9"))
         fields = Client(folder).fields(job)
         same("title and copies", (fields["title"], fields["copies"]), (f'"{name}"', "2"))
-        # CUPS sends the size by the name of the command line, or by that of PWG 5101.1.
-        holds(fields["options"], any(f"media={name} " in fields["options"] for name in ("A4", "iso_a4_210x297mm")))
-        holds(fields["options"], "print-quality=5 " in fields["options"])
+        holds(fields["options"], "media=iso_a4_210x297mm " in fields["options"] and "print-quality=5 " in fields["options"])
         holds(f"a document in PDF, for {name}", kept(folder, job).startswith(b"%PDF"))
         until(f"the job of CUPS, for {name}", lambda: f"far-{job} " in far.run("lpstat", "-W", "completed", "-o"))
 
