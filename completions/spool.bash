@@ -67,7 +67,7 @@ _spool() {
             hold) words='--until' ;;
             'queue add') words='--media --policy --interval --limit' ;;
             'queue set') words='--info --location' ;;
-            page) words='--follow' ;;
+            page) words='-q --user --follow' ;;
             esac
             words+=' --socket --help'
         else

@@ -43,6 +43,8 @@ complete -c spool -n '__fish_seen_subcommand_from say' -l until-end -d 'Wait unt
 complete -c spool -n '__fish_seen_subcommand_from status cancel hold release purge end' -a '(__spool_jobs)'
 complete -c spool -n '__fish_seen_subcommand_from cancel' -l keep-printing -d 'Do not terminate filters and backends'
 complete -c spool -n '__fish_seen_subcommand_from hold' -l until -x -d 'The end of the hold'
+complete -c spool -n '__fish_seen_subcommand_from page' -s q -x -a '(__spool_queues)' -d 'Only this queue and its jobs'
+complete -c spool -n '__fish_seen_subcommand_from page' -l user -x -a '(__fish_complete_users)' -d 'Only the jobs of this user'
 complete -c spool -n '__fish_seen_subcommand_from page' -F -l follow -d 'Write the page every five seconds'
 
 complete -c spool -n "__fish_seen_subcommand_from queue; and not __fish_seen_subcommand_from $acts" -a "$acts"

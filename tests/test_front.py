@@ -353,7 +353,7 @@ def test_status_page_in_a_browser(folder):
     words = ["--headless", "--no-sandbox", "--disable-gpu", f"--user-data-dir={folder.at('browser')}", "--dump-dom"]
     shown = subprocess.run(["chromium", *words, f"file://{folder.at('page.html')}"], capture_output=True, timeout=LONGEST).stdout.decode()
     holds("the title is a text", "&lt;b&gt;bold&lt;/b&gt;" in shown and "<title>Printers and jobs</title>" in shown)
-    same("rows", (shown.count("<tr>"), shown.count("<script")), (4, 0))
+    same("rows", (shown.count("<tr"), shown.count("<script")), (4, 0))
 
 
 def test_status_watch(folder):

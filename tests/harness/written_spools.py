@@ -59,6 +59,12 @@ def rows(count, by=lambda number: None, options=lambda number: b""):
         yield b"\x42" + job + b"\x01" + text(b"a/b") + bytes(13) + b"\x01" + bytes(10) + moment(by(number))
 
 
+def stopped_rows(count):
+    """The same, with the queue stopped: no job starts."""
+    for place, row in enumerate(rows(count)):
+        yield row[:-5] + b"\x01" + row[-4:] if place == 1 else row
+
+
 def timed_rows(count):
     """The same with jobs that each have a different start deadline, in no order."""
     return rows(count, lambda number: number * 7_919 % 1_000_003)

@@ -3,10 +3,11 @@
 ghost use Rattle.std.specs.Prelude.{◌≤◌};
 
 use front_texts::{
-    JobLine, LastLine, QueueLine, WatchLine, device_in, escape, fitted, job_page, job_shown_json,
-    jobs_json, jobs_table, lpq, lpstat_accepting, lpstat_device, lpstat_jobs, lpstat_names,
-    lpstat_printers, moment_text, page, queue_page, queues_json, queues_table, read_job_line,
-    read_job_shown, read_last_line, read_queue_line, read_watch_line, size_text,
+    AgedJob, JobLine, LastLine, PageView, QueueLine, WatchLine, aged_page, device_in, escape,
+    fitted, job_page, job_shown_json, jobs_json, jobs_table, lpq, lpstat_accepting, lpstat_device,
+    lpstat_jobs, lpstat_names, lpstat_printers, moment_text, next_in, now_in, page, queue_page,
+    queues_json, queues_table, read_aged_jobs, read_job_line, read_job_shown, read_last_line,
+    read_queue_line, read_watch_line, size_text,
 };
 use program_version::with_version;
 use spool_types::Moment;
@@ -33,6 +34,25 @@ const SHOWN: &str =
 // The lines that a service adds which reports times.
 const TIMES: &str = "created 1700000000\nclosed 1700000001\nstarted unknown\n";
 
+// A page of all queues and jobs.
+const ALL: PageView<'static> = PageView {
+    queue: None,
+    user: None,
+    follows: true,
+};
+
+// Ages in seconds, and the words for them.
+const AGES: [(u64, &str); 8] = [
+    (0, "0 s"),
+    (59, "59 s"),
+    (60, "1 min"),
+    (3_599, "59 min"),
+    (3_600, "1 h"),
+    (172_799, "47 h"),
+    (172_800, "2 d"),
+    (8_640_000, "100 d"),
+];
+
 const FOOTER: &str = with_version!(
     "</tbody>\n</table>\n<p class=\"faint\">Cegmandi ",
     "</p>\n</body>\n</html>\n"
@@ -46,6 +66,31 @@ fn jobs(alloc: Global, rows: &[&str]) -> Result<Vec<JobLine>, AllocError> {
         }
     }
     Ok(jobs)
+}
+
+// Returns the jobs with this age.
+fn aged(alloc: Global, rows: &[&str], age: Option<u64>) -> Result<Vec<AgedJob>, AllocError> {
+    let mut aged = Vec::new(alloc);
+    for line in jobs(alloc, rows)? {
+        aged.push(AgedJob {
+            line,
+            age,
+            left: age,
+        })?;
+    }
+    Ok(aged)
+}
+
+// Returns the page of two jobs of this age.
+fn page_of(alloc: Global, view: PageView<'_>, age: Option<u64>) -> Result<Vec<u8>, AllocError> {
+    let queues = queues(alloc, &[DEN, LAB])?;
+    aged_page(
+        alloc,
+        &queues,
+        &aged(alloc, &[WAITING, ARRIVING], age)?,
+        view,
+        "then",
+    )
 }
 
 fn queues(alloc: Global, rows: &[&str]) -> Result<Vec<QueueLine>, AllocError> {
@@ -369,13 +414,7 @@ fn pages(rt: HostRuntime) -> Result<(), Fail> {
         escape(alloc, "<a b=\"x\">'&'")?.as_slice()
             == b"&lt;a b=&quot;x&quot;&gt;&#39;&amp;&#39;".as_slice()
     );
-    let page = page(
-        alloc,
-        &queues(alloc, &[DEN, LAB])?,
-        &jobs(alloc, &[WAITING, ARRIVING])?,
-        "now",
-        true,
-    )?;
+    let page = page_of(alloc, ALL, Some(180))?;
     assert!(rt; has(&page, b"<td><bdi>&lt;b&gt;&amp;&#39;x&#39;</bdi> <span"));
     assert!(rt; has(&page, b"<td class=\"state arriving\">arriving</td>"));
     assert!(rt;
@@ -390,7 +429,85 @@ fn pages(rt: HostRuntime) -> Result<(), Fail> {
             b"<span class=\"faint\">its document is being sent</span>"
         )
     );
+    assert!(rt; has(&page, b"<p class=\"faint\">As of then</p>"));
     assert!(rt; !has(&page, b"<script"));
     assert!(rt; page.ends_with(FOOTER.as_bytes()));
+    Ok(())
+}
+
+#[test]
+fn pages_without_ages(rt: HostRuntime) -> Result<(), Fail> {
+    let alloc = rt.alloc();
+    let queues = queues(alloc, &[DEN, LAB])?;
+    let page = page(
+        alloc,
+        &queues,
+        &jobs(alloc, &[WAITING, ARRIVING])?,
+        "",
+        true,
+    )?;
+    assert!(rt; has(&page, b"<tr id=\"printer-den\">") && has(&page, b"<tr id=\"printer-lab\">"));
+    assert!(rt; has(&page, b"<td><bdi>ann</bdi></td><td class=\"n\"></td>"));
+    assert!(rt; has(&page, b"<td><bdi>bob</bdi></td><td class=\"n\"></td>"));
+    assert!(rt; !has(&page, b"As of") && !has(&page, b" left)</span>"));
+    assert!(rt; has(&page, b"http-equiv=\"refresh\""));
+    Ok(())
+}
+
+#[test]
+fn parts_of_pages(rt: HostRuntime) -> Result<(), Fail> {
+    let alloc = rt.alloc();
+    let of_ann = PageView {
+        queue: None,
+        user: Some("ann"),
+        follows: false,
+    };
+    let page = page_of(alloc, of_ann, None)?;
+    assert!(rt; has(&page, b"<p>Only jobs of <bdi>ann</bdi></p>"));
+    assert!(rt; has(&page, b"<td><bdi>ann</bdi></td><td class=\"n\"></td>"));
+    assert!(rt; !has(&page, b"<bdi>bob</bdi>"));
+    let of_den = PageView {
+        queue: Some("den"),
+        user: None,
+        follows: false,
+    };
+    let page = page_of(alloc, of_den, None)?;
+    assert!(rt; has(&page, b"<p>Only the printer <bdi>den</bdi></p>"));
+    assert!(rt; has(&page, b"<tr id=\"printer-den\">"));
+    assert!(rt; !has(&page, b"<tr id=\"printer-lab\">") && !has(&page, b"<tr class=\"on-lab\">"));
+    Ok(())
+}
+
+#[test]
+fn ages(rt: HostRuntime) -> Result<(), Fail> {
+    let alloc = rt.alloc();
+    for (age, words) in &AGES {
+        let page = page_of(alloc, ALL, Some(*age))?;
+        let cell = format!(in alloc; "<td class=\"n\">{words}</td>")?;
+        assert!(rt; has(&page, cell.as_bytes()));
+    }
+    Ok(())
+}
+
+#[test]
+fn listed_jobs(rt: HostRuntime) -> Result<(), Fail> {
+    let alloc = rt.alloc();
+    let mut rows = Vec::new(alloc);
+    for text in [SHOWN, TIMES, SHOWN] {
+        for row in text.lines() {
+            rows.push(Vec::from_slice(alloc, row.as_bytes())?)?;
+        }
+    }
+    let jobs = read_aged_jobs(alloc, &rows, Some(1_700_000_060))?;
+    assert_eq!(rt; jobs.len(), 2);
+    match jobs.as_slice() {
+        [first, second] => {
+            assert!(rt; first.age == Some(60) && second.age.is_none());
+            assert!(rt; first.line.title.as_str() == "P \"1\"" && first.line.size == 65_536);
+        }
+        _ => assert!(rt; false),
+    }
+    assert!(rt; now_in("ok now 7") == Some(7) && now_in("ok 7").is_none());
+    assert!(rt; next_in("ok 50 more 51") == Some(51) && next_in("ok 50").is_none());
     Ok(())
 }

@@ -3,6 +3,7 @@ pub mod CellLaws
 pub mod EntryLaws
 pub mod WordLaws
 pub mod TextLaws
+pub mod AgedLaws
 pub mod EscapeLaws
 pub mod JsonLaws
 pub mod ReadBack

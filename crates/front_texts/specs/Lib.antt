@@ -8,6 +8,7 @@ pub mod JobPage
 pub mod Cells
 pub mod Sizes
 pub mod Json
+pub mod AgedJobs
 pub mod Escape
 pub mod Page
 pub mod Lpstat

@@ -3,6 +3,7 @@ use Rattle.std.specs.Prelude.{ℕ, Bool, ◌&&◌, cond, ◌==◌, List, codes, 
 use Rattle.std.specs.List.{before_first, after_first}
 use Rattle.std.specs.Option.{option_map}
 use Rattle.line_words.specs.Blanks.{first_word, after_word}
+use Rattle.line_words.specs.DecimalNumbers.{decimal}
 use Rattle.command_lines.specs.CommandGrammar.{job_in, queue_in}
 use Rattle.front_texts.specs.ReplyFields.{is_word, is_end, count_in}
 use Rattle.front_texts.specs.JobRows.{job_row}
@@ -43,6 +44,32 @@ last_line line =
     cond (is_word (before_first is_space line) (codes "ok")) (Some (done (after_first is_space line)))
     (cond (is_word (before_first is_space line) (codes "error")) (Some (error_line (after_first is_space line)))
     None)
+
+-- ## The last lines of `now` and `list`
+
+-- The words `now SECONDS`.
+abbrev pub moment_words : List ℕ → Option ℕ
+moment_words words = cond (is_word (before_first is_space words) (codes "now")) (decimal 4000000000000 (after_first is_space words)) None
+
+abbrev pub moment_as : Option Last → Option ℕ
+moment_as (Some (done words)) = moment_words words
+moment_as last = None
+
+-- The time of the service.
+abbrev pub now_in : List ℕ → Option ℕ
+now_in line = moment_as (last_line line)
+
+-- The words `more N`, which follow the number of jobs.
+abbrev pub more_words : List ℕ → Option ℕ
+more_words words = cond (is_word (before_first is_space words) (codes "more")) (decimal 2147483647 (after_first is_space words)) None
+
+abbrev pub next_as : Option Last → Option ℕ
+next_as (Some (done words)) = more_words (after_first is_space words)
+next_as last = None
+
+-- The number from which the listing goes on, if it does.
+abbrev pub next_in : List ℕ → Option ℕ
+next_in line = next_as (last_line line)
 
 -- ## A line of `watch`
 

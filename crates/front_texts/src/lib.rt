@@ -10,15 +10,21 @@
 //! - [`read_job_line`], [`read_queue_line`], [`read_watch_line`], [`read_last_line`]: return exactly the value of a line (`value`;
 //!   `JobRows`, `QueueRows`, `ReplyLines`). [`read_job_shown`]: returns exactly the value of the lines `NAME VALUE` of a job (`value`,
 //!   `JobPage`). Lines that a job need not have are optional.
+//! - [`now_in`], [`next_in`]: return exactly the time in a reply to `now`, and the number from which a listing goes on (`value`,
+//!   `ReplyLines`).
+//! - [`read_aged_jobs`]: returns exactly the jobs of a reply to `list`, each with its own age, from its creation to a time of the service
+//!   (`value`, `AgedJobs`).
 //! - [`job_rows_read_back`]: each row that the spooler prints for a job reads as that job at that moment (`ReadBack`).
 //! - [`jobs_table`], [`queues_table`], [`job_page`], [`queue_page`]: no line takes more columns than allowed, as Unicode counts them, and
 //!   no character of it steers a terminal (`fits`, `clean_texts`). A table has a line of column names and one for each row (`count`).
 //! - [`fitted`]: cuts a text between characters and appends `…`, and leaves a text that fits as it is (`fits`, `whole`, `clean`).
 //! - [`job_json`], [`jobs_json`], [`queue_json`], [`queues_json`], [`job_shown_json`]: return exactly their values (`value`, `Json`).
 //!   [`json_text`] returns the text of such a value, in which a character that steers is an escape (`value`, `clean`).
-//! - [`page`]: returns exactly its bytes (`value`, `Page`): the page's own texts, and every other text appended by [`push_escaped`]. A text
-//!   that a user or a printer chose is cleaned before, and isolated by the element `bdi`. A job has a note that says what it waits for, as
-//!   far as the rows of the jobs and queues say (`note_text`).
+//! - [`page`], [`aged_page`]: return exactly their bytes (`value`, `Page`): the page's own texts, and every other text appended by
+//!   [`push_escaped`]. A text that a user or a printer chose is cleaned before, and isolated by the element `bdi`. A job has a note that says
+//!   what it waits for, as far as the rows of the jobs and queues say (`note_text`). [`page`] shows all queues and jobs, and no age.
+//!   [`aged_page`] shows the queues and jobs of the [`PageView`] and no others (`is_shown`, `is_job_shown`), each job with its age in words
+//!   (`age_words`) and with how long it still waits for a moment (`left_html`).
 //!   [`escaped_texts_have_no_markup`]: an escaped text contains no `<`, `>`, `"` or `'`, so it cannot open or close anything. [`escape`]
 //!   returns an escaped text.
 //! - [`lpstat_printers`], [`lpstat_accepting`], [`lpstat_jobs`], [`lpstat_names`], [`lpstat_device`], [`lpq`]: return exactly their bytes
@@ -42,6 +48,7 @@
 //! The only error is out of memory. A part of a text may then have been appended.
 #![tactic(auto)]
 
+mod aged_jobs;
 mod cells;
 mod escaping;
 mod fields;
@@ -62,6 +69,7 @@ mod states;
 mod tables;
 mod web_page;
 
+pub use aged_jobs::{AgedJob, read_aged_jobs};
 pub use cells::fitted;
 pub use escaping::{escape, push_escaped};
 pub use job_fields::job_page;
@@ -74,9 +82,9 @@ pub use lpq_form::lpq;
 pub use lpstat::{lpstat_accepting, lpstat_device, lpstat_jobs, lpstat_names, lpstat_printers};
 pub use queue_fields::{device_in, queue_page};
 pub use queue_line::{QueueLine, read_queue_line};
-pub use reply_lines::{LastLine, WatchLine, read_last_line, read_watch_line};
+pub use reply_lines::{LastLine, WatchLine, next_in, now_in, read_last_line, read_watch_line};
 pub use shown_user::{ShownUser, ShownUserKind};
 pub use sizes::{moment_text, size_text};
 pub use states::{JobState, PrinterState};
 pub use tables::{jobs_table, queues_table};
-pub use web_page::page;
+pub use web_page::{PageView, aged_page, page};

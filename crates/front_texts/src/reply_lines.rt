@@ -2,15 +2,21 @@
 ghost use Rattle.std.specs.Prelude.{◌≡◌, IfOk};
 ghost use Rattle.std.specs.List.{before_first, after_first};
 ghost use Rattle.std.specs.Option.{option_map};
-ghost use Rattle.front_texts.specs.ReplyLines.{is_space, last_of, last_line, error_line, job_news, queue_news, watch_line, gone_line, gone_job, gone_queue};
+ghost use Rattle.front_texts.specs.ReplyLines.{is_space, last_of, last_line, error_line, now_in, next_in, job_news, queue_news, watch_line, gone_line, gone_job, gone_queue};
 
 use crate::fields::{count, is_end, is_word};
 use crate::job_line::{JobLine, read_job_line};
 use crate::queue_line::{QueueLine, read_queue_line};
 use command_lines::job_number;
-use line_words::first_word;
+use line_words::{decimal, first_word};
 use spool_types::{JobId, QueueName};
 use std::alloc::{AllocError, Global};
+
+// The greatest moment that a service reports, in seconds.
+const GREATEST_MOMENT: u64 = 4_000_000_000_000;
+
+// The greatest number of a job.
+const GREATEST_NUMBER: u64 = 2_147_483_647;
 
 /// The last line of a reply.
 #[derive(Clone, Copy, Debug)]
@@ -67,6 +73,37 @@ fn parted(line: &str) -> (&str, &str)
     match line.split_once(' ') {
         Some(parts) => parts,
         None => (line, ""),
+    }
+}
+
+/// Returns the time in the last line of a reply to `now`, in seconds since 1970.
+pub fn now_in(line: &str) -> Option<u64>
+    ensures value { result ≡ now_in line.now }
+{
+    let Some(LastLine::Done { words }) = read_last_line(line) else {
+        return None;
+    };
+    let (word, seconds) = words.split_once(' ')?;
+    if word == "now" {
+        decimal(seconds.as_bytes(), GREATEST_MOMENT)
+    } else {
+        None
+    }
+}
+
+/// Returns the number from which a listing goes on, from the last line of a reply to `list`.
+pub fn next_in(line: &str) -> Option<u64>
+    ensures value { result ≡ next_in line.now }
+{
+    let Some(LastLine::Done { words }) = read_last_line(line) else {
+        return None;
+    };
+    let (_, rest) = words.split_once(' ')?;
+    let (word, number) = rest.split_once(' ')?;
+    if word == "more" {
+        decimal(number.as_bytes(), GREATEST_NUMBER)
+    } else {
+        None
     }
 }
 

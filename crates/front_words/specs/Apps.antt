@@ -83,9 +83,13 @@ add_app =
 abbrev pub set_app : App
 set_app = with_rule (with_rule (queue_app (codes "spool queue set")) (text_rule (codes "info"))) (text_rule (codes "location"))
 
--- `spool page FILE [--follow]`
+-- `spool page FILE [-q QUEUE] [--user USER] [--follow]`
+abbrev pub page_words : App
+page_words =
+    with_rule (with_rule (with_rule (task_app (codes "spool page")) (needed (word_rule (codes "file")))) (letter_rule 113 (codes "queue"))) (text_rule (codes "user"))
+
 abbrev pub page_app : App
-page_app = with_rule (with_rule (task_app (codes "spool page")) (needed (word_rule (codes "file")))) (flag_rule (codes "follow"))
+page_app = with_rule page_words (flag_rule (codes "follow"))
 
 -- `spool say [COMMAND].. [--until-end]`
 abbrev pub say_app : App

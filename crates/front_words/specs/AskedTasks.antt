@@ -21,6 +21,7 @@ use Rattle.front_words.specs.declared.asked.Lpq.{Lpq}
 use Rattle.front_words.specs.declared.asked.Lpstat.{Lpstat}
 use Rattle.front_words.specs.declared.asked.Moment.{Moment}
 use Rattle.front_words.specs.declared.asked.NewQueue.{NewQueue}
+use Rattle.front_words.specs.declared.asked.PageFile.{PageFile}
 use Rattle.front_words.specs.declared.asked.QueueAct.{QueueAct}
 use Rattle.front_words.specs.declared.asked.QueueAct.TheVariants as queue_is
 use Rattle.front_words.specs.declared.asked.Removal.{Removal}
@@ -363,8 +364,14 @@ abbrev pub IsShow : List Row → Task → Type 0
 IsShow found (task_is.ShowQueue name json) = (first_of (codes "name") found ≡ Some name.now) × (json ≡ is_told (first_of (codes "json") found))
 IsShow found other = ⊥
 
+pub record IsPageFile (found : List Row) (p : PageFile) : Type 0 where
+  pub file : first_of (codes "file") found ≡ Some p.file.now
+  pub queue : option_map (λ text. text.now) p.queue ≡ first_of (codes "queue") found
+  pub user : option_map (λ text. text.now) p.user ≡ first_of (codes "user") found
+  pub follow : p.follow ≡ is_told (first_of (codes "follow") found)
+
 abbrev pub IsPage : List Row → Task → Type 0
-IsPage found (task_is.Page file follow) = (first_of (codes "file") found ≡ Some file.now) × (follow ≡ is_told (first_of (codes "follow") found))
+IsPage found (task_is.Page p) = IsPageFile found p
 IsPage found other = ⊥
 
 pub record IsSaying (found : List Row) (s : Saying) : Type 0 where

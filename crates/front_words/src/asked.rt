@@ -61,10 +61,7 @@ pub enum Task<'a> {
         json: bool,
     },
     /// Write the queues and jobs as a page to a file.
-    Page {
-        file: &'a str,
-        follow: bool,
-    },
+    Page(PageFile<'a>),
     /// Send commands and print the replies.
     Say(Saying<'a>),
     /// Print what lpstat prints.
@@ -160,6 +157,18 @@ pub struct Status<'a> {
     pub json: bool,
     /// Whether the jobs are shown again whenever one changes. `job` is then `None`.
     pub watch: bool,
+}
+
+/// The file of a page, and what the page shows.
+#[derive(Clone, Copy)]
+pub struct PageFile<'a> {
+    pub file: &'a str,
+    /// Only this queue and its jobs.
+    pub queue: Option<&'a str>,
+    /// Only the jobs of this user.
+    pub user: Option<&'a str>,
+    /// Whether the page is written again every five seconds.
+    pub follow: bool,
 }
 
 /// Commands of the protocol.

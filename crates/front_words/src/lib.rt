@@ -46,8 +46,8 @@ mod tables;
 mod words;
 
 pub use asked::{
-    Asked, Clear, Hold, JobAct, Lpq, Lpstat, Moment, NewQueue, QueueAct, Removal, Saying, Status,
-    Submission, Task, Which,
+    Asked, Clear, Hold, JobAct, Lpq, Lpstat, Moment, NewQueue, PageFile, QueueAct, Removal, Saying,
+    Status, Submission, Task, Which,
 };
 pub use fault::WordsFault;
 pub use plain_acts::PlainAct;

@@ -8,7 +8,9 @@ ghost use Rattle.front_words.specs.AskedTasks.{IsAdd, IsAltered, IsAskedIn, IsJo
 ghost use Rattle.front_words.specs.AskedTasks.{begins_with, change_in, handling_of, has_more, has_numbers, has_texts, hold_of, host_part, is_immediate, is_indefinite, is_filled, is_near, is_path, is_policy, is_quiet, until_of};
 ghost use Rattle.front_words.specs.WordFaults.{BlamesOnly};
 
-use crate::asked::{Asked, Hold, JobAct, NewQueue, QueueAct, Saying, Status, Submission, Task};
+use crate::asked::{
+    Asked, Hold, JobAct, NewQueue, PageFile, QueueAct, Saying, Status, Submission, Task,
+};
 use crate::fault::Wrong;
 use crate::forms::Form;
 use crate::given::{
@@ -441,10 +443,12 @@ fn page_in<'a>(matches: &ArgMatches<'a>) -> Result<Task<'a>, Wrong>
     ensures fit { MatchResult result (λ _. IsSome (first_of (codes "file") (rows_of (found_of matches.now)))) (BlamesOnly (IsSome (first_of (codes "file") (rows_of (found_of matches.now))))) }
 {
     let file = text_needed(matches, "file")?;
-    Ok(Task::Page {
+    Ok(Task::Page(PageFile {
         file,
+        queue: text_given(matches, "queue"),
+        user: text_given(matches, "user"),
         follow: flag_given(matches, "follow"),
-    })
+    }))
 }
 
 fn say_in<'a>(alloc: Global, matches: &ArgMatches<'a>) -> Result<Task<'a>, Wrong>

@@ -128,8 +128,10 @@ pub static QUEUE_SET: [Parameter<'static>; 3] = [
     Text("location", "TEXT", "The location [default: empty]"),
 ];
 
-pub static PAGE: [Parameter<'static>; 2] = [
+pub static PAGE: [Parameter<'static>; 4] = [
     NeededWord("file", "FILE", "The file to write"),
+    Letter('q', "queue", "QUEUE", "Show only this queue and its jobs"),
+    Text("user", "USER", "Show only the jobs of this user"),
     Flag("follow", "Rewrite the file every five seconds"),
 ];
 

@@ -27,6 +27,7 @@ enum Wanted {
     Watched,
     Said,
     Followed,
+    PageOfAnn,
     Adds,
     Rejects,
     Shows,
@@ -35,7 +36,7 @@ enum Wanted {
 }
 
 // Command lines, and what each asks for.
-const TASKS: [(&[&str], Wanted); 25] = [
+const TASKS: [(&[&str], Wanted); 26] = [
     (
         &[
             "/usr/bin/spool",
@@ -112,6 +113,10 @@ const TASKS: [(&[&str], Wanted); 25] = [
         Wanted::Said,
     ),
     (&["spool", "page", "x.html", "--follow"], Wanted::Followed),
+    (
+        &["spool", "page", "-q", "lab", "x.html", "--user", "ann"],
+        Wanted::PageOfAnn,
+    ),
     (
         &[
             "spool",
@@ -348,13 +353,20 @@ fn is_said(task: &Task<'_>) -> bool {
 }
 
 fn is_followed(task: &Task<'_>) -> bool {
-    matches!(
-        task,
-        Task::Page {
-            file: "x.html",
-            follow: true
-        }
-    )
+    let Task::Page(asked) = task else {
+        return false;
+    };
+    asked.file == "x.html" && asked.queue.is_none() && asked.user.is_none() && asked.follow
+}
+
+fn is_page_of_ann(task: &Task<'_>) -> bool {
+    let Task::Page(asked) = task else {
+        return false;
+    };
+    asked.file == "x.html"
+        && asked.queue == Some("lab")
+        && asked.user == Some("ann")
+        && !asked.follow
 }
 
 fn is_default(task: &Task<'_>) -> bool {
@@ -425,6 +437,7 @@ fn is_wanted(task: &Task<'_>, wanted: Wanted) -> bool {
         Wanted::Watched => is_watched(task),
         Wanted::Said => is_said(task),
         Wanted::Followed => is_followed(task),
+        Wanted::PageOfAnn => is_page_of_ann(task),
         Wanted::Adds => adds(task),
         Wanted::Rejects => rejects(task),
         Wanted::Shows => shows(task),

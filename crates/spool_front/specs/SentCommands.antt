@@ -55,6 +55,10 @@ abbrev pub hold_line : ℕ → Until → List ℕ
 hold_line job Released = codes "hold " ++ decimal job ++ codes " indefinite\n"
 hold_line job (Reached moment) = codes "hold " ++ decimal job ++ codes " " ++ decimal moment ++ codes "\n"
 
+-- The jobs from a number on, in the largest pieces that a service sends.
+abbrev pub list_line : ℕ → List ℕ
+list_line from = codes "list from " ++ decimal from ++ codes " most 100\n"
+
 -- A word, followed by a job number.
 abbrev pub job_line : List ℕ → ℕ → List ℕ
 job_line word job = word ++ codes " " ++ decimal job ++ codes "\n"

@@ -1,9 +1,5 @@
 -- Moments by the time of the service.
-use Rattle.std.specs.Prelude.{ℕ, ◌+◌, ◌-◌, ◌%◌, ◌^◌, min, nat_lt, Bool, true, false, ◌||◌, cond, List, codes, Option, None, Some, unwrap_or}
-use Rattle.std.specs.List.{before_first, after_first}
-use Rattle.line_words.specs.DecimalNumbers.{decimal}
-use Rattle.command_lines.specs.CommandGrammar.{is_word}
-use Rattle.front_texts.specs.ReplyLines.{Last, done, last_line, is_space}
+use Rattle.std.specs.Prelude.{ℕ, ◌+◌, ◌-◌, ◌%◌, ◌^◌, min, nat_lt, Bool, true, false, ◌||◌, cond, Option, None, Some, unwrap_or}
 use Rattle.front_words.specs.declared.asked.Hold.{Hold}
 use Rattle.front_words.specs.declared.asked.Hold.TheVariants.{Until}
 use Rattle.front_words.specs.declared.asked.Moment.{Moment}
@@ -40,15 +36,3 @@ hold_moment hold = None
 abbrev pub is_absolute : Option Moment → Bool
 is_absolute (Some (Epoch seconds)) = true
 is_absolute moment = false
-
--- The words `now SECONDS` after `ok`.
-abbrev pub moment_words : List ℕ → Option ℕ
-moment_words words = cond (is_word (before_first is_space words) (codes "now")) (decimal 4000000000000 (after_first is_space words)) None
-
-abbrev pub moment_as : Option Last → Option ℕ
-moment_as (Some (done words)) = moment_words words
-moment_as last = None
-
--- The moment in the last line of a reply to `now`.
-abbrev pub moment_in : List ℕ → Option ℕ
-moment_in line = moment_as (last_line line)

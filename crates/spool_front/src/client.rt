@@ -1,27 +1,27 @@
 //! The client of a service, which sends a command and reads the complete reply.
-ghost use Rattle.std.specs.Prelude.{◌≡◌, ◌*◌, ◌↔◌, ◌&&◌, true, false, IfErr, IfOk, IsSome, IsTrue, MatchResult, OnOk, ℕ, None, codes, filter_map, is_none, option_copied, string_bytes};
+ghost use Rattle.std.specs.Prelude.{◌≡◌, ◌++◌, ◌*◌, ◌↔◌, ◌&&◌, true, false, IfErr, IfOk, IsSome, IsTrue, MatchResult, OnOk, ℕ, None, codes, filter_map, is_none, option_copied, string_bytes};
 ghost use Rattle.spool_front.specs.Proofs.{caller_of};
 ghost use Rattle.command_lines.specs.CommandGrammar.{is_word};
+ghost use Rattle.front_texts.specs.AgedJobs.{aged_jobs};
 ghost use Rattle.front_texts.specs.JobPage.{shown_job};
 ghost use Rattle.front_texts.specs.JobRows.{job_row};
 ghost use Rattle.front_texts.specs.QueueRows.{queue_row};
-ghost use Rattle.spool_front.specs.ServiceMoments.{moment_in};
+ghost use Rattle.front_texts.specs.ReplyLines.{next_in, now_in};
 ghost use Rattle.service_client.specs.Mirrors.{job_at, known};
 ghost use Rattle.service_client.specs.Notices.{jobs_after, known_after_all};
 ghost use Rattle.spool_front.specs.ReplyOutcomes.{accepted, answer_lines, is_done, rows_text};
 ghost use Rattle.spool_front.specs.TaskFaults.{IsBusyAt, IsNobodyAt};
 
-use crate::commands::{job_line, name_line};
+use crate::commands::{job_line, list_line, name_line};
 use crate::connection::{Connection, ConnectionFault};
 use crate::fault::Fault;
-use crate::moments::moment_in;
 use crate::proving::first_exchange;
 use crate::reasons::reason_and_hint;
 use cause_sentences::cause_sentence;
 use front_proof::Caller;
 use front_texts::{
-    JobLine, JobShown, LastLine, QueueLine, read_job_line, read_job_shown, read_last_line,
-    read_queue_line,
+    AgedJob, JobLine, JobShown, LastLine, QueueLine, next_in, now_in, read_aged_jobs,
+    read_job_line, read_job_shown, read_last_line, read_queue_line,
 };
 use service_client::Mirror;
 use service_replies::is_gone;
@@ -334,6 +334,53 @@ impl<'a> Client<'a> {
         Ok(jobs?)
     }
 
+    /// Returns the jobs with their ages, in the order of their numbers. The service lists them in pieces, so their states are not all of the
+    /// same moment. A listing that does not advance is invalid. A service that does not know `list` is asked for `jobs`, and no age is known.
+    pub fn aged_jobs(&mut self) -> Result<Vec<AgedJob>, Fault> {
+        let alloc = self.rt.alloc();
+        let now = self.now()?;
+        let mut jobs = Vec::new(alloc);
+        let mut from = 1;
+        for _ in 0..u64::MAX {
+            let Some(answer) = self.list(from)? else {
+                drop(jobs);
+                return self.jobs_without_ages();
+            };
+            let next = take_piece(alloc, &answer, now, &mut jobs);
+            drop(answer);
+            match next? {
+                Some(next) if from < next => from = next,
+                Some(_) => break,
+                None => return Ok(jobs),
+            }
+        }
+        drop(jobs);
+        Err(INVALID)
+    }
+
+    // Returns the jobs from a number on, or `None` if the service does not know `list`.
+    fn list(&mut self, from: u64) -> Result<Option<Answer>, Fault> {
+        let line = list_line(self.rt.alloc(), from)?;
+        let answer = self.ask_or_refused(line.as_slice())?;
+        if answer.is_unknown() {
+            drop(answer);
+            return Ok(None);
+        }
+        Ok(Some(accepted(answer)?))
+    }
+
+    fn jobs_without_ages(&mut self) -> Result<Vec<AgedJob>, Fault> {
+        let mut jobs = Vec::new(self.rt.alloc());
+        for line in self.jobs()? {
+            jobs.push(AgedJob {
+                line,
+                age: None,
+                left: None,
+            })?;
+        }
+        Ok(jobs)
+    }
+
     /// Returns a job, or `None` if it does not exist.
     pub fn job(&mut self, job: u32) -> Result<Option<JobShown>, Fault> {
         let line = job_line(self.rt.alloc(), "job", job)?;
@@ -398,6 +445,21 @@ impl<'a> Client<'a> {
     }
 }
 
+// Adds the jobs of a piece of the listing, and returns the number from which the next piece begins, if there is one.
+fn take_piece(
+    alloc: Global,
+    answer: &Answer,
+    now: Option<u64>,
+    jobs: &mut Vec<AgedJob>,
+) -> Result<Option<u64>, AllocError>
+    ensures jobs { OnOk result (jobs.new.items ≡ jobs.old.items ++ aged_jobs now answer.now.rows.items) }
+    ensures next { IfOk result (λ next. next ≡ next_in (string_bytes answer.now.last)) }
+{
+    let mut piece = read_aged_jobs(alloc, answer.rows.as_slice(), now)?;
+    jobs.append(&mut piece)?;
+    Ok(next_in(answer.last.as_str()))
+}
+
 // Returns the reply unless it is a refusal.
 fn accepted(answer: Answer) -> Result<Answer, Fault>
     ensures { result ≡ accepted answer }
@@ -419,9 +481,9 @@ fn done(answer: Answer) -> Result<(), Fault>
 
 // Returns the moment in the reply to `now`.
 fn moment_of_answer(answer: Answer) -> Result<Option<u64>, Fault>
-    ensures { IfOk result (λ moment. IsSome moment × (moment ≡ moment_in (string_bytes answer.last))) }
+    ensures { IfOk result (λ moment. IsSome moment × (moment ≡ now_in (string_bytes answer.last))) }
 {
-    let moment = moment_in(answer.last.as_str());
+    let moment = now_in(answer.last.as_str());
     drop(answer);
     match moment {
         Some(moment) => Ok(Some(moment)),

@@ -3,7 +3,7 @@ ghost use Rattle.std.specs.Prelude.{◌≡◌, ◌++◌, IfOk, OnOk};
 ghost use Rattle.std.specs.List.{list_any};
 ghost use Rattle.std.specs.Option.{option_map};
 ghost use Rattle.front_proof.specs.Standings.{standing_of};
-ghost use Rattle.spool_front.specs.SentCommands.{close_line, create_line, create_word, find_line, hold_line, identified_user, info_line, is_control, job_line, job_user, media_word, moment_word, name_line, names, queue_line, ranks, text_word};
+ghost use Rattle.spool_front.specs.SentCommands.{close_line, create_line, create_word, find_line, hold_line, identified_user, info_line, is_control, job_line, job_user, list_line, media_word, moment_word, name_line, names, queue_line, ranks, text_word};
 
 use command_lines::push_quoted;
 use front_proof::Caller;
@@ -177,6 +177,15 @@ pub fn job_line(alloc: Global, word: &str, job: u32) -> Result<Vec<u8>, AllocErr
 {
     let mut line = Vec::new(alloc);
     write!(line, "{word} {job}\n").map_err(|_| AllocError)?;
+    Ok(line)
+}
+
+/// Returns `list` for the jobs from a number on.
+pub fn list_line(alloc: Global, from: u64) -> Result<Vec<u8>, AllocError>
+    ensures { IfOk result (λ line. line.items ≡ list_line from) }
+{
+    let mut line = Vec::new(alloc);
+    write!(line, "list from {from} most 100\n").map_err(|_| AllocError)?;
     Ok(line)
 }
 

@@ -50,7 +50,7 @@
 //! - JSON: each object has exactly these members (`accepted_json`, `running_json`, `printing_json`, `unfit_json`, `news_json`, `put_field`).
 //! - System errors are reported by their kind (`lost_by`, `unwritten_by`, `unread`, `no_words`).
 //! - Moments: a relative moment counts from the time that the service reports, and so does the next time of a day. An absolute one is shifted
-//!   by the difference from the system's clock if that is more than two seconds (`second_of`, `until_day`, `shifted`, `moment_in`). A service that does not know `now` has the
+//!   by the difference from the system's clock if that is more than two seconds (`second_of`, `until_day`, `shifted`). A service that does not know `now` has the
 //!   system's clock (`clocks_of`).
 //! - Drafts: the draft of a job has the requested fields, and a title and a file name without control characters (`draft_of`,
 //!   `plain_text`). The file name is the part of the path after the last slash (`base_name`).
@@ -74,7 +74,8 @@
 //!   connection (`kept`).
 //! - `spool check`: `lead_to` returns whether filters convert from a type in the file of types, or from that of an unknown document, to a
 //!   printer's type (`leads`), by the least chain of `mime_costs`. `kinds_in` returns these types.
-//! - The page is that of the rows that were read (`page_at`).
+//! - The page is that of the rows that were read, and shows the queue and the user that were asked for (`page_at`). A piece of the listing
+//!   adds exactly its jobs with their ages, and names the next one (`take_piece`, `list_line`).
 //! - Texts that are printed are clean (`clean_texts`): tables and JSON by the clauses of `front_texts`, a line of `watch` by `clean_bytes`, and
 //!   the message of a fault since each variant prints its text by `clean`.
 //!
@@ -299,7 +300,7 @@ fn run_task(
         )),
         Task::Check { json } => check::check(rt, services, *json),
         Task::Say(asked) => say::say(rt, services, asked),
-        Task::Page { file, follow } => web_page::write_page(rt, services, file, *follow),
+        Task::Page(asked) => web_page::write_page(rt, services, *asked),
         Task::Lpstat(asked) => cups_forms::show_lpstat(rt, services, asked),
         Task::Lpq(asked) => cups_forms::show_lpq(rt, services, asked),
     }

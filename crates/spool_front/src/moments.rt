@@ -1,16 +1,11 @@
 //! Moments by the time of the service.
 ghost use Rattle.std.specs.Prelude.{◌≡◌};
-ghost use Rattle.spool_front.specs.ServiceMoments.{are_apart, clocks_of, hold_moment, is_absolute, moment_in, second_of, shifted, until_day};
+ghost use Rattle.spool_front.specs.ServiceMoments.{are_apart, clocks_of, hold_moment, is_absolute, second_of, shifted, until_day};
 
 use crate::client::Client;
 use crate::fault::Fault;
-use front_texts::{LastLine, read_last_line};
 use front_words::{Hold, JobAct, Moment, Submission};
-use line_words::decimal;
 use std::time::SystemTime;
-
-// The greatest moment that a service reports, in seconds.
-const GREATEST_MOMENT: u64 = 4_000_000_000_000;
 
 // The seconds of a day.
 const DAY: u64 = 86_400;
@@ -143,21 +138,6 @@ fn note_shift(rt: &HostRuntime, clocks: Clocks) -> Result<(), Fault> {
         "spool: the {first} is {apart} s ahead of the {second}; the moment is shifted by as much"
     )?;
     Ok(())
-}
-
-/// Returns the moment in the last line of a reply to `now`.
-pub fn moment_in(line: &str) -> Option<u64>
-    ensures { result ≡ moment_in line.now }
-{
-    let Some(LastLine::Done { words }) = read_last_line(line) else {
-        return None;
-    };
-    let (word, seconds) = words.split_once(' ')?;
-    if word == "now" {
-        decimal(seconds.as_bytes(), GREATEST_MOMENT)
-    } else {
-        None
-    }
 }
 
 /// Returns the seconds since 1970, or 0 if the clock is before 1970.

@@ -9,7 +9,7 @@ use crate::commands::has_control;
 use crate::defaults::stored_queue;
 use crate::fault::Fault;
 use crate::host::{number_or, variable, variable_or};
-use front_texts::{JobLine, QueueLine};
+use front_texts::{AgedJob, JobLine, QueueLine};
 use std::alloc::{AllocError, Global};
 
 // The default socket, and the default patience in seconds.
@@ -107,6 +107,28 @@ pub fn all_jobs(rt: &HostRuntime, services: Services<'_, '_>) -> Result<Vec<JobL
         }
     }
     Ok(jobs)
+}
+
+/// Returns the jobs of all services with their ages.
+pub fn all_aged_jobs(rt: &HostRuntime, services: Services<'_, '_>) -> Result<Vec<AgedJob>, Fault> {
+    let mut jobs = Vec::new(rt.alloc());
+    for socket in services.sockets {
+        for job in aged_jobs_at(rt, services, socket)? {
+            jobs.push(job)?;
+        }
+    }
+    Ok(jobs)
+}
+
+fn aged_jobs_at(
+    rt: &HostRuntime,
+    services: Services<'_, '_>,
+    socket: &str,
+) -> Result<Vec<AgedJob>, Fault> {
+    let mut client = client_at(rt, services, socket);
+    let jobs = client.aged_jobs();
+    drop(client);
+    jobs
 }
 
 fn jobs_at(

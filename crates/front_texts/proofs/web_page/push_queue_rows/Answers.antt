@@ -1,6 +1,7 @@
+use Rattle.std.specs.Option.{option_map}
 use Rattle.command_lines.proofs.Pieces.{next_piece}
-use Rattle.front_texts.specs.Page.{queue_html}
+use Rattle.front_texts.specs.Page.{queue_if_shown}
 use Rattle.front_texts.proofs.web_page.push_queue_rows.Goals as goal
 
 pub loop-queue-preserved : goal.loop-queue-preserved
-loop-queue-preserved c = next_piece queue_html c.args.queues.now c.loop-queue.queue-index c.queue-item.result c.args.page.now.items c.loop-queue.page.items c.push_queue.new.page.items c.queue-item.is c.loop-queue-test.true c.loop-queue.invariant c.in_ok-push_queue.ensures
+loop-queue-preserved c = next_piece (queue_if_shown (option_map (λ name. name.now) c.args.only)) c.args.queues.now c.loop-queue.queue-index c.queue-item.result c.args.page.now.items c.loop-queue.page.items c.push_queue_if_shown.new.page.items c.queue-item.is c.loop-queue-test.true c.loop-queue.invariant c.in_ok-push_queue_if_shown.ensures

@@ -1,0 +1,5 @@
+use Rattle.front_texts.proofs.AddLaws.{three_added}
+use Rattle.front_texts.proofs.web_page.push_age.Goals as goal
+
+pub returns : goal.returns
+returns c = three_added _ _ _ _ _ _ _ c.in_ok-push_text.ensures c.in_ok-push_age_text.ensures c.in_ok-push_text-2.ensures
