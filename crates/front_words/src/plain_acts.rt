@@ -2,7 +2,7 @@
 ghost use Rattle.std.specs.Prelude.{◌≡◌, ◌++◌, codes};
 ghost use Rattle.front_words.specs.PlainActs.{act_named, word_for};
 
-/// An action on a job that needs nothing but the job's number. Its task and its command of the service have the same word.
+/// An action on a job whose task has no options. Its task and its command of the service have the same word.
 #[derive(Clone, Copy)]
 pub enum PlainAct {
     /// Release the held job.
