@@ -62,7 +62,7 @@ _spool() {
             submit) words='--title --user --copies --priority --pages --type -o --hold --at --by --wait --quiet --json' ;;
             status) words='-q --json --watch' ;;
             queues | watch | check | 'queue show') words='--json' ;;
-            say) words='--until-end' ;;
+            say) words='--until-end --json' ;;
             cancel) words='--keep-printing' ;;
             hold) words='--until' ;;
             'queue add') words='--media --policy --interval --limit' ;;

@@ -37,7 +37,7 @@ complete -c spool -n '__fish_seen_subcommand_from submit' -l wait -d 'Wait until
 complete -c spool -n '__fish_seen_subcommand_from submit' -l quiet -d 'Print nothing for an accepted job'
 
 complete -c spool -n '__fish_seen_subcommand_from status' -s q -x -a '(__spool_queues)' -d 'Only the jobs of this queue'
-complete -c spool -n '__fish_seen_subcommand_from submit status queues watch check show' -l json -d 'Print JSON'
+complete -c spool -n '__fish_seen_subcommand_from submit status queues watch check show say' -l json -d 'Print JSON'
 complete -c spool -n '__fish_seen_subcommand_from status' -l watch -d 'Show the jobs again whenever one changes'
 complete -c spool -n '__fish_seen_subcommand_from say' -l until-end -d 'Wait until the service has ended'
 complete -c spool -n '__fish_seen_subcommand_from status cancel hold release purge end' -a '(__spool_jobs)'

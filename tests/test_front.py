@@ -406,6 +406,51 @@ def test_status_as_json(folder):
     child.communicate()
 
 
+def lines_of_json(front, *words, status=0, text=b""):
+    """The values of the lines that a command prints with `--json`. No character of them steers a terminal."""
+    output = front.says("spool", *words, "--json", status=status, text=text)
+    holds(f"plain lines: {output!r}", all(line.isprintable() for line in output.splitlines()))
+    return [json.loads(line) for line in output.splitlines()]
+
+
+def test_json_of_all_facts(folder):
+    """Each command that prints facts takes `--json`: each line is a value, whose texts are exact, and no text is lost or added."""
+    folder.two_stages(0)
+    client, front = office(folder)
+    front.environment |= {"SPOOL_TYPES": folder.at("types"), "SPOOL_CONVS": folder.at("convs"), "SPOOL_PROGRAMS": folder.at("programs")}
+    title = "a\u202eb \u00e9"
+    job = client.create("q", title)
+    same("status", [[row["title"] for row in rows] for rows in lines_of_json(front, "status")], [[title]])
+    same("a job", [row["asked"]["title"] for row in lines_of_json(front, "status", str(job))], [title])
+    same("no job of a queue", lines_of_json(front, "status", "-q", "other"), [[]])
+    same("queues", [[row["name"] for row in rows] for rows in lines_of_json(front, "queues")], [["q"]])
+    same("a queue", [row["queue"] for row in lines_of_json(front, "queue", "show", "q")], ["q"])
+    same("check", lines_of_json(front, "check"), [{"running": True, "service": folder.socket}, {"prints": True, "queue": "q"}])
+    same("disable", client.ask("disable q\n"), "ok")
+    same("check, once stopped", lines_of_json(front, "check", status=1)[1], {"prints": False, "queue": "q", "why": "is stopped"})
+    for words, named in ((("status", "77"), "no such job"), (("queue", "show", "none"), "no such queue")):
+        same(f"the output of {words}", front.run("spool", *words, "--json").stdout, b"")
+        error = front.fails("spool", *words, "--json")
+        holds(f"the error of {words}: {error}", named in error)
+
+
+def test_replies_as_json(folder):
+    """With `--json` each reply is an object of the lines that `spool say` prints without it."""
+    client, front = office(folder)
+    title = "a\u202eb"
+    client.create("q", title)
+    for words in (["jobs"], ["queues", "jobs"], ["job 1"]):
+        replies = lines_of_json(front, "say", *words)
+        same(f"members of {words}", [sorted(reply) for reply in replies], [["last", "rows"]] * len(words))
+        lines = [line for reply in replies for line in [*reply["rows"], reply["last"]]]
+        same(f"lines of {words}", [line.replace("\u202e", "\ufffd") for line in lines], front.says("spool", "say", *words).splitlines())
+    holds("the title is exact", title in lines_of_json(front, "say", "jobs")[0]["rows"][0])
+    same("an error", lines_of_json(front, "say", "no such", "room", status=1)[0], {"last": "error syntax", "rows": []})
+    text = b'create q ann "t" 1 50 ""\nsend 2 3\n\xff\n!\n'
+    same("an input", lines_of_json(front, "say", text=text), [{"last": "ok job 2", "rows": []}, {"last": "ok bytes 3", "rows": []}])
+    same("the end", lines_of_json(front, "say", "--until-end", "shutdown")[0], {"last": "ok", "rows": []})
+
+
 def test_says_commands(folder):
     client, front = office(folder)
     same("a command", front.says("spool", "say", "jobs"), "ok 0\n")

@@ -91,9 +91,11 @@ page_words =
 abbrev pub page_app : App
 page_app = with_rule page_words (flag_rule (codes "follow"))
 
--- `spool say [COMMAND].. [--until-end]`
+-- `spool say [COMMAND].. [--until-end] [--json]`
 abbrev pub say_app : App
-say_app = with_rule (with_rule (task_app (codes "spool say")) (several (word_rule (codes "command")))) (flag_rule (codes "until-end"))
+say_app =
+    with_rule (with_rule (with_rule (task_app (codes "spool say")) (several (word_rule (codes "command")))) (flag_rule (codes "until-end")))
+    (flag_rule (codes "json"))
 
 -- `spool [--version]`
 abbrev pub spool_app : Text → App

@@ -377,6 +377,7 @@ IsPage found other = ⊥
 pub record IsSaying (found : List Row) (s : Saying) : Type 0 where
   pub commands : map (λ text. text.now) s.commands.items ≡ all_in (codes "command") found
   pub until_end : s.until_end ≡ is_told (first_of (codes "until-end") found)
+  pub json : s.json ≡ is_told (first_of (codes "json") found)
 
 abbrev pub IsSay : List Row → Task → Type 0
 IsSay found (task_is.Say s) = IsSaying found s

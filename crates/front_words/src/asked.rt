@@ -178,6 +178,8 @@ pub struct Saying<'a> {
     pub commands: Vec<&'a str>,
     /// Whether the program waits until the service has ended.
     pub until_end: bool,
+    /// Whether the output is JSON.
+    pub json: bool,
 }
 
 /// An action on a queue.

@@ -459,5 +459,6 @@ fn say_in<'a>(alloc: Global, matches: &ArgMatches<'a>) -> Result<Task<'a>, Wrong
     Ok(Task::Say(Saying {
         commands,
         until_end: flag_given(matches, "until-end"),
+        json: flag_given(matches, "json"),
     }))
 }

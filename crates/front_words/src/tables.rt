@@ -135,13 +135,14 @@ pub static PAGE: [Parameter<'static>; 4] = [
     Flag("follow", "Rewrite the file every five seconds"),
 ];
 
-pub static SAY: [Parameter<'static>; 2] = [
+pub static SAY: [Parameter<'static>; 3] = [
     Words(
         "command",
         "COMMAND",
         "The commands, each as one argument [default: the lines of standard input]",
     ),
     Flag("until-end", "Wait until the service has ended"),
+    Flag("json", "Print JSON: one line for each reply"),
 ];
 
 pub static TASK: [Parameter<'static>; 1] = [NeededWords("task", "TASK", "One of the tasks below")];

@@ -26,6 +26,7 @@ enum Wanted {
     OfAnn,
     Watched,
     Said,
+    SaidAsJson,
     Followed,
     PageOfAnn,
     Adds,
@@ -36,7 +37,7 @@ enum Wanted {
 }
 
 // Command lines, and what each asks for.
-const TASKS: [(&[&str], Wanted); 26] = [
+const TASKS: [(&[&str], Wanted); 27] = [
     (
         &[
             "/usr/bin/spool",
@@ -112,6 +113,7 @@ const TASKS: [(&[&str], Wanted); 26] = [
         &["spool", "say", "jobs", "--until-end", "queues"],
         Wanted::Said,
     ),
+    (&["spool", "say", "--json", "jobs"], Wanted::SaidAsJson),
     (&["spool", "page", "x.html", "--follow"], Wanted::Followed),
     (
         &["spool", "page", "-q", "lab", "x.html", "--user", "ann"],
@@ -349,7 +351,14 @@ fn is_said(task: &Task<'_>) -> bool {
     let Task::Say(asked) = task else {
         return false;
     };
-    asked.commands.as_slice() == ["jobs", "queues"].as_slice() && asked.until_end
+    asked.commands.as_slice() == ["jobs", "queues"].as_slice() && asked.until_end && !asked.json
+}
+
+fn is_said_as_json(task: &Task<'_>) -> bool {
+    let Task::Say(asked) = task else {
+        return false;
+    };
+    asked.commands.as_slice() == ["jobs"].as_slice() && !asked.until_end && asked.json
 }
 
 fn is_followed(task: &Task<'_>) -> bool {
@@ -436,6 +445,7 @@ fn is_wanted(task: &Task<'_>, wanted: Wanted) -> bool {
         Wanted::OfAnn => is_of_ann(task),
         Wanted::Watched => is_watched(task),
         Wanted::Said => is_said(task),
+        Wanted::SaidAsJson => is_said_as_json(task),
         Wanted::Followed => is_followed(task),
         Wanted::PageOfAnn => is_page_of_ann(task),
         Wanted::Adds => adds(task),

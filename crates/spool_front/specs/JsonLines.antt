@@ -1,7 +1,10 @@
 -- Objects of the output. The members of an object are in the order of their keys.
-use Rattle.std.specs.Prelude.{◌≡◌, ⊤, ℕ, true, false, List, codes, Option, None, Some}
+use Rattle.std.specs.Prelude.{◌≡◌, ⊤, ℕ, true, false, List, codes, map, Option, None, Some, Vec}
+use Rattle.std.specs.Global.{Global}
 use Rattle.std.specs.List.{after_first, before_first}
-use Rattle.serde_json.specs.Data.{Data, boolean, number, unsigned, string, object, put, Members, member, no_members}
+use Rattle.std.specs.Str.Lossy.{utf8_lossy}
+use Rattle.serde_json.specs.View.{items_of}
+use Rattle.serde_json.specs.Data.{Data, array, boolean, number, unsigned, string, object, put, Members, member, no_members}
 use Rattle.front_texts.specs.Json.{job_data, queue_data}
 use Rattle.front_texts.specs.ReplyLines.{is_space, watch_line}
 use Rattle.front_texts.specs.declared.reply_lines.WatchLine.{WatchLine}
@@ -36,6 +39,17 @@ IsNewsBy None data_of = ⊤
 
 abbrev pub IsNews : List ℕ → Data → Type 0
 IsNews line data_of = IsNewsBy (watch_line line) data_of
+
+-- A line of a reply as a text, in which U+FFFD stands for each invalid sequence.
+abbrev pub line_data : Vec ℕ Global → Data
+line_data line = string (utf8_lossy line.items)
+
+abbrev pub lines_data : List (Vec ℕ Global) → Data
+lines_data lines = array (items_of (map line_data lines))
+
+-- A reply: its rows and its last line.
+abbrev pub reply_data : List (Vec ℕ Global) → List ℕ → Data
+reply_data rows last = object (member (codes "last") (string last) (member (codes "rows") (lines_data rows) no_members))
 
 -- The members, with the field of a line `NAME VALUE`.
 abbrev pub with_field : List ℕ → Members → Members

@@ -4,7 +4,7 @@ ghost use Rattle.std.specs.List.{after_first, before_first};
 ghost use Rattle.std.specs.Option.{option_map};
 ghost use Rattle.front_texts.specs.ReplyLines.{is_space};
 ghost use Rattle.serde_json.specs.View.{members_view, view};
-ghost use Rattle.spool_front.specs.JsonLines.{IsNews, accepted_data, news_data, printing_data, running_data, unfit_data, with_field};
+ghost use Rattle.spool_front.specs.JsonLines.{IsNews, accepted_data, line_data, lines_data, news_data, printing_data, reply_data, running_data, unfit_data, with_field};
 
 use crate::fault::Fault;
 use clean_texts::clean_bytes;
@@ -88,6 +88,31 @@ fn known_json(alloc: Global, news: &WatchLine) -> Result<Value, AllocError>
 fn other_json(alloc: Global, line: &[u8]) -> Result<Value, AllocError> {
     let text = clean_bytes(alloc, line)?;
     json!(in alloc; {"line": text.as_str()})
+}
+
+/// Returns the object of a reply: its rows and its last line.
+pub fn reply_json(alloc: Global, rows: &[Vec<u8>], last: &str) -> Result<Value, AllocError>
+    ensures { IfOk result (λ object. view object ≡ reply_data rows.now last.now) }
+{
+    let rows = lines_json(alloc, rows)?;
+    json!(in alloc; {"last": last, "rows": &rows})
+}
+
+// Returns lines as an array of texts.
+fn lines_json(alloc: Global, lines: &[Vec<u8>]) -> Result<Value, AllocError>
+    ensures { IfOk result (λ array. view array ≡ lines_data lines.now) }
+{
+    let mut array = Vec::new(alloc);
+    for line in lines {
+        array.push(line_json(alloc, line)?)?;
+    }
+    Ok(Value::Array(array))
+}
+
+fn line_json(alloc: Global, line: &Vec<u8>) -> Result<Value, AllocError>
+    ensures { IfOk result (λ text. view text ≡ line_data line.now) }
+{
+    Ok(Value::String(String::from_utf8_lossy(alloc, line.as_slice())?))
 }
 
 /// Returns the fields of a queue, which are lines `NAME VALUE`.

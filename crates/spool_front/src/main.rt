@@ -47,7 +47,8 @@
 //!   or by two (`parts_of`), and the reply to the piece follows from the replies to both (`joined_reply`).
 //! - Progress: the line has exactly the amount, the speed, and a bar if the length of the document is known (`progress_line`).
 //! - The live table: the mirror is told each line of a listing, in order (`tell`).
-//! - JSON: each object has exactly these members (`accepted_json`, `running_json`, `printing_json`, `unfit_json`, `news_json`, `put_field`).
+//! - JSON: each object has exactly these members (`accepted_json`, `running_json`, `printing_json`, `unfit_json`, `news_json`,
+//!   `reply_json`, `put_field`).
 //! - System errors are reported by their kind (`lost_by`, `unwritten_by`, `unread`, `no_words`).
 //! - Moments: a relative moment counts from the time that the service reports, and so does the next time of a day. An absolute one is shifted
 //!   by the difference from the system's clock if that is more than two seconds (`second_of`, `until_day`, `shifted`). A service that does not know `now` has the

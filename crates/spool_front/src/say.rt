@@ -5,8 +5,9 @@ ghost use Rattle.spool_front.specs.ReplyOutcomes.{is_done};
 use crate::client::{Answer, Client};
 use crate::connection::ConnectionFault;
 use crate::fault::{Fault, first_failure};
+use crate::json_lines::{print_json, reply_json};
 use crate::services::{Services, client_at, only_socket};
-use crate::tasks::print_clean;
+use crate::tasks::{print_clean, print_news};
 use command_lines::Commands;
 use front_words::Saying;
 use std::io::BufRead;
@@ -21,31 +22,36 @@ pub fn say(rt: &HostRuntime, services: Services<'_, '_>, asked: &Saying<'_>) -> 
 
 fn say_all(rt: &HostRuntime, client: &mut Client<'_>, asked: &Saying<'_>) -> Result<u8, Fault> {
     let status = if asked.commands.is_empty() {
-        say_input(rt, client)?
+        say_input(rt, client, asked.json)?
     } else {
-        say_words(rt, client, asked.commands.as_slice())?
+        say_words(rt, client, asked.commands.as_slice(), asked.json)?
     };
     if asked.until_end {
-        print_until_end(rt, client)?;
+        print_until_end(rt, client, asked.json)?;
     }
     Ok(status)
 }
 
-fn say_words(rt: &HostRuntime, client: &mut Client<'_>, commands: &[&str]) -> Result<u8, Fault> {
+fn say_words(
+    rt: &HostRuntime,
+    client: &mut Client<'_>,
+    commands: &[&str],
+    json: bool,
+) -> Result<u8, Fault> {
     let mut status = 0;
     for command in commands {
         let line = format!(in rt.alloc(); "{command}\n")?;
-        let ended = say_one(rt, client, line.as_str().as_bytes())?;
+        let ended = say_one(rt, client, line.as_str().as_bytes(), json)?;
         status = first_failure(status, ended);
     }
     Ok(status)
 }
 
 // Sends the commands of standard input.
-fn say_input(rt: &HostRuntime, client: &mut Client<'_>) -> Result<u8, Fault> {
+fn say_input(rt: &HostRuntime, client: &mut Client<'_>, json: bool) -> Result<u8, Fault> {
     let mut source = rt.reader();
     let mut commands = Commands::new(rt.alloc());
-    let status = say_lines(rt, client, &mut source, &mut commands);
+    let status = say_lines(rt, client, &mut source, &mut commands, json);
     drop(commands);
     drop(source);
     status
@@ -58,6 +64,7 @@ fn say_lines<S: BufRead>(
     client: &mut Client<'_>,
     source: &mut S,
     commands: &mut Commands,
+    json: bool,
 ) -> Result<u8, Fault> {
     let mut status = 0;
     let mut text = Vec::new(rt.alloc());
@@ -65,7 +72,7 @@ fn say_lines<S: BufRead>(
         if !read_command(source, commands, &mut text)? {
             return Ok(status);
         }
-        let ended = say_one(rt, client, &text)?;
+        let ended = say_one(rt, client, &text, json)?;
         status = first_failure(status, ended);
         text.clear();
     }
@@ -97,13 +104,18 @@ fn read_command<S: BufRead>(
 }
 
 // Sends a command, prints its reply, and returns the status.
-fn say_one(rt: &HostRuntime, client: &mut Client<'_>, text: &[u8]) -> Result<u8, Fault> {
+fn say_one(
+    rt: &HostRuntime,
+    client: &mut Client<'_>,
+    text: &[u8],
+    json: bool,
+) -> Result<u8, Fault> {
     if !client.connect()? {
         return Err(client.nobody()?);
     }
     match client.exchange(text) {
         Ok(answer) => {
-            let printed = print_answer(rt, &answer);
+            let printed = print_answer(rt, &answer, json);
             let status = status_of(&answer);
             drop(answer);
             printed?;
@@ -120,7 +132,12 @@ fn status_of(answer: &Answer) -> u8
     if answer.is_done() { 0 } else { 1 }
 }
 
-fn print_answer(rt: &HostRuntime, answer: &Answer) -> Result<(), Fault> {
+// Prints a reply: its lines, or an object of them.
+fn print_answer(rt: &HostRuntime, answer: &Answer, json: bool) -> Result<(), Fault> {
+    if json {
+        let object = reply_json(rt.alloc(), answer.rows.as_slice(), answer.last.as_str())?;
+        return print_json(rt, object);
+    }
     for row in &answer.rows {
         print_clean(rt, row.as_slice())?;
     }
@@ -128,24 +145,17 @@ fn print_answer(rt: &HostRuntime, answer: &Answer) -> Result<(), Fault> {
 }
 
 // Prints what else the service sends, until it has ended.
-fn print_until_end(rt: &HostRuntime, client: &mut Client<'_>) -> Result<(), Fault> {
+fn print_until_end(rt: &HostRuntime, client: &mut Client<'_>, json: bool) -> Result<(), Fault> {
     for _ in 0..u64::MAX {
         match client.receive_lines() {
             Ok(lines) => {
-                let printed = print_all(rt, &lines);
+                let printed = print_news(rt, &lines, json);
                 drop(lines);
                 printed?;
             }
             Err(ConnectionFault::Lost) => return Ok(()),
             Err(ConnectionFault::Memory) => return Err(Fault::Memory),
         }
-    }
-    Ok(())
-}
-
-fn print_all(rt: &HostRuntime, lines: &[Vec<u8>]) -> Result<(), Fault> {
-    for line in lines {
-        print_clean(rt, line.as_slice())?;
     }
     Ok(())
 }

@@ -284,7 +284,8 @@ fn watch_by(rt: &HostRuntime, client: &mut Client<'_>, json: bool) -> Result<(),
     Ok(())
 }
 
-fn print_news(rt: &HostRuntime, lines: &[Vec<u8>], json: bool) -> Result<(), Fault> {
+/// Prints lines that the service sends without a command, clean or as JSON.
+pub fn print_news(rt: &HostRuntime, lines: &[Vec<u8>], json: bool) -> Result<(), Fault> {
     for line in lines {
         if json {
             print_json(rt, news_json(rt.alloc(), line.as_slice())?)?;
