@@ -278,6 +278,18 @@ def test_documents_in_turn(folder, ipp):
     same("a job with its document", again[0], NOT_POSSIBLE)
 
 
+def test_more_waiting_jobs_than_places(folder, ipp):
+    """If too many jobs wait for their documents, the first is canceled. The others take theirs."""
+    with Connection(ipp.connect()) as line:
+        jobs = [job_of(line.ask(message(CREATE_JOB, ipp.uri()))) for _ in range(MOST_WAITING + 1)]
+    client = Client(folder)
+    until("the first is canceled", lambda: client.state(jobs[0]) == "7 canceled")
+    last = attribute(BOOLEAN, "last-document", True)
+    for job, status in ((jobs[0], NOT_POSSIBLE), (jobs[1], OK), (jobs[-1], OK)):
+        answer = ipp.ask(SEND_DOCUMENT, attribute(INTEGER, "job-id", job), last, document=b"x")
+        same(f"a document for job {job}", answer[0], status)
+
+
 def test_service_file_of_avahi(ipp):
     script = Path(__file__).resolve().parent.parent / "examples/office/avahi-service.py"
     made = subprocess.run([script, "--server", ipp.address, "q"], capture_output=True, text=True)

@@ -1,8 +1,8 @@
 -- The facts of a queue, by its rows.
-use Rattle.std.specs.Prelude.{◌≡◌, ℕ, ◌+◌, List, [], ◌∷◌, codes, cond, drop, length, Option, None, Some, Vec}
+use Rattle.std.specs.Prelude.{◌≡◌, ℕ, Bool, ◌&&◌, is_some, ◌+◌, List, [], ◌∷◌, codes, cond, drop, length, Option, None, Some, Vec}
 use Rattle.std.specs.Global.{Global}
 use Rattle.spool_types.specs.Limits.{greatest_number}
-use Rattle.spool_types.specs.Values.{is_queue_name, is_uri, text_in}
+use Rattle.spool_types.specs.Values.{is_queue_name, is_uri, media_in, text_in}
 use Rattle.line_words.specs.Blanks.{first_word}
 use Rattle.line_words.specs.DecimalNumbers.{decimal}
 use Rattle.command_lines.specs.CommandNumbers.{ranged}
@@ -25,6 +25,10 @@ number_or_zero (Some number) = number
 -- A number up to this one, or zero.
 abbrev pub number_of : List (Vec ℕ Global) → List ℕ → ℕ → ℕ
 number_of rows name most = number_or_zero (decimal most (value_of rows name))
+
+-- The rows have the name and the type of a queue.
+abbrev pub names_a_queue : List (Vec ℕ Global) → Bool
+names_a_queue rows = is_some (media_in (value_of rows (codes "type"))) && is_some (text_in is_queue_name (value_of rows (codes "queue")))
 
 -- The facts are those of the rows.
 abbrev pub IsReportOf : List (Vec ℕ Global) → PrinterFacts → Type 0

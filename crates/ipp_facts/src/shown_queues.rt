@@ -1,8 +1,8 @@
 //! The rows of a queue.
-ghost use Rattle.std.specs.Prelude.{◌≡◌, codes, IfOk, IfSome, Some};
+ghost use Rattle.std.specs.Prelude.{◌≡◌, codes, IfOk, IfSome, Some, is_some};
 ghost use Rattle.spool_types.specs.Values.{is_queue_name, media_in, text_in};
 ghost use Rattle.front_texts.specs.ReplyFields.{is_word};
-ghost use Rattle.ipp_facts.specs.QueueReports.{IsReportOf, value_of};
+ghost use Rattle.ipp_facts.specs.QueueReports.{IsReportOf, names_a_queue, value_of};
 
 use crate::words::{message_in, note_in, number_of, value_of};
 use command_lines::job_number;
@@ -31,14 +31,15 @@ pub fn is_accepting(rows: &[Vec<u8>]) -> bool
     value_of(rows, b"accepting") == b"yes".as_slice()
 }
 
-/// Returns the facts of a queue, from the lines of `queue NAME`.
+/// Returns the facts of a queue, from the lines of `queue NAME`, or `None` if its name or its type is missing.
 pub fn printer_facts(
     alloc: Global,
     rows: &[Vec<u8>],
     convs: &Convs,
     types: &[MediaType],
 ) -> Result<Option<PrinterFacts>, AllocError>
-    ensures { IfOk result (λ facts. IfSome facts (IsReportOf rows.now)) }
+    ensures some { IfOk result (λ facts. IfSome facts (IsReportOf rows.now)) }
+    ensures none { IfOk result (λ facts. is_some facts ≡ names_a_queue rows.now) }
 {
     let Some(target) = queue_target(alloc, rows)? else {
         return Ok(None);

@@ -1,1 +1,2 @@
 pub mod ClientPlaces
+pub mod SharedStates

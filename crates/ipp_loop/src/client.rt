@@ -1,4 +1,6 @@
 //! One connected client: its request, from the head to the answer.
+ghost use Rattle.std.specs.Prelude.{◌≡◌, ◌≢◌, true};
+
 use crate::pages::{Shown, ShownPage};
 use crate::shared::{Shared, UNAVAILABLE};
 use http_requests::{Page, Route};
@@ -71,7 +73,9 @@ impl<S: Stream> Client<S> {
     }
 
     /// Notes that bytes may have come.
-    pub fn note_ready(&mut self) {
+    pub fn note_ready(&mut self)
+        ensures { self.new ≡ record self.old { readable = true } }
+    {
         self.readable = true;
     }
 
@@ -430,7 +434,10 @@ impl<S: Stream> Client<S> {
     }
 
     /// Takes the reply to the command of the client with this number. Another client may have its place since.
-    pub fn heard(&mut self, shared: &mut Shared<S>, serial: u64, reply: &Reply) {
+    pub fn heard(&mut self, shared: &mut Shared<S>, serial: u64, reply: &Reply)
+        // A reply to another client, which had this one's place, changes nothing.
+        ensures { serial ≢ self.old.serial → self.new ≡ self.old }
+    {
         if self.serial != serial {
             return;
         }
@@ -474,8 +481,10 @@ impl<S: Stream> Client<S> {
 
     /// Notes that the connection was lost before the reply to the client with this number. The command is sent again, or its effect is
     /// examined.
-    pub fn lost(&mut self, alloc: Global, serial: u64) {
-        if self.serial != serial {
+    pub fn lost(&mut self, alloc: Global, serial: u64)
+        ensures { serial ≢ self.old.serial → self.new ≡ self.old }
+    {
+        if serial != self.serial {
             return;
         }
         let outcome = match &mut self.state {

@@ -1,4 +1,8 @@
 //! Jobs whose client was lost. They are canceled, one after the other.
+ghost use Rattle.std.specs.Prelude.{◌≡◌, ◌≢◌, [], true};
+ghost use Rattle.std.specs.Option.{option_map};
+ghost use Rattle.ipp_loop.specs.SharedStates.{unsent_of};
+
 use ipp_printing::PrintingJob;
 use service_client::Reply;
 use std::alloc::{AllocError, Global};
@@ -16,7 +20,9 @@ pub struct LostJobs {
 }
 
 impl LostJobs {
-    pub fn new(alloc: Global) -> LostJobs {
+    pub fn new(alloc: Global) -> LostJobs
+        ensures { result.jobs.items ≡ [] }
+    {
         LostJobs {
             jobs: VecDeque::new(alloc),
             command: None,
@@ -59,7 +65,9 @@ impl LostJobs {
     }
 
     /// Returns the command of the first job, if it is not sent yet.
-    pub fn unsent(&self) -> Option<&[u8]> {
+    pub fn unsent(&self) -> Option<&[u8]>
+        ensures { option_map (λ command. command.now) result ≡ unsent_of self.now }
+    {
         if self.is_sent {
             return None;
         }
@@ -70,17 +78,24 @@ impl LostJobs {
     }
 
     /// Returns the number of the first job.
-    pub fn serial(&self) -> u64 {
+    pub fn serial(&self) -> u64
+        ensures { result ≡ self.now.serial }
+    {
         self.serial
     }
 
     /// Notes that the command is sent.
-    pub fn note_sent(&mut self) {
+    pub fn note_sent(&mut self)
+        ensures { self.new ≡ record self.old { is_sent = true } }
+    {
         self.is_sent = true;
     }
 
     /// Takes the reply to the command of this job.
-    pub fn heard(&mut self, alloc: Global, serial: u64, reply: &Reply) -> Result<(), AllocError> {
+    pub fn heard(&mut self, alloc: Global, serial: u64, reply: &Reply) -> Result<(), AllocError>
+        // A reply to a job that is gone changes nothing.
+        ensures { serial ≢ self.old.serial → self.new ≡ self.old }
+    {
         if serial != self.serial {
             return Ok(());
         }
@@ -93,7 +108,9 @@ impl LostJobs {
     }
 
     /// Notes that the connection was lost before the reply.
-    pub fn lost(&mut self, serial: u64) {
+    pub fn lost(&mut self, serial: u64)
+        ensures { serial ≢ self.old.serial → self.new ≡ self.old }
+    {
         if serial != self.serial {
             return;
         }

@@ -1,13 +1,16 @@
 //! The state that all clients share: the service, and the jobs that wait for their next request.
-ghost use Rattle.std.specs.Prelude.{◌≡◌, is_some, false, true};
+ghost use Rattle.std.specs.Prelude.{◌≡◌, ◌≤◌, [], is_some, false, true};
+ghost use Rattle.ipp_loop.specs.SharedStates.{is_away, parked_count};
+ghost use Rattle.ipp_sockets.specs.LinkStates.{AreOnce, waiting};
+ghost use Rattle.ipp_tasks.specs.ParkedJobs.{most_parked};
 
 use crate::lost::LostJobs;
 use ipp_printing::PrintingJob;
 use ipp_sockets::{Link, Stream, Tag};
-use ipp_tasks::{Parked, TIME_OUT, World};
+use ipp_tasks::{Parked, World};
 use service_client::{Answered, Asked, Reply};
 use std::alloc::{AllocError, Global};
-use std::collections::{BTreeMap, VecDeque};
+use std::collections::VecDeque;
 
 /// The key of the jobs without a client.
 pub const NO_CLIENT: usize = usize::MAX;
@@ -36,24 +39,32 @@ pub struct Shared<S: Stream> {
     heard: u64,
     // When a connection was tried last.
     tried: u64,
+    // The second at which no job had waited too long.
+    swept: u64,
 }
 
 impl<S: Stream> Shared<S> {
-    pub fn new(alloc: Global, world: World, millis: u64) -> Shared<S> {
+    pub fn new(alloc: Global, world: World, millis: u64) -> Shared<S>
+        ensures waiting { waiting result.link ≡ [] }
+        ensures parked { parked_count result ≡ 0 }
+    {
         Shared {
             alloc,
             world,
             link: Link::new(alloc),
-            parked: BTreeMap::new(alloc),
+            parked: Parked::new(alloc),
             lost: LostJobs::new(alloc),
             millis,
             heard: millis,
             tried: 0,
+            swept: 0,
         }
     }
 
     /// Returns whether the service has not answered for too long.
-    pub fn is_away(&self) -> bool {
+    pub fn is_away(&self) -> bool
+        ensures { result ≡ is_away self.now }
+    {
         self.millis > self.heard.saturating_add(AWAY)
     }
 
@@ -67,6 +78,7 @@ impl<S: Stream> Shared<S> {
     /// Takes a new connection to the service, if the attempt has made one. There is none yet.
     pub fn connected(&mut self, stream: Option<S>)
         requires { is_some self.old.link.stream ≡ false }
+        ensures { is_some self.new.link.stream ≡ is_some stream }
     {
         self.tried = self.millis;
         if let Some(stream) = stream {
@@ -76,7 +88,9 @@ impl<S: Stream> Shared<S> {
     }
 
     /// Exchanges what can be exchanged with the service now. Returns the commands that were lost.
-    pub fn exchange(&mut self, answers: &mut Vec<Answered<Tag>>) -> VecDeque<Asked<Tag>> {
+    pub fn exchange(&mut self, answers: &mut Vec<Answered<Tag>>) -> VecDeque<Asked<Tag>>
+        ensures once { AreOnce (waiting self.old.link) answers.old.items answers.new.items result.items (waiting self.new.link) }
+    {
         if self.link.is_connected() && self.is_away() {
             return self.link.lose();
         }
@@ -89,15 +103,19 @@ impl<S: Stream> Shared<S> {
 
     // ## Jobs that wait for their next request
 
-    /// Keeps a job for its next request.
-    pub fn park(&mut self, job: PrintingJob) -> Result<(), AllocError> {
+    /// Keeps a job for its next request. If too many wait, the one with the lowest number is given up.
+    pub fn park(&mut self, job: PrintingJob) -> Result<(), AllocError>
+        ensures bounded { parked_count self.old ≤ most_parked → parked_count self.new ≤ most_parked }
+    {
         let Some(number) = job.number() else {
             return Ok(());
         };
         let mut job = job;
         job.note_use(self.world.seconds);
-        drop(self.parked.insert(number, job)?);
-        Ok(())
+        match self.parked.put(number, job)? {
+            Some(first) => self.lost.push(first),
+            None => Ok(()),
+        }
     }
 
     /// Gives up a job whose client was lost.
@@ -105,25 +123,20 @@ impl<S: Stream> Shared<S> {
         self.lost.push(job)
     }
 
-    /// Gives up the jobs that have waited too long for their next request.
-    pub fn sweep(&mut self) -> Result<(), AllocError> {
-        let Some(number) = self.late() else {
+    /// Gives up a job that has waited too long for its next request. Once there is none, it looks again in the next second.
+    pub fn sweep(&mut self) -> Result<(), AllocError>
+        ensures { parked_count self.new ≤ parked_count self.old }
+    {
+        if self.swept == self.world.seconds {
             return Ok(());
-        };
-        match self.parked.remove(&number) {
-            Some(job) => self.lost.push(job),
-            None => Ok(()),
         }
-    }
-
-    // Returns the number of a job that has waited too long.
-    fn late(&self) -> Option<u32> {
-        for (number, job) in &self.parked {
-            if self.world.seconds > job.used().saturating_add(TIME_OUT) {
-                return Some(*number);
+        match self.parked.take_late(self.world.seconds) {
+            Some(job) => self.lost.push(job),
+            None => {
+                self.swept = self.world.seconds;
+                Ok(())
             }
         }
-        None
     }
 
     // ## Jobs without a client

@@ -1,1 +1,2 @@
+pub mod JobCommands
 pub mod PrintingJobs

@@ -7,11 +7,9 @@
 //!
 //! - [`PrintingJob::heard`]: exactly the transition of the submission for the reply, whose meaning `service_replies` defines (`heard`). A
 //!   search for a job has two replies, of which the first may only state the number (`hears`).
+//! - [`PrintingJob::command`]: exactly the command of the submission's request, with the names, the options, the hold and the piece of the job
+//!   (`command_of`). The text of each command about a job is exact ([`job_line`], [`hold_line`]).
 //! - [`PrintingJob::lost`], [`PrintingJob::give_up`], [`PrintingJob::is_over`]: exactly the transition and the test of the submission.
-//!
-//! # Not proved
-//!
-//! - That the command is that of the submission's request. `tests/test_ipp.py` shows it.
 //!
 //! # Errors
 //!

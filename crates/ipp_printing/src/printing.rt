@@ -1,6 +1,10 @@
 //! A job of a client, whose documents become jobs of the service.
-ghost use Rattle.std.specs.Prelude.{◌≡◌, ◌⊎◌, ℕ, List, [], false, IfOk, OnErr, OnOk};
+ghost use Rattle.std.specs.Prelude.{◌≡◌, ◌⊎◌, ◌++◌, ℕ, List, [], false, codes, string_bytes, IfOk, OnErr, OnOk};
+ghost use Rattle.std.specs.Fmt.{decimal};
+ghost use Rattle.std.specs.Option.{option_map};
 ghost use Rattle.ipp_submission.specs.JobParts.{current, given_up, heard_in, is_ended, lost_in, next_request};
+ghost use Rattle.ipp_options.specs.declared.hold.Hold.TheVariants.{Indefinite};
+ghost use Rattle.ipp_printing.specs.JobCommands.{blank_after, close_line, command_of, create_line, document_media, document_name, find_line, hold_line, job_line, media_of, media_word, option_text, search_line};
 ghost use Rattle.ipp_printing.specs.PrintingJobs.{HearsSome, is_search, meaning, rows_reply, submission_of};
 
 use command_lines::push_quoted;
@@ -13,6 +17,7 @@ use ipp_submission::Submission;
 use service_client::send_text;
 use service_replies::{reply_in, shown_of};
 use std::alloc::{AllocError, Global};
+use std::io::Write;
 use std::str;
 
 /// The type of any bytes. A queue of this type prints each document as it is.
@@ -84,24 +89,27 @@ impl PrintingJob {
     }
 
     /// Returns when a client used the job last, in seconds.
-    pub fn used(&self) -> u64 {
+    pub fn used(&self) -> u64
+        ensures { result ≡ self.now.used }
+    {
         self.used
     }
 
     /// Notes that a client uses the job now.
-    pub fn note_use(&mut self, seconds: u64) {
+    pub fn note_use(&mut self, seconds: u64)
+        ensures { self.new ≡ record self.old { used = seconds } }
+    {
         self.used = seconds;
     }
 
     /// Returns the next command, if there is one.
-    pub fn command(&self, alloc: Global) -> Result<Option<Vec<u8>>, AllocError> {
+    pub fn command(&self, alloc: Global) -> Result<Option<Vec<u8>>, AllocError>
+        ensures { IfOk result (λ line. option_map (λ line. line.items) line ≡ command_of self.now) }
+    {
         let next = self.submission.request();
         let line = match next.request {
             Request::Create => self.create_line(alloc, next.part)?,
-            Request::Find => match self.found {
-                Some(job) => job_line(alloc, "job", job)?,
-                None => self.find_line(alloc, next.part)?,
-            },
+            Request::Find => self.search_line(alloc, next.part)?,
             Request::Send { job, .. } => send_text(alloc, job, self.piece.as_slice())?,
             Request::Show { job } => job_line(alloc, "job", job)?,
             Request::Hold { job } => hold_line(alloc, job, &self.hold)?,
@@ -112,49 +120,66 @@ impl PrintingJob {
         Ok(Some(line))
     }
 
-    fn create_line(&self, alloc: Global, part: usize) -> Result<Vec<u8>, AllocError> {
+    fn create_line(&self, alloc: Global, part: usize) -> Result<Vec<u8>, AllocError>
+        ensures { IfOk result (λ line. line.items ≡ create_line self.now part) }
+    {
         let mut line = Vec::from_slice(alloc, self.create.as_slice())?;
-        let options = self.options.as_str();
-        let token = self.token.as_str();
-        let blank = if options.is_empty() { "" } else { " " };
-        let text = format!(in alloc; "{options}{blank}submission={token}-{part}")?;
+        let text = self.option_text(alloc, part)?;
         push_quoted(&mut line, text.as_str())?;
         line.extend_from_slice(b"\n")?;
         Ok(line)
     }
 
-    fn find_line(&self, alloc: Global, part: usize) -> Result<Vec<u8>, AllocError> {
-        let token = self.token.as_str();
-        let text = format!(in alloc; "find {token}-{part}\n")?;
-        Vec::from_slice(alloc, text.as_bytes())
+    // Returns the options, and the token of a part.
+    fn option_text(&self, alloc: Global, part: usize) -> Result<String, AllocError>
+        ensures { IfOk result (λ text. string_bytes text ≡ option_text self.now part) }
+    {
+        let mut text = String::from_str(alloc, self.options.as_str())?;
+        text.push_str(blank_after(self.options.as_str()))?;
+        text.push_str("submission=")?;
+        text.push_str(self.token.as_str())?;
+        text.push_str(part_text(alloc, part)?.as_str())?;
+        Ok(text)
     }
 
-    fn close_line(&self, alloc: Global, part: usize, job: u32) -> Result<Vec<u8>, AllocError> {
-        let text = format!(in alloc; "close {job} ")?;
-        let mut line = Vec::from_slice(alloc, text.as_bytes())?;
-        match self.documents.get(part) {
-            Some(document) => push_quoted(&mut line, document.name.as_str())?,
-            None => push_quoted(&mut line, "document")?,
+    // Returns the command for the number of the job of a part, or for its state once the number is known.
+    fn search_line(&self, alloc: Global, part: usize) -> Result<Vec<u8>, AllocError>
+        ensures { IfOk result (λ line. line.items ≡ search_line self.now.found self.now part) }
+    {
+        match self.found {
+            Some(job) => job_line(alloc, "job", job),
+            None => self.find_line(alloc, part),
         }
-        if let Some(media) = self.media(part) {
-            line.extend_from_slice(b" ")?;
-            line.extend_from_slice(media.as_bytes())?;
-        }
+    }
+
+    fn find_line(&self, alloc: Global, part: usize) -> Result<Vec<u8>, AllocError>
+        ensures { IfOk result (λ line. line.items ≡ find_line self.now part) }
+    {
+        let token = self.token.as_str();
+        let mut line = Vec::new(alloc);
+        write!(line, "find {token}-{part}\n").map_err(|_| AllocError)?;
+        Ok(line)
+    }
+
+    fn close_line(&self, alloc: Global, part: usize, job: u32) -> Result<Vec<u8>, AllocError>
+        ensures { IfOk result (λ line. line.items ≡ close_line self.now part job) }
+    {
+        let mut line = Vec::new(alloc);
+        write!(line, "close {job} ").map_err(|_| AllocError)?;
+        push_quoted(&mut line, document_name(self.documents.get(part)))?;
+        push_media(&mut line, self.media(part))?;
         line.extend_from_slice(b"\n")?;
         Ok(line)
     }
 
     // Returns the type of a document, unless it is to be detected.
-    fn media(&self, part: usize) -> Option<&str> {
+    fn media(&self, part: usize) -> Option<&str>
+        ensures { option_map (λ media. media.now) result ≡ media_of self.now part }
+    {
         if self.is_raw {
-            return Some(RAW);
-        }
-        match self.documents.get(part) {
-            Some(document) => match &document.media {
-                Some(media) => Some(media.as_str()),
-                None => None,
-            },
-            None => None,
+            Some(RAW)
+        } else {
+            document_media(self.documents.get(part))
         }
     }
 
@@ -260,6 +285,46 @@ impl PrintingJob {
     }
 }
 
+fn part_text(alloc: Global, part: usize) -> Result<String, AllocError>
+    ensures { IfOk result (λ text. string_bytes text ≡ codes "-" ++ decimal part) }
+{
+    format!(in alloc; "-{part}")
+}
+
+fn blank_after(options: &str) -> &'static str
+    ensures { result.now ≡ blank_after options.now }
+{
+    if options.is_empty() { "" } else { " " }
+}
+
+fn document_name(document: Option<&DocumentName>) -> &str
+    ensures { result.now ≡ document_name (option_map (λ document. document.now) document.entry) }
+{
+    match document {
+        Some(document) => document.name.as_str(),
+        None => "document",
+    }
+}
+
+fn document_media(document: Option<&DocumentName>) -> Option<&str>
+    ensures { option_map (λ media. media.now) result ≡ document_media (option_map (λ document. document.now) document.entry) }
+{
+    match &document?.media {
+        Some(media) => Some(media.as_str()),
+        None => None,
+    }
+}
+
+fn push_media(line: &mut Vec<u8>, media: Option<&str>) -> Result<(), AllocError>
+    ensures { OnOk result (line.new.items ≡ line.old.items ++ media_word (option_map (λ media. media.now) media.entry)) }
+{
+    if let Some(media) = media {
+        line.extend_from_slice(b" ")?;
+        line.extend_from_slice(media.as_bytes())?;
+    }
+    Ok(())
+}
+
 // Returns what a reply to `job N` means.
 fn rows_reply(alloc: Global, reply: Reply, rows: &[Vec<u8>]) -> Result<Reply, AllocError>
     ensures { IfOk result (λ found. found ≡ rows_reply reply rows.now) }
@@ -309,23 +374,37 @@ fn number_in(step: Step) -> Option<u32> {
 }
 
 /// Returns a command with the number of a job.
-pub fn job_line(alloc: Global, word: &str, job: u32) -> Result<Vec<u8>, AllocError> {
-    let text = format!(in alloc; "{word} {job}\n")?;
-    Vec::from_slice(alloc, text.as_bytes())
+pub fn job_line(alloc: Global, word: &str, job: u32) -> Result<Vec<u8>, AllocError>
+    ensures { IfOk result (λ line. line.items ≡ job_line word.now job) }
+{
+    let mut line = Vec::new(alloc);
+    write!(line, "{word} {job}\n").map_err(|_| AllocError)?;
+    Ok(line)
 }
 
 /// Returns `hold`, or `release` for no hold.
-pub fn hold_line(alloc: Global, job: u32, hold: &Hold) -> Result<Vec<u8>, AllocError> {
+pub fn hold_line(alloc: Global, job: u32, hold: &Hold) -> Result<Vec<u8>, AllocError>
+    ensures { IfOk result (λ line. line.items ≡ hold_line job hold.now) }
+{
     match hold {
         Hold::Free => job_line(alloc, "release", job),
-        Hold::Indefinite => {
-            let text = format!(in alloc; "hold {job} indefinite\n")?;
-            Vec::from_slice(alloc, text.as_bytes())
-        }
-        Hold::Until(moment) => {
-            let seconds = moment.get();
-            let text = format!(in alloc; "hold {job} {seconds}\n")?;
-            Vec::from_slice(alloc, text.as_bytes())
-        }
+        Hold::Indefinite => indefinite_line(alloc, job),
+        Hold::Until(moment) => moment_line(alloc, job, moment.get()),
     }
+}
+
+fn indefinite_line(alloc: Global, job: u32) -> Result<Vec<u8>, AllocError>
+    ensures { IfOk result (λ line. line.items ≡ hold_line job Indefinite) }
+{
+    let mut line = Vec::new(alloc);
+    write!(line, "hold {job} indefinite\n").map_err(|_| AllocError)?;
+    Ok(line)
+}
+
+fn moment_line(alloc: Global, job: u32, seconds: u64) -> Result<Vec<u8>, AllocError>
+    ensures { IfOk result (λ line. line.items ≡ codes "hold " ++ decimal job ++ codes " " ++ decimal seconds ++ codes "\n") }
+{
+    let mut line = Vec::new(alloc);
+    write!(line, "hold {job} {seconds}\n").map_err(|_| AllocError)?;
+    Ok(line)
 }

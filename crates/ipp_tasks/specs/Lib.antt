@@ -1,2 +1,4 @@
 pub mod Answers
 pub mod Submissions
+pub mod ParkedJobs
+pub mod Requests

@@ -1,4 +1,7 @@
 //! Answers to IPP clients.
+ghost use Rattle.std.specs.Prelude.{◌≡◌, true};
+ghost use Rattle.ipp_tasks.specs.Requests.{answered_version, is_known};
+
 use ipp_answers::values::{Syntax, keywords, string};
 use ipp_codec::encode;
 use ipp_names::Status;
@@ -14,7 +17,10 @@ pub struct Header {
 
 impl Header {
     /// Returns the header of the answer to a message. A version that is not known is answered in 2.0.
-    pub fn of(message: &Message) -> Header {
+    pub fn of(message: &Message) -> Header
+        ensures version { result.version ≡ answered_version message.now.version }
+        ensures request_id { result.request_id ≡ message.now.request_id }
+    {
         Header {
             version: known_version(message.version),
             request_id: message.request_id,
@@ -22,7 +28,9 @@ impl Header {
     }
 
     /// Returns the header of the answer to these octets, which are no message.
-    pub fn of_octets(octets: &[u8]) -> Header {
+    pub fn of_octets(octets: &[u8]) -> Header
+        ensures { is_known result.version ≡ true }
+    {
         match octets {
             [major, minor, _, _, a, b, c, d, ..] => Header {
                 version: known_version(Version {
@@ -40,7 +48,9 @@ impl Header {
 }
 
 // Returns the version of the answer to a request of this version.
-fn known_version(version: Version) -> Version {
+fn known_version(version: Version) -> Version
+    ensures { result ≡ answered_version version }
+{
     let is_known = version.major == 1 && version.minor <= 1
         || version.major == 2 && version.minor <= 2;
     if is_known {

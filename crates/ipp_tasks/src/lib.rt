@@ -26,12 +26,14 @@ mod answers;
 mod job_changes;
 mod listing;
 mod new_jobs;
+mod parked;
 mod requests;
 mod submitting;
 mod tasks;
 mod world;
 
 pub use answers::{Header, answer};
-pub use requests::{Begun, Caller, Parked, begin};
+pub use parked::{MOST_PARKED, Parked};
+pub use requests::{Begun, Caller, begin};
 pub use tasks::{Outcome, Task};
 pub use world::{TIME_OUT, World};

@@ -1,4 +1,8 @@
 //! Listings of jobs, page by page.
+ghost use Rattle.std.specs.Prelude.{◌≡◌, string_bytes, IfOk};
+ghost use Rattle.std.specs.Option.{option_map};
+ghost use Rattle.ipp_tasks.specs.Requests.{list_line};
+
 use crate::job_changes::may_be_changed;
 use crate::tasks::{Outcome, ShownJobs, Task, Work, done};
 use crate::world::World;
@@ -11,6 +15,7 @@ use ipp_printing::job_line;
 use ipp_values::Group;
 use line_words::decimal;
 use std::alloc::{AllocError, Global};
+use std::io::Write;
 
 // The greatest number of a job.
 const MOST_NUMBER: u64 = 2_147_483_647;
@@ -24,6 +29,7 @@ pub struct Listing {
     pub first_id: Option<u32>,
     pub first_index: Option<u32>,
     pub limit: Option<u32>,
+    /// The numbers of the jobs, in ascending order. If there is none, all jobs are meant.
     pub ids: Vec<u32>,
     /// The place of a client that changes the jobs: those that it may not change are left out.
     pub changer: Option<Place>,
@@ -61,7 +67,7 @@ impl Listing {
     // Returns whether a job is among those that are asked for, and may be changed if the request changes it.
     fn is_asked(&self, alloc: Global, user: &str, job: &JobShown) -> Result<bool, AllocError> {
         let number = job.asked.number.get();
-        if !self.ids.is_empty() && !self.ids.as_slice().contains(&number) {
+        if !self.ids.is_empty() && self.ids.as_slice().binary_search(&number).is_err() {
             return Ok(false);
         }
         match self.changer {
@@ -163,15 +169,16 @@ impl Task {
 }
 
 /// Returns the command for the jobs of a queue, or of all, from a number on.
-pub fn list_line(alloc: Global, queue: &Option<String>, from: u32) -> Result<Vec<u8>, AllocError> {
-    let text = match queue {
-        Some(queue) => {
-            let queue = queue.as_str();
-            format!(in alloc; "list queue {queue} from {from} most 100\n")?
-        }
-        None => format!(in alloc; "list from {from} most 100\n")?,
-    };
-    Vec::from_slice(alloc, text.as_bytes())
+pub fn list_line(alloc: Global, queue: &Option<String>, from: u32) -> Result<Vec<u8>, AllocError>
+    ensures { IfOk result (λ line. line.items ≡ list_line (option_map string_bytes queue.now) from) }
+{
+    let mut line = Vec::from_slice(alloc, b"list")?;
+    if let Some(queue) = queue {
+        line.extend_from_slice(b" queue ")?;
+        line.extend_from_slice(queue.as_str().as_bytes())?;
+    }
+    write!(line, " from {from} most 100\n").map_err(|_| AllocError)?;
+    Ok(line)
 }
 
 fn number_in(word: &str) -> u32 {

@@ -1,7 +1,8 @@
 //! The work of requests that create a job or send its documents.
 use crate::answers::unsupported_group;
 use crate::job_changes::ChangeKind;
-use crate::requests::{Beginning, LONGEST_NAME, Parked, Worked, plain};
+use crate::parked::Parked;
+use crate::requests::{Beginning, LONGEST_NAME, Worked, plain};
 use crate::submitting::{NewJob, NewKind, Submitting};
 use crate::tasks::{Work, queue_line};
 use command_lines::push_quoted;
@@ -53,14 +54,14 @@ impl<'a> Beginning<'a> {
         let Some((number, _)) = self.number(job)? else {
             return Ok(Worked::Answer(Status::NotPossible));
         };
-        match parked.get(&number) {
+        match parked.get(number) {
             Some(job) if !self.is_of_client(job) => {
                 return Ok(Worked::Answer(Status::NotAuthorized));
             }
             Some(_) => {}
             None => return self.change(job, ChangeKind::Nothing),
         }
-        let Some(job) = parked.remove(&number) else {
+        let Some(job) = parked.take(number) else {
             return Ok(Worked::Answer(Status::NotFound));
         };
         let work = Work::Printing(Submitting {

@@ -1,7 +1,11 @@
 //! The work that a request begins.
+ghost use Rattle.std.specs.Prelude.{◌≡◌, IfOk};
+ghost use Rattle.ipp_tasks.specs.Requests.{answered_version, header_of};
+
 use crate::answers::Header;
 use crate::job_changes::{ChangeKind, JobChange};
 use crate::listing::{Listing, list_line};
+use crate::parked::Parked;
 use crate::submitting::NewKind;
 use crate::tasks::{
     AllPrinters, PrinterListing, ShownJob, ShownJobs, Stops, Task, Work, queue_line,
@@ -11,7 +15,7 @@ use ipp_access::{Place, Right, may};
 use ipp_answers::{JobSelection, WhichJobs};
 use ipp_names::Status;
 use ipp_options::{Hold, hold_in};
-use ipp_printing::{PrintingJob, job_line};
+use ipp_printing::job_line;
 use ipp_requests::{
     Action, JobListing, JobTarget, MessageValues, Printer, PrinterChange,
     PrinterListing as PrinterListingOf, Printers, Request,
@@ -20,7 +24,6 @@ use ipp_values::{Group, Message, Value};
 use printer_answers::PrinterSelection;
 use requested_attributes::Asked;
 use std::alloc::{AllocError, Global};
-use std::collections::BTreeMap;
 
 /// The longest name of a user, a job or a document, in bytes.
 pub const LONGEST_NAME: usize = 255;
@@ -31,9 +34,6 @@ pub enum Begun {
     Task(Task),
     Answer(Header, Status, Vec<Group>),
 }
-
-/// The jobs that wait for their next request.
-pub type Parked = BTreeMap<u32, PrintingJob>;
 
 /// A client, as a request needs to know it.
 #[derive(Clone, Copy)]
@@ -53,7 +53,10 @@ pub fn begin(
     message: &Message,
     parked: &mut Parked,
     caller: Caller<'_>,
-) -> Result<Begun, AllocError> {
+) -> Result<Begun, AllocError>
+    ensures version { IfOk result (λ begun. (header_of begun).version ≡ answered_version message.now.version) }
+    ensures request_id { IfOk result (λ begun. (header_of begun).request_id ≡ message.now.request_id) }
+{
     let header = Header::of(message);
     match Request::of(alloc, message) {
         Ok(request) => {
@@ -104,7 +107,9 @@ impl<'a> Beginning<'a> {
         header: Header,
         action: &Action<'_>,
         parked: &mut Parked,
-    ) -> Result<Begun, AllocError> {
+    ) -> Result<Begun, AllocError>
+        ensures { IfOk result (λ begun. header_of begun ≡ header) }
+    {
         let host = String::from_str(self.alloc, self.caller.host)?;
         let user = String::from_str(self.alloc, self.user)?;
         match self.work(action, parked)? {
@@ -411,6 +416,7 @@ fn which_of(which: ipp_requests::WhichJobs) -> WhichJobs {
     }
 }
 
+// Returns the positive numbers among the values, in ascending order.
 fn numbers(alloc: Global, values: Option<&MessageValues<'_>>) -> Result<Vec<u32>, AllocError> {
     let mut numbers = Vec::new(alloc);
     if let Some(values) = values {
@@ -422,6 +428,7 @@ fn numbers(alloc: Global, values: Option<&MessageValues<'_>>) -> Result<Vec<u32>
             }
         }
     }
+    numbers.as_mut_slice().sort_unstable();
     Ok(numbers)
 }
 

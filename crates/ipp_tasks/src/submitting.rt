@@ -1,7 +1,8 @@
 //! Requests that create a job and send its documents.
-ghost use Rattle.std.specs.Prelude.{◌≡◌, ◌⊎◌, true, false, IfOk, OnOk};
+ghost use Rattle.std.specs.Prelude.{◌≡◌, ◌⊎◌, true, false, Some, IfOk, OnOk};
 ghost use Rattle.ipp_submission.specs.JobParts.{finished, is_ready, with_document};
 ghost use Rattle.ipp_tasks.specs.Answers.{MayAnswer, may_succeed, prints};
+ghost use Rattle.ipp_tasks.specs.Requests.{abandoned, waiting_by};
 ghost use Rattle.ipp_tasks.specs.Submissions.{TakesSome};
 
 use crate::answers::{created_names, unsupported_group};
@@ -62,7 +63,9 @@ pub struct Submitting {
 
 impl Submitting {
     /// Returns the job, if it waits for the next request.
-    pub fn into_waiting(self) -> Option<PrintingJob> {
+    pub fn into_waiting(self) -> Option<PrintingJob>
+        ensures { result ≡ waiting_by (Some self) }
+    {
         if self.job.submission.is_ready() {
             Some(self.job)
         } else {
@@ -71,7 +74,9 @@ impl Submitting {
     }
 
     /// Returns the job, whose client is lost. `is_unanswered` states whether a command has no reply yet.
-    pub fn into_lost(self, is_unanswered: bool) -> PrintingJob {
+    pub fn into_lost(self, is_unanswered: bool) -> PrintingJob
+        ensures { result.submission ≡ abandoned is_unanswered self }
+    {
         let mut job = self.job;
         if is_unanswered && !self.shows {
             job.lost();

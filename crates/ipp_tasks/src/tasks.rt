@@ -1,7 +1,9 @@
 //! The work of one request: the commands that it sends, and its answer.
-ghost use Rattle.std.specs.Prelude.{◌≡◌, ◌⊎◌, true, false, None, Some, IfOk, OnOk};
+ghost use Rattle.std.specs.Prelude.{◌≡◌, ◌⊎◌, true, false, is_some, string_bytes, None, Some, IfOk, OnOk};
+ghost use Rattle.std.specs.Option.{option_map};
 ghost use Rattle.ipp_submission.specs.JobParts.{deserted_in};
 ghost use Rattle.ipp_tasks.specs.Answers.{MayAnswer, is_success, prints, says_ok};
+ghost use Rattle.ipp_tasks.specs.Requests.{abandoned_by, is_of, queue_line, submission_in, unsent_of, waiting_by, waits_for_body};
 ghost use Rattle.ipp_tasks.specs.Submissions.{GoesBy, LosesSome, progress_of};
 
 use crate::answers::Header;
@@ -19,6 +21,7 @@ use ipp_values::Group;
 use printer_answers::PrinterSelection;
 use service_client::Reply;
 use std::alloc::{AllocError, Global};
+use std::io::Write;
 use std::{mem, str};
 
 /// The next step of a request.
@@ -114,17 +117,23 @@ pub struct Task {
 }
 
 impl Task {
-    pub fn header(&self) -> Header {
+    pub fn header(&self) -> Header
+        ensures { result ≡ self.now.header }
+    {
         self.header
     }
 
     /// Returns whether a command is to be sent or waits for its reply.
-    pub fn has_command(&self) -> bool {
+    pub fn has_command(&self) -> bool
+        ensures { result ≡ is_some self.now.command }
+    {
         self.command.is_some()
     }
 
     /// Returns the command that is to be sent now.
-    pub fn unsent(&self, millis: u64) -> Option<&[u8]> {
+    pub fn unsent(&self, millis: u64) -> Option<&[u8]>
+        ensures { option_map (λ command. command.now) result ≡ unsent_of self.now millis }
+    {
         if self.is_sent || millis < self.not_before {
             return None;
         }
@@ -135,12 +144,16 @@ impl Task {
     }
 
     /// Notes that the command is sent.
-    pub fn note_sent(&mut self) {
+    pub fn note_sent(&mut self)
+        ensures { self.new ≡ record self.old { is_sent = true } }
+    {
         self.is_sent = true;
     }
 
     /// Returns whether the next part of the body is awaited.
-    pub fn waits_for_body(&self) -> bool {
+    pub fn waits_for_body(&self) -> bool
+        ensures { result ≡ waits_for_body self.now }
+    {
         match &self.work {
             Work::Printing(submitting) => self.command.is_none() && submitting.takes,
             _ => false,
@@ -356,7 +369,9 @@ impl Task {
     }
 
     /// Gives up the request, whose client is lost. Returns its job, if it has one.
-    pub fn abandon(self) -> Option<PrintingJob> {
+    pub fn abandon(self) -> Option<PrintingJob>
+        ensures { option_map (λ job. job.submission) result ≡ abandoned_by self (submission_in self.work) }
+    {
         let is_unanswered = self.is_sent && self.command.is_some();
         match submission_in(self.work) {
             Some(submitting) => Some(submitting.into_lost(is_unanswered)),
@@ -365,7 +380,9 @@ impl Task {
     }
 
     /// Ends the request. Returns its job, if that waits for the next request.
-    pub fn into_waiting(self) -> Option<PrintingJob> {
+    pub fn into_waiting(self) -> Option<PrintingJob>
+        ensures { result ≡ waiting_by (submission_in self.work) }
+    {
         match submission_in(self.work) {
             Some(submitting) => submitting.into_waiting(),
             None => None,
@@ -374,7 +391,9 @@ impl Task {
 }
 
 // Returns the submission of a request, if it has one.
-fn submission_in(work: Work) -> Option<Submitting> {
+fn submission_in(work: Work) -> Option<Submitting>
+    ensures { result ≡ submission_in work }
+{
     match work {
         Work::Printing(submitting) => Some(submitting),
         _ => None,
@@ -439,7 +458,9 @@ impl AllPrinters {
 }
 
 /// Returns whether this is the queue, or no queue is asked for.
-pub fn is_of(queue: &Option<String>, name: &str) -> bool {
+pub fn is_of(queue: &Option<String>, name: &str) -> bool
+    ensures { result ≡ is_of (option_map string_bytes queue.now) name.now }
+{
     match queue {
         Some(queue) => queue.as_str() == name,
         None => true,
@@ -462,7 +483,10 @@ pub fn refused(alloc: Global, error: ServiceError) -> Outcome
 }
 
 /// Returns `queue NAME`.
-pub fn queue_line(alloc: Global, name: &str) -> Result<Vec<u8>, AllocError> {
-    let text = format!(in alloc; "queue {name}\n")?;
-    Vec::from_slice(alloc, text.as_bytes())
+pub fn queue_line(alloc: Global, name: &str) -> Result<Vec<u8>, AllocError>
+    ensures { IfOk result (λ line. line.items ≡ queue_line name.now) }
+{
+    let mut line = Vec::new(alloc);
+    write!(line, "queue {name}\n").map_err(|_| AllocError)?;
+    Ok(line)
 }

@@ -1,0 +1,18 @@
+-- The state that all clients share.
+use Rattle.std.specs.Prelude.{ℕ, ◌+◌, Bool, cond, nat_lt, List, Option, None}
+use Rattle.std.specs.Option.{option_map}
+use Rattle.ipp_tasks.specs.ParkedJobs.{count_of}
+use Rattle.ipp_loop.specs.declared.lost.LostJobs.{LostJobs}
+use Rattle.ipp_loop.specs.declared.shared.Shared.{Shared}
+
+-- The service has not answered for more than 30 seconds.
+abbrev pub is_away : {S : Type 0} → Shared S → Bool
+is_away shared = nat_lt (shared.heard + 30000) shared.millis
+
+-- The jobs that wait for their next request.
+abbrev pub parked_count : {S : Type 0} → Shared S → ℕ
+parked_count shared = count_of shared.parked
+
+-- The command of the first lost job, if it is not sent yet.
+abbrev pub unsent_of : LostJobs → Option (List ℕ)
+unsent_of lost = cond lost.is_sent None (option_map (λ command. command.items) lost.command)

@@ -1,0 +1,78 @@
+-- The commands about the jobs of a submission.
+use Rattle.std.specs.Prelude.{ℕ, Bool, true, false, List, [], ◌++◌, length, ◌==◌, cond, codes, slice_get, string_bytes, Option, None, Some}
+use Rattle.std.specs.Fmt.{decimal}
+use Rattle.std.specs.Option.{option_map}
+use Rattle.command_lines.specs.Replies.{quoted}
+use Rattle.front_submission.specs.declared.step.Request.{Request}
+use Rattle.front_submission.specs.declared.step.Request.TheVariants.{Create, Find, Read, Send, Show, Hold, Close, Cancel, Nothing}
+use Rattle.ipp_options.specs.declared.hold.Hold as holds
+use Rattle.ipp_options.specs.declared.hold.Hold.TheVariants.{Free, Indefinite, Until}
+use Rattle.ipp_submission.specs.JobParts.{next_request}
+use Rattle.service_client.specs.DocumentSends.{send_text}
+use Rattle.ipp_printing.specs.declared.printing.DocumentName.{DocumentName}
+use Rattle.ipp_printing.specs.declared.printing.PrintingJob.{PrintingJob}
+
+-- A word, followed by a job number.
+abbrev pub job_line : List ℕ → ℕ → List ℕ
+job_line word job = word ++ codes " " ++ decimal job ++ codes "\n"
+
+-- `hold`, or `release` for no hold.
+abbrev pub hold_line : ℕ → holds.Hold → List ℕ
+hold_line job Free = job_line (codes "release") job
+hold_line job Indefinite = codes "hold " ++ decimal job ++ codes " indefinite\n"
+hold_line job (Until moment) = codes "hold " ++ decimal job ++ codes " " ++ decimal moment ++ codes "\n"
+
+abbrev pub blank_after : List ℕ → List ℕ
+blank_after options = cond (length options == 0) [] (codes " ")
+
+-- The options, and the token of a part, by which its job is found again.
+abbrev pub option_text : PrintingJob → ℕ → List ℕ
+option_text j part =
+    (((string_bytes j.options ++ blank_after (string_bytes j.options)) ++ codes "submission=") ++ string_bytes j.token) ++ (codes "-" ++ decimal part)
+
+abbrev pub create_line : PrintingJob → ℕ → List ℕ
+create_line j part = j.create.items ++ quoted (option_text j part) ++ codes "\n"
+
+abbrev pub find_line : PrintingJob → ℕ → List ℕ
+find_line j part = codes "find " ++ string_bytes j.token ++ codes "-" ++ decimal part ++ codes "\n"
+
+-- A search asks for the number of the job, and then for its state.
+abbrev pub search_line : Option ℕ → PrintingJob → ℕ → List ℕ
+search_line (Some job) j part = job_line (codes "job") job
+search_line None j part = find_line j part
+
+abbrev pub document_name : Option DocumentName → List ℕ
+document_name None = codes "document"
+document_name (Some document) = string_bytes document.name
+
+abbrev pub document_media : Option DocumentName → Option (List ℕ)
+document_media None = None
+document_media (Some document) = option_map string_bytes document.media
+
+-- The type of a document, unless it is to be detected. A queue of raw bytes detects none.
+abbrev pub media_of : PrintingJob → ℕ → Option (List ℕ)
+media_of j part = cond j.is_raw (Some (codes "application/octet-stream")) (document_media (slice_get j.documents.items part))
+
+abbrev pub media_word : Option (List ℕ) → List ℕ
+media_word None = []
+media_word (Some media) = codes " " ++ media
+
+abbrev pub close_line : PrintingJob → ℕ → ℕ → List ℕ
+close_line j part job =
+    codes "close " ++ decimal job ++ codes " " ++ quoted (document_name (slice_get j.documents.items part)) ++ media_word (media_of j part) ++ codes "\n"
+
+-- The command for a request about a part.
+abbrev pub command_for : PrintingJob → ℕ → Request → Option (List ℕ)
+command_for j part Create = Some (create_line j part)
+command_for j part Find = Some (search_line j.found j part)
+command_for j part (Read size) = None
+command_for j part (Send job size piece) = Some (send_text job j.piece.items)
+command_for j part (Show job) = Some (job_line (codes "job") job)
+command_for j part (Hold job) = Some (hold_line job j.hold)
+command_for j part (Close job) = Some (close_line j part job)
+command_for j part (Cancel job) = Some (job_line (codes "cancel") job)
+command_for j part Nothing = None
+
+-- The command for the next request of the submission.
+abbrev pub command_of : PrintingJob → Option (List ℕ)
+command_of j = command_for j j.submission.at (next_request j.submission)
