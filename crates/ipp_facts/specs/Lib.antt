@@ -1,3 +1,4 @@
 pub mod JobReports
 pub mod QueueReports
 pub mod ServiceErrors
+pub mod ShownUris

@@ -8,6 +8,7 @@ use Rattle.line_words.specs.DecimalNumbers.{decimal}
 use Rattle.command_lines.specs.CommandNumbers.{ranged}
 use Rattle.front_texts.specs.ReplyFields.{is_word}
 use Rattle.printer_answers.specs.declared.facts.PrinterFacts.{PrinterFacts}
+use Rattle.ipp_facts.specs.ShownUris.{without_user}
 
 -- The rest of a row after its name and a blank.
 abbrev pub value_in : List ℕ → List ℕ → List ℕ
@@ -30,11 +31,11 @@ number_of rows name most = number_or_zero (decimal most (value_of rows name))
 abbrev pub names_a_queue : List (Vec ℕ Global) → Bool
 names_a_queue rows = is_some (media_in (value_of rows (codes "type"))) && is_some (text_in is_queue_name (value_of rows (codes "queue")))
 
--- The facts are those of the rows.
+-- The facts are those of the rows, without the name and the password in the device's URI.
 abbrev pub IsReportOf : List (Vec ℕ Global) → PrinterFacts → Type 0
 IsReportOf rows facts =
     (text_in is_queue_name (value_of rows (codes "queue")) ≡ Some facts.name)
-    × (facts.uri ≡ text_in is_uri (value_of rows (codes "uri")))
+    × (facts.uri ≡ text_in is_uri (without_user (value_of rows (codes "uri"))))
     × (facts.accepting ≡ is_word (value_of rows (codes "accepting")) (codes "yes"))
     × (facts.stopped ≡ is_word (value_of rows (codes "stopped")) (codes "yes"))
     × (facts.printing ≡ ranged 1 greatest_number (value_of rows (codes "printing")))

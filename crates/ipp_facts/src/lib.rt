@@ -8,8 +8,8 @@
 //! - [`error_in`], [`is_done`]: exactly the error of a last line, and whether it is a success.
 //! - [`shown_in`], [`job_facts`]: the facts are those of the rows (`some`). A job has none only if its reason is none that an answer has
 //!   (`none`).
-//! - [`printer_facts`]: the name, the URI, the marks and the counts are those of the rows. [`queue_target`], [`is_accepting`]: exactly those of
-//!   the rows.
+//! - [`printer_facts`]: the name, the marks and the counts are those of the rows, and so is the device's URI, without the name and the password
+//!   in it. [`queue_target`], [`is_accepting`]: exactly those of the rows.
 //!
 //! # Not proved
 //!
@@ -24,6 +24,7 @@
 mod errors;
 mod shown_jobs;
 mod shown_queues;
+mod shown_uris;
 mod words;
 
 pub use errors::{error_in, is_done};

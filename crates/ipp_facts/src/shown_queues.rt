@@ -4,6 +4,7 @@ ghost use Rattle.spool_types.specs.Values.{is_queue_name, media_in, text_in};
 ghost use Rattle.front_texts.specs.ReplyFields.{is_word};
 ghost use Rattle.ipp_facts.specs.QueueReports.{IsReportOf, names_a_queue, value_of};
 
+use crate::shown_uris::without_user;
 use crate::words::{message_in, note_in, number_of, value_of};
 use command_lines::job_number;
 use ipp_answers::Timestamp;
@@ -62,9 +63,10 @@ fn facts_with(
     requires { text_in is_queue_name (value_of rows.now (codes "queue")) ≡ Some name }
     ensures { IfOk result (IsReportOf rows.now) }
 {
+    let uri = without_user(alloc, value_of(rows, b"uri"))?;
     Ok(PrinterFacts {
         name,
-        uri: Uri::from_word(alloc, value_of(rows, b"uri"))?,
+        uri: Uri::from_word(alloc, uri.as_slice())?,
         info: note_in(alloc, value_of(rows, b"info"))?,
         location: note_in(alloc, value_of(rows, b"location"))?,
         accepting: is_accepting(rows),

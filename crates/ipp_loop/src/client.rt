@@ -84,9 +84,9 @@ impl<S: Stream> Client<S> {
         self.ends && !self.http.has_output()
     }
 
-    /// Returns since when the client has no request, if it has none.
+    /// Returns since when the client has no request, if it has none. A client from which more can be read may have one.
     pub fn idle_since(&self) -> Option<u64> {
-        let idle = matches!(self.state, State::Idle);
+        let idle = matches!(self.state, State::Idle) && !self.readable;
         if idle && !self.http.has_input() && !self.http.has_output() {
             Some(self.since)
         } else {

@@ -135,21 +135,27 @@ impl<S: Stream> Front<S> {
         sockets: &mut R,
         times: &mut T,
     ) -> Result<(), AllocError> {
-        if self.has_new_client && self.ends.is_none() {
-            self.accept_all(sockets);
-        }
         if self.shared.wants_connection() {
             let stream = sockets.connect();
             self.shared.connected(stream);
         }
-        self.more = true;
-        for _ in 0..MOST_PASSES {
-            if !self.pass(times)? {
-                self.more = self.has_new_client && self.ends.is_none();
-                break;
-            }
+        self.more = !self.serve_all(times)?;
+        // New clients come last, so that those that have left have given up their places, and the requests of the others are read.
+        if self.has_new_client && self.ends.is_none() {
+            self.accept_all(sockets);
+            self.more = true;
         }
         self.shared.sweep()
+    }
+
+    // Serves the clients until nothing more can be done, or for [`MOST_PASSES`] passes. Returns whether nothing more can be done.
+    fn serve_all<T: Times>(&mut self, times: &mut T) -> Result<bool, AllocError> {
+        for _ in 0..MOST_PASSES {
+            if !self.pass(times)? {
+                return Ok(true);
+            }
+        }
+        Ok(false)
     }
 
     // Takes the replies that have come, and gives each client a turn. Returns whether anything was done.

@@ -5,13 +5,17 @@
 //! # Rules
 //!
 //! - Each request whose head was read is answered, or its connection is lost. Out of memory has a fixed answer.
-//! - At most [`MOST_CLIENTS`] clients are connected, and what waits for each is bounded.
+//! - At most [`MOST_CLIENTS`] clients are connected, and what waits for each is bounded. A new client is accepted after the turns of all others.
 //! - A job whose client is lost before its last document is whole is canceled.
 //!
 //! # Promises
 //!
 //! - *Apart*: a turn of a client, a reply to its command and the loss of its command leave all other clients as they are (`others` of
-//!   `Front::serve_client`, `Front::heard` and `Front::lose`).
+//!   `Front::serve_client`, `Front::heard` and `Front::lose`). A reply to a client that had the place before changes nothing (`Client::heard`,
+//!   `Client::lost`).
+//! - *Canceled*: a job that is given up is the last of the lost jobs, and leaves them only as the first one, after nothing more happens to it
+//!   or while the service is away (`Shared::give_up`, `LostJobs::push`, `LostJobs::forget_ended`).
+//! - *OnceForAll*: each command that waits for its reply is answered, is lost or waits still: once and in order (`Shared::exchange`: `once`).
 //!
 //! # Not proved
 //!

@@ -1,7 +1,9 @@
 //! Jobs whose client was lost. They are canceled, one after the other.
-ghost use Rattle.std.specs.Prelude.{◌≡◌, ◌≢◌, [], true};
+ghost use Rattle.std.specs.Prelude.{◌≡◌, ◌≢◌, ◌||◌, [], ◌∷◌, ◌++◌, cond, drop, true, OnOk};
 ghost use Rattle.std.specs.Option.{option_map};
-ghost use Rattle.ipp_loop.specs.SharedStates.{unsent_of};
+ghost use Rattle.ipp_submission.specs.JobParts.{given_up};
+ghost use Rattle.ipp_printing.specs.PrintingJobs.{submission_of};
+ghost use Rattle.ipp_loop.specs.SharedStates.{starts_ended, submissions, unsent_of};
 
 use ipp_printing::PrintingJob;
 use service_client::Reply;
@@ -32,7 +34,10 @@ impl LostJobs {
     }
 
     /// Adds a job, which its client gives up.
-    pub fn push(&mut self, job: PrintingJob) -> Result<(), AllocError> {
+    #[tactic(auto, using(crate::proofs::Losses::map_snoc))]
+    pub fn push(&mut self, job: PrintingJob) -> Result<(), AllocError>
+        ensures { OnOk result (submissions self.new ≡ submissions self.old ++ given_up (submission_of job) ∷ []) }
+    {
         let mut job = job;
         job.give_up();
         self.jobs.push_back(job)?;
@@ -41,7 +46,9 @@ impl LostJobs {
 
     /// Removes the first job if nothing more happens to it, or if the service is away. The service itself cancels the incoming jobs of a lost
     /// connection.
-    pub fn forget_ended(&mut self, is_away: bool) {
+    pub fn forget_ended(&mut self, is_away: bool)
+        ensures { submissions self.new ≡ cond (is_away || starts_ended (submissions self.old)) (drop 1 (submissions self.old)) (submissions self.old) }
+    {
         let over = match self.jobs.front() {
             Some(job) => is_away || job.is_over(),
             None => false,
@@ -55,7 +62,9 @@ impl LostJobs {
     }
 
     /// Makes the command of the first job.
-    pub fn prepare(&mut self, alloc: Global) -> Result<(), AllocError> {
+    pub fn prepare(&mut self, alloc: Global) -> Result<(), AllocError>
+        ensures { submissions self.new ≡ submissions self.old }
+    {
         if self.command.is_none() {
             if let Some(job) = self.jobs.front() {
                 self.command = job.command(alloc)?;

@@ -1,13 +1,15 @@
 //! The state that all clients share: the service, and the jobs that wait for their next request.
-ghost use Rattle.std.specs.Prelude.{◌≡◌, ◌≤◌, [], is_some, false, true};
-ghost use Rattle.ipp_loop.specs.SharedStates.{is_away, parked_count};
+ghost use Rattle.std.specs.Prelude.{◌≡◌, ◌≤◌, [], ◌∷◌, ◌++◌, is_some, false, true, OnOk};
+ghost use Rattle.ipp_submission.specs.JobParts.{given_up};
+ghost use Rattle.ipp_printing.specs.PrintingJobs.{submission_of};
+ghost use Rattle.ipp_loop.specs.SharedStates.{is_away, parked_count, submissions};
 ghost use Rattle.ipp_sockets.specs.LinkStates.{AreOnce, waiting};
 ghost use Rattle.ipp_tasks.specs.ParkedJobs.{most_parked};
 
 use crate::lost::LostJobs;
 use ipp_printing::PrintingJob;
 use ipp_sockets::{Link, Stream, Tag};
-use ipp_tasks::{Parked, World};
+use ipp_tasks::{MOST_PARKED, Parked, World};
 use service_client::{Answered, Asked, Reply};
 use std::alloc::{AllocError, Global};
 use std::collections::VecDeque;
@@ -39,7 +41,7 @@ pub struct Shared<S: Stream> {
     heard: u64,
     // When a connection was tried last.
     tried: u64,
-    // The second at which no job had waited too long.
+    // The second in which the jobs were last looked through.
     swept: u64,
 }
 
@@ -88,6 +90,7 @@ impl<S: Stream> Shared<S> {
     }
 
     /// Exchanges what can be exchanged with the service now. Returns the commands that were lost.
+    #[tactic(auto, using(crate::proofs::Losses::all_lost))]
     pub fn exchange(&mut self, answers: &mut Vec<Answered<Tag>>) -> VecDeque<Asked<Tag>>
         ensures once { AreOnce (waiting self.old.link) answers.old.items answers.new.items result.items (waiting self.new.link) }
     {
@@ -119,24 +122,27 @@ impl<S: Stream> Shared<S> {
     }
 
     /// Gives up a job whose client was lost.
-    pub fn give_up(&mut self, job: PrintingJob) -> Result<(), AllocError> {
+    pub fn give_up(&mut self, job: PrintingJob) -> Result<(), AllocError>
+        ensures { OnOk result (submissions self.new.lost ≡ submissions self.old.lost ++ given_up (submission_of job) ∷ []) }
+    {
         self.lost.push(job)
     }
 
-    /// Gives up a job that has waited too long for its next request. Once there is none, it looks again in the next second.
+    /// Gives up the jobs that have waited too long for their next request. It looks for them once a second.
     pub fn sweep(&mut self) -> Result<(), AllocError>
         ensures { parked_count self.new ≤ parked_count self.old }
     {
         if self.swept == self.world.seconds {
             return Ok(());
         }
-        match self.parked.take_late(self.world.seconds) {
-            Some(job) => self.lost.push(job),
-            None => {
-                self.swept = self.world.seconds;
-                Ok(())
+        self.swept = self.world.seconds;
+        for _ in 0..MOST_PARKED {
+            match self.parked.take_late(self.world.seconds) {
+                Some(job) => self.lost.push(job)?,
+                None => break,
             }
         }
+        Ok(())
     }
 
     // ## Jobs without a client

@@ -11,6 +11,11 @@
 //! - [`Task::lost`], [`Task::deserted`]: only a lost reply, or a service that is away for too long, changes the submission of a request
 //!   (`submission`).
 //!
+//! - *Waiting*: at most [`MOST_PARKED`] jobs wait for their next request ([`Parked::put`]: `bounded`), each is found by its number (`added`,
+//!   `others`, [`Parked::take`]), and only a job that no client has used for more than [`TIME_OUT`] seconds is removed for its age
+//!   ([`Parked::take_late`]: `late`).
+//! - An answer has the number of its request, and its version if that is known ([`begin`]: `version`, `request_id`).
+//!
 //! # Not proved
 //!
 //! - That only replies and what the client has sent change the submission ([`Task::heard`], [`Task::go_on`]): read in the code.

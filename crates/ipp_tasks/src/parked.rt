@@ -1,7 +1,7 @@
 //! The jobs that wait for their next request.
-ghost use Rattle.std.specs.Prelude.{◌≡◌, ◌≤◌, IfSome, true};
+ghost use Rattle.std.specs.Prelude.{◌≡◌, ◌≤◌, IfOk, IfSome, None, Some, is_some, true};
 ghost use Rattle.std.specs.Option.{option_copied};
-ghost use Rattle.ipp_tasks.specs.ParkedJobs.{count_of, is_late, job_with, most_parked};
+ghost use Rattle.ipp_tasks.specs.ParkedJobs.{KeepsOthers, count_of, is_late, job_with, most_parked};
 
 use crate::world::TIME_OUT;
 use ipp_printing::PrintingJob;
@@ -41,6 +41,9 @@ impl Parked {
     /// Out of memory: the job is gone.
     pub fn put(&mut self, number: u32, job: PrintingJob) -> Result<Option<PrintingJob>, AllocError>
         ensures bounded { count_of self.old ≤ most_parked → count_of self.new ≤ most_parked }
+        ensures added { IfOk result (λ first. first ≡ None → job_with self.new number ≡ Some job) }
+        ensures others { IfOk result (λ first. first ≡ None → KeepsOthers number self.old self.new) }
+        ensures full { IfOk result (λ first. is_some first ≡ true → most_parked ≤ count_of self.new) }
     {
         drop(self.jobs.insert(number, job)?);
         if self.jobs.len() <= MOST_PARKED {
@@ -55,6 +58,7 @@ impl Parked {
     /// Removes and returns the job with this number.
     pub fn take(&mut self, number: u32) -> Option<PrintingJob>
         ensures value { result ≡ job_with self.old number }
+        ensures others { KeepsOthers number self.old self.new }
         ensures fewer { count_of self.new ≤ count_of self.old }
     {
         self.jobs.remove(&number)
