@@ -13,7 +13,7 @@ import time
 
 import pytest
 
-from harness.checks import LONGEST, quoted, same
+from harness.checks import LONGEST, quoted, same, words_of_faults
 from harness.child_folder import CHANNEL, COPIES, EXIT, printed, PYTHON, queue_states, stage_event, states
 from harness.programs import SHELL
 
@@ -496,7 +496,7 @@ def test_devices(folder):
     run = subprocess.run([SHELL, "--devices"], stdin=subprocess.DEVNULL, capture_output=True, timeout=LONGEST)
     same("no programs", (run.returncode, run.stdout, run.stderr), (0, b"", b""))
     run = subprocess.run(f"exec '{SHELL}' --programs programs --devices >/dev/full", shell=True, cwd=folder.path, capture_output=True, timeout=LONGEST)
-    same("full", (run.returncode, run.stderr), (1, b"spool: write\n"))
+    same("full", (run.returncode, words_of_faults(run.stderr.decode())), (1, "spool: write\n"))
 
 
 # ---- a full folder

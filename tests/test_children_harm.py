@@ -14,7 +14,7 @@ import time
 
 import pytest
 
-from harness.checks import LONGEST, same, until
+from harness.checks import LONGEST, same, until, words_of_faults
 from harness.child_folder import CHANNEL, COPIES, EXIT, LOCK, printed, PYTHON, SIDE_END, stage_event, states, TYPES
 from harness.programs import SHELL
 
@@ -202,13 +202,13 @@ def test_locks_that_exclude_nobody(folder):
     def served(*inject):
         words = ["strace", "-qq", "-o", folder.at("calls"), *inject, *folder.words()]
         run = subprocess.run(words, input=b"jobs\n", cwd=folder.path, capture_output=True, timeout=LONGEST)
-        return run.returncode, run.stdout, run.stderr
+        return run.returncode, run.stdout, words_of_faults(run.stderr.decode())
 
-    refused = (1, b"", b"spool: disk\nspool: cause: owner unknown\n")
+    refused = (1, b"", "spool: disk\nspool: cause: owner unknown\n")
     same("two locks at once", served("-P", lock, "-e", "inject=flock:retval=0"), refused)
     same("the folder", os.listdir(folder.at(folder.root)), [LOCK])
-    same("no lock of the file", served("-P", lock, "-e", "inject=flock:error=ENOLCK"), (1, b"", b"spool: disk\nspool: cause: failed\n"))
-    same("no lock of the folder", served("-e", "inject=flock:error=EBADF:when=1"), (0, b"ok 0\n", b""))
+    same("no lock of the file", served("-P", lock, "-e", "inject=flock:error=ENOLCK"), (1, b"", "spool: disk\nspool: cause: failed\n"))
+    same("no lock of the folder", served("-e", "inject=flock:error=EBADF:when=1"), (0, b"ok 0\n", ""))
 
 
 @pytest.mark.root
@@ -235,7 +235,7 @@ def test_causes_of_the_disk(folder):
         if name == "dangling":
             os.symlink("nowhere", os.path.join(root, "spool.disk"))
         run = subprocess.run([SHELL, "--root", name], input=b"", cwd=folder.path, capture_output=True, timeout=LONGEST)
-        ends[name] = (run.returncode, run.stderr.decode().splitlines())
+        ends[name] = (run.returncode, words_of_faults(run.stderr.decode()).splitlines())
     causes = {"absent": "absent", "file": "no file", "taken": "no file", "dangling": "absent"}
     same("causes", ends, {name: (1, ["spool: disk", f"spool: cause: {cause}"]) for name, cause in causes.items()})
     root = folder.at(folder.root)

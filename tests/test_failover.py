@@ -30,7 +30,7 @@ import time
 import pytest
 
 from harness import failover_volume
-from harness.checks import Difference, holds, LONGEST, same, until
+from harness.checks import Difference, holds, LONGEST, same, until, words_of_faults
 from harness.failover_volume import Volume
 from harness.programs import SERVICE
 from harness.service import Client, Gone, Submitter, TYPE
@@ -86,7 +86,7 @@ class Seat:
     def fault_log(self):
         """Why it ended: the log lines about a fault."""
         with open(self.log, encoding="utf-8") as file:
-            return "".join(line for line in file if line.startswith(("spool: disk\n", "spool: cause: ")))
+            return words_of_faults("".join(line for line in file if line.startswith(("spool: disk\n", "spool: cause: "))))
 
     def serves(self):
         """Whether it replies. A service that fails because another program owns the folder is started again, as a systemd unit is."""
@@ -112,7 +112,7 @@ class Seat:
     def refusal(self):
         """A start that ends at once: its status and its log."""
         done = subprocess.run(self.command(), capture_output=True, text=True, timeout=LONGEST)
-        return done.returncode, done.stderr
+        return done.returncode, words_of_faults(done.stderr)
 
 
 class Cluster:

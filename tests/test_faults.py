@@ -403,15 +403,6 @@ LACKS = {
     "spool_tools-missing-chain": "builtin_stages: its lines are constants, without a path and a reason",
 }
 
-# The rows whose texts are whole. All others lack the path, the reason or what to do.
-WHOLE = {
-    "spool_shell-unknown-option", "spool_shell-missing-value", "spool_shell-long-folder", "spool_shell-memory",
-    *(f"spool_service-{row}" for row in (
-        "no-folder-given", "bad-number", "bad-mode", "bad-trust", "relative-folder-of-users", "unknown-user", "user-twice", "root-for-children",
-        "no-right-to-change-users", "file-for-the-socket", "socket-in-use", "folder-of-proofs")),
-    "spool_admin-no-task", "spool_ipp-no-service", "spool_ipp-missing-value", "spool_tools-no-device",
-}
-
 
 def marks_of(name, row):
     """The needs of a row."""
@@ -427,8 +418,8 @@ def marks_of(name, row):
 
 def expected(name):
     """The mark of a row whose text lacks a part."""
-    if name in LACKS or name not in WHOLE:
-        yield pytest.mark.xfail(strict=True, reason=LACKS.get(name, "its text lacks the path, the reason or what to do"))
+    if name in LACKS:
+        yield pytest.mark.xfail(strict=True, reason=LACKS[name])
 
 
 def outcome(row, room):

@@ -18,7 +18,7 @@ import tempfile
 
 import pytest
 
-from harness.checks import Difference
+from harness.checks import Difference, words_of_faults
 from harness.programs import SHELL
 
 pytestmark = pytest.mark.needs("spool_shell")
@@ -83,7 +83,7 @@ class Program:
     def end(self):
         """Its last replies, its error messages and its status."""
         self.replies += self.child.stdout.readlines()
-        self.complaints = self.child.stderr.read()
+        self.complaints = words_of_faults(self.child.stderr.read())
         self.status = self.child.wait()
         self.child.stdout.close()
         self.child.stderr.close()

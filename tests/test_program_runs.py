@@ -14,7 +14,7 @@ import tempfile
 import pytest
 
 from harness import journal
-from harness.checks import LONGEST as SECONDS, same as check
+from harness.checks import LONGEST as SECONDS, same as check, words_of_faults
 from harness.programs import is_sanitized, SHELL
 
 pytestmark = pytest.mark.needs("spool_shell")
@@ -31,9 +31,9 @@ def folder_with_a_short_name():
 
 
 def run(*words, given=b"queues\n", folder=None, **more):
-    """The replies, the standard error and the status of the shell in a folder."""
+    """The replies, the words of faults on standard error, and the status of the shell in a folder."""
     ended = subprocess.run([SHELL, *words], input=given, capture_output=True, cwd=folder, timeout=SECONDS, **more)
-    return ended.stdout, ended.stderr, ended.returncode
+    return ended.stdout, words_of_faults(ended.stderr.decode()).encode(), ended.returncode
 
 
 def fault(text):
@@ -125,7 +125,7 @@ def test_a_reader_or_a_writer_may_fail(folder):
     given = os.open(folder, os.O_RDONLY)
     ended = subprocess.run([SHELL, "--size", "4096"], stdin=given, capture_output=True, timeout=SECONDS)
     os.close(given)
-    check("a reader that fails", (ended.stdout, ended.stderr, ended.returncode), fault("read"))
+    check("a reader that fails", (ended.stdout, words_of_faults(ended.stderr.decode()).encode(), ended.returncode), fault("read"))
 
     def seven_bytes():
         signal.signal(signal.SIGXFSZ, signal.SIG_IGN)
@@ -135,7 +135,7 @@ def test_a_reader_or_a_writer_may_fail(folder):
     with open(path, "wb") as replies:
         ended = subprocess.run([SHELL, "--size", "4096"], input=b"queues\nqueues\n", stdout=replies, stderr=subprocess.PIPE,
                                timeout=SECONDS, preexec_fn=seven_bytes)
-    check("a writer that fails", (read(path), ended.stderr, ended.returncode), (b"ok 0\nok", b"spool: write\n", 1))
+    check("a writer that fails", (read(path), words_of_faults(ended.stderr.decode()), ended.returncode), (b"ok 0\nok", "spool: write\n", 1))
 
 
 # ---- the files of types, conversions and programs

@@ -9,7 +9,7 @@ import time
 
 import pytest
 
-from harness.checks import Difference, holds, LONGEST, same, until
+from harness.checks import Difference, holds, LONGEST, same, until, words_of_faults
 from harness.child_folder import Folder
 from harness.large_run import TYPE
 from harness.programs import compiled, path_of, ROOT
@@ -61,7 +61,7 @@ def test_names_that_are_taken_away(folder):
         same("its size and mode", (os.stat(disk).st_size, oct(os.stat(disk).st_mode)), (size, "0o100600"))
         same("the names", sorted(name for name in os.listdir(folder.at("spool")) if name.startswith("spool.")), ["spool.disk", LOCK, "spool.sock"])
         second = subprocess.run([folder.service, "--root", folder.at("spool")], capture_output=True, text=True, timeout=LONGEST)
-        same("a second service", (second.returncode, second.stderr), (1, "spool: disk\nspool: cause: owned\n"))
+        same("a second service", (second.returncode, words_of_faults(second.stderr)), (1, "spool: disk\nspool: cause: owned\n"))
         same("the end of an ended job", client.state(done)[0], "9")
         rows = client.listing("jobs\n")
         folder.kill()
@@ -133,7 +133,7 @@ def fail(folder, use):
     os.rename(disk, folder.at("kept.disk"))
     use()
     status = folder.running.wait(LONGEST)
-    same("its end", (status, folder.log().splitlines()[-2:]), (1, ["spool: disk", "spool: cause: failed"]))
+    same("its end", (status, words_of_faults(folder.log()).splitlines()[-2:]), (1, ["spool: disk", "spool: cause: failed"]))
     same("the socket", os.path.exists(folder.socket), False)
     os.rename(folder.at("kept.disk"), disk)
     os.rmdir(unfinished)

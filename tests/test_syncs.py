@@ -30,7 +30,7 @@ import tempfile
 
 import pytest
 
-from harness.checks import Difference, holds, LONGEST
+from harness.checks import Difference, holds, LONGEST, words_of_faults
 from harness.programs import SHELL
 
 pytestmark = [pytest.mark.strace, pytest.mark.needs("spool_shell")]
@@ -220,7 +220,7 @@ class Run:
             done = subprocess.run([*strace, *words], cwd=root, input=text, capture_output=True, text=True, timeout=LONGEST)
             self.calls = calls_of(trace, root)
         self.replies = done.stdout
-        self.ending = (done.returncode, done.stderr)
+        self.ending = (done.returncode, words_of_faults(done.stderr))
         failed = [(call.kind, call.names) for call in self.calls if "(INJECTED)" in call.rest]
         holds(f"strace let {failed} fail, not {failing}", not failing or failed == [(failing.kind, failing.names)])
 

@@ -6,7 +6,7 @@ import tempfile
 from concurrent.futures import ThreadPoolExecutor
 
 from harness import journal, spool_model as model, traces
-from harness.checks import LONGEST, same
+from harness.checks import LONGEST, same, words_of_faults
 from harness.journal import cancel, close, hold, image, send, start
 from harness.programs import ADMIN, SHELL
 from harness.stories import LAB, of_lab, of_q, Q, spelled
@@ -99,9 +99,9 @@ class SpoolFolder:
 
 
 def administer(*words, before=()):
-    """The result of spool_admin with these arguments, and its output. `before` is a command that runs it."""
+    """The result of spool_admin with these arguments, its output, and the words of its faults. `before` is a command that runs it."""
     done = subprocess.run([*before, ADMIN, *words], capture_output=True, text=True, timeout=LONGEST)
-    return done.returncode, done.stdout, done.stderr
+    return done.returncode, done.stdout, words_of_faults(done.stderr)
 
 
 def while_a_shell_runs(root, act):

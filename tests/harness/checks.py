@@ -1,6 +1,7 @@
 """Comparisons, and waiting for events: one class for every difference."""
 import functools
 import os
+import re
 import threading
 import time
 
@@ -73,6 +74,17 @@ def reports_all(test):
         holds("\n".join(FAULTS), not FAULTS)
 
     return runs
+
+
+# The word of a disk's cause, which begins the line about it, and a line about another cause.
+WORDS = "(?:owned|owner unknown|absent|not allowed|read-only|no room|no file|failed)"
+CAUSE = re.compile(rf"^(spool: cause: {WORDS})(?::.*)?$", re.MULTILINE)
+SENTENCE = re.compile(rf"^spool: cause: (?!{WORDS}$).*\n", re.MULTILINE)
+
+
+def words_of_faults(errors):
+    """Standard error with the words of faults alone: tests/test_faults.py compares the sentences."""
+    return SENTENCE.sub("", CAUSE.sub(r"\1", errors))
 
 
 def quoted(text):

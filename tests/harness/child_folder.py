@@ -4,7 +4,7 @@ import re
 import subprocess
 import tempfile
 
-from harness.checks import LONGEST, same, until
+from harness.checks import LONGEST, same, until, words_of_faults
 from harness.programs import SHELL
 
 TYPES = "a/a txt\n"
@@ -98,7 +98,7 @@ class Folder:
         text = script if isinstance(script, bytes) else "".join(line + "\n" for line in script).encode()
         run = subprocess.run(self.words(), input=text, cwd=self.path, stdout=subprocess.PIPE, stderr=subprocess.PIPE, timeout=LONGEST, **how)
         same("status", run.returncode, status)
-        lines = run.stderr.decode().splitlines()
+        lines = words_of_faults(run.stderr.decode()).splitlines()
         same("standard error", lines, log if log is not None else [line for line in lines if LOG_LINE.match(line)])
         return run.stdout.decode().splitlines()
 

@@ -2,6 +2,8 @@
 import os
 import re
 
+from harness.checks import words_of_faults
+
 # The shell's log lines about stages and programs, which are not errors of the shell.
 NOTICE = re.compile(r"spool: (?:job \d+|filter|backend|side program)\b.*\n")
 
@@ -31,8 +33,8 @@ PROGRAMS = "filter f FOLDER/f\nfilter g FOLDER/f\nbackend s FOLDER/s\n"
 
 
 def faults_in(errors):
-    """Standard error without the log lines about stages and programs."""
-    return NOTICE.sub("", errors)
+    """The words of the faults on standard error, without the log lines about stages and programs."""
+    return words_of_faults(NOTICE.sub("", errors))
 
 
 class Children:

@@ -5,7 +5,7 @@ import subprocess
 import tempfile
 
 from harness import journal
-from harness.checks import LONGEST, same
+from harness.checks import LONGEST, same, words_of_faults
 from harness.journal import cancel, close, Head, image, Job, places, Queue, REOPEN, start, waiting
 from harness.programs import SHELL
 
@@ -39,7 +39,7 @@ class Spool:
         """
         script = b"".join(command if isinstance(command, bytes) else command.encode() + b"\n" for command in commands)
         done = subprocess.run([SHELL, "--root", self.root, *words], input=script, capture_output=True, timeout=LONGEST)
-        lines = [line for line in done.stderr.decode().splitlines(True) if not NO_PROGRAM.fullmatch(line)]
+        lines = [line for line in words_of_faults(done.stderr.decode()).splitlines(True) if not NO_PROGRAM.fullmatch(line)]
         same("standard error", "".join(lines), errors)
         same("status", done.returncode, status)
         return done.stdout.decode().splitlines()

@@ -1,12 +1,17 @@
 -- The program's errors for the faults of a checkpoint, of a half and of an edit.
+use Rattle.std.specs.Prelude.{◌≡◌, ℕ, false, is_some, not, List, Option, Result, Ok, Err, string_bytes}
+use Rattle.std.specs.List.{find}
+use Rattle.spool_types.specs.State.{State, queue_at}
+use Rattle.spool_types.specs.Values.{is_queue_name}
 use Rattle.spool_core.specs.declared.spool.checkpoint_fault.CheckpointFault.{CheckpointFault}
 use Rattle.spool_core.specs.declared.spool.checkpoint_fault.CheckpointFault.TheVariants as checkpoint
 use Rattle.split_rows.specs.declared.fault.HalfFault.{HalfFault}
 use Rattle.split_rows.specs.declared.fault.HalfFault.TheVariants as half
 use Rattle.spool_runtime.specs.declared.fault.DiskCause.TheVariants.{Failed}
+use Rattle.spool_runtime.specs.declared.fault.ShellFault.{ShellFault}
 use Rattle.spool_runtime.specs.declared.fault.ShellFault.TheVariants.{Disk, Memory}
 use Rattle.spool_admin.specs.declared.fault.AdminFault.{AdminFault}
-use Rattle.spool_admin.specs.declared.fault.AdminFault.TheVariants.{Ended, EpochEnd, Full, Queue, Shell, Unended}
+use Rattle.spool_admin.specs.declared.fault.AdminFault.TheVariants.{Ended, EpochEnd, Full, Missing, Queue, Shell, Target, Unended}
 use Rattle.queue_edits.specs.declared.refusals.EditRefusal.{EditRefusal}
 use Rattle.queue_edits.specs.declared.refusals.EditRefusal.TheVariants as refusal
 use Rattle.spool_halves.specs.declared.edits.EditFault.{EditFault}
@@ -34,3 +39,21 @@ of_edit (edit.Refused cause) = of_refusal cause
 of_edit edit.Memory = Shell Memory
 of_edit edit.Full = Full
 of_edit edit.Disk = Shell (Disk Failed)
+
+-- The result of a call on the folder for the part.
+abbrev pub at_target : {A : Type 0} → Result A ShellFault → Result A AdminFault
+at_target (Ok value) = Ok value
+at_target (Err fault) = Err (Target fault)
+
+-- The spool has no queue with this name.
+abbrev pub IsMissing : List ℕ → AdminFault → Type 0
+IsMissing name (Missing found) = string_bytes found ≡ name
+IsMissing name fault = ⊥
+
+-- A word that cannot be the name of a queue is that of no queue.
+abbrev pub IsNoName : AdminFault → Type 0
+IsNoName fault = (name : List ℕ) × IsMissing name fault × (is_queue_name name ≡ false)
+
+-- The first of these queues that the table does not have.
+abbrev pub missing_queue : State → List (List ℕ) → Option (List ℕ)
+missing_queue state names = find (λ name. not (is_some (queue_at state name))) names

@@ -47,6 +47,19 @@ AreTakenIn Remove words = AreTakenFor remove_app FitRemove (drop 2 words)
 abbrev pub AreTakenBy : List Text → Type 0
 AreTakenBy words = AreTakenIn (form_of words) words
 
+-- The folder of the spool.
+abbrev pub dir_of : Asked → Text
+dir_of (asked.Look dir) = dir.now
+dir_of (asked.Grow dir size) = dir.now
+dir_of (asked.Split parts) = parts.from.now
+dir_of (asked.Set words) = words.dir.now
+dir_of (asked.Remove words) = words.dir.now
+
+-- The folder for the part of a split, or that of the spool.
+abbrev pub into_dir_of : Asked → Text
+into_dir_of (asked.Split parts) = parts.into.now
+into_dir_of done = dir_of done
+
 -- The numbers of a request are in their ranges.
 abbrev pub IsInRange : Asked → Type 0
 IsInRange (asked.Set words) = AreInRange words

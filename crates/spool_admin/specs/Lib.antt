@@ -8,3 +8,4 @@ pub mod AdminArguments
 pub mod QueueArguments
 pub mod QueueEdit
 pub mod AdminForms
+pub mod AdminCauses

@@ -3,13 +3,16 @@ ghost use Rattle.std.specs.Prelude.{◌≡◌, OnErr, OnOk};
 ghost use Rattle.std.specs.Process.{exit_status};
 ghost use Rattle.spool_runtime.specs.ProgramFaults.{of_opening};
 ghost use Rattle.spool_runtime.specs.declared.fault.ShellFault.TheVariants.{Memory};
-ghost use Rattle.spool_admin.specs.AdminFaults.{of_checkpoint, of_edit, of_half, of_refusal};
+ghost use Rattle.spool_admin.specs.AdminFaults.{at_target, of_checkpoint, of_edit, of_half, of_refusal};
 ghost use Rattle.spool_admin.specs.declared.fault.AdminFault.TheVariants.{Shell};
 
+use crate::causes::admin_cause;
+use crate::words::Asked;
+use fault_causes::{GivenNames, report_fault};
 use queue_edits::EditRefusal;
 use spool_core::{CheckpointFault, OpenFault};
 use spool_halves::{EditFault, HalfFault};
-use spool_runtime::{DiskCause, ShellFault, report_end};
+use spool_runtime::{DiskCause, ShellFault};
 use std::alloc::AllocError;
 use std::process::ExitCode;
 use thiserror::Error;
@@ -29,9 +32,18 @@ pub enum AdminFault {
     /// The spool has the greatest epoch, so no further listing is possible.
     #[error("epoch-end")]
     EpochEnd,
-    /// The spool has no queue with this name.
+    /// A fault of the folder for the part.
+    #[error("{0}")]
+    Target(ShellFault),
+    /// The disk of the whole spool or that of a half failed while the halves were written.
+    #[error("disk")]
+    Halves,
+    /// The spool has no queue with the name of the edit.
     #[error("queue")]
     Queue,
+    /// The spool has no queue with this name.
+    #[error("queue")]
+    Missing(String),
     /// A job of the queue has not ended.
     #[error("jobs of the queue have not ended")]
     Unended,
@@ -128,17 +140,49 @@ impl From<CheckpointFault> for AdminFault {
     }
 }
 
+/// Converts the result of a call on the folder for the part.
+pub fn at_target<T: Drop>(outcome: Result<T, ShellFault>) -> Result<T, AdminFault>
+    ensures { result ≡ at_target outcome }
+{
+    match outcome {
+        Ok(value) => Ok(value),
+        Err(fault) => Err(AdminFault::Target(fault)),
+    }
+}
+
 /// Reports how the program ended, on standard error and by its status.
-pub fn report_admin_end<R: Eprint>(rt: &R, ended: Result<(), AdminFault>) -> ExitCode
+pub fn report_admin_end(
+    rt: &HostRuntime,
+    asked: &Asked<'_>,
+    ended: Result<(), AdminFault>,
+) -> ExitCode
     ensures ok { OnOk ended (exit_status result ≡ 0) }
     ensures fault { OnErr ended (exit_status result ≡ 1) }
 {
     match ended {
-        Ok(()) => report_end(rt, Ok(())),
-        Err(AdminFault::Shell(fault)) => report_end(rt, Err(fault)),
+        Ok(()) => ExitCode::SUCCESS,
         Err(fault) => {
-            let _ = eprintln!(rt; "spool: {fault}");
+            report_admin_fault(rt, asked, &fault);
             ExitCode::FAILURE
+        }
+    }
+}
+
+// Reports a fault, and its cause on the next line.
+fn report_admin_fault(rt: &HostRuntime, asked: &Asked<'_>, fault: &AdminFault) {
+    match fault {
+        AdminFault::Shell(fault) => report_fault(rt, GivenNames::of_folder(asked.dir()), fault),
+        AdminFault::Target(fault) => report_fault(
+            rt,
+            GivenNames::of_folder(asked.into_dir()),
+            fault,
+        ),
+        _ => {
+            let _ = eprintln!(rt; "spool: {fault}");
+            if let Ok(Some(cause)) = admin_cause(rt.alloc(), asked, fault) {
+                let cause = cause.as_str();
+                let _ = eprintln!(rt; "spool: cause: {cause}");
+            }
         }
     }
 }

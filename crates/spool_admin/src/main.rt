@@ -75,11 +75,12 @@
 //! - [`halves::list_halves`]: afterwards a crash leaves exactly the rows of the named queues on one disk and exactly all others
 //!   on the other, each with the documents of the old disk (`part`, `rest`, `LeavesHalf`, as `list_half` of `spool_halves`). Both
 //!   disks are synced (`synced`), and nothing changes on the old disk (`still`).
-//! - [`names::names_of`] returns exactly the words (`names`), and [`names::has_queues`] returns whether the table has a queue of
-//!   each name.
+//! - [`names::names_of`] returns exactly the words (`names`). A word that cannot be a name is reported as that of a missing queue
+//!   (`fault`). [`names::missing_queue`] returns the first queue that the table does not have.
 //! - [`record::part_in`] finds a split that was begun exactly if [`record::noted`] noted it with the same words (`some`, `none`,
 //!   `IsNoted`).
-//! - [`fault::report_admin_end`] returns status 0 after `Ok` and 1 after a fault (`ok`, `fault`).
+//! - [`fault::report_admin_end`] returns status 0 after `Ok` and 1 after a fault (`ok`, `fault`). [`fault::at_target`] marks exactly the
+//!   faults of the folder INTO. The causes of the faults that only this program has are exactly a table ([`causes::admin_cause`]).
 //!
 //! # Not proved
 //!
@@ -97,7 +98,8 @@
 //!
 //! # Errors
 //!
-//! Status 0, 1 and 2, and the lines on standard error, are those of `spool_runtime`. In addition to its errors: `smaller`, if
+//! Status 0, 1 and 2, and the lines on standard error, are those of `spool_runtime`, with the causes of `fault_causes`, and those of
+//! [`causes`] for the errors that only this program has. These are, in addition to those of `spool_runtime`: `smaller`, if
 //! BYTES is less than the length of the file; `full`, if the table, or a half of it, does not fit into half of the file; `queue`,
 //! if the spool has no such queue; the sentences of [`fault`] if the jobs of the queue or a value forbid the
 //! edit; `taken`, if INTO has a spool; `unfinished`, if a split with other words is not finished; and
@@ -108,6 +110,7 @@
 ghost use Rattle.spool_admin.specs.AdminForms.{IsInRange};
 ghost use Rattle.spool_admin.specs.QueueArguments.{AreInRange};
 
+mod causes;
 mod change;
 mod copying;
 mod edit;
@@ -147,19 +150,20 @@ fn main(rt: HostRuntime) -> ExitCode {
         Ok(asked) => asked,
         Err(fault) => return report_words_fault(&rt, &fault),
     };
-    report_admin_end(&rt, done(&rt, asked))
+    let ended = done(&rt, &asked);
+    report_admin_end(&rt, &asked, ended)
 }
 
 // Does the task that the words request.
-fn done(rt: &HostRuntime, asked: Asked<'_>) -> Result<(), AdminFault>
-    requires { IsInRange asked }
+fn done(rt: &HostRuntime, asked: &Asked<'_>) -> Result<(), AdminFault>
+    requires { IsInRange asked.now }
 {
     match asked {
         Asked::Look(dir) => Ok(look(rt, dir, &mut rt.stdout())?),
-        Asked::Grow(dir, size) => grow(rt, dir, size),
-        Asked::Split(parts) => split(rt, &parts),
-        Asked::Set(words) => set(rt, &words),
-        Asked::Remove(words) => remove(rt, &words),
+        Asked::Grow(dir, size) => grow(rt, dir, *size),
+        Asked::Split(parts) => split(rt, parts),
+        Asked::Set(words) => set(rt, words),
+        Asked::Remove(words) => remove(rt, words),
     }
 }
 

@@ -1,12 +1,13 @@
 //! Splitting a spool by queues.
-use crate::fault::AdminFault;
+use crate::fault::{AdminFault, at_target};
 use crate::folder::Folder;
 use crate::halves::{Halves, list_halves};
-use crate::names::{has_queues, names_of};
+use crate::names::{missing, missing_queue, names_of};
 use crate::record::{noted, part_in, part_name, words_of};
 use crate::whole::whole_spool;
 use crate::words::Split;
 use spool_disk::FileDisk;
+use spool_halves::HalfFault;
 use spool_runtime::ShellFault;
 use std::time::Clock;
 
@@ -29,7 +30,7 @@ const NEXT_RECORD: &str = "spool.split.new";
 /// killed after its change over, finishes that split and does nothing else. If it was killed before, undoes it and begins again.
 pub fn split(rt: &HostRuntime, asked: &Split<'_>) -> Result<(), AdminFault> {
     let source = Folder::own(rt, asked.from)?;
-    let target = Folder::own(rt, asked.into)?;
+    let target = at_target(Folder::own(rt, asked.into))?;
     split_into(rt, &source, &target, asked)
 }
 
@@ -68,7 +69,7 @@ fn begin(
     words: &str,
     queues: &[&str],
 ) -> Result<(), AdminFault> {
-    if target.has(rt, NAME)? {
+    if at_target(target.has(rt, NAME))? {
         return Err(AdminFault::Taken);
     }
     let part = part_now(rt)?;
@@ -112,11 +113,15 @@ fn prepare(
 ) -> Result<(), AdminFault> {
     let names = names_of(rt.alloc(), queues)?;
     let (mut whole, size) = whole_spool(rt, &source.owned)?;
-    if !has_queues(whole.table(), &names) {
-        return Err(AdminFault::Queue);
+    if let Some(name) = missing_queue(whole.table(), &names) {
+        return Err(missing(rt.alloc(), name.as_str())?);
     }
     let disks = begin_halves(rt, source, target, part, words, size)?;
-    drop(list_halves(rt.alloc(), &mut whole, &names, disks)?);
+    match list_halves(rt.alloc(), &mut whole, &names, disks) {
+        Ok(halves) => drop(halves),
+        Err(HalfFault::Disk) => return Err(AdminFault::Halves),
+        Err(fault) => return Err(AdminFault::from(fault)),
+    }
     Ok(())
 }
 
@@ -132,7 +137,7 @@ fn begin_halves(
     let rest = begin_rest(rt, source, size)?;
     record(rt, source, part, words)?;
     let about = source.about(rt, NAME)?;
-    let part = target.put_zeros(rt, part, size, &about)?;
+    let part = at_target(target.put_zeros(rt, part, size, &about))?;
     Ok(Halves { part, rest })
 }
 
@@ -169,12 +174,12 @@ fn finish(
     target: &Folder<'_>,
     part: &str,
 ) -> Result<(), AdminFault> {
-    let is_served = target.has(rt, NAME)?;
-    if target.has(rt, part)? {
+    let is_served = at_target(target.has(rt, NAME))?;
+    if at_target(target.has(rt, part))? {
         if is_served {
             return Err(AdminFault::Taken);
         }
-        target.rename(rt, part, NAME)?;
+        at_target(target.rename(rt, part, NAME))?;
     } else if !is_served {
         return Err(AdminFault::Unfinished);
     }
@@ -189,7 +194,7 @@ fn give_up(
     target: &Folder<'_>,
     part: &str,
 ) -> Result<(), AdminFault> {
-    target.remove(rt, part)?;
+    at_target(target.remove(rt, part))?;
     source.remove(rt, RECORD)?;
     source.remove(rt, REST)?;
     Ok(source.owned.remove_unfinished(rt)?)

@@ -3,7 +3,7 @@ ghost use Rattle.std.specs.Prelude.{◌≡◌, [], IfNone, IfOk, IfSome, MatchRe
 ghost use Rattle.std.specs.Option.{option_map};
 ghost use Rattle.clap.specs.Words.{IsUnsignedIn, app_of, first_of, found_of, matches_of, rows_of, rule_of};
 ghost use Rattle.spool_runtime.specs.ProgramArguments.{RefusesOnly, number_of};
-ghost use Rattle.spool_admin.specs.AdminForms.{AreFaultlessBy, AreTakenBy, IsAskedBy, IsInRange, form_of, form_of_act};
+ghost use Rattle.spool_admin.specs.AdminForms.{AreFaultlessBy, AreTakenBy, IsAskedBy, IsInRange, dir_of, form_of, form_of_act, into_dir_of};
 ghost use Rattle.spool_admin.specs.AdminArguments.{AreFaultless, ArePlaces, AreTaken, HasTask, IsAsked, IsFor, IsGrow, IsLook, IsOfTask, IsSize, IsSplit, admin_app, needed, rest_of, several};
 
 use crate::queue_words::{RemoveWords, SetWords, read_remove_words, read_set_words};
@@ -27,6 +27,31 @@ pub enum Asked<'a> {
     Set(SetWords<'a>),
     /// Remove a queue.
     Remove(RemoveWords<'a>),
+}
+
+impl<'a> Asked<'a> {
+    /// Returns the folder of the spool.
+    pub fn dir(&self) -> &'a str
+        ensures { result.now ≡ dir_of self.now }
+    {
+        match self {
+            Asked::Look(dir) => *dir,
+            Asked::Grow(dir, _) => *dir,
+            Asked::Split(parts) => parts.from,
+            Asked::Set(words) => words.dir,
+            Asked::Remove(words) => words.dir,
+        }
+    }
+
+    /// Returns the folder for the part of a split, or that of the spool.
+    pub fn into_dir(&self) -> &'a str
+        ensures { result.now ≡ into_dir_of self.now }
+    {
+        match self {
+            Asked::Split(parts) => parts.into,
+            _ => self.dir(),
+        }
+    }
 }
 
 /// A split: the folder of the whole spool, the folder for the part, and the queues of the part, at least one.

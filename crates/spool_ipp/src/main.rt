@@ -14,22 +14,26 @@
 //!
 //! # Errors
 //!
-//! A line on standard error and status 1, or status 2 for invalid arguments.
+//! A line on standard error and status 1, or status 2 for invalid arguments. The line says which file or socket cannot be used, and why
+//! ([`fault`]).
 #![tactic(auto)]
 
 mod clocks;
+mod fault;
 mod names;
 mod sockets;
 mod words;
 
 use clocks::SystemTimes;
+use fault::StartFault;
 use ipp_loop::Front;
 use ipp_sockets::Times;
 use program_version::VERSION;
 use sockets::MioSockets;
 use std::process::ExitCode;
 use std::{env, io};
-use words::{Mistake, StartFault, Words, read_words, world_of};
+use system_reasons::reason_of;
+use words::{Mistake, Words, read_words, world_of};
 
 fn main(rt: HostRuntime) -> ExitCode {
     let given = match given_words(&rt) {
@@ -69,8 +73,11 @@ fn is_version(given: &[String]) -> bool {
 // Reports invalid arguments.
 fn report(rt: &HostRuntime, mistake: Mistake<'_>) {
     let _ = match mistake {
-        Mistake::Invalid { option, value } => {
-            eprintln!(rt; "spool_ipp: invalid argument: {option} {value}")
+        Mistake::Unknown { option } => eprintln!(rt; "spool_ipp: unknown option: {option}"),
+        Mistake::NoAddress { value } => {
+            eprintln!(rt;
+                "spool_ipp: --listen {value}: expected ADDRESS:PORT, such as 127.0.0.1:631 or [::1]:631"
+            )
         }
         Mistake::NoValue { option } => eprintln!(rt; "spool_ipp: {option} needs a value"),
         Mistake::NoService => eprintln!(rt; "spool_ipp: --service SOCKET is required"),
@@ -79,13 +86,25 @@ fn report(rt: &HostRuntime, mistake: Mistake<'_>) {
 
 // Reports why the program cannot go on.
 fn failed(rt: &HostRuntime, fault: &StartFault) -> ExitCode {
-    let _ = match fault {
-        StartFault::System(error) => eprintln!(rt; "spool_ipp: {error}"),
-        StartFault::Printers(number, reason) => {
-            eprintln!(rt; "spool_ipp: the file of printers, line {number}: {reason}")
+    match fault {
+        StartFault::System(error) => report_error(rt, error),
+        StartFault::Told(text) => {
+            let text = text.as_str();
+            let _ = eprintln!(rt; "spool_ipp: {text}");
         }
-    };
+    }
     ExitCode::FAILURE
+}
+
+// Reports an error of the system. If memory is out, its number is printed too.
+fn report_error(rt: &HostRuntime, error: &io::Error) {
+    let _ = match reason_of(rt.alloc(), error) {
+        Ok(reason) => {
+            let reason = reason.as_str();
+            eprintln!(rt; "spool_ipp: {reason}")
+        }
+        Err(_) => eprintln!(rt; "spool_ipp: {error}"),
+    };
 }
 
 fn run(rt: &HostRuntime, words: &Words<'_>) -> Result<(), StartFault> {

@@ -4,20 +4,23 @@ use std::io::ErrorKind;
 use std::os::unix::fs::FileTypeExt;
 use std::{fs, io};
 
-/// Frees the name of a socket, if a program that was killed has left it. Follows no link. Any other holder of the name is an error.
-pub fn free_name(rt: &HostRuntime, path: &str) -> io::Result<()> {
+/// Frees the name of a socket, if a program that was killed has left it. Follows no link. Returns who else holds the name, if anybody does.
+pub fn free_name(rt: &HostRuntime, path: &str) -> io::Result<Option<&'static str>> {
     match fs::symlink_metadata(rt, path) {
         Ok(found) if found.file_type().is_socket() => free_socket(rt, path),
-        Ok(_) => Err(io::Error::from(ErrorKind::AlreadyExists)),
-        Err(error) if error.kind() == ErrorKind::NotFound => Ok(()),
+        Ok(_) => Ok(Some("it exists and is no socket")),
+        Err(error) if error.kind() == ErrorKind::NotFound => Ok(None),
         Err(error) => Err(error),
     }
 }
 
 // Removes a socket that no program serves.
-fn free_socket(rt: &HostRuntime, path: &str) -> io::Result<()> {
+fn free_socket(rt: &HostRuntime, path: &str) -> io::Result<Option<&'static str>> {
     match UnixStream::connect(rt, path) {
-        Err(error) if error.kind() == ErrorKind::ConnectionRefused => fs::remove_file(rt, path),
-        _ => Err(io::Error::from(ErrorKind::AddrInUse)),
+        Err(error) if error.kind() == ErrorKind::ConnectionRefused => {
+            fs::remove_file(rt, path)?;
+            Ok(None)
+        }
+        _ => Ok(Some("another program serves this socket")),
     }
 }

@@ -1,4 +1,5 @@
 //! Sockets over mio.
+use crate::fault::{StartFault, taken, unopened};
 use crate::names::free_name;
 use crate::words::{Words, owned};
 use ipp_access::Place;
@@ -75,7 +76,7 @@ pub struct MioSockets<'a> {
 
 impl<'a> MioSockets<'a> {
     /// Listens on the sockets of the arguments.
-    pub fn new(rt: &'a HostRuntime, words: &Words<'_>) -> io::Result<MioSockets<'a>> {
+    pub fn new(rt: &'a HostRuntime, words: &Words<'_>) -> Result<MioSockets<'a>, StartFault> {
         let alloc = rt.alloc();
         let room = MOST_CLIENTS + FIRST_CLIENT;
         let mut sockets = MioSockets {
@@ -90,13 +91,16 @@ impl<'a> MioSockets<'a> {
             ready: Vec::with_capacity(alloc, room)?,
         };
         if let Some(address) = words.listen {
-            sockets.listen_on(address)?;
+            if let Err(error) = sockets.listen_on(address) {
+                let place = format!(in alloc; "{address}")?;
+                return Err(unopened(alloc, place.as_str(), error));
+            }
         }
         if let Some(path) = words.socket {
-            sockets.local = Some(sockets.open(path, 0o666, LOCAL)?);
+            sockets.local = Some(sockets.listen_at(path, 0o666, LOCAL)?);
         }
         if let Some(path) = words.operators_socket {
-            sockets.operators = Some(sockets.open(path, 0o660, OPERATORS)?);
+            sockets.operators = Some(sockets.listen_at(path, 0o660, OPERATORS)?);
         }
         Ok(sockets)
     }
@@ -109,9 +113,20 @@ impl<'a> MioSockets<'a> {
         Ok(())
     }
 
-    // Listens on a socket of the file system.
+    // Listens on a socket of the file system, whose name must be free.
+    fn listen_at(&self, path: &str, mode: u32, token: usize) -> Result<UnixListener, StartFault> {
+        match free_name(self.rt, path) {
+            Ok(None) => {}
+            Ok(Some(holder)) => return Err(taken(self.rt.alloc(), path, holder)),
+            Err(error) => return Err(unopened(self.rt.alloc(), path, error)),
+        }
+        match self.open(path, mode, token) {
+            Ok(listener) => Ok(listener),
+            Err(error) => Err(unopened(self.rt.alloc(), path, error)),
+        }
+    }
+
     fn open(&self, path: &str, mode: u32, token: usize) -> io::Result<UnixListener> {
-        free_name(self.rt, path)?;
         let mut listener = UnixListener::bind(self.rt, path)?;
         fs::set_permissions(self.rt, path, Permissions::from_mode(mode))?;
         let registry = self.poll.registry();

@@ -1,11 +1,12 @@
 //! The arguments, and the files that they name.
+use crate::fault::{StartFault, invalid_line, unread};
 use ipp_printers::{PrinterList, PrintersFault};
 use ipp_tasks::World;
 use mime_costs::Convs;
 use spool_types::MediaType;
 use std::alloc::{AllocError, Global};
+use std::fs;
 use std::net::SocketAddr;
-use std::{fs, io};
 
 /// The values of the arguments.
 #[derive(Clone, Copy)]
@@ -35,8 +36,10 @@ pub struct Words<'a> {
 /// Why the arguments are invalid.
 #[derive(Clone, Copy)]
 pub enum Mistake<'a> {
-    /// There is no such option, or it may not have this value.
-    Invalid { option: &'a str, value: &'a str },
+    /// There is no such option.
+    Unknown { option: &'a str },
+    /// The value of `--listen` is no address with a port.
+    NoAddress { value: &'a str },
     /// The option needs a value.
     NoValue { option: &'a str },
     /// The socket of the service is not given.
@@ -54,10 +57,7 @@ pub fn read_words<'a>(given: &'a [String]) -> Result<Words<'a>, Mistake<'a>> {
             None => option = Some(word),
             Some(name) => {
                 if !words.set(name, word) {
-                    return Err(Mistake::Invalid {
-                        option: name,
-                        value: word,
-                    });
+                    return Err(mistake_of(name, word));
                 }
                 option = None;
             }
@@ -67,6 +67,15 @@ pub fn read_words<'a>(given: &'a [String]) -> Result<Words<'a>, Mistake<'a>> {
         Some(option) => Err(Mistake::NoValue { option }),
         None if words.service.is_empty() => Err(Mistake::NoService),
         None => Ok(words),
+    }
+}
+
+// Returns why an option with this value is refused.
+fn mistake_of<'a>(option: &'a str, value: &'a str) -> Mistake<'a> {
+    if option == "--listen" {
+        Mistake::NoAddress { value }
+    } else {
+        Mistake::Unknown { option }
     }
 }
 
@@ -108,27 +117,6 @@ impl<'a> Words<'a> {
     }
 }
 
-/// Why the program cannot start.
-#[derive(Drop)]
-pub enum StartFault {
-    /// A file cannot be read, or a socket cannot be opened.
-    System(io::Error),
-    /// A line of the file of printers is invalid, for this reason.
-    Printers(usize, &'static str),
-}
-
-impl From<io::Error> for StartFault {
-    fn from(error: io::Error) -> StartFault {
-        StartFault::System(error)
-    }
-}
-
-impl From<AllocError> for StartFault {
-    fn from(error: AllocError) -> StartFault {
-        StartFault::System(io::Error::from(error))
-    }
-}
-
 /// Returns the configuration of the front. `seconds` is the time.
 pub fn world_of(rt: &HostRuntime, words: &Words<'_>, seconds: u64) -> Result<World, StartFault> {
     let alloc = rt.alloc();
@@ -148,10 +136,13 @@ pub fn world_of(rt: &HostRuntime, words: &Words<'_>, seconds: u64) -> Result<Wor
 }
 
 // Returns the text of a file, or the empty text.
-fn text_of(rt: &HostRuntime, path: Option<&str>) -> io::Result<String> {
-    match path {
-        Some(path) => fs::read_to_string(rt, path),
-        None => Ok(String::new(rt.alloc())),
+fn text_of(rt: &HostRuntime, path: Option<&str>) -> Result<String, StartFault> {
+    let Some(path) = path else {
+        return Ok(String::new(rt.alloc()));
+    };
+    match fs::read_to_string(rt, path) {
+        Ok(text) => Ok(text),
+        Err(error) => Err(unread(rt.alloc(), path, error)),
     }
 }
 
@@ -168,7 +159,8 @@ fn printers_of(rt: &HostRuntime, path: Option<&str>) -> Result<PrinterList, Star
     match PrinterList::read(rt.alloc(), text.as_str()) {
         Ok(list) => Ok(list),
         Err(PrintersFault::Line { number, fault }) => {
-            Err(StartFault::Printers(number, fault.reason()))
+            let path = path.unwrap_or("");
+            Err(invalid_line(rt.alloc(), path, number, fault.reason()))
         }
         Err(PrintersFault::Memory) => Err(StartFault::from(AllocError)),
     }

@@ -1,8 +1,8 @@
 -- The start of the service, and its end.
-use Rattle.std.specs.Prelude.{ℕ, ◌*◌, ◌++◌, min, List, Option, None, Some, Result, Ok, Err, codes}
+use Rattle.std.specs.Prelude.{ℕ, ◌*◌, ◌++◌, min, List, [], Option, None, Some, Result, Ok, Err, codes}
 use Rattle.std.specs.Borrow.{Bor}
 use Rattle.std.specs.declared.io.ErrorKind.{ErrorKind}
-use Rattle.std.specs.declared.io.ErrorKind.TheVariants.{OutOfMemory}
+use Rattle.std.specs.declared.io.ErrorKind.TheVariants.{InvalidInput, NotFound, OutOfMemory}
 use Rattle.service_loop.specs.declared.service.Keeping.{Keeping}
 use Rattle.service_loop.specs.declared.fault.ServiceFault.{ServiceFault}
 use Rattle.service_loop.specs.declared.fault.ServiceFault.TheVariants as service
@@ -35,6 +35,12 @@ told_of (Err service.Socket) = Err Socket
 abbrev pub at_socket : ErrorKind → ShellFault
 at_socket OutOfMemory = Memory
 at_socket _ = Socket
+
+-- What to do if a socket cannot be listened on.
+abbrev pub hint_for : ErrorKind → List ℕ
+hint_for NotFound = codes " (does the folder of the socket exist?)"
+hint_for InvalidInput = codes " (the path of a socket has at most 107 bytes)"
+hint_for kind = []
 
 -- FOLDER, or the folder of proofs in DIR.
 abbrev pub proofs_of : List ℕ → Option (Bor (List ℕ)) → List ℕ

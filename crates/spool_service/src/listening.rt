@@ -1,6 +1,6 @@
 //! Creates what clients connect to: the sockets, and the folder of proofs.
 ghost use Rattle.std.specs.Prelude.{◌≡◌, IfOk, string_bytes};
-ghost use Rattle.spool_service.specs.Start.{at_socket, operators_mode, proofs_of, socket_of};
+ghost use Rattle.spool_service.specs.Start.{at_socket, hint_for, operators_mode, proofs_of, socket_of};
 
 use crate::lookups::group_of;
 use crate::names::{Holder, holder_of, remove_left_socket};
@@ -11,11 +11,12 @@ use client_standing::RoleRules;
 use log::{Log, error};
 use mio::net::UnixListener;
 use spool_runtime::{ShellFault, remove_if_there};
-use std::alloc::AllocError;
+use std::alloc::{AllocError, Global};
 use std::io::ErrorKind;
 use std::os::unix::fs::MetadataExt;
 use std::path::Path;
 use std::{fs, io};
+use system_reasons::reason_of;
 use user_proofs::usual_operators;
 
 /// Creates the sockets and the folder of proofs.
@@ -26,8 +27,9 @@ pub fn open_listener<L: Log>(
     socket: &str,
 ) -> Result<SocketListener, ShellFault> {
     free_name(logged, rt, socket)?;
-    let clients = opened(open_socket(rt, socket, words.mode))?;
-    let (service, group) = owner_of(rt, socket)?;
+    let created = open_socket(rt, socket, words.mode);
+    let clients = opened(logged, rt, socket, created)?;
+    let (service, group) = owner_of(logged, rt, socket)?;
     let operators = operators_of(logged, rt, words, group)?;
     let folder = folder_of(logged, rt, words, service)?;
     let proofs = Proofs::new(rt, folder, service, operators);
@@ -36,7 +38,8 @@ pub fn open_listener<L: Log>(
         show_all: words.show_all,
     };
     let second = operators_socket(logged, rt, words, operators)?;
-    opened(SocketListener::new(rt, (clients, second), rules, proofs))
+    let listening = SocketListener::new(rt, (clients, second), rules, proofs);
+    opened(logged, rt, socket, listening)
 }
 
 /// Removes the sockets, once this program serves them no longer.
@@ -49,9 +52,12 @@ pub fn remove_sockets(rt: &HostRuntime, words: &ServiceWords<'_>, socket: &str) 
 
 // Removes the socket of this name that a killed service left. Another holder of the name is an error.
 fn free_name<L: Log>(logged: &L, rt: &HostRuntime, path: &str) -> Result<(), ShellFault> {
-    match opened(holder_of(rt, path))? {
+    match opened(logged, rt, path, holder_of(rt, path))? {
         Holder::Nobody => Ok(()),
-        Holder::LeftSocket => opened(remove_if_there(rt, Path::new(path))),
+        Holder::LeftSocket => {
+            let removed = remove_if_there(rt, Path::new(path));
+            opened(logged, rt, path, removed)
+        }
         Holder::ServedSocket => {
             error!(logged; "cannot listen on {path}: another program serves this socket");
             Err(ShellFault::Socket)
@@ -64,8 +70,8 @@ fn free_name<L: Log>(logged: &L, rt: &HostRuntime, path: &str) -> Result<(), She
 }
 
 // Returns the owner of the socket, who is the user of the service, and its group.
-fn owner_of(rt: &HostRuntime, socket: &str) -> Result<(u32, u32), ShellFault> {
-    let found = opened(fs::symlink_metadata(rt, socket))?;
+fn owner_of<L: Log>(logged: &L, rt: &HostRuntime, socket: &str) -> Result<(u32, u32), ShellFault> {
+    let found = opened(logged, rt, socket, fs::symlink_metadata(rt, socket))?;
     Ok((found.uid(), found.gid()))
 }
 
@@ -102,7 +108,8 @@ fn operators_socket<L: Log>(
         None => None,
     };
     let mode = operators_mode(group);
-    Ok(Some(opened(open_operators_socket(rt, path, mode, group))?))
+    let created = open_operators_socket(rt, path, mode, group);
+    Ok(Some(opened(logged, rt, path, created)?))
 }
 
 // Returns the permissions of the operators' socket.
@@ -137,11 +144,42 @@ fn folder_of<L: Log>(
     }
 }
 
-// Converts the result of a call on a socket.
-fn opened<T: Drop>(outcome: io::Result<T>) -> Result<T, ShellFault> {
+// Converts the result of a call on a socket, and logs why the call failed.
+fn opened<L: Log, T: Drop>(
+    logged: &L,
+    rt: &HostRuntime,
+    path: &str,
+    outcome: io::Result<T>,
+) -> Result<T, ShellFault> {
     match outcome {
         Ok(value) => Ok(value),
-        Err(error) => Err(at_socket(error.kind())),
+        Err(error) => {
+            log_reason(logged, rt.alloc(), path, &error);
+            Err(at_socket(error.kind()))
+        }
+    }
+}
+
+// Logs why the system refuses to listen on a socket, and what to do.
+fn log_reason<L: Log>(logged: &L, alloc: Global, path: &str, error: &io::Error) {
+    match reason_of(alloc, error) {
+        Ok(reason) => {
+            let reason = reason.as_str();
+            let hint = hint_for(error.kind());
+            error!(logged; "cannot listen on {path}: {reason}{hint}");
+        }
+        Err(_) => error!(logged; "cannot listen on {path}"),
+    }
+}
+
+// Returns what to do about an error of this kind.
+fn hint_for(kind: ErrorKind) -> &'static str
+    ensures { result.now ≡ hint_for kind }
+{
+    match kind {
+        ErrorKind::NotFound => " (does the folder of the socket exist?)",
+        ErrorKind::InvalidInput => " (the path of a socket has at most 107 bytes)",
+        _ => "",
     }
 }
 

@@ -49,7 +49,8 @@
 //!   the last one, the steady clock and the table's moment, whatever the system's clock shows (`read`, `value` of `SystemTimes::system`).
 //! - `command_of` returns `/bin/sh` without variables, with exactly the fixed script, the signal and the number of the child
 //!   (`arguments_of`).
-//! - Each error of the loop and of the socket is converted to one of the program (`told_as`, `at_socket`).
+//! - Each error of the loop and of the socket is converted to one of the program (`told_as`, `at_socket`). What to do about an error of a
+//!   socket is a table (`hint_for`).
 //!
 //! # Not proved
 //!
@@ -63,9 +64,10 @@
 //!
 //! # Errors
 //!
-//! As in `spool_shell`: a line `spool: WORD` on standard error and status 1, or status 2 for invalid arguments. If the disk fails, or
-//! memory runs out for the service itself, the service ends, so that its supervisor can restart it. If memory runs out for a client's
-//! command or reply, the client is disconnected.
+//! As in `spool_shell`: a line `spool: WORD` on standard error, the cause on the next line (`fault_causes`), and status 1, or status 2 for
+//! invalid arguments. Why a socket cannot be listened on is logged before `spool: socket`, with its path and the system's reason. If the disk
+//! fails, or memory runs out for the service itself, the service ends, so that its supervisor can restart it. If memory runs out for a
+//! client's command or reply, the client is disconnected.
 #![tactic(auto)]
 
 mod child_users;
@@ -80,8 +82,9 @@ mod socket;
 mod start;
 mod words;
 
+use fault_causes::{GivenNames, report_end};
 use log::Logged;
-use spool_runtime::{LogLines, given_words, no_words, report_end, report_words_fault};
+use spool_runtime::{LogLines, given_words, no_words, report_words_fault};
 use start::run;
 use std::process::ExitCode;
 use words::read_words;
@@ -98,5 +101,11 @@ fn main(rt: HostRuntime) -> ExitCode {
     let most = words.level;
     let logged = Logged::new(rt, most, LogLines { rt, most });
     let ended = run(&logged, &rt, words);
-    report_end(&rt, ended)
+    let names = GivenNames {
+        dir: Some(words.root),
+        types: words.types,
+        convs: words.convs,
+        programs: words.programs,
+    };
+    report_end(&rt, names, ended)
 }

@@ -4,14 +4,13 @@
 //!
 //! # Promises
 //!
-//! Those of `spool_runtime`, which reads the arguments, runs the program and reports its errors. That `main` calls its functions in order
-//! is not proved.
+//! Those of `spool_runtime`, which reads the arguments and runs the program, and of `fault_causes`, which reports its errors. That `main`
+//! calls their functions in order is not proved.
 #![tactic(auto)]
 
+use fault_causes::{GivenNames, report_end};
 use log::{Level, Logged};
-use spool_runtime::{
-    LogLines, given_words, no_words, read_words, report_end, report_words_fault, run,
-};
+use spool_runtime::{LogLines, given_words, no_words, read_words, report_words_fault, run};
 use std::process::ExitCode;
 
 fn main(rt: HostRuntime) -> ExitCode {
@@ -26,5 +25,11 @@ fn main(rt: HostRuntime) -> ExitCode {
     let most = Level::Warn;
     let logged = Logged::new(rt, most, LogLines { rt, most });
     let ended = run(&logged, &rt, words, &mut rt.stdin(), &mut rt.stdout());
-    report_end(&rt, ended)
+    let names = GivenNames {
+        dir: words.root,
+        types: words.types,
+        convs: words.convs,
+        programs: words.programs,
+    };
+    report_end(&rt, names, ended)
 }

@@ -1,0 +1,4 @@
+pub mod PlainCauses
+pub mod DiskReasons
+pub mod LineReasons
+pub mod Versions
