@@ -372,6 +372,7 @@ def test_pages(folder, ipp):
             status, content = line.reply()
             same(path, status, 200)
             holds(content.decode(), words in content and b"<b>" not in content)
+            same(f"an age in {path}", bool(re.search(rb'<td class="n">\d+ s</td>', content)), path != "/metrics")
     with Connection(ipp.connect()) as line:
         line.say(b"GET /printers/none HTTP/1.1\r\nHost: localhost\r\n\r\nHEAD / HTTP/1.1\r\nHost: localhost\r\n\r\n")
         same("no printer", line.reply()[0], 404)

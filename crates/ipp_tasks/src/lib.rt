@@ -38,6 +38,7 @@ mod tasks;
 mod world;
 
 pub use answers::{Header, answer};
+pub use listing::list_line;
 pub use parked::{MOST_PARKED, Parked};
 pub use requests::{Begun, Caller, begin};
 pub use tasks::{Outcome, Task};
