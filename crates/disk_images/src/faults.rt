@@ -1,4 +1,4 @@
-// When a device fails, and what a failed call leaves.
+// When a device fails, and the state after a failed call.
 
 /// The faults of a device. There is no contract: whatever they do, a disk with these faults meets the promises of `Disk`.
 pub trait Faults {
