@@ -399,6 +399,7 @@ def test_status_as_json(folder):
     same("a quiet one", front.says("spool", "submit", "q", folder.at("a"), "--json", "--quiet"), "")
     queue = json.loads(front.says("spool", "queue", "show", "q", "--json"))
     same("a queue", (queue["queue"], queue["accepting"]), ("q", "yes"))
+    client.until_ended([1, 2])
     child = front.start("spool", "watch", "--json")
     row = json.loads(first_line(child, lambda: client.create("q", "seen")))
     same("a change", (row["job"]["title"], row["job"]["state"]), ("seen", "held"))

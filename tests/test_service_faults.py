@@ -10,10 +10,9 @@ import time
 import pytest
 
 from harness.checks import Difference, holds, LONGEST, same, until, words_of_faults
-from harness.child_folder import Folder
 from harness.large_run import TYPE
 from harness.programs import compiled, path_of, ROOT
-from harness.service import Client, Gone, KEEPS, kept, kill_children, patient_client, send_document, Submitter
+from harness.service import Client, Folder, Gone, KEEPS, kept, kill_children, patient_client, send_document, Submitter
 
 # ---- the name of the spool
 
@@ -277,7 +276,7 @@ def test_ignored_child_signals(folder):
     folder.before = ["env", "--ignore-signal=CHLD"]
     folder.launch()
     status = folder.running.wait(LONGEST)
-    same("its end", (status, folder.log(), os.path.exists(folder.socket)), (1, "spool: sigchld-ignored\n", False))
+    same("its end", (status, folder.log().splitlines()[0], os.path.exists(folder.socket)), (1, "spool: sigchld-ignored", False))
     os.remove(folder.at("log"))
     usual = folder.before
     folder.before = [*usual, "env", "--default-signal=CHLD"]
