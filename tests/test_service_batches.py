@@ -10,6 +10,7 @@ from contextlib import contextmanager
 import pytest
 
 from harness.checks import holds, same, until
+from harness.front import Front
 from harness.service import Client
 
 pytestmark = pytest.mark.strace
@@ -85,6 +86,21 @@ def test_clients_share_a_pair_of_syncs(folder):
     calls = calls_in(out)
     same("syncs before the first reply", calls[:2], ["sync", "sync"])
     same("the others are replies", set(calls[2:]), {"reply"})
+
+
+@pytest.mark.needs("spool_front")
+def test_turns_of_a_large_submission(folder):
+    """`spool` submits a mebibyte over one connection in no more turns than it sends pieces: what the service writes to it is one turn's."""
+    held_queue(folder)
+    with open(folder.at("document"), "wb") as document:
+        document.write(bytes(range(256)) * 4_096)
+    with traced(folder, "-s", "4096") as out:
+        Front(folder).says("spool", "submit", "q", folder.at("document"))
+    with open(out, encoding="utf-8", errors="replace") as lines:
+        replies = [line for line in lines if re.search(r"sendto\(\d+<(socket|UNIX)", line)]
+    pieces = "".join(replies).count("ok bytes ")
+    holds(f"pieces of at most 64 KiB: {pieces}", pieces >= 16)
+    holds(f"{len(replies)} turns for {pieces} pieces: {replies}", len(replies) <= pieces)
 
 
 def test_separate_commands(folder):
