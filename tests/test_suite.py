@@ -45,11 +45,6 @@ def test_each_script_is_a_test_or_a_plain_one():
     same("those that CONTRIBUTING.md does not name", {name for name in PLAIN if f"{name}`" not in text}, set())
 
 
-# The crates whose root pages name scripts by older names. A change there proves all crates above it again, so the next change of each has
-# the new names too.
-LATER = ("job_table", "program_fitness", "spool_disk", "user_proofs", "watched_children")
-
-
 def test_each_script_that_is_named_exists():
     """In documents, root pages and scripts. CHANGES.md and DECISIONS.md also name older ones."""
     files = subprocess.run(["git", "ls-files"], cwd=ROOT, capture_output=True, text=True, check=True).stdout.splitlines()
@@ -59,9 +54,7 @@ def test_each_script_that_is_named_exists():
             with open(os.path.join(ROOT, name), encoding="utf-8") as file:
                 found = re.findall(r"(?<![\w/])(?:tests|bench)/[a-z_/]+\.(?:py|table|txt)\b", file.read())
             missing |= {(name, it) for it in found if not os.path.exists(os.path.join(ROOT, it))}
-    later = {f"{where}/{crate}{end}" for crate in LATER for where, end in (("crates", "/src/lib.rt"), ("docs/reference", ".md"))}
-    same("scripts that do not exist", {both for both in missing if both[0] not in later}, set())
-    same("root pages without older names", later - {name for name, _ in missing}, set())
+    same("scripts that do not exist", missing, set())
 
 
 def test_manual_pages():
