@@ -114,6 +114,24 @@ class Room:
         listening.bind(self.at(name))
         listening.listen(1)
 
+    def service(self):
+        """A service of the spool, with a stopped queue."""
+        command = [path_of("spool_service"), "--root", self.at("spool"), "--listen", self.at("it.sock"), "--quiet"]
+        served = self.held.enter_context(subprocess.Popen(command, stderr=subprocess.DEVNULL))
+        self.held.callback(served.terminate)
+        self.front("queue add q slow:/0")
+        self.front("queue disable q")
+
+    def front(self, words):
+        """A task of `spool`, which succeeds."""
+        command = ["env", *FRONT, path_of("spool_front"), *words.split()]
+        subprocess.run([word.replace("AT", self.path) for word in command], check=True, capture_output=True, timeout=LONGEST)
+
+    def left_socket(self, name):
+        """A socket that a killed program left."""
+        with socket.socket(socket.AF_UNIX) as left:
+            left.bind(self.at(name))
+
     def port(self, number):
         """A port that a program has."""
         listening = self.held.enter_context(socket.socket())
@@ -386,10 +404,41 @@ TOOLS_ROWS = {
     "no-device": Row("spool_tools", "appsocket 1 ann t 1 options", "ERROR: no device\n"),
 }
 
+FRONT = ("SPOOL_SOCKET=AT/it.sock", "SPOOL_PATIENCE=30")
+SERVED_QUEUE = (("service",), ("file", "doc", b"abc"))
+JOB = (*SERVED_QUEUE, ("front", "submit q AT/doc"))
+
+
+def front_row(words, text, *does):
+    return Row("spool_front", words, f"spool: {text}\n", does, before=("env", *FRONT))
+
+
+FRONT_ROWS = {
+    "no-service": Row("spool_front", "status", "spool: cannot connect to AT/it.sock: No such file or directory (is cegmandi running? systemctl status "
+                      "cegmandi)\n", before=("env", FRONT[0], "SPOOL_PATIENCE=0")),
+    "socket-of-nobody": Row("spool_front", "status", "spool: cannot connect to AT/it.sock: Connection refused (is cegmandi running? systemctl status "
+                            "cegmandi)\n", (("left_socket", "it.sock"),), before=("env", FRONT[0], "SPOOL_PATIENCE=0")),
+    "missing-queue": front_row("submit nowhere AT/doc", "cannot print on nowhere: no such queue (spool queues lists the queues)", *SERVED_QUEUE),
+    "missing-document": front_row("submit q AT/none", f"cannot open AT/none: {NO_FILE}", *SERVED_QUEUE),
+    "folder-for-the-document": front_row("submit q AT/folder", "cannot print on q: cannot read the document; job 1 was canceled", *SERVED_QUEUE, ("folder", "folder")),
+    "queue-that-rejects": front_row("submit q AT/doc", "cannot print on q: the queue rejects jobs (spool queue accept lets it accept them)", *SERVED_QUEUE,
+                                    ("front", "queue reject q")),
+    "too-many-copies": Row("spool_front", "submit q AT/doc --copies 0", "error: invalid value '0' for '--copies <N>': 0 is not in 1..=9999\n" + TRY, status=2),
+    "queue-that-exists": front_row("queue add q slow:/1", "cannot add queue q: a queue with this name exists", *SERVED_QUEUE),
+    "no-uri": front_row("queue add p printer", "cannot add queue p: the URI of the device is not absolute (write it as in socket://192.0.2.9/)", *SERVED_QUEUE),
+    "missing-queue-to-stop": front_row("queue disable nowhere", "cannot disable queue nowhere: no such queue (spool queues lists the queues)", *SERVED_QUEUE),
+    "missing-queue-to-show": front_row("queue show nowhere", "no such queue: nowhere", *SERVED_QUEUE),
+    "missing-job-to-show": front_row("status 7", "no such job: 7", *SERVED_QUEUE),
+    "missing-job": front_row("cancel 7", "cannot cancel job 7: no such job (spool status lists the jobs)", *SERVED_QUEUE),
+    "ended-job": front_row("cancel 1", "cannot cancel job 1: the job has ended", *JOB, ("front", "cancel 1")),
+    "ended-job-to-hold": front_row("hold 1", "cannot hold job 1: the job has ended", *JOB, ("front", "cancel 1")),
+    "job-that-has-not-ended": front_row("purge 1", "cannot purge job 1: the job has not ended (cancel it, or wait until it has printed)", *JOB),
+}
+
 TABLE = {
     **{f"{name}-{row}": found for name in ("spool_shell", "spool_service") for row, found in rows_of_files(name).items()},
     **{f"{name}-{row}": found for name in OPENS for row, found in rows_of_disks(name).items()},
-    **{f"{found.program}-{row}": found for rows in (SHELL_ROWS, SERVICE_ROWS, ADMIN_ROWS, IPP_ROWS, TOOLS_ROWS) for row, found in rows.items()},
+    **{f"{found.program}-{row}": found for rows in (SHELL_ROWS, SERVICE_ROWS, ADMIN_ROWS, IPP_ROWS, TOOLS_ROWS, FRONT_ROWS) for row, found in rows.items()},
 }
 
 # The missing parts of texts, and the crates that lose them.
@@ -408,7 +457,8 @@ def marks_of(name, row):
     """The needs of a row."""
     # A program with an address sanitizer takes terabytes of address space.
     needed = [f"plain {row.program}" if "prlimit" in row.before else row.program, *row.before[:1 if row.before == NOBODY else 0]]
-    needed += ["spool_shell"] if "owned" in {does[0] for does in row.does} else []
+    actions = {does[0] for does in row.does}
+    needed += ["spool_shell"] if "owned" in actions else ["spool_service"] if "service" in actions else []
     yield pytest.mark.needs(*needed)
     if row.before == NOBODY or any(does[0] in ("mounted", "owner") for does in row.does):
         yield pytest.mark.root

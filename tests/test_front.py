@@ -56,7 +56,7 @@ def test_submits_what_fits(folder):
     number_of(front.says("spool", "submit", "q", folder.at("less")))
     # Standard input has no known length: the job is canceled when a piece of it does not fit.
     text = front.fails("spool", "submit", "q", "-", text=b"x" * room)
-    holds(f"canceled: {text}", "error full; job" in text and "was canceled" in text)
+    holds(f"canceled: {text}", "the spool is full (see spool_service(8), A full spool); job" in text and "was canceled" in text)
     same("no incoming job", [job for job, state in client.states().items() if state == "4 job-incoming"], [])
 
 
@@ -163,9 +163,11 @@ def test_submits_and_loses_the_service(folder):
 def test_submits_and_is_refused(folder):
     client, front = office(folder)
     folder.write("a", "a")
-    holds("no queue", "error 1 NoQueue" in front.fails("spool", "submit", "none", folder.at("a")))
+    output = front.fails("spool", "submit", "none", folder.at("a"))
+    same("no queue", output, "spool: cannot print on none: no such queue (spool queues lists the queues)\n")
     same("reject", client.ask("reject q\n"), "ok")
-    holds("rejecting", "error 4 NotAccepting" in front.fails("spool", "submit", "q", folder.at("a")))
+    output = front.fails("spool", "submit", "q", folder.at("a"))
+    same("rejecting", output, "spool: cannot print on q: the queue rejects jobs (spool queue accept lets it accept them)\n")
     same("jobs", client.states(), {})
     front.fails("spool", "submit", "q", folder.at("a"), "--copies", "0", status=2)
     front.fails("spool", "submit", status=2)
@@ -179,7 +181,7 @@ def test_submits_a_document_that_is_too_long(folder):
     folder.size = 100_000_000
     client, front = office(folder)
     output = front.fails("spool", "submit", "q", "-", text=b"x" * 16_777_217)
-    same("the error", output, "spool: error 7 TooLong; job 1 was canceled\n")
+    same("the error", output, "spool: cannot print on q: the document is longer than 16,777,216 bytes; job 1 was canceled\n")
     same("state", client.state(1), "7 canceled")
 
 
@@ -215,7 +217,7 @@ def test_status_and_json(folder):
     holds("another queue", 'a "b"' not in front.says("spool", "status", "-q", "other"))
     holds("the job", "q" in front.says("spool", "status", str(job)))
     holds("why it waits", "\nwhy       its document is being sent\n" in front.says("spool", "status", str(job)))
-    holds("no job", "no such job" in front.fails("spool", "status", "77"))
+    same("no job", front.fails("spool", "status", "77"), "spool: no such job: 77\n")
     holds("queues", "q" in front.says("spool", "queues"))
     holds("devices", "spool_shell --devices" in front.fails("spool", "devices"))
 
@@ -287,7 +289,7 @@ def test_status_of_faults(folder):
         (["lpoptions", "-d", "none"], {}, "no such queue: none"),
         (["lpoptions", "-d", "q"], {}, "HOME is not set, so no default queue can be stored"),
         (["cancel", "q"], {}, "no job waits or prints in queue q"),
-        (["cancel", "-a", "none"], {}, "no such queue"),
+        (["cancel", "-a", "none"], {}, "no such queue: none"),
     ]
     for words, environment, text in table:
         same(f"{words}", front.fails(*words, environment=environment), f"spool: {text}\n")
@@ -312,7 +314,7 @@ def test_status_of_two_services(folder):
         # A number alone does not show the job's user.
         for words in (["cancel", str(job)], ["watch"], ["queue", "add", "new", "slow:/0"]):
             holds(f"{words}", "exactly one --socket" in front.fails("spool", *words, *sockets))
-        holds("no queue", "no service has this queue" in front.fails("spool", "submit", "none", folder.at("a"), *sockets))
+        holds("no queue", "no service has queue none" in front.fails("spool", "submit", "none", folder.at("a"), *sockets))
         Client(other).create("z")
         same("cancel -a", front.says("cancel", "-a", *sockets), "")
         same("canceled", Client(other).state(2).split()[0], "7")
@@ -429,7 +431,7 @@ def test_json_of_all_facts(folder):
     same("check", lines_of_json(front, "check"), [{"running": True, "service": folder.socket}, {"prints": True, "queue": "q"}])
     same("disable", client.ask("disable q\n"), "ok")
     same("check, once stopped", lines_of_json(front, "check", status=1)[1], {"prints": False, "queue": "q", "why": "is stopped"})
-    for words, named in ((("status", "77"), "no such job"), (("queue", "show", "none"), "no such queue")):
+    for words, named in ((("status", "77"), "no such job: 77"), (("queue", "show", "none"), "no such queue: none")):
         same(f"the output of {words}", front.run("spool", *words, "--json").stdout, b"")
         error = front.fails("spool", *words, "--json")
         holds(f"the error of {words}: {error}", named in error)
@@ -564,7 +566,8 @@ def test_acts_on_queues(folder):
     front.says("spool", "queue", "enable", "new")
     rows = {line.split()[1]: line for line in client.listing("queues\n")}
     holds(f"row {rows['new']}", rows["new"].startswith("queue new 3 accepting "))
-    holds("twice", "error 2 QueueExists" in front.fails("spool", "queue", "add", "new", "slow:/0", "--media", "a/b"))
+    output = front.fails("spool", "queue", "add", "new", "slow:/0", "--media", "a/b")
+    same("twice", output, "spool: cannot add queue new: a queue with this name exists\n")
 
 
 # ---- out of memory

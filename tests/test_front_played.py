@@ -39,16 +39,22 @@ def asked(*reply, then=()):
     return [("job 5", *reply), *then]
 
 
+# The sentences of refusals.
+NO_QUEUE = "no such queue (spool queues lists the queues)"
+NO_JOB = "no such job (spool status lists the jobs)"
+TOO_LONG = "the document is longer than 16,777,216 bytes"
+FULL = "the spool is full (see spool_service(8), A full spool)"
+
 # The steps of each connection, the status and a part of the output.
 SUBMISSIONS = {
     "accepted": ([[CREATED, SENT, CLOSED]], 0, "request id is q-5 (1 file(s))"),
     "unprintable": ([[CREATED, SENT, ("close 5 ", "ok type a/b unprintable\n")]], 4, "job 5"),
-    "create refused": ([[('create "q" ', "error 1 NoQueue\n")]], 1, "spool: error 1 NoQueue\n"),
-    "send refused": ([[CREATED, ("send 5 3", "error 7 TooLong\n"), CANCELED]], 1, "spool: error 7 TooLong; job 5 was canceled\n"),
-    "close refused": ([[CREATED, SENT, ("close 5 ", "error 5 NoJob\n"), ("cancel 5", "error 5 NoJob\n")]], 1, "error 5 NoJob; job 5 is not printed"),
+    "create refused": ([[('create "q" ', "error 1 NoQueue\n")]], 1, f"spool: cannot print on q: {NO_QUEUE}\n"),
+    "send refused": ([[CREATED, ("send 5 3", "error 7 TooLong\n"), CANCELED]], 1, f"spool: cannot print on q: {TOO_LONG}; job 5 was canceled\n"),
+    "close refused": ([[CREATED, SENT, ("close 5 ", "error 5 NoJob\n"), ("cancel 5", "error 5 NoJob\n")]], 1, f"{NO_JOB}; job 5 is not printed"),
     "another size": ([[CREATED, ("send 5 3", "ok bytes 9\n"), CANCELED]], 1, "job 5 was canceled"),
     "put off": ([[('create "q" ', "error full\n"), CREATED, ("send 5 3", "error memory\n"), SENT, ("close 5 ", "error full\n"), CLOSED]], 0, "q-5"),
-    "full for good": ([[CREATED, *[("send 5 3", "error full\n")] * 21, CANCELED]], 1, "error full; job 5 was canceled"),
+    "full for good": ([[CREATED, *[("send 5 3", "error full\n")] * 21, CANCELED]], 1, f"{FULL}; job 5 was canceled"),
     # It was created: the front end continues with the job that has the token.
     "create lost": ([NOT_CREATED, [("jobs", LISTED), *asked(shown(0)), SENT, CLOSED]], 0, "q-5"),
     "create not done": ([NOT_CREATED, [("jobs", "ok 0\n"), CREATED, SENT, CLOSED]], 0, "q-5"),
@@ -129,7 +135,7 @@ LONG_SUBMISSIONS = {
     # The second command was executed without the first one: the document is given up.
     "first put off": ([[(SENDS_FIRST, "error full\n"), (SENDS_SECOND, f"ok bytes {SECOND}\n"), CANCELED]], 1, GIVES_UP),
     "both put off": ([[(SENDS_FIRST, "error full\n"), (SENDS_SECOND, "error full\n"), *BOTH, *REST]], 0, ACCEPTED),
-    "both refused": ([[(SENDS_FIRST, "error 7 TooLong\n"), (SENDS_SECOND, "error 7 TooLong\n"), CANCELED]], 1, f"error 7 TooLong; {GIVES_UP}"),
+    "both refused": ([[(SENDS_FIRST, "error 7 TooLong\n"), (SENDS_SECOND, "error 7 TooLong\n"), CANCELED]], 1, f"{TOO_LONG}; {GIVES_UP}"),
     # Its reply says nothing of the second command.
     "lost after the first reply": ([[(SENDS_FIRST, f"ok bytes {FIRST}\n"), (SENDS_SECOND, None)], [*asked(shown(FIRST + SECOND)), *REST]], 0, ACCEPTED),
 }

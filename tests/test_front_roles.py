@@ -248,7 +248,7 @@ def test_goes_on_if_the_proof_is_not_taken(folder):
 
 def test_goes_on_to_a_busy_service(folder):
     service, front = started(folder, {}, proof="error busy\n")
-    same("output", front.fails("spool", "cancel", "7"), "spool: job 7: error busy\n")
+    same("output", front.fails("spool", "cancel", "7"), "spool: cannot cancel job 7: the service is busy (try again)\n")
     same("said", service.heard, ["i-am"])
     service.end()
 
@@ -359,6 +359,7 @@ def test_refuses_the_folder_of_another_owner(folder):
 
 # ---- denied commands
 
+NO_JOB = "no such job (spool status lists the jobs)"
 NOT_YOURS = f"it is not yours (ask an operator, or {WHERE}"
 
 
@@ -387,7 +388,7 @@ def test_explains_and_goes_on(folder):
     """A denied job does not keep the others from it."""
     service, front = started(folder, {"stop 1": "ok\n", "stop 2": "error denied\n", "stop 3": "error 5 NoJob\n", "stop 4": "ok\n"})
     output = front.fails("spool", "cancel", "1", "2", "3", "4")
-    same("output", output, f"spool: cannot cancel job 2: {NOT_YOURS}\nspool: job 3: error 5 NoJob\n")
+    same("output", output, f"spool: cannot cancel job 2: {NOT_YOURS}\nspool: cannot cancel job 3: {NO_JOB}\n")
     same("said", service.heard, ["i-am", "made", "stop 1", "stop 2", "stop 3", "stop 4"])
     service.end()
 
@@ -451,7 +452,7 @@ def test_owns_as_before_if_not_proved(folder):
 
 def test_owns_as_another_user(folder):
     service, output = submitted(folder, {'create "q" "bob"': "error denied\n"}, "--user", "bob", status=1)
-    same("output", output, f"spool: only operators may name another user ({WHERE}\n")
+    same("output", output, f"spool: cannot print on q: only operators may name another user ({WHERE}\n")
     same("users", creates(service), ["bob"])
     service.end()
     service, output = submitted(folder, {'create "q" "bob"': "ok job 5\n"}, "--user", "bob", made="ok operator root\n")
@@ -461,7 +462,7 @@ def test_owns_as_another_user(folder):
 
 def test_owns_nothing_that_is_denied_later(folder):
     service, output = submitted(folder, {"create": "ok job 5\n", "send 5": "error denied\n", "cancel 5": "error denied\n"}, status=1)
-    same("output", output, f"spool: the service denies the document ({WHERE}; job 5 is not printed\n")
+    same("output", output, f"spool: cannot print on q: the service denies the document ({WHERE}; job 5 is not printed\n")
     service.end()
 
 
@@ -479,7 +480,7 @@ def test_asks_to_stop(folder):
     service.end()
     # The job is not canceled: nothing is terminated.
     service, front = started(folder, {"cancel 7": "error 5 NoJob\n"})
-    same("output", front.fails("spool", "cancel", "7"), "spool: job 7: error 5 NoJob\n")
+    same("output", front.fails("spool", "cancel", "7"), f"spool: cannot cancel job 7: {NO_JOB}\n")
     same("said", service.heard, ["i-am", "made", "stop 7", "cancel 7"])
     service.end()
     service, front = started(folder, {"cancel 7": "ok\n"})
@@ -493,7 +494,7 @@ def test_asks_for_a_type(folder):
     same("close", service.heard[-1], 'close 5 "doc" "text/plain"')
     service.end()
     service, output = submitted(folder, {"create": "ok job 5\n", "close 5": OLDER, "cancel 5": "ok\n"}, "--type", "text/plain", status=1)
-    same("output", output, "spool: the service does not take the media type; job 5 was canceled\n")
+    same("output", output, "spool: cannot print on q: the service does not take the media type; job 5 was canceled\n")
     service.end()
 
 
@@ -561,7 +562,7 @@ def test_real_users(folder):
     same("bin cancels", as_user(front, BIN, "spool", "cancel", "1", "2"), (1, f"spool: cannot cancel job 1: {NOT_YOURS}\n"))
     same("states", [row["state"] for row in json.loads(front.says("spool", "status", "--json"))], ["pending", "canceled"])
     same("bin starts q", as_user(front, BIN, "spool", "queue", "enable", "q"), (1, f"spool: cannot enable queue q: only operators may change queues ({WHERE}\n"))
-    denied = f"spool: only operators may name another user ({WHERE}\n"
+    denied = f"spool: cannot print on q: only operators may name another user ({WHERE}\n"
     same("bin prints for root", as_user(front, BIN, "spool", "submit", "q", folder.at("doc"), "--user", "root"), (1, denied))
     holds("the URI is for operators", "uri" not in as_user(front, BIN, "spool", "queue", "show", "q")[1])
     holds("root sees the URI", "slow:/0" in front.says("spool", "queue", "show", "q"))

@@ -1,7 +1,6 @@
 pub mod Streams
 pub mod Orders
 pub mod Growth
-pub mod DocumentLaws
 pub mod RowLaws
 pub mod ReplyLaws
 pub mod ExchangeLaws

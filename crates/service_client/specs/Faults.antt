@@ -1,8 +1,6 @@
 -- The faults of a connection.
 use Rattle.service_client.specs.declared.connection.ConnectionFault.{ConnectionFault}
 use Rattle.service_client.specs.declared.connection.ConnectionFault.TheVariants.{Lost, Memory}
-use Rattle.service_client.specs.declared.document.DocumentFault as documents
-use Rattle.service_client.specs.declared.document.DocumentFault.TheVariants as endings
 use Rattle.service_client.specs.declared.fault.TakeFault.{TakeFault}
 use Rattle.service_client.specs.declared.fault.TakeFault.TheVariants as takings
 
@@ -10,7 +8,3 @@ use Rattle.service_client.specs.declared.fault.TakeFault.TheVariants as takings
 abbrev pub fault_of : TakeFault → ConnectionFault
 fault_of takings.Memory = Memory
 fault_of takings.Unasked = Lost
-
-abbrev pub document_fault : ConnectionFault → documents.DocumentFault
-document_fault Lost = endings.Lost
-document_fault Memory = endings.Memory

@@ -2,14 +2,13 @@
 //!
 //! A client sends commands, and the service answers each with one reply, in the order of the commands. A reply is rows and a last line, whose
 //! first word is `ok` or `error`. So several commands can be sent before the first reply has come. This crate cuts the replies from the bytes
-//! of a connection and gives each to its command, sends documents in pieces, and keeps a mirror of the jobs and queues. It opens no connection
-//! and reads no clock.
+//! of a connection and gives each to its command, and keeps a mirror of the jobs and queues. It opens no connection and reads no clock.
 //!
 //! | Layer | Types | Input and output |
 //! |---|---|---|
 //! | lines, replies | [`LineReader`], [`ReplyReader`] | none: bytes and values |
 //! | commands in order | [`Pipeline`] | none: for a caller with its own loop, that never waits |
-//! | a connection | [`Session`], [`send_document`] | a [`Connection`] whose calls wait |
+//! | a connection | [`Session`] | a [`Connection`] whose calls wait |
 //! | the mirror | [`Mirror`] | none: lines and values |
 //!
 //! # Promises
@@ -25,8 +24,7 @@
 //! - [`Session::exchange`]: the sent bytes are the commands and the received bytes the replies, in pairs (`talk`).
 //! - [`Session::receive_lines`] returns exactly the whole lines that have come (`lines`, `each`, `part`), at least one (`some`).
 //! - [`Pipeline::take`] fails with [`TakeFault::Unasked`] only if a reply came after each command had its own (`unasked`).
-//! - [`send_document`]: the bytes that were sent are the pieces of the document, each once and in order, and the job has the whole document
-//!   only if each reply states the size after its piece (`sent`).
+//! - [`send_text`]: the command that appends a piece of a document has exactly its job, its length and its bytes.
 //! - [`LineReader::take_all`]: the lines of a stream, whatever its pieces. [`Mirror::tell_all`]: the rows of the mirror are the fold of the
 //!   lines (`jobs`, `queues`). After `missed` they must be listed again (`known`).
 //!
@@ -62,7 +60,7 @@ mod rows;
 mod session;
 
 pub use connection::{Connection, ConnectionFault};
-pub use document::{DocumentFault, Pieces, Streamed, send_document, send_text};
+pub use document::send_text;
 pub use fault::TakeFault;
 pub use laws::{in_order, one_reading};
 pub use lines::LineReader;

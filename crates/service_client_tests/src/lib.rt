@@ -5,4 +5,4 @@ mod memory;
 #[cfg(test)]
 mod tests;
 
-pub use memory::{MemoryConnection, MemoryDocument};
+pub use memory::MemoryConnection;

@@ -1,7 +1,7 @@
 //! A connection in memory.
 ghost use Rattle.std.specs.Prelude.{◌≡◌};
 
-use service_client::{Connection, ConnectionFault, DocumentFault, Pieces};
+use service_client::{Connection, ConnectionFault};
 use std::alloc::{AllocError, Global};
 
 /// A connection to a service whose bytes are known before. It brings them in pieces of one length, and is lost after the last one.
@@ -59,37 +59,6 @@ impl Connection for MemoryConnection {
         self.came.reserve(count)?;
         piece.extend_from_slice(&self.left[..count])?;
         self.came.extend_from_slice(&self.left[..count])?;
-        self.left.drain(..count);
-        Ok(())
-    }
-}
-
-// The greatest length of a piece.
-const PIECE: usize = 3;
-
-/// A document in memory, in pieces of three bytes.
-#[derive(Drop)]
-pub struct MemoryDocument {
-    left: Vec<u8>,
-}
-
-impl MemoryDocument {
-    pub fn new(alloc: Global, text: &[u8]) -> Result<MemoryDocument, AllocError> {
-        Ok(MemoryDocument {
-            left: Vec::from_slice(alloc, text)?,
-        })
-    }
-}
-
-impl Pieces for MemoryDocument {
-    ghost use Rattle.std.specs.Prelude.{Some};
-
-    ghost rest = { λ it. Some it.left.items };
-
-    fn next_piece(&mut self, piece: &mut Vec<u8>) -> Result<(), DocumentFault> {
-        let count = PIECE.min(self.left.len());
-        piece.clear();
-        piece.extend_from_slice(&self.left[..count])?;
         self.left.drain(..count);
         Ok(())
     }

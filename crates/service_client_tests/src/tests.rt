@@ -1,9 +1,7 @@
 //! Runs over a connection in memory. The expected values are written by hand from the page of the protocol.
 
-use crate::memory::{MemoryConnection, MemoryDocument};
-use service_client::{
-    Answered, ConnectionFault, DocumentFault, Mirror, Reply, Session, Streamed, send_document,
-};
+use crate::memory::MemoryConnection;
+use service_client::{Answered, ConnectionFault, Mirror, Reply, Session, send_text};
 use std::alloc::{AllocError, Global};
 use std::test::Fail;
 
@@ -94,35 +92,10 @@ fn each_command_is_answered_or_lost(rt: HostRuntime) -> Result<(), Fail> {
     Ok(())
 }
 
-// Sends a document of seven bytes over a connection that brings these replies. Returns the bytes that were sent, and how many bytes the job has.
-fn document_over(alloc: Global, text: &str) -> Result<(Vec<u8>, Option<u64>), DocumentFault> {
-    let connection = MemoryConnection::new(alloc, text.as_bytes(), 5)?;
-    let mut session = Session::new(alloc, connection);
-    let mut document = MemoryDocument::new(alloc, b"abcdefg")?;
-    let streamed = send_document(alloc, &mut session, &mut document, 4, 0);
-    let sent = Vec::from_slice(alloc, session.connection().sent());
-    drop(session);
-    drop(document);
-    let size = match streamed? {
-        Streamed::Whole(size) => Some(size),
-        Streamed::Refused(_) => None,
-    };
-    Ok((sent?, size))
-}
-
-const SENDS: &[u8] = b"send 4 3\nabc\nsend 4 3\ndef\nsend 4 1\ng\n";
-
 #[test]
-fn documents_are_sent_once(rt: HostRuntime) -> Result<(), Fail> {
-    let Ok((sent, size)) = document_over(rt.alloc(), "ok bytes 3\nok bytes 6\nok bytes 7\n") else {
-        return Err("not sent")?;
-    };
-    assert!(rt; sent.as_slice() == SENDS && size == Some(7));
-    let Ok((sent, size)) = document_over(rt.alloc(), "ok bytes 3\nerror full\nok bytes 4\n") else {
-        return Err("not sent")?;
-    };
-    assert!(rt; sent.as_slice() == SENDS && size.is_none());
-    assert!(rt; document_over(rt.alloc(), "ok bytes 3\n").is_err());
+fn pieces_are_sent_with_their_length(rt: HostRuntime) -> Result<(), Fail> {
+    let line = send_text(rt.alloc(), 4, b"a\nb")?;
+    assert!(rt; line.as_slice() == b"send 4 3\na\nb\n".as_slice());
     Ok(())
 }
 

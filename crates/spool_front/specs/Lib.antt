@@ -14,7 +14,7 @@ pub mod QueueChoice
 pub mod Submissions
 pub mod EnvironmentValues
 pub mod Proofs
-pub mod DeniedCommands
+pub mod RefusedCommands
 pub mod DocumentRoom
 pub mod JsonLines
 pub mod ProgressLines

@@ -14,6 +14,7 @@ use Rattle.front_submission.specs.declared.step.Step.{Step}
 use Rattle.front_submission.specs.declared.step.Step.TheVariants.{Holding, Closing, Checking, Ended}
 use Rattle.front_texts.specs.declared.states.JobState.{JobState}
 use Rattle.front_texts.specs.declared.states.JobState.TheVariants.{Canceled, Aborted, Completed}
+use Rattle.refusal_sentences.specs.RefusalSentences.{sentence_of}
 use Rattle.spool_front.specs.FoundJobs.{with_job}
 use Rattle.spool_front.specs.declared.commands.Draft.{Draft}
 use Rattle.spool_front.specs.declared.printing.Told.{Told}
@@ -29,7 +30,7 @@ abbrev pub refusal_text : Bool → Bool → List ℕ → List ℕ
 refusal_text named typed text =
     cond (is_word text (codes "error denied")) (denied_text named)
     (cond (typed && is_word text (codes "error syntax")) (codes "the service does not take the media type")
-    text)
+    (sentence_of text))
 
 -- Why a document is refused, as a message, from the last refusal and whether memory ran out.
 abbrev pub cause_text : Draft → Option (String Global) → Bool → Cause → List ℕ

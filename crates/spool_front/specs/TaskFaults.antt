@@ -1,5 +1,5 @@
 -- Why tasks fail, and their exit statuses.
-use Rattle.std.specs.Prelude.{◌≡◌, ◌==◌, ℕ, Bool, true, false, List, [], codes, Option, None, Some, Result, Ok, Err, String, alloc_error, string_bytes}
+use Rattle.std.specs.Prelude.{◌≡◌, ℕ, Bool, true, false, List, [], codes, Option, None, Some, Result, Ok, Err, String, alloc_error, string_bytes}
 use Rattle.std.specs.Global.{Global}
 use Rattle.std.specs.declared.alloc.AllocError.{AllocError}
 use Rattle.std.specs.declared.env.VarError.{VarError}
@@ -9,7 +9,7 @@ use Rattle.std.specs.declared.io.ErrorKind.TheVariants.{OutOfMemory, NotFound, C
 use Rattle.service_client.specs.declared.connection.ConnectionFault.{ConnectionFault}
 use Rattle.service_client.specs.declared.connection.ConnectionFault.TheVariants as connection
 use Rattle.spool_front.specs.declared.fault.Fault.{Fault}
-use Rattle.spool_front.specs.declared.fault.Fault.TheVariants.{Memory, Nobody, Busy, Gone, Unknown, Write, File}
+use Rattle.spool_front.specs.declared.fault.Fault.TheVariants.{Memory, Nobody, Busy, Gone, Unknown, Write, File, Named}
 
 -- The status is 3 if it is unknown whether the task was done, and otherwise 1: it was not done.
 abbrev pub status_of : Fault → ℕ
@@ -45,9 +45,6 @@ abbrev pub IsUnreadBy : ErrorKind → String Global → Fault → Type 0
 IsUnreadBy OutOfMemory name fault = fault ≡ Memory
 IsUnreadBy kind name fault = IsFile name fault
 
-abbrev pub is_bracket : ℕ → Bool
-is_bracket b = b == 40
-
 -- What to do if a service cannot be reached.
 abbrev pub hint_for : ErrorKind → List ℕ
 hint_for NotFound = codes " (is cegmandi running? systemctl status cegmandi)"
@@ -65,6 +62,11 @@ variable_as (Err fault) = Ok None
 abbrev pub IsNobodyAt : List ℕ → Fault → Type 0
 IsNobodyAt socket (Nobody name why) = string_bytes name ≡ socket
 IsNobodyAt socket fault = ⊥
+
+-- The task cannot be done for this name.
+abbrev pub IsNamed : List ℕ → List ℕ → Fault → Type 0
+IsNamed words text (Named what name) = (what.now ≡ words) × (string_bytes name ≡ text)
+IsNamed words text fault = ⊥
 
 -- The service at this socket is busy.
 abbrev pub IsBusyAt : List ℕ → Fault → Type 0

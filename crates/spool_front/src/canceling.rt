@@ -6,7 +6,7 @@ ghost use Rattle.command_lines.specs.CommandGrammar.{is_word};
 ghost use Rattle.spool_front.specs.Acts.{active_job, current_job, is_active, is_by, is_cleared, number_of};
 
 use crate::client::Client;
-use crate::fault::{Fault, first_failure};
+use crate::fault::{Fault, first_failure, unknown_queue};
 use crate::services::{Services, all_queues, client_at, has_queue, only_socket, queue_of};
 use crate::tasks::act_by;
 use front_texts::{JobLine, JobState};
@@ -34,10 +34,10 @@ pub fn clear_queues(
     purge: bool,
 ) -> Result<u8, Fault> {
     let queues = all_queues(rt, services)?;
-    let known = names.iter().all(|name| has_queue(&queues, name));
+    let missing = names.iter().find(|name| !has_queue(&queues, name));
     drop(queues);
-    if !known {
-        return Err(Fault::Words("no such queue"));
+    if let Some(name) = missing {
+        return Err(unknown_queue(rt.alloc(), name)?);
     }
     let mut status = 0;
     for socket in services.sockets {

@@ -14,7 +14,7 @@ ghost use Rattle.spool_front.specs.TaskFaults.{IsBusyAt, IsNobodyAt};
 
 use crate::commands::{job_line, list_line, name_line};
 use crate::connection::{Connection, ConnectionFault};
-use crate::fault::Fault;
+use crate::fault::{Fault, unknown_queue};
 use crate::proving::first_exchange;
 use crate::reasons::reason_and_hint;
 use cause_sentences::cause_sentence;
@@ -412,7 +412,7 @@ impl<'a> Client<'a> {
         }
         if answer.last.as_str() == "error queue" {
             drop(answer);
-            return Err(Fault::Words("no such queue"));
+            return Err(unknown_queue(self.rt.alloc(), name)?);
         }
         Ok(Some(accepted(answer)?))
     }

@@ -4,7 +4,7 @@ ghost use Rattle.std.specs.List.{before_first};
 ghost use Rattle.spool_front.specs.QueueChoice.{is_line_feed};
 
 use crate::commands::has_control;
-use crate::fault::Fault;
+use crate::fault::{Fault, unknown_queue};
 use crate::files::{unread, write_as};
 use crate::host::variable;
 use crate::services::{Services, all_queues, has_queue};
@@ -23,7 +23,7 @@ pub fn store_queue(rt: &HostRuntime, services: Services<'_, '_>, queue: &str) ->
     let known = has_queue(&queues, queue);
     drop(queues);
     if !known {
-        return Err(Fault::Named("no such queue:", String::from_str(rt.alloc(), queue)?));
+        return Err(unknown_queue(rt.alloc(), queue)?);
     }
     let Some(file) = user_file(rt)? else {
         return Err(Fault::Words("HOME is not set, so no default queue can be stored"));

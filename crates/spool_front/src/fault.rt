@@ -1,11 +1,12 @@
 //! Why a task fails.
-ghost use Rattle.std.specs.Prelude.{◌≡◌, ◌==◌, cond};
+ghost use Rattle.std.specs.Prelude.{◌≡◌, ◌==◌, IfOk, codes, cond};
 ghost use Rattle.std.specs.IoError.{error_kind};
-ghost use Rattle.spool_front.specs.TaskFaults.{gone_by, status_of, unwritten_by};
+ghost use Rattle.spool_front.specs.TaskFaults.{IsNamed, gone_by, status_of, unwritten_by};
 
 use crate::connection::ConnectionFault;
 use clean_texts::clean;
-use std::alloc::{AllocError, AllocFailed};
+use refusal_sentences::sentence_of;
+use std::alloc::{AllocError, AllocFailed, Global};
 use std::io::{self, ErrorKind};
 use thiserror::Error;
 
@@ -27,12 +28,12 @@ pub enum Fault {
     /// The connection was lost before the service replied to a command that changes something.
     #[error("the connection was lost before the service replied; the command may have been executed")]
     Unknown,
-    /// The service refused the command. The text is its reply.
-    #[error("{text}", text = clean(.0.as_str()))]
+    /// The service refused the command. The text is its reply, and the message the sentence about it.
+    #[error("{text}", text = clean(sentence_of(.0.as_str())))]
     Refused(String),
-    /// The service denied the command. The text explains why.
+    /// The service refused the command. The text names its object, and explains why.
     #[error("{text}", text = clean(.0.as_str()))]
-    Denied(String),
+    Explained(String),
     /// Standard output or standard error cannot be written.
     #[error("cannot write the output")]
     Write,
@@ -71,6 +72,13 @@ pub fn first_failure(status: u8, next: u8) -> u8
     ensures { result ≡ cond (status == 0) next status }
 {
     if status == 0 { next } else { status }
+}
+
+/// Returns the fault of a queue that does not exist.
+pub fn unknown_queue(alloc: Global, name: &str) -> Result<Fault, AllocError>
+    ensures { IfOk result (λ fault. IsNamed (codes "no such queue:") name.now fault) }
+{
+    Ok(Fault::Named("no such queue:", String::from_str(alloc, name)?))
 }
 
 impl From<AllocError> for Fault {

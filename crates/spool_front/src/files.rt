@@ -5,11 +5,11 @@ ghost use Rattle.spool_front.specs.TaskFaults.{IsUnreadBy};
 
 use crate::fault::Fault;
 use crate::host::variable_or;
-use crate::reasons::reason_of;
 use std::alloc::{AllocError, Global};
 use std::fs::OpenOptions;
 use std::io::{ErrorKind, Write};
 use std::{fs, io};
+use system_reasons::reason_of;
 
 /// Returns the text of the file that the variable names.
 pub fn file_text(rt: &HostRuntime, of_name: &str, usual: &str) -> Result<String, Fault> {

@@ -21,7 +21,7 @@
 //!
 //! - [`connection`]: the socket of a service, over which `service_client` speaks the protocol. [`client`]: commands and replies over a
 //!   connection, and reconnecting.
-//! - [`proving`]: the proof of the user. [`denials`]: explanations of denied commands.
+//! - [`proving`]: the proof of the user. [`refusals`]: explanations of refused commands.
 //! - [`commands`]: the bytes of each command (`SentCommands`). `service_replies` has the meaning of each reply.
 //! - [`submit`]: submits one document as one job, by the decisions of `front_submission`. [`document`]: the pieces of a document.
 //!   [`draft`]: the fields of its job. [`moments`]: moments by the time of the service. [`printing`]: printing files. [`progress`]: the line
@@ -37,8 +37,9 @@
 //!   `hold_line`, `job_line`, `name_line`, `info_line`, `queue_line`). A text with a control character, which could end its line, is detected
 //!   (`has_control`). An action on a job or a queue is sent as the command for that action (`act_line`, `act_text`).
 //! - Owners: a job belongs to the user whom the service has identified, unless the user has named the owner or is an operator (`job_user`).
-//! - Denials: a denied command is explained by exactly one message (`explain_job`, `explain_queue`, `cause_text`). A client removes its
-//!   folder unless the service has taken the proof (`is_left`).
+//! - Refusals: a refused command is explained by exactly one message, which names the job or the queue (`explain_job`, `explain_queue`) or
+//!   the cause (`cause_text`), with the sentence of `refusal_sentences`. A client removes its folder unless the service has taken the proof
+//!   (`is_left`).
 //! - Older services: `cancel` and `end` replace `stop` exactly if the service does not know it (`is_stop`, `is_unknown`).
 //! - Replies: `reply_in` returns the meaning of a reply for a submission. After `error disk`, `error dead` or `error busy` it is unknown
 //!   whether the command was executed, so such a reply is never taken for a refusal (`failed_as`). `shown_as` returns the state of a job.
@@ -125,7 +126,6 @@ mod commands;
 mod connection;
 mod cups_forms;
 mod defaults;
-mod denials;
 mod document;
 mod draft;
 mod fault;
@@ -140,6 +140,7 @@ mod programs;
 mod progress;
 mod proving;
 mod reasons;
+mod refusals;
 mod room;
 mod say;
 mod services;

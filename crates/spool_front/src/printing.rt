@@ -12,7 +12,6 @@ use crate::fault::{Fault, first_failure};
 use crate::host::Screen;
 use crate::json_lines::{accepted_json, print_json};
 use crate::moments::{Clocks, clocks_for_job};
-use crate::reasons::reason_of;
 use crate::services::{Services, client_at, queue_of};
 use crate::submit::Submitting;
 use clean_texts::clean;
@@ -21,6 +20,7 @@ use front_texts::{JobShown, JobState};
 use front_words::Submission;
 use std::io::{BufRead, Read};
 use std::{fs, io};
+use system_reasons::reason_of;
 
 // The status if a document cannot be read, if the outcome of a job is unknown, and if a job was not completed.
 const FAILED: u8 = 1;
@@ -232,14 +232,14 @@ fn submit<S: Read + Drop>(
     let mut submitting = submitting;
     let end = submitting.submit(client, document);
     submitting.end_line();
-    report(rt, told, submitting.queue(), end, &submitting);
+    report(rt, told, end, &submitting);
     drop(submitting);
     end
 }
 
 // Reports the outcome of a submission. A report that cannot be written does not change the status.
-fn report(rt: &HostRuntime, told: Told, queue: &str, end: End, submitting: &Submitting<'_>) {
-    let queue = clean(queue);
+fn report(rt: &HostRuntime, told: Told, end: End, submitting: &Submitting<'_>) {
+    let queue = clean(submitting.queue());
     match end {
         End::Accepted { job } => report_accepted(rt, told, submitting.queue(), job),
         End::Unprintable { job } => {
@@ -254,7 +254,13 @@ fn report(rt: &HostRuntime, told: Told, queue: &str, end: End, submitting: &Subm
             job,
             cause,
             canceled,
-        } => report_refused(rt, job, submitting.cause_text(cause), canceled),
+        } => report_refused(
+            rt,
+            submitting.queue(),
+            job,
+            submitting.cause_text(cause),
+            canceled,
+        ),
     }
 }
 
@@ -275,12 +281,16 @@ fn report_accepted(rt: &HostRuntime, told: Told, queue: &str, job: u32) {
     }
 }
 
-fn report_refused(rt: &HostRuntime, job: Option<u32>, cause: &str, canceled: bool) {
-    let cause = clean(cause);
+fn report_refused(rt: &HostRuntime, queue: &str, job: Option<u32>, cause: &str, canceled: bool) {
+    let (queue, cause) = (clean(queue), clean(cause));
     let _ = match job {
-        Some(job) if canceled => eprintln!(rt; "spool: {cause}; job {job} was canceled"),
-        Some(job) => eprintln!(rt; "spool: {cause}; job {job} is not printed"),
-        None => eprintln!(rt; "spool: {cause}"),
+        Some(job) if canceled => {
+            eprintln!(rt; "spool: cannot print on {queue}: {cause}; job {job} was canceled")
+        }
+        Some(job) => {
+            eprintln!(rt; "spool: cannot print on {queue}: {cause}; job {job} is not printed")
+        }
+        None => eprintln!(rt; "spool: cannot print on {queue}: {cause}"),
     };
 }
 

@@ -227,7 +227,7 @@ pub fn socket_of<'a>(
             return Ok(*socket);
         }
     }
-    Err(Fault::Words("no service has this queue"))
+    Err(Fault::Named("no service has queue", String::from_str(rt.alloc(), queue)?))
 }
 
 /// Returns whether a queue has this name.

@@ -23,6 +23,7 @@ use crate::room::lacking_text;
 use front_proof::Caller;
 use front_submission::{Cause, End, Found, Own, Reply, Request, Shown, Step};
 use front_texts::{JobLine, JobShown, read_job_line, read_job_shown};
+use refusal_sentences::sentence_of;
 use service_client::send_text;
 use service_replies::{has_reason, reply_in, shown_of};
 use std::alloc::{AllocError, Global};
@@ -48,7 +49,7 @@ pub struct Submitting<'a> {
     // The length of the document in bytes, if it is known.
     size: Option<u64>,
     screen: Screen,
-    // The last refusal, in the service's words.
+    // The last refusal: the reply, or why the document was not sent.
     refusal: Option<String>,
     // Whether the submission was given up because memory ran out.
     memory: bool,
@@ -564,7 +565,7 @@ fn refusal_text(named: bool, typed: bool, text: &str) -> &str
     if typed && text == "error syntax" {
         return "the service does not take the media type";
     }
-    text
+    sentence_of(text)
 }
 
 fn denied_text(named: bool) -> &'static str

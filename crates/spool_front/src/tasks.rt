@@ -7,13 +7,13 @@ ghost use Rattle.spool_front.specs.TaskFaults.{status_of};
 use crate::canceling::clear_queues;
 use crate::client::{Answer, Client};
 use crate::commands::{Until, hold_line, info_line, job_line, name_line, queue_line};
-use crate::denials::{explain_job, explain_queue};
-use crate::fault::{Fault, first_failure};
+use crate::fault::{Fault, first_failure, unknown_queue};
 use crate::host::Screen;
 use crate::json_lines::{fields_json, news_json, print_json};
 use crate::live_table::watch_jobs;
 use crate::moments::{Clocks, clocks_for_act};
 use crate::output::print_lines;
+use crate::refusals::{explain_job, explain_queue};
 use crate::services::{Services, all_jobs, all_queues, client_at, only_socket, socket_of};
 use clean_texts::clean_bytes;
 use front_texts::{
@@ -101,7 +101,7 @@ fn show_job(
     if found {
         Ok(0)
     } else {
-        Err(Fault::Words("no such job"))
+        Err(Fault::Named("no such job:", format!(in rt.alloc(); "{job}")?))
     }
 }
 
@@ -254,7 +254,7 @@ fn show_row(
     let mut queues = client.queues()?;
     queues.retain(|queue| queue.name.as_str() == name);
     let shown = if queues.is_empty() {
-        Err(Fault::Words("no such queue"))
+        Err(unknown_queue(rt.alloc(), name)?)
     } else {
         print_queues(rt, &queues, json, screen)
     };
@@ -420,12 +420,12 @@ fn is_refused(ended: &Result<(), Fault>) -> bool
 fn report_fault(rt: &HostRuntime, job: u32, fault: Fault) -> Result<u8, Fault>
     ensures { IfOk result (λ status. status ≡ status_of fault) }
 {
-    if !matches!(fault, Fault::Refused(_) | Fault::Denied(_) | Fault::Unknown) {
+    if !matches!(fault, Fault::Explained(_) | Fault::Unknown) {
         return Err(fault);
     }
     let status = fault.status();
     let told = match &fault {
-        Fault::Denied(_) => eprintln!(rt; "spool: {fault}"),
+        Fault::Explained(_) => eprintln!(rt; "spool: {fault}"),
         _ => eprintln!(rt; "spool: job {job}: {fault}"),
     };
     drop(fault);
