@@ -1,13 +1,16 @@
-/* Measures the processor time of a child's script with and without a user of its own: child_users ROUNDS SCRIPT FOLDER UID PROGRAM
+/* Measures the processor time of a child's script with and without a user of its own: child_users ROUNDS SCRIPT FOLDER UID NAME PROGRAM
 
-   It runs four ways to start PROGRAM in turns, ROUNDS times each, and prints the median processor time of each in milliseconds,
+   It runs six ways to start PROGRAM in turns, ROUNDS times each, and prints the median processor time of each in milliseconds,
    with everything that was run:
 
    1. `plain`: the script in the file SCRIPT, without a user.
    2. `user`: the script with the user UID, whose folder FOLDER is, as its own.
    3. `calls`: as `plain`, but run as the user by a process that does by system calls what the script does: two forks, a new session,
       the change of the user and its rights, the end of all its processes, a look at its folder, and a pipe for the status.
-   4. `programs`: the programs that the script needs, by the shortest script that has them: setpriv, a shell, and setpriv. */
+   4. `programs`: the programs that the script needs, by the shortest script that has them: setpriv, a shell, and setpriv.
+   5. `least`: as `programs`, with the name NAME of the user and of its group instead of the number, without a fork of the inner shell
+      that copies it, and with no more words than the second setpriv needs.
+   6. `bare`: the shortest script without a user: setsid and env. */
 #define _GNU_SOURCE
 #include <dirent.h>
 #include <grp.h>
@@ -22,12 +25,17 @@
 #include <sys/wait.h>
 #include <unistd.h>
 
-#define WAYS 4
+#define WAYS 6
 #define LONGEST 1000
 
+/* The shortest script that starts a shell as a user in a session of its own, up to the inner shell's script, and the end of both. */
+#define OUTER "(exec /usr/bin/setsid /usr/bin/setpriv --reuid %s --regid %s --clear-groups --no-new-privs --inh-caps=-all,+setpcap" \
+              " --ambient-caps=-all,+setpcap --bounding-set=-all,+setpcap /bin/sh -c "
+#define ENDS "; exit $?')\nexit $?"
+
 static char *empty[] = {NULL};
-static char script[65536], shortest[1024];
-static char *folder, *user, *program;
+static char script[65536], shortest[1024], least[1024], bare[1024];
+static char *folder, *user, *name, *program;
 
 static double used(void)
 {
@@ -97,8 +105,8 @@ static void run_way(int way)
 {
     if (way == 2)
         run_calls();
-    if (way == 3)
-        execle("/bin/sh", "/bin/sh", "-c", shortest, NULL, empty);
+    if (way >= 3)
+        execle("/bin/sh", "/bin/sh", "-c", way == 3 ? shortest : way == 4 ? least : bare, NULL, empty);
     run_script(way == 1);
 }
 
@@ -111,15 +119,15 @@ static int compare(const void *one, const void *other)
 int main(int count, char **words)
 {
     static double times[WAYS][LONGEST];
-    int rounds = count == 6 ? atoi(words[1]) : 0;
-    FILE *file = count == 6 ? fopen(words[2], "r") : NULL;
+    int rounds = count == 7 ? atoi(words[1]) : 0;
+    FILE *file = count == 7 ? fopen(words[2], "r") : NULL;
     if (rounds < 1 || rounds > LONGEST || file == NULL || fread(script, 1, sizeof script - 1, file) == 0)
         return 2;
-    folder = words[3], user = words[4], program = words[5];
-    snprintf(shortest, sizeof shortest,
-             "(exec /usr/bin/setsid /usr/bin/setpriv --reuid %s --regid %s --clear-groups --no-new-privs --inh-caps=-all,+setpcap"
-             " --ambient-caps=-all,+setpcap --bounding-set=-all,+setpcap /bin/sh -c '(exec /usr/bin/setpriv --inh-caps=-all"
-             " --ambient-caps=-all --bounding-set=-all %s); exit $?')\nexit $?", user, user, program);
+    folder = words[3], user = words[4], name = words[5], program = words[6];
+    snprintf(shortest, sizeof shortest, OUTER "'(exec /usr/bin/setpriv --inh-caps=-all --ambient-caps=-all --bounding-set=-all %s)" ENDS,
+             user, user, program);
+    snprintf(bare, sizeof bare, "exec /usr/bin/setsid /usr/bin/env -i %s", program);
+    snprintf(least, sizeof least, OUTER "'/usr/bin/setpriv --inh-caps=-all --bounding-set=-setpcap %s" ENDS, name, name, program);
     for (int round = 0; round < rounds; round++)
         for (int way = 0; way < WAYS; way++) {
             double before = used();

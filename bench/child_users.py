@@ -7,7 +7,8 @@ neighbouring turns. Only root can run it. It makes the users `cegmandi-b1` to `c
 
 With `--programs` it needs no service. It runs the script of crates/spool_runtime/src/script.rt alone, with and without a user, ROUNDS times
 (default: 200), next to a C program that makes the same system calls and to the programs that the script needs (child_users.c). It prints
-the milliseconds of processor time that each adds to a child without a user, and the parts of what the user costs.
+the milliseconds of processor time that each adds to a child without a user, and the parts of what the user costs. The programs are compared
+with the shortest script without a user, and so is the cheapest form of them that is known.
 """
 import ast
 import os
@@ -68,12 +69,13 @@ def programs(rounds):
             shutil.chown(place, user, user)
             subprocess.run(["cc", "-O2", "-o", floor, os.path.join(os.path.dirname(os.path.abspath(__file__)), "child_users.c")], check=True)
             uid = str(os.stat(place).st_uid)
-            ran = subprocess.run([floor, str(rounds), text, place, uid, "/bin/true"], stdout=subprocess.PIPE, check=True, text=True)
+            ran = subprocess.run([floor, str(rounds), text, place, uid, user, "/bin/true"], stdout=subprocess.PIPE, check=True, text=True)
     finally:
         subprocess.run(["userdel", user], capture_output=True)
-    plain, more, calls, needed = (float(word) for word in ran.stdout.split())
-    more, calls, needed = more - plain, calls - plain, needed - plain
+    plain, whole, calls, needed, least, bare = (float(word) for word in ran.stdout.split())
+    more, calls, needed, least = whole - plain, calls - plain, needed - bare, least - bare
     print(f"without a user {plain:.2f} ms; the user adds {more:.2f} ms, the system calls alone {calls:.2f} ms, the programs alone {needed:.2f} ms")
+    print(f"the programs in their cheapest form: {least:.2f} ms")
     print(f"parts of what the user costs: system calls {calls / more:.2f}, programs {needed / more:.2f}")
 
 
