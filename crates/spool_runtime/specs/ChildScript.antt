@@ -11,7 +11,7 @@ use denote.Ref.{Bor}
 
 -- The script of every child. Its text contains nothing of a job.
 unfoldable pub script : List ℕ
-script = codes "run() {\n    {\n        {\n            [ -z \"${11}\" ] || ulimit -v $((${11} / 1024))\n            [ -z \"${12}\" ] || ulimit -p $((${12} + 1)) || ulimit -u $((${12} + 1))\n            [ -z \"${13}\" ] || ulimit -n \"${13}\"\n        } 2>/dev/null\n        shift 13\n        [ -n \"$uid\" ] || exec /usr/bin/setsid /usr/bin/env -i \"$@\"\n        exec /usr/bin/setsid $inner /bin/sh -c \"$inside$ending\" sh \"$own\" \"$folder\" \"$@\"\n    } <\"$1\" 2>\"$2\" 3<>/dev/null 4</dev/null\n    exit 126\n}\nas_user() {\n    /usr/bin/timeout -s KILL 10 $1 /bin/sh -c \"$2\" sh \"$own\" \"$folder\" </dev/null >/dev/null\n}\nsweep() {\n    found=1\n    for signal in STOP KILL; do\n        for process in /proc/[0-9]*; do\n            while read -r name value rest; do\n                case $name$value in\n                State:Z) break ;;\n                \"Uid:$uid\") found=0; kill -s $signal \"${process#/proc/}\"; break ;;\n                esac\n            done <\"$process/status\"\n        done\n    done\n    return $found\n}\nclean() {\n    while :; do\n        as_user \"$inner\" \"$ending\"\n        case $? in\n        0) return ;;\n        3) as_user \"$user\" \"$remove\"; return ;;\n        esac\n        [ -n \"$own\" ] || return\n        sweep\n        /usr/bin/sleep 1\n    done\n}\nleave() {\n    [ -n \"$own\" ] || exit ${status:-126}\n    while sweep; do :; done\n    exec $inner /bin/sh -c 'kill -s KILL -- -1; exit \"$1\"' sh ${status:-126}\n}\numask 077\nulimit -f \"$6\"\nuid=$7 folder=$9 own=${10}\ninner=\"/usr/bin/setpriv --reuid $7 --regid $8 --clear-groups --no-new-privs\"\nuser=${7:+\"$inner --inh-caps=-all --ambient-caps=-all --bounding-set=-all\"}\ninner=\"$inner --inh-caps=-all,+setpcap --ambient-caps=-all,+setpcap --bounding-set=-all,+setpcap\"\ninside='\n    trap : HUP INT QUIT TERM\n    exec 6>&2 2>/dev/null\n    (\n        cd \"$2\" || exit 125\n        shift 2\n        unset PWD OLDPWD\n        while [ \"${1#/}\" = \"$1\" ]; do\n            export \"$1\"\n            shift\n        done\n        exec /usr/bin/setpriv --inh-caps=-all --ambient-caps=-all --bounding-set=-all \"$@\"\n    ) 2>&6 5>&- 6>&-\n    status=$?\n    exec >&5'\nending='\n    [ -z \"$1\" ] || kill -s KILL -- -1\n    [ -z \"$status\" ] || echo \"$status\"\n    cd \"$2\" && [ -r . ] || exit 3\n    for name in * .[!.]* ..?*; do\n        [ ! -e \"$name\" ] && [ ! -L \"$name\" ] || exit 3\n    done'\nremove='/usr/bin/chmod -R u+rwx -- \"$2\"; exec /usr/bin/rm -rf -- \"$2\"'\n[ -n \"$3$7\" ] || run \"$@\"\ntrap leave EXIT\nif [ -z \"$7\" ]; then\n    (run \"$@\")\n    status=$?\nelse\n    { status=$(exec 5>&1 >&6 6>&-; run \"$@\"); } 6>&1\n    left=$?\n    case $status:$left in\n    :*) status=$left; [ $left -gt 128 ] || status=126; clean ;;\n    *:0) ;;\n    *) as_user \"$user\" \"$remove\" ;;\n    esac\nfi\n[ -z \"$3\" ] || $user /usr/bin/timeout -k 1 5 \"$4\" ${5:+\"$5\"} \"$3\" </dev/null >/dev/null\ntrap - EXIT\nexit $status\n"
+script = codes "run() {\n    {\n        {\n            [ -z \"${11}\" ] || ulimit -v $((${11} / 1024))\n            [ -z \"${12}\" ] || ulimit -p $((${12} + 1)) || ulimit -u $((${12} + 1))\n            [ -z \"${13}\" ] || ulimit -n \"${13}\"\n        } 2>/dev/null\n        shift 13\n        [ -n \"$uid\" ] || exec /usr/bin/setsid /usr/bin/env -i \"$@\"\n        exec /usr/bin/setsid $inner /bin/sh -c \"$inside$ending\" sh \"$own\" \"$folder\" \"$@\"\n    } <\"$1\" 2>\"$2\" 3<>/dev/null 4</dev/null\n    exit 126\n}\nas_user() {\n    /usr/bin/timeout -s KILL 10 $1 /bin/sh -c \"$2\" sh \"$own\" \"$folder\" </dev/null >/dev/null\n}\nsweep() {\n    found=1\n    for signal in STOP KILL; do\n        for process in /proc/[0-9]*; do\n            while read -r name value rest; do\n                case $name$value in\n                State:Z) break ;;\n                \"Uid:$uid\") found=0; kill -s $signal \"${process#/proc/}\"; break ;;\n                esac\n            done <\"$process/status\"\n        done\n    done\n    return $found\n}\nclean() {\n    while :; do\n        as_user \"$inner\" \"$ending\"\n        case $? in\n        0) return ;;\n        3) as_user \"$user\" \"$remove\"; return ;;\n        esac\n        [ -n \"$own\" ] || return\n        sweep\n        /usr/bin/sleep 1\n    done\n}\nleave() {\n    [ -n \"$own\" ] || exit ${status:-126}\n    while sweep; do :; done\n    exec $inner /bin/sh -c 'kill -s KILL -- -1; exit \"$1\"' sh ${status:-126}\n}\numask 077\nulimit -f \"$6\"\nuid=$7 folder=$9 own=${10}\ninner=\"/usr/bin/setpriv --reuid +$7 --regid +$8 --clear-groups --no-new-privs\"\nuser=${7:+\"$inner --inh-caps=-all --ambient-caps=-all --bounding-set=-all\"}\ninner=\"$inner --inh-caps=-all,+setpcap --ambient-caps=-all,+setpcap --bounding-set=-all,+setpcap\"\ninside='\n    trap : HUP INT QUIT TERM\n    exec 6>&2 2>/dev/null\n    (\n        cd \"$2\" || exit 125\n        shift 2\n        unset PWD OLDPWD\n        while [ \"${1#/}\" = \"$1\" ]; do\n            export \"$1\"\n            shift\n        done\n        exec /usr/bin/setpriv --inh-caps=-all --ambient-caps=-all --bounding-set=-all \"$@\"\n    ) 2>&6 5>&- 6>&-\n    status=$?\n    exec >&5'\nending='\n    [ -z \"$1\" ] || kill -s KILL -- -1\n    [ -z \"$status\" ] || echo \"$status\"\n    cd \"$2\" && [ -r . ] || exit 3\n    for name in * .[!.]* ..?*; do\n        [ ! -e \"$name\" ] && [ ! -L \"$name\" ] || exit 3\n    done'\nremove='/usr/bin/chmod -R u+rwx -- \"$2\"; exec /usr/bin/rm -rf -- \"$2\"'\n[ -n \"$3$7\" ] || run \"$@\"\ntrap leave EXIT\nif [ -z \"$7\" ]; then\n    (run \"$@\")\n    status=$?\nelse\n    { status=$(exec 5>&1 >&6 6>&-; run \"$@\"); } 6>&1\n    left=$?\n    case $status:$left in\n    :*) status=$left; [ $left -gt 128 ] || status=126; clean ;;\n    *:0) ;;\n    *) as_user \"$user\" \"$remove\" ;;\n    esac\nfi\n[ -z \"$3\" ] || $user /usr/bin/timeout -k 1 5 \"$4\" ${5:+\"$5\"} \"$3\" </dev/null >/dev/null\ntrap - EXIT\nexit $status\n"
 
 -- A script, and its name.
 abbrev pub script_words : List ℕ → List (List ℕ)

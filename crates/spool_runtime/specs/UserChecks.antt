@@ -1,5 +1,5 @@
 -- The test of the users that children run as.
-use Rattle.std.specs.Prelude.{ℕ, ℤ, pos, ◌==◌, List, [], ◌∷◌, codes, cond, Option, None, Some}
+use Rattle.std.specs.Prelude.{ℕ, ℤ, pos, ◌==◌, List, [], ◌∷◌, ◌++◌, codes, cond, Option, None, Some}
 use Rattle.std.specs.Fmt.{decimal}
 use Rattle.spool_runtime.specs.ChildScript.{own_word}
 use Rattle.spool_runtime.specs.declared.child_users.RunUser.{RunUser}
@@ -18,10 +18,14 @@ abbrev pub fault_of_code : Option ℤ → Option UserFault
 fault_of_code (Some (pos status)) = fault_of_status status
 fault_of_code code = Some Refused
 
+-- A number of a user or a group, which is no name.
+abbrev pub identity_word : ℕ → List ℕ
+identity_word number = codes "+" ++ decimal number
+
 -- The arguments of timeout(1), which runs a script as a user by setpriv(1), with the rights of the user and CAP_SETPCAP.
 abbrev pub user_command_words : RunUser → List ℕ → List ℕ → List (List ℕ)
 user_command_words run script path =
-    codes "-s" ∷ codes "KILL" ∷ codes "10" ∷ codes "/usr/bin/setpriv" ∷ codes "--reuid" ∷ decimal run.user.uid ∷ codes "--regid" ∷ decimal run.user.gid
+    codes "-s" ∷ codes "KILL" ∷ codes "10" ∷ codes "/usr/bin/setpriv" ∷ codes "--reuid" ∷ identity_word run.user.uid ∷ codes "--regid" ∷ identity_word run.user.gid
     ∷ codes "--clear-groups" ∷ codes "--no-new-privs" ∷ codes "--inh-caps=-all,+setpcap" ∷ codes "--ambient-caps=-all,+setpcap"
     ∷ codes "--bounding-set=-all,+setpcap"
     ∷ codes "/bin/sh" ∷ codes "-c" ∷ script ∷ codes "sh" ∷ own_word run.is_own ∷ path ∷ []

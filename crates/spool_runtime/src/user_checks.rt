@@ -8,17 +8,16 @@
 //!    start: it must not run children with more rights than its arguments say.
 //! 3. The processes of each user that is of one child at a time are killed, unless a child of an earlier run has it.
 //! 4. The folders that children of an earlier run left are removed, each by its own user.
-ghost use Rattle.std.specs.Prelude.{◌≡◌, ◌++◌, ◌∷◌, [], Ok, true, codes, map, IfErr, IfOk, OnOk};
+ghost use Rattle.std.specs.Prelude.{◌≡◌, ◌++◌, ◌∷◌, [], Ok, true, codes, map, string_bytes, IfErr, IfOk, OnOk};
 ghost use Rattle.std.specs.Process.{SameEnv, clears_env, command_args, command_program};
 ghost use Rattle.spool_runtime.specs.ChildScript.{own_word};
 ghost use Rattle.spool_runtime.specs.ProgramFaults.{IsOfUsers};
-ghost use Rattle.spool_runtime.specs.UserChecks.{fault_by, fault_of_code, user_command_words};
+ghost use Rattle.spool_runtime.specs.UserChecks.{fault_by, fault_of_code, identity_word, user_command_words};
 
 use crate::child_users::{ChildUser, RunUser, free_lock, run_path};
 use crate::fault::ShellFault;
 use crate::leftovers::is_locked;
 use crate::script::own_word;
-use crate::shell::push_number;
 use log::{Log, error};
 use std::alloc::{AllocError, Global};
 use std::fs::{DirBuilder, Metadata, Permissions};
@@ -286,12 +285,29 @@ fn push_user_words(
         command,
         &["-s", "KILL", "10", "/usr/bin/setpriv", "--reuid"],
     )?;
-    push_number(alloc, command, run_user.user.uid)?;
+    push_identity(alloc, command, run_user.user.uid)?;
     push_words(command, &["--regid"])?;
-    push_number(alloc, command, run_user.user.gid)?;
+    push_identity(alloc, command, run_user.user.gid)?;
     push_words(command, &RIGHTS)?;
     push_words(command, &["/bin/sh", "-c"])?;
     push_script(command, run_user, script, path)
+}
+
+// Adds the number of a user or a group. The plus sign keeps `setpriv` from taking it for a name.
+fn push_identity(alloc: Global, command: &mut Command, number: u32) -> Result<(), AllocError>
+    ensures args { OnOk result (command_args command.new ≡ command_args command.old ++ identity_word number ∷ []) }
+    ensures program { OnOk result (command_program command.new ≡ command_program command.old) }
+    ensures env { OnOk result (SameEnv command.old command.new) }
+{
+    let text = identity_word(alloc, number)?;
+    command.arg(text.as_str())?;
+    Ok(())
+}
+
+fn identity_word(alloc: Global, number: u32) -> Result<String, AllocError>
+    ensures { IfOk result (λ text. string_bytes text ≡ identity_word number) }
+{
+    format!(in alloc; "+{number}")
 }
 
 // Adds a script, its name and its parameters.
