@@ -8,6 +8,7 @@ AT in a row is the folder of the test.
 """
 import contextlib
 import os
+import re
 import shutil
 import socket
 import subprocess
@@ -58,6 +59,10 @@ class Room:
 
     def at(self, name):
         return os.path.join(self.path, name)
+
+    def named(self, word):
+        """A word of a row, with the path of the folder."""
+        return re.sub(r"\bAT\b", self.path, word)
 
     def file(self, name, content=b"", mode=0o644):
         with open(self.at(name), "wb") as file:
@@ -119,13 +124,13 @@ class Room:
         command = [path_of("spool_service"), "--root", self.at("spool"), "--listen", self.at("it.sock"), "--quiet"]
         served = self.held.enter_context(subprocess.Popen(command, stderr=subprocess.DEVNULL))
         self.held.callback(served.terminate)
-        self.front("queue add q slow:/0")
+        self.front("queue add q slow:/0 --media application/octet-stream")
         self.front("queue disable q")
 
     def front(self, words):
         """A task of `spool`, which succeeds."""
         command = ["env", *FRONT, path_of("spool_front"), *words.split()]
-        subprocess.run([word.replace("AT", self.path) for word in command], check=True, capture_output=True, timeout=LONGEST)
+        subprocess.run([self.named(word) for word in command], check=True, capture_output=True, timeout=LONGEST)
 
     def left_socket(self, name):
         """A socket that a killed program left."""
@@ -153,8 +158,8 @@ class Room:
 
     def run(self, row):
         """The status of the program of a row, and its standard error."""
-        words = [word.replace("AT", self.path) for word in (*row.before, self.program(row.program, row.before), *row.words.split())]
-        given = os.open(row.given.replace("AT", self.path), os.O_RDONLY)
+        words = [self.named(word) for word in (*row.before, self.program(row.program, row.before), *row.words.split())]
+        given = os.open(self.named(row.given), os.O_RDONLY)
         output = os.open(row.output, os.O_WRONLY)
         try:
             ended = subprocess.run(words, stdin=given, stdout=output, stderr=subprocess.PIPE, cwd=self.path, timeout=LONGEST)
@@ -423,7 +428,7 @@ FRONT_ROWS = {
     "folder-for-the-document": front_row("submit q AT/folder", "cannot print on q: cannot read the document; job 1 was canceled", *SERVED_QUEUE, ("folder", "folder")),
     "queue-that-rejects": front_row("submit q AT/doc", "cannot print on q: the queue rejects jobs (spool queue accept lets it accept them)", *SERVED_QUEUE,
                                     ("front", "queue reject q")),
-    "too-many-copies": Row("spool_front", "submit q AT/doc --copies 0", "error: invalid value '0' for '--copies <N>': 0 is not in 1..=9999\n" + TRY, status=2),
+    "too-many-copies": Row("spool_front", "submit q AT/doc --copies 0", refused("the number of copies must be from 1 to 9999", "spool submit [OPTIONS] <QUEUE> <FILE>..."), status=2),
     "queue-that-exists": front_row("queue add q slow:/1", "cannot add queue q: a queue with this name exists", *SERVED_QUEUE),
     "no-uri": front_row("queue add p printer", "cannot add queue p: the URI of the device is not absolute (write it as in socket://192.0.2.9/)", *SERVED_QUEUE),
     "missing-queue-to-stop": front_row("queue disable nowhere", "cannot disable queue nowhere: no such queue (spool queues lists the queues)", *SERVED_QUEUE),

@@ -43,7 +43,7 @@ def test_submits_what_fits(folder):
     folder.write("large", "x" * (room + 200))
     folder.write("most", "x" * room)
     text = front.fails("spool", "submit", "q", folder.at("large"))
-    holds(f"the refusal: {text}", text.startswith(f"spool: the document has {room + 200} bytes, and the spool has room for {room // 1_000}"))
+    holds(f"the refusal: {text}", text.startswith(f"spool: cannot print on q: the document has {room + 200} bytes, and the spool has room for {room // 1_000}"))
     same("no job", client.states(), {})
     job = number_of(front.says("spool", "submit", "q", folder.at("most")))
     same("its size", client.fields(job)["size"], str(room))
@@ -476,7 +476,8 @@ def test_acts_on_jobs(folder):
     same("canceled", [client.state(job).split()[0] for job in jobs], ["7", "7", "3", "3"])
     front.says("spool", "purge", str(jobs[0]))
     same("purged", client.state(jobs[0]), "")
-    holds("twice", "error" in front.fails("spool", "cancel", str(jobs[1]), str(jobs[2])))
+    output = front.fails("spool", "cancel", str(jobs[1]), str(jobs[2]))
+    same("twice", output, "".join(f"spool: cannot cancel job {job}: the job has ended\n" for job in jobs[1:3]))
     same("the other", client.state(jobs[2]).split()[0], "7")
 
 
