@@ -477,7 +477,7 @@ def test_acts_on_jobs(folder):
     front.says("spool", "purge", str(jobs[0]))
     same("purged", client.state(jobs[0]), "")
     output = front.fails("spool", "cancel", str(jobs[1]), str(jobs[2]))
-    same("twice", output, "".join(f"spool: cannot cancel job {job}: the job has ended\n" for job in jobs[1:3]))
+    same("twice", output, f"spool: cannot cancel job {jobs[1]}: the job has ended\n")
     same("the other", client.state(jobs[2]).split()[0], "7")
 
 
