@@ -33,6 +33,7 @@ BACKEND = "/usr/lib/cups/backend/socket"
 DRIVERS = "/usr/lib/cups/daemon/cups-driverd"
 
 JOB = ["7", "ann", "First page", "3", "media=A4"]
+NO_FILE = "No such file or directory"
 DPI = 600
 
 # With an address sanitizer `appsocket` sends some megabytes in a second of the processor.
@@ -241,7 +242,7 @@ NO_CHAIN = {
     "nothing": "", "no backend": "filter a PROGRAM", "two backends": "backend a PROGRAM\nbackend b PROGRAM",
     "a root-backend": "filter a PROGRAM\nroot-backend b PROGRAM", "a side": "backend a PROGRAM\nside PROGRAM",
     "a relative path": "backend a program", "two words": "backend a PROGRAM b c",
-    "a name twice": "filter a PROGRAM\nfilter a PROGRAM\nbackend a PROGRAM", "no text": "\udcff",
+    "a name twice": "filter a PROGRAM\nfilter a PROGRAM\nbackend a PROGRAM",
 }
 
 
@@ -252,8 +253,10 @@ def test_files_that_are_no_chain(chain):
     wanted = (b"", "ERROR: no chain of programs\n", 4)
     for name, text in NO_CHAIN.items():
         compare(f"a chain with {name}", through(it.write("chain", text.replace("PROGRAM", program)), *JOB), wanted)
-    for path in (it.at("none"), it.path, "", "/dev/null"):
-        compare(f"the chain {path}", through(path, *JOB), wanted)
+    compare("the chain /dev/null", through("/dev/null", *JOB), wanted)
+    code = it.write("code", "\udcff")
+    for path, reason in ((it.at("none"), NO_FILE), (it.path, "Is a directory"), ("", NO_FILE), (code, "stream did not contain valid UTF-8")):
+        compare(f"the chain {path}", through(path, *JOB), (b"", f"ERROR: cannot read {path}: {reason}\n", 4))
     it.backend("a", "#!/bin/sh\n")
     for uri in (None, "", "no-colon"):
         compare(f"the URI {uri}", it.run(uri=uri), (b"", "ERROR: no device\n", 1))

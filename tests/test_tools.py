@@ -23,8 +23,8 @@ from harness.programs import TOOLS
 
 pytestmark = pytest.mark.needs("spool_tools")
 
-
 JOB = ["7", "ann", "First page", "3", "media=A4"]
+NO_FILE = "No such file or directory"
 
 
 def run(words, given=b"", uri=None, side=None, **more):
@@ -101,8 +101,9 @@ def test_filters(folder):
     compare("copies 0002", run(["prncount", "1", "u", "t", "0002", "", odd]), (b"x\nx\n", b"PAGE: total 0\n", 0))
     # Errors: a file that does not exist, a folder, an output that is full.
     for tool in ("texttoprn", "prncount"):
-        for name in ("/nowhere", folder, ""):
-            compare(f"{tool} of {name}", run([tool, *JOB, name]), (b"", b"ERROR: cannot read\n", 1))
+        for name, reason in (("/nowhere", NO_FILE), (folder, "Is a directory"), ("", NO_FILE), ("/no\n\x1b", NO_FILE)):
+            shown = name.replace("\n", "\ufffd").replace("\x1b", "\ufffd")
+            compare(f"{tool} of {name!r}", run([tool, *JOB, name]), (b"", f"ERROR: cannot read {shown}: {reason}\n".encode(), 1))
         with open("/dev/full", "wb") as full:
             ended = subprocess.run([TOOLS, tool, *JOB], input=b"a\n", stdout=full, stderr=subprocess.PIPE,
                                    timeout=LONGEST)
@@ -634,8 +635,9 @@ def unreached(folder, text):
                       ("a port too high", "appsocket://127.0.0.1:65536/"), ("an empty host", "appsocket:///a")):
         compare(f"appsocket with {name}", run(["appsocket", *JOB], text, uri=uri), no_device)
     printer = Printer(take)
-    compare("a document that does not exist", sent(printer, b"", words=[*JOB, os.path.join(folder, "none")]),
-          (b"", b"ERROR: cannot read\n", 1))
+    none = os.path.join(folder, "none")
+    compare("a document that does not exist", sent(printer, b"", words=[*JOB, none]),
+          (b"", f"ERROR: cannot read {none}: {NO_FILE}\n".encode(), 1))
     printer.all()
     # The default port, if it is free here; a name, and an address of the other kind.
     for host, name in (("127.0.0.1", "localhost"), ("::1", "[::1]")):

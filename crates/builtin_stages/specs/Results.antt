@@ -1,5 +1,5 @@
 -- The result of a document.
-use Rattle.std.specs.Prelude.{◌≡◌, ℕ, ◌⊎◌, zero, suc, ◌==◌, cond, List, [], ◌∷◌, ◌++◌, Option, Some}
+use Rattle.std.specs.Prelude.{◌≡◌, ℕ, Bool, true, false, ◌⊎◌, zero, suc, ◌==◌, cond, List, [], ◌∷◌, ◌++◌, Option, Some}
 use Rattle.std.specs.List.{count_by, flat_map}
 use Rattle.std.specs.Io.KnownBytes.{Appends, Consumes, IsAtEnd}
 use Rattle.whole_writes.specs.Writes.{WroteSome}
@@ -44,9 +44,14 @@ abbrev pub IsUnwritten : Form → List ℕ → Option (List ℕ) → Option (Lis
 IsUnwritten form bytes old new fault =
     ((fault ≡ Write) × WroteSome old new bytes) ⊎ ((fault ≡ Memory) × (form ≡ Lines) × (new ≡ old))
 
+-- The document cannot be read.
+abbrev pub is_read : ToolFault → Bool
+is_read (Read error) = true
+is_read fault = false
+
 -- The document cannot be read, its result cannot be written, or memory for it ran out. A document that is written unchanged needs none.
 abbrev pub IsOfResult : Form → ToolFault → Type 0
-IsOfResult form fault = (fault ≡ Read) ⊎ (fault ≡ Write) ⊎ ((fault ≡ Memory) × (form ≡ Lines))
+IsOfResult form fault = (is_read fault ≡ true) ⊎ (fault ≡ Write) ⊎ ((fault ≡ Memory) × (form ≡ Lines))
 
 -- The reader reached its end, the result of its bytes was written, and `feeds` is the number of form feeds in the result.
 pub record WroteResult (form : Form) (known left old new : Option (List ℕ)) (feeds : ℕ) : Type 0 where

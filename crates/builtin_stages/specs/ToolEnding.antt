@@ -3,8 +3,10 @@ use Rattle.std.specs.Prelude.{◌≡◌, ℕ, ◌⊎◌, ◌≤◌, List, [], �
 use Rattle.std.specs.String.{string_bytes}
 use Rattle.std.specs.Io.KnownBytes.{Appends, Keeps}
 use Rattle.whole_writes.specs.Writes.{WroteSome}
+use Rattle.clean_texts.specs.CleanTexts.{clean_text}
+use Rattle.system_reasons.specs.SystemReasons.{HasNoBracket}
 use Rattle.builtin_stages.specs.Backends as backends
-use Rattle.builtin_stages.specs.Filters.{Filtered}
+use Rattle.builtin_stages.specs.Filters.{FailsAsFilter, Filtered}
 use Rattle.program_pipes.specs.ChainEnds.{chain_status, report_of}
 use Rattle.builtin_stages.specs.declared.through.ThroughEnd.{ThroughEnd}
 use Rattle.builtin_stages.specs.declared.through.ThroughEnd.TheVariants.{Failed, NotStarted, Ran}
@@ -13,7 +15,7 @@ use Rattle.builtin_stages.specs.declared.connection_ends.ConnectionEnd.{Connecti
 use Rattle.builtin_stages.specs.declared.network.Sending.{Sending}
 use Rattle.builtin_stages.specs.ToolArguments.{Printed, Request, filter, backend, device_line, through, side_end, version}
 use Rattle.builtin_stages.specs.declared.fault.ToolFault.{ToolFault}
-use Rattle.builtin_stages.specs.declared.fault.ToolFault.TheVariants.{AfterLast, Chain, Connect, Device, Memory, Partner, Read, Reset, Side, WaitEof, Write}
+use Rattle.builtin_stages.specs.declared.fault.ToolFault.TheVariants.{AfterLast, Chain, ChainFile, Connect, Device, Memory, Partner, Read, Reset, Side, WaitEof, Write}
 use Rattle.builtin_stages.specs.declared.running.TheConstants.{VERSION_LINE}
 use Rattle.builtin_stages.specs.declared.words.Backend.{Backend}
 use Rattle.builtin_stages.specs.declared.words.Backend.TheVariants.{AppSocket, SpoolFile}
@@ -22,7 +24,8 @@ use Rattle.builtin_stages.specs.declared.words.Filter.{Filter}
 -- ---- faults
 
 abbrev pub message : ToolFault → List ℕ
-message Read = codes "cannot read"
+message (Read error) = codes "cannot read"
+message (ChainFile error) = codes "cannot read"
 message Write = codes "cannot write"
 message Device = codes "no device"
 message Side = codes "no answer"
@@ -34,19 +37,43 @@ message AfterLast = codes "afterlast is not done or retry"
 message Chain = codes "no chain of programs"
 message Memory = codes "out of memory"
 
--- The line that reports a fault on standard error (filter(7)).
+-- The line that reports a fault on standard error (filter(7)), without the name of a file.
 abbrev pub error_line : ToolFault → List ℕ
 error_line fault = codes "ERROR: " ++ message fault ++ 10 ∷ []
 
 -- This line was written, or as much of it as the writer accepted.
-abbrev pub Tells : ToolFault → Option (List ℕ) → Option (List ℕ) → Type 0
-Tells fault old new = Appends old new (error_line fault) ⊎ WroteSome old new (error_line fault)
+abbrev pub TellsLine : List ℕ → Option (List ℕ) → Option (List ℕ) → Type 0
+TellsLine line old new = Appends old new line ⊎ WroteSome old new line
+
+-- The line for a file that cannot be read: its name, and the system's reason.
+abbrev pub named_line : List ℕ → List ℕ → List ℕ
+named_line name reason = codes "ERROR: cannot read " ++ (name ++ (codes ": " ++ (reason ++ codes "\n")))
+
+-- No character of the name steers.
+abbrev pub unread_line : List ℕ → List ℕ → List ℕ
+unread_line name reason = named_line (clean_text name) reason
+
+-- The file and some reason were reported. A reason is words of the system without their number in brackets.
+pub record TellsUnread (name : List ℕ) (old new : Option (List ℕ)) : Type 0 where
+  pub reason : List ℕ
+  pub words : HasNoBracket reason
+  pub tells : TellsLine (unread_line name reason) old new
+
+-- The line without a name and a reason was, because memory for them ran out.
+abbrev pub TellsNameless : Option (List ℕ) → Option (List ℕ) → Type 0
+TellsNameless old new = TellsLine (codes "ERROR: cannot read\n") old new
+
+-- The fault of the file or the stream of this name was reported.
+abbrev pub Tells : ToolFault → List ℕ → Option (List ℕ) → Option (List ℕ) → Type 0
+Tells (Read error) name old new = TellsUnread name old new ⊎ TellsNameless old new
+Tells (ChainFile error) name old new = TellsUnread name old new ⊎ TellsNameless old new
+Tells fault name old new = TellsLine (error_line fault) old new
 
 -- The exit status of a fault (backend(7)). If the printer cannot be reached, the job must be tried again later (6). If an option of the URI is
 -- unknown, or a chain is none, the queue stops until it is corrected, and the job waits (4).
 abbrev pub fault_status : ToolFault → ℕ
 fault_status Connect = 6
-fault_status Read = 1
+fault_status (Read error) = 1
 fault_status Write = 1
 fault_status Device = 1
 fault_status Side = 1
@@ -54,6 +81,7 @@ fault_status Partner = 1
 fault_status Reset = 1
 fault_status WaitEof = 4
 fault_status AfterLast = 4
+fault_status (ChainFile error) = 4
 fault_status Chain = 4
 fault_status Memory = 1
 
@@ -67,10 +95,10 @@ status_of (Err fault) = fault_status fault
 abbrev pub TellsEnd : ConnectionEnd → List ℕ → ℕ → Option (List ℕ) → Option (List ℕ) → Type 0
 TellsEnd end peer sent old new = Appends old new (end_line end peer sent) ⊎ WroteSome old new (end_line end peer sent) ⊎ Keeps old new
 
--- The end of a connection is reported with the printer's address and the number of bytes, or a fault is reported.
-abbrev pub SendingEnds : Result Sending ToolFault → Option (List ℕ) → Option (List ℕ) → ℕ → Type 0
-SendingEnds (Ok s) old new status = (status ≡ connection_status s.end) × TellsEnd s.end (string_bytes s.peer) s.sent old new
-SendingEnds (Err fault) old new status = (status ≡ fault_status fault) × Tells fault old new
+-- The end of a connection is reported with the printer's address and the number of bytes, or a fault of the document is reported.
+abbrev pub SendingEnds : Result Sending ToolFault → List ℕ → Option (List ℕ) → Option (List ℕ) → ℕ → Type 0
+SendingEnds (Ok s) name old new status = (status ≡ connection_status s.end) × TellsEnd s.end (string_bytes s.peer) s.sent old new
+SendingEnds (Err fault) name old new status = (status ≡ fault_status fault) × Tells fault name old new
 
 -- ---- the end of the program, by the request of its arguments
 
@@ -79,16 +107,30 @@ abbrev pub known_of : {A : Type 0} → Option A → Option (List ℕ) → Option
 known_of None input = input
 known_of (Some name) input = None
 
--- All copies are written and their pages reported, or the status is 1.
+-- The name of a document: that of its file.
+abbrev pub document_name : Option (List ℕ) → List ℕ
+document_name None = codes "standard input"
+document_name (Some name) = name
+
+-- A fault of a filter is reported, after the bytes that were written before it.
+pub record FilterFails (name : List ℕ) (old new : Option (List ℕ)) (status : ℕ) : Type 0 where
+  pub fault : ToolFault
+  pub before : Option (List ℕ)
+  pub ended : status ≡ 1
+  pub fails : FailsAsFilter fault old before
+  pub tells : Tells fault name before new
+
+-- All copies are written and their pages reported, or a fault is.
 abbrev pub FilterEnds : Filter → Printed → Option (List ℕ) → Option (List ℕ) → Option (List ℕ) → Option (List ℕ) → Option (List ℕ) → ℕ → Type 0
 FilterEnds tool d input out_old out_new err_old err_new status =
-    ((status ≡ 0) × Filtered tool d.copies (known_of d.file input) out_old out_new err_old err_new) ⊎ (status ≡ 1)
+    ((status ≡ 0) × Filtered tool d.copies (known_of d.file input) out_old out_new err_old err_new)
+    ⊎ FilterFails (document_name d.file) err_old err_new status
 
--- A fault is reported, and the status is that of the fault.
-pub record TellsFault (old new : Option (List ℕ)) (status : ℕ) : Type 0 where
+-- A fault of the document is reported, and the status is that of the fault.
+pub record TellsFault (name : List ℕ) (old new : Option (List ℕ)) (status : ℕ) : Type 0 where
   pub fault : ToolFault
   pub ended : status ≡ fault_status fault
-  pub tells : Tells fault old new
+  pub tells : Tells fault name old new
 
 -- The end of a connection to some printer after some bytes is reported, and the status is that of the end.
 pub record TellsConnection (old new : Option (List ℕ)) (status : ℕ) : Type 0 where
@@ -107,27 +149,27 @@ abbrev pub TellsText : List ℕ → Option (List ℕ) → Option (List ℕ) → 
 TellsText text old new = Appends old new text ⊎ WroteSome old new text ⊎ Keeps old new
 
 -- All programs of a chain ran, their ends are reported, and the status is that of these ends. Or a program cannot be started, or there is
--- another fault, and this is reported.
-abbrev pub ReportsThrough : ThroughEnd → Option (List ℕ) → Option (List ℕ) → ℕ → Type 0
-ReportsThrough (Ran end) old new status = (status ≡ chain_status end) × TellsText (report_of end) old new
-ReportsThrough (NotStarted name) old new status = (status ≡ 1) × TellsText (unstarted_line name.now) old new
-ReportsThrough (Failed fault) old new status = (status ≡ fault_status fault) × Tells fault old new
+-- another fault of the file, and this is reported.
+abbrev pub ReportsThrough : ThroughEnd → List ℕ → Option (List ℕ) → Option (List ℕ) → ℕ → Type 0
+ReportsThrough (Ran end) file old new status = (status ≡ chain_status end) × TellsText (report_of end) old new
+ReportsThrough (NotStarted name) file old new status = (status ≡ 1) × TellsText (unstarted_line name.now) old new
+ReportsThrough (Failed fault) file old new status = (status ≡ fault_status fault) × Tells fault file old new
 
 -- Some such end is reported.
-pub record TellsThrough (old new : Option (List ℕ)) (status : ℕ) : Type 0 where
+pub record TellsThrough (file : List ℕ) (old new : Option (List ℕ)) (status : ℕ) : Type 0 where
   pub end : ThroughEnd
-  pub reports : ReportsThrough end old new status
+  pub reports : ReportsThrough end file old new status
 
 -- A chain without a job lists no devices.
-abbrev pub ThroughEnds : List (List ℕ) → Option (List ℕ) → Option (List ℕ) → ℕ → Type 0
-ThroughEnds [] old new status = (status ≡ 0) × Keeps old new
-ThroughEnds (word ∷ words) old new status = TellsThrough old new status
+abbrev pub ThroughEnds : List ℕ → List (List ℕ) → Option (List ℕ) → Option (List ℕ) → ℕ → Type 0
+ThroughEnds file [] old new status = (status ≡ 0) × Keeps old new
+ThroughEnds file (word ∷ words) old new status = TellsThrough file old new status
 
--- Nothing is written on standard output. `spoolfile` and `appsocket` report their faults, the others do not.
-abbrev pub BackendEnds : Backend → Option (List ℕ) → Option (List ℕ) → ℕ → Type 0
-BackendEnds SpoolFile err_old err_new status = Keeps err_old err_new ⊎ ((status ≡ 1) × Tells Write err_old err_new)
-BackendEnds AppSocket err_old err_new status = TellsConnection err_old err_new status ⊎ TellsFault err_old err_new status
-BackendEnds _ err_old err_new status = (status ≤ 1) × Keeps err_old err_new
+-- Nothing is written on standard output. `spoolfile` and `appsocket` report their faults, the others do not. The document has this name.
+abbrev pub BackendEnds : Backend → List ℕ → Option (List ℕ) → Option (List ℕ) → ℕ → Type 0
+BackendEnds SpoolFile name err_old err_new status = Keeps err_old err_new ⊎ ((status ≡ 1) × Tells Write name err_old err_new)
+BackendEnds AppSocket name err_old err_new status = TellsConnection err_old err_new status ⊎ TellsFault name err_old err_new status
+BackendEnds _ name err_old err_new status = (status ≤ 1) × Keeps err_old err_new
 
 -- The whole line is written, or the status is 1 and the line is truncated.
 abbrev pub LineEnds : List ℕ → Option (List ℕ) → Option (List ℕ) → ℕ → Type 0
@@ -139,11 +181,11 @@ Ends None input out_old out_new err_old err_new status =
 Ends (Some (filter tool d)) input out_old out_new err_old err_new status =
     FilterEnds tool d input out_old out_new err_old err_new status
 Ends (Some (backend tool d)) input out_old out_new err_old err_new status =
-    Keeps out_old out_new × BackendEnds tool err_old err_new status
+    Keeps out_old out_new × BackendEnds tool (document_name d.file) err_old err_new status
 Ends (Some (device_line tool)) input out_old out_new err_old err_new status =
     LineEnds (backends.device_line tool) out_old out_new status × Keeps err_old err_new
 Ends (Some (through file words)) input out_old out_new err_old err_new status =
-    Keeps out_old out_new × ThroughEnds words err_old err_new status
+    Keeps out_old out_new × ThroughEnds file words err_old err_new status
 Ends (Some (side_end socket)) input out_old out_new err_old err_new status =
     (status ≤ 1) × Keeps out_old out_new × Keeps err_old err_new
 Ends (Some version) input out_old out_new err_old err_new status =

@@ -4,13 +4,17 @@ ghost use Rattle.builtin_stages.specs.ToolEnding.{error_line, fault_status};
 ghost use Rattle.builtin_stages.specs.declared.fault.ToolFault.TheVariants.{Memory, Write};
 
 use std::alloc::AllocError;
+use std::io;
 use whole_writes::WriteFault;
 
+/// The line for a file that cannot be read, without its name.
+pub(crate) const UNREAD: &str = "ERROR: cannot read\n";
+
 /// Why a tool fails.
-#[derive(Clone, Copy, Debug, PartialEq, Eq)]
+#[derive(Clone, Copy)]
 pub enum ToolFault {
     /// The document cannot be read.
-    Read,
+    Read(io::Error),
     /// The output cannot be written.
     Write,
     /// A required variable is missing, or DEVICE_URI names no file.
@@ -27,19 +31,21 @@ pub enum ToolFault {
     WaitEof,
     /// The option `afterlast` is neither `done` nor `retry`.
     AfterLast,
-    /// The file of a chain cannot be read, or is no chain.
+    /// The file of a chain cannot be read.
+    ChainFile(io::Error),
+    /// The file of a chain is no chain.
     Chain,
     /// Memory ran out.
     Memory,
 }
 
 impl ToolFault {
-    /// Returns the line that reports the fault on standard error (filter(7)), with its line feed.
+    /// Returns the line that reports the fault on standard error (filter(7)), with its line feed. It names no file.
     pub fn error_line(self) -> &'static str
         ensures { result.now ≡ error_line self }
     {
         match self {
-            ToolFault::Read => "ERROR: cannot read\n",
+            ToolFault::Read(_) | ToolFault::ChainFile(_) => UNREAD,
             ToolFault::Write => "ERROR: cannot write\n",
             ToolFault::Device => "ERROR: no device\n",
             ToolFault::Side => "ERROR: no answer\n",
@@ -62,7 +68,10 @@ impl ToolFault {
     {
         match self {
             ToolFault::Connect => 6,
-            ToolFault::WaitEof | ToolFault::AfterLast | ToolFault::Chain => 4,
+            ToolFault::WaitEof
+            | ToolFault::AfterLast
+            | ToolFault::ChainFile(_)
+            | ToolFault::Chain => 4,
             _ => 1,
         }
     }

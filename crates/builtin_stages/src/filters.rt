@@ -6,7 +6,7 @@
 //! | `prncount` | the document unchanged | `PAGE: total N`, N the number of form feeds written |
 ghost use Rattle.std.specs.Prelude.{◌≡◌, IfErr, IfOk, OnOk};
 ghost use Rattle.std.specs.String.{string_bytes};
-ghost use Rattle.builtin_stages.specs.Filters.{Filtered, IsOfFilter, form_of, page_line};
+ghost use Rattle.builtin_stages.specs.Filters.{FailsAsFilter, Filtered, form_of, page_line};
 
 use crate::fault::ToolFault;
 use crate::results::{Form, Source, write_copies};
@@ -26,7 +26,7 @@ pub fn run_filter<S: Source, W: Write, E: Write>(
 ) -> Result<(), ToolFault>
     ensures filtered { OnOk result (Filtered filter copies (S.known source.now) (W.contents writer.old) (W.contents writer.new)
         (E.contents errors.old) (E.contents errors.new)) }
-    ensures fault { IfErr result IsOfFilter }
+    ensures fault { IfErr result (λ fault. FailsAsFilter fault (E.contents errors.old) (E.contents errors.new)) }
 {
     let feeds = write_copies(alloc, form_of(filter), source, copies, writer)?;
     let line = page_line(alloc, filter, copies, feeds)?;

@@ -27,7 +27,8 @@
 //! - [`words::read_words`] returns exactly the request of the arguments (`asked_of`). [`run_words`] states how the program ends (`Ends`);
 //!   for other arguments it exits with 1 and writes nothing.
 //! - A filter that exits with 0 has written all copies of its result and reported their pages (`Filtered`, `Copied`). Its faults are those
-//!   of `IsOfFilter`, `IsOfResult` and `IsUnwritten`. A device line or the version is complete if the status is 0. A backend writes nothing
+//!   of `IsOfFilter`, `IsOfResult` and `IsUnwritten`, and it reports them (`FilterFails`). If the document cannot be read, its line has the
+//!   document's name and then a reason (`unread_line`), unless memory for them runs out. A device line or the version is complete if the status is 0. A backend writes nothing
 //!   on standard output.
 //! - [`write_copies`] writes the results of a document with known bytes, and counts the form feeds written of any document (`Copied`): no
 //!   byte is lost between two pieces.
@@ -58,8 +59,9 @@
 //!
 //! # Errors
 //!
-//! A filter reports a fault on standard error as `ERROR: cannot read`, `ERROR: cannot write` or `ERROR: out of memory` ([`fault`]), and
-//! `spoolfile` each of its faults as `ERROR: cannot write`. `appsocket` has the first and the third, `ERROR: no device`, `ERROR: cannot
+//! A filter reports a fault on standard error as `ERROR: cannot read NAME: REASON`, `ERROR: cannot write` or `ERROR: out of memory`
+//! ([`fault`]), and `spoolfile` each of its faults as `ERROR: cannot write`. NAME is that of the document's file without characters that
+//! steer a terminal, or `standard input`, and REASON the system's (`system_reasons`). `through` reports its file so. `appsocket` has the first and the third, `ERROR: no device`, `ERROR: cannot
 //! connect`, `ERROR: connection reset` if the printer resets the connection at once, a line for an unknown option, and those of
 //! [`end_line`]. The other tools report faults by the status only, because a message of `side-end` after a stage would
 //! count as a message of the stage.

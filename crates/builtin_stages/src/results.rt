@@ -1,12 +1,13 @@
 //! Writes the result of a document.
-ghost use Rattle.std.specs.Prelude.{◌≡◌, ◌+◌, ◌^◌, ◌≤◌, List, None, Option, ℕ, IfErr, IfOk, OnOk};
+ghost use Rattle.std.specs.Prelude.{◌≡◌, ◌+◌, ◌^◌, ◌≤◌, List, None, Option, ℕ, true, IfErr, IfOk, OnOk};
 ghost use Rattle.whole_writes.specs.Writes.{WroteSome};
 ghost use Rattle.std.specs.List.{flat_map};
 ghost use Rattle.std.specs.Io.KnownBytes.{Appends};
-ghost use Rattle.builtin_stages.specs.Results.{Copied, IsOfResult, IsUnwritten, WroteResult, end_of, form_feeds, piece_of, printed_byte};
+ghost use Rattle.builtin_stages.specs.Results.{Copied, IsOfResult, IsUnwritten, WroteResult, end_of, form_feeds, is_read, piece_of, printed_byte};
 
 use crate::fault::ToolFault;
 use std::alloc::{AllocError, Global};
+use std::io;
 use std::io::{ErrorKind, Read, Write};
 use whole_writes::write_whole;
 
@@ -37,7 +38,7 @@ pub trait Source {
 
     fn open(&self) -> Result<Self::Reader, ToolFault>
         ensures whole { IfOk result (λ reader. Self.Reader.remaining reader ≡ known self.now) }
-        ensures fault { IfErr result (λ fault. fault ≡ ToolFault.Read) };
+        ensures fault { IfErr result (λ fault. is_read fault ≡ true) };
 }
 
 /// Writes `copies` copies of the document's result, and returns the number of form feeds written.
@@ -83,12 +84,12 @@ fn write_result<R: Read, W: Write>(
             }
             Err(error) => {
                 if error.kind() != ErrorKind::Interrupted {
-                    return Err(ToolFault::Read);
+                    return Err(ToolFault::Read(error));
                 }
             }
         }
     }
-    Err(ToolFault::Read)
+    Err(ToolFault::Read(io::Error::from(ErrorKind::Interrupted)))
 }
 
 // Writes the result of a piece, and returns its number of form feeds. The content of `lines` is overwritten.

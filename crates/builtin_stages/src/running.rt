@@ -4,9 +4,9 @@ ghost use Rattle.std.specs.Process.{exit_status};
 ghost use Rattle.std.specs.Io.KnownBytes.{Appends};
 ghost use Rattle.whole_writes.specs.Writes.{WroteSome};
 ghost use Rattle.builtin_stages.specs.Backends.{device_line};
-ghost use Rattle.builtin_stages.specs.ToolEnding.{BackendEnds, Ends, known_of};
-ghost use Rattle.builtin_stages.specs.Filters.{Filtered, IsOfFilter};
-ghost use Rattle.builtin_stages.specs.RequestFields.{request};
+ghost use Rattle.builtin_stages.specs.ToolEnding.{BackendEnds, Ends, FilterEnds, document_name, known_of};
+ghost use Rattle.builtin_stages.specs.Filters.{FailsAsFilter, Filtered};
+ghost use Rattle.builtin_stages.specs.RequestFields.{printed, request};
 ghost use Rattle.builtin_stages.specs.ToolArguments.{asked_of};
 
 use crate::backends::{device_line, meet, side_ask, side_end, spool_file};
@@ -56,16 +56,29 @@ fn run<
         (O.contents output.old) (O.contents output.new) (E.contents errors.old) (E.contents errors.new) (exit_status result) }
 {
     match asked {
-        Asked::Filter(tool, document) => {
-            let ended = filter(rt, tool, document, input, output, errors);
-            report_end(errors, ended)
-        }
+        Asked::Filter(tool, document) => end_filter(rt, tool, document, input, output, errors),
         Asked::Backend(tool, document) => run_backend(rt, tool, document, input, errors),
         Asked::Through(file, job) => run_through(rt, file, job, errors),
         Asked::DeviceLine(tool) => end_silently(write_device_line(tool, output)),
         Asked::SideEnd(socket) => end_silently(side_end(rt, socket)),
         Asked::Version => end_silently(write_version(output)),
     }
+}
+
+// Runs the filter over the document, reports its fault, and returns the exit status.
+fn end_filter<H: Files<File = File> + AllocGlobal, I: Source, O: Write, E: Write>(
+    rt: &H,
+    tool: Filter,
+    document: Document<'_>,
+    input: &I,
+    output: &mut O,
+    errors: &mut E,
+) -> ExitCode
+    ensures { FilterEnds tool (printed document.entry) (I.known input.now)
+        (O.contents output.old) (O.contents output.new) (E.contents errors.old) (E.contents errors.new) (exit_status result) }
+{
+    let ended = filter(rt, tool, document, input, output, errors);
+    report_end(rt.alloc(), errors, document.name(), ended)
 }
 
 // Runs the filter over the document, and returns the exit status.
@@ -78,9 +91,9 @@ fn filter<H: Files<File = File> + AllocGlobal, I: Source, O: Write, E: Write>(
     errors: &mut E,
 ) -> Result<u8, ToolFault>
     ensures status { IfOk result (λ status. status ≡ 0) }
-    ensures ran { OnOk result (Filtered tool document.entry.copies (known_of document.entry.file (I.known input.now))
+    ensures ran { OnOk result (Filtered tool document.entry.copies (known_of (printed document.entry).file (I.known input.now))
         (O.contents output.old) (O.contents output.new) (E.contents errors.old) (E.contents errors.new)) }
-    ensures fault { IfErr result IsOfFilter }
+    ensures fault { IfErr result (λ fault. FailsAsFilter fault (E.contents errors.old) (E.contents errors.new)) }
 {
     let copies = document.copies;
     match document.file {
@@ -101,18 +114,18 @@ fn run_backend<H: Files<File = File> + Env + Clock + Net + AllocGlobal, I: Sourc
     input: &I,
     errors: &mut E,
 ) -> ExitCode
-    ensures { BackendEnds tool (E.contents errors.old) (E.contents errors.new) (exit_status result) }
+    ensures { BackendEnds tool (document_name (printed document.entry).file) (E.contents errors.old) (E.contents errors.new) (exit_status result) }
 {
     match tool {
         Backend::SpoolFile => {
             let ended = spool(rt, document, input);
-            report_end(errors, ended)
+            report_end(rt.alloc(), errors, document.name(), ended)
         }
         Backend::Meet => end_silently(meet(rt)),
         Backend::SideAsk => end_silently(side_ask(rt)),
         Backend::AppSocket => {
             let ended = send(rt, document, input);
-            report_sending(rt.alloc(), errors, ended)
+            report_sending(rt.alloc(), errors, document.name(), ended)
         }
     }
 }

@@ -17,7 +17,7 @@ impl<'a, H: Files<File = File>> Source for DocumentFile<'a, H> {
     type Reader = File;
 
     fn open(&self) -> Result<File, ToolFault> {
-        File::open(self.rt, self.name).ok().ok_or(ToolFault::Read)
+        File::open(self.rt, self.name).map_err(|error| ToolFault::Read(error))
     }
 }
 

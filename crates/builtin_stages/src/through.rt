@@ -40,7 +40,7 @@ pub(crate) fn run_through<H: Files<File = File> + Env + Processes + AllocGlobal,
     words: &[String],
     errors: &mut E,
 ) -> ExitCode
-    ensures { ThroughEnds (map string_bytes words.now) (E.contents errors.old) (E.contents errors.new) (exit_status result) }
+    ensures { ThroughEnds file.now (map string_bytes words.now) (E.contents errors.old) (E.contents errors.new) (exit_status result) }
 {
     match words.split_first() {
         Some(_) => run_job(rt, file, words, errors),
@@ -55,11 +55,11 @@ fn run_job<H: Files<File = File> + Env + Processes + AllocGlobal, E: Write>(
     words: &[String],
     errors: &mut E,
 ) -> ExitCode
-    ensures { TellsThrough (E.contents errors.old) (E.contents errors.new) (exit_status result) }
+    ensures { TellsThrough file.now (E.contents errors.old) (E.contents errors.new) (exit_status result) }
 {
     let chain = read_chain(rt, file);
     let end = run_chain_of(rt, &chain, words);
-    report_through(rt.alloc(), errors, &end)
+    report_through(rt.alloc(), errors, file, &end)
 }
 
 // Runs a chain that was read.
@@ -91,7 +91,7 @@ fn read_list<H: Files<File = File> + AllocGlobal>(
     let text = match fs::read_to_string(rt, file) {
         Ok(text) => text,
         Err(error) if error.kind() == ErrorKind::OutOfMemory => return Err(ToolFault::Memory),
-        Err(_) => return Err(ToolFault::Chain),
+        Err(error) => return Err(ToolFault::ChainFile(error)),
     };
     match ProgramList::read(rt.alloc(), text.as_str()) {
         Ok(list) => Ok(list),
@@ -129,9 +129,14 @@ fn run_list<'a, H: Files<File = File> + Processes + AllocGlobal>(
     }
 }
 
-// Reports how a chain ended, and returns the exit status. If a line cannot be made or written, only the status reports it.
-fn report_through<E: Write>(alloc: Global, errors: &mut E, end: &ThroughEnd<'_>) -> ExitCode
-    ensures { ReportsThrough end.now (E.contents errors.old) (E.contents errors.new) (exit_status result) }
+// Reports how the chain in a file ended, and returns the exit status. If a line cannot be made or written, only the status reports it.
+fn report_through<E: Write>(
+    alloc: Global,
+    errors: &mut E,
+    file: &str,
+    end: &ThroughEnd<'_>,
+) -> ExitCode
+    ensures { ReportsThrough end.now file.now (E.contents errors.old) (E.contents errors.new) (exit_status result) }
 {
     match end {
         ThroughEnd::Ran(end) => {
@@ -144,7 +149,7 @@ fn report_through<E: Write>(alloc: Global, errors: &mut E, end: &ThroughEnd<'_>)
             report_unstarted(alloc, errors, name);
             ExitCode::FAILURE
         }
-        ThroughEnd::Failed(fault) => report_end(errors, Err(*fault)),
+        ThroughEnd::Failed(fault) => report_end(alloc, errors, file, Err(*fault)),
     }
 }
 

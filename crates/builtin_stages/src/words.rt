@@ -4,6 +4,7 @@ ghost use Rattle.std.specs.Option.{option_map};
 ghost use Rattle.std.specs.String.{string_bytes};
 ghost use Rattle.builtin_stages.specs.ToolNumbers.{ranged};
 ghost use Rattle.builtin_stages.specs.RequestFields.{printed, request};
+ghost use Rattle.builtin_stages.specs.ToolEnding.{document_name};
 ghost use Rattle.builtin_stages.specs.ToolArguments.{asked_of, backend_asked, backend_of, document_of, filter_of, side_end_asked, through_asked, version_asked};
 
 use crate::numbers::ranged;
@@ -37,6 +38,15 @@ pub struct Document<'a> {
     pub file: Option<&'a str>,
     /// The number of copies.
     pub copies: u32,
+}
+
+impl<'a> Document<'a> {
+    /// Returns its name for a message: that of its file.
+    pub(crate) fn name(self) -> &'a str
+        ensures { result.now ≡ document_name (printed self.entry).file }
+    {
+        self.file.unwrap_or("standard input")
+    }
 }
 
 /// The request of the arguments.
