@@ -1,8 +1,7 @@
 """A table of the faults of the programs: the actions that cause each, the exact text on standard error, and the exit status.
 
 A text says what failed, its path or queue, the system's reason in its own words, and what to do if there is one thing to do. The word of a
-spool's program has a line of its own, as `spool: disk`, and the cause the next one, as `spool: cause: ..`. A row whose text lacks a part of
-this is an expected failure, and its reason names the missing part.
+spool's program has a line of its own, as `spool: disk`, and the cause the next one, as `spool: cause: ..`.
 
 AT in a row is the folder of the test.
 """
@@ -18,7 +17,7 @@ import pytest
 
 from harness import journal
 from harness.admin import image_of_rows
-from harness.checks import holds, LONGEST, same
+from harness.checks import LONGEST, same
 from harness.journal import close
 from harness.programs import path_of
 from harness.stories import of_q, Q, spelled
@@ -33,6 +32,7 @@ PORT_FORM = "expected ADDRESS:PORT, such as 127.0.0.1:631 or [::1]:631"
 LONG = "x" * 120
 
 SIZE = 65_536  # of a spool
+MANY = 300  # lines of a programs file
 
 
 @dataclass
@@ -271,6 +271,9 @@ SHELL_ROWS = {
                  given="AT/spool"),
     "output": Row("spool_shell", "--root AT/spool", "spool: write\nspool: cause: standard output cannot be written: No space left on device\n",
                   (("file", "commands", b"queues\n"),), given="AT/commands", output="/dev/full"),
+    "program-twice-in-many": Row("spool_shell", "--root AT/spool --programs AT/programs",
+                                 file_fault("programs", f", line {MANY + 1}: an earlier line is about the same program"),
+                                 (("file", "programs", b"".join(b"filter f%d /bin/true\n" % (number % MANY) for number in range(MANY + 1))),)),
     "memory": Row("spool_shell", f"--size {1 << 30}", "spool: memory\n", before=("prlimit", f"--as={256 << 20}")),
 }
 
@@ -446,19 +449,8 @@ TABLE = {
     **{f"{found.program}-{row}": found for rows in (SHELL_ROWS, SERVICE_ROWS, ADMIN_ROWS, IPP_ROWS, TOOLS_ROWS, FRONT_ROWS) for row, found in rows.items()},
 }
 
-# The missing parts of texts, and the crates that lose them.
-NO_REASON = "the reason of the system is lost in spool_runtime: a cause of the disk is a word"
-LACKS = {
-    **{f"{name}-no-lock": NO_REASON for name in OPENS},
-    "spool_shell-input": "the reason of the system is lost in spool_engine, whose faults of a run have none",
-    "spool_shell-output": "the reason of the system is lost in spool_engine, whose faults of a run have none",
-    "spool_admin-output": "the reason of the system is lost in spool_runtime, whose fault of a writer has none",
-    "spool_tools-missing-document": "builtin_stages: its lines are constants, without a path and a reason",
-    "spool_tools-missing-chain": "builtin_stages: its lines are constants, without a path and a reason",
-}
 
-
-def marks_of(name, row):
+def marks_of(row):
     """The needs of a row."""
     # A program with an address sanitizer takes terabytes of address space.
     needed = [f"plain {row.program}" if "prlimit" in row.before else row.program, *row.before[:1 if row.before == NOBODY else 0]]
@@ -471,12 +463,6 @@ def marks_of(name, row):
         yield pytest.mark.strace
 
 
-def expected(name):
-    """The mark of a row whose text lacks a part."""
-    if name in LACKS:
-        yield pytest.mark.xfail(strict=True, reason=LACKS[name])
-
-
 def outcome(row, room):
     """The status of the program of a row, and its text."""
     with contextlib.ExitStack() as held:
@@ -487,15 +473,9 @@ def outcome(row, room):
         return status, errors.replace(room, "AT")
 
 
-@pytest.mark.parametrize("row", [pytest.param(row, id=name, marks=list(marks_of(name, row))) for name, row in TABLE.items()])
-def test_status(row, room):
-    """The program of a row ends with its status, and says why."""
+@pytest.mark.parametrize("row", [pytest.param(row, id=name, marks=list(marks_of(row))) for name, row in TABLE.items()])
+def test_fault(row, room):
+    """The program of a row ends with its status, and prints its text."""
     status, text = outcome(row, room)
     same("the status", status, row.status)
-    holds("a text", text)
-
-
-@pytest.mark.parametrize("row", [pytest.param(row, id=name, marks=[*marks_of(name, row), *expected(name)]) for name, row in TABLE.items()])
-def test_text(row, room):
-    """The program of a row prints its text."""
-    same("standard error", outcome(row, room)[1], row.text)
+    same("standard error", text, row.text)

@@ -5,12 +5,13 @@ use Rattle.std.specs.declared.io.ErrorKind.TheVariants.{NotFound}
 use Rattle.spool_runtime.specs.declared.fault.DiskCause.{DiskCause}
 use Rattle.spool_runtime.specs.declared.fault.DiskCause.TheVariants.{Absent, Failed, NoFile, NoRoom, NotAllowed, Owned, OwnerUnknown, ReadOnly}
 
--- Whether opening the names of the folder again may show the cause.
+-- Whether opening the names of the folder again, or locking its files again, may show the cause.
 abbrev pub is_told_again : DiskCause → Bool
 is_told_again Absent = true
 is_told_again NotAllowed = true
 is_told_again ReadOnly = true
 is_told_again NoFile = true
+is_told_again Failed = true
 is_told_again cause = false
 
 -- Whether an error of opening a file belongs to a cause.

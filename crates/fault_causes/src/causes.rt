@@ -2,12 +2,16 @@
 ghost use Rattle.std.specs.Prelude.{◌≡◌, IfOk, None, Some, string_bytes};
 ghost use Rattle.std.specs.Option.{option_map};
 ghost use Rattle.fault_causes.specs.PlainCauses.{plain_cause};
+ghost use Rattle.fault_causes.specs.StreamCauses.{stream_cause, stream_error};
 
 use crate::disk::disk_cause;
 use crate::files::file_cause;
+use crate::streams::StreamErrors;
 use crate::versions::version_cause;
 use spool_runtime::ShellFault;
 use std::alloc::{AllocError, Global};
+use std::io;
+use system_reasons::reason_of;
 
 const IGNORED: &str =
     "the signal SIGCHLD is ignored, so the ends of children cannot be known (start the program with env --default-signal=CHLD)";
@@ -48,10 +52,15 @@ impl<'a> GivenNames<'a> {
 pub fn cause_of(
     rt: &HostRuntime,
     names: GivenNames<'_>,
+    errors: StreamErrors,
     fault: &ShellFault,
 ) -> Result<Option<String>, AllocError> {
     // A spool in memory is neither damaged nor something else.
     let dir = names.dir.unwrap_or("DIR");
+    if let Some(error) = stream_error(errors, fault) {
+        let reason = reason_of(rt.alloc(), &error)?;
+        return stream_cause(rt.alloc(), fault, reason.as_str());
+    }
     match fault {
         ShellFault::File(name) => file_cause(rt, names, name.as_str()),
         ShellFault::Disk(cause) => Ok(Some(disk_cause(rt, names.dir, *cause)?)),
@@ -61,6 +70,35 @@ pub fn cause_of(
         },
         _ => plain_cause(rt.alloc(), dir, fault),
     }
+}
+
+// Returns the error of the stream that a fault is about.
+fn stream_error(errors: StreamErrors, fault: &ShellFault) -> Option<io::Error>
+    ensures { result ≡ stream_error errors fault.now }
+{
+    match fault {
+        ShellFault::Read => errors.input,
+        ShellFault::Write => errors.output,
+        _ => None,
+    }
+}
+
+// Returns the cause of the fault of a stream, for this reason.
+fn stream_cause(
+    alloc: Global,
+    fault: &ShellFault,
+    reason: &str,
+) -> Result<Option<String>, AllocError>
+    ensures { IfOk result (λ cause. option_map string_bytes cause ≡ stream_cause fault.now reason.now) }
+{
+    let cause = match fault {
+        ShellFault::Read => format!(in alloc;
+            "standard input cannot be read: {reason} (commands without a reply were not executed)"
+        )?,
+        ShellFault::Write => format!(in alloc; "standard output cannot be written: {reason}")?,
+        _ => return Ok(None),
+    };
+    Ok(Some(cause))
 }
 
 // Returns the cause that the fault alone shows, over the spool in this folder.

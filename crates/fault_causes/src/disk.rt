@@ -4,7 +4,7 @@ ghost use Rattle.fault_causes.specs.DiskReasons.{is_cause, is_told_again, usual_
 
 use spool_runtime::DiskCause;
 use std::alloc::{AllocError, Global};
-use std::fs::{File, OpenOptions};
+use std::fs::{File, OpenOptions, TryLockError};
 use std::io;
 use std::io::ErrorKind;
 use system_reasons::reason_of;
@@ -27,7 +27,7 @@ pub fn disk_cause(
     format!(in alloc; "{cause}: {reason}")
 }
 
-// Opens the names of the folder again, and returns the first that the system refuses for this cause, with its reason.
+// Opens the names of the folder and locks its files again, and returns the first that the system refuses for this cause, with its reason.
 fn refused_name(
     rt: &HostRuntime,
     dir: &str,
@@ -37,7 +37,7 @@ fn refused_name(
         return Ok(None);
     }
     if let Err(error) = open_folder(rt, dir) {
-        return Ok(Some(refusal(rt.alloc(), dir, &error)?));
+        return Ok(Some(refusal(rt.alloc(), "open", dir, &error)?));
     }
     match refused_file(rt, dir, "spool.lock", cause)? {
         Some(reason) => Ok(Some(reason)),
@@ -53,12 +53,18 @@ fn refused_file(
     cause: DiskCause,
 ) -> Result<Option<String>, AllocError> {
     let path = format!(in rt.alloc(); "{dir}/{name}")?;
-    match open_file(rt, path.as_str()) {
-        Err(error) if is_cause(error.kind(), cause) => {
-            Ok(Some(refusal(rt.alloc(), path.as_str(), &error)?))
-        }
-        _ => Ok(None),
+    let (failed, error) = match open_file(rt, path.as_str()) {
+        Err(error) => ("open", error),
+        Ok(file) => match file.try_lock() {
+            Err(TryLockError::Error(error)) => ("lock", error),
+            // The lock ends as the file is closed.
+            _ => return Ok(None),
+        },
+    };
+    if !is_cause(error.kind(), cause) {
+        return Ok(None);
     }
+    Ok(Some(refusal(rt.alloc(), failed, path.as_str(), &error)?))
 }
 
 // By this name only a folder can be opened.
@@ -71,10 +77,16 @@ fn open_file(rt: &HostRuntime, path: &str) -> io::Result<File> {
     OpenOptions::new().read(true).write(true).open(rt, path)
 }
 
-fn refusal(alloc: Global, path: &str, error: &io::Error) -> Result<String, AllocError> {
+// Returns what failed, its path and the system's reason.
+fn refusal(
+    alloc: Global,
+    failed: &str,
+    path: &str,
+    error: &io::Error,
+) -> Result<String, AllocError> {
     let reason = reason_of(alloc, error)?;
     let reason = reason.as_str();
-    format!(in alloc; "cannot open {path}: {reason}")
+    format!(in alloc; "cannot {failed} {path}: {reason}")
 }
 
 // Returns whether the system may say again why a name is refused.
@@ -82,7 +94,11 @@ fn is_told_again(cause: DiskCause) -> bool
     ensures { result ≡ is_told_again cause }
 {
     match cause {
-        DiskCause::Absent | DiskCause::NotAllowed | DiskCause::ReadOnly | DiskCause::NoFile => true,
+        DiskCause::Absent
+        | DiskCause::NotAllowed
+        | DiskCause::ReadOnly
+        | DiskCause::NoFile
+        | DiskCause::Failed => true,
         _ => false,
     }
 }

@@ -3,7 +3,7 @@ ghost use Rattle.std.specs.Prelude.{◌≡◌};
 ghost use Rattle.fault_causes.specs.LineReasons.{line_reason};
 
 use crate::causes::GivenNames;
-use program_lists::{ListFault, ProgramList};
+use crate::lines::rejected_line;
 use std::alloc::{AllocError, Global};
 use std::{fs, io};
 use system_reasons::reason_of;
@@ -53,36 +53,13 @@ fn unread(alloc: Global, name: &str, error: &io::Error) -> Result<String, AllocE
 
 // Returns the first line of a programs file that is rejected, and why.
 fn programs_cause(alloc: Global, name: &str, text: &str) -> Result<Option<String>, AllocError> {
-    let Some((number, alone)) = rejected_line(alloc, text)? else {
+    let Some((before, alone)) = rejected_line(alloc, text)? else {
         return Ok(None);
     };
+    let number = before.saturating_add(1);
     let reason = line_reason(alone);
     let cause = format!(in alloc; "cannot read {name}, line {number}: {reason}")?;
     Ok(Some(cause))
-}
-
-// Returns the number of the first line that is rejected after the lines before it, and whether it is rejected alone too.
-fn rejected_line(alloc: Global, text: &str) -> Result<Option<(u64, bool)>, AllocError> {
-    let mut before = String::new(alloc);
-    let mut number = 0u64;
-    for line in text.split('\n') {
-        number = number.saturating_add(1);
-        before.push_str(line)?;
-        if is_rejected(alloc, before.as_str())? {
-            return Ok(Some((number, is_rejected(alloc, line)?)));
-        }
-        before.push_str("\n")?;
-    }
-    Ok(None)
-}
-
-// Returns whether a text is no list of programs.
-fn is_rejected(alloc: Global, text: &str) -> Result<bool, AllocError> {
-    match ProgramList::read(alloc, text) {
-        Ok(_) => Ok(false),
-        Err(ListFault::Unread) => Ok(true),
-        Err(ListFault::Memory) => Err(AllocError),
-    }
 }
 
 // Returns why a line is rejected, by whether it would be rejected alone.

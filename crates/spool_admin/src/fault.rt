@@ -8,7 +8,7 @@ ghost use Rattle.spool_admin.specs.declared.fault.AdminFault.TheVariants.{Shell}
 
 use crate::causes::admin_cause;
 use crate::words::Asked;
-use fault_causes::{GivenNames, report_fault};
+use fault_causes::{GivenNames, StreamErrors, report_fault};
 use queue_edits::EditRefusal;
 use spool_core::{CheckpointFault, OpenFault};
 use spool_halves::{EditFault, HalfFault};
@@ -154,6 +154,7 @@ pub fn at_target<T: Drop>(outcome: Result<T, ShellFault>) -> Result<T, AdminFaul
 pub fn report_admin_end(
     rt: &HostRuntime,
     asked: &Asked<'_>,
+    errors: StreamErrors,
     ended: Result<(), AdminFault>,
 ) -> ExitCode
     ensures ok { OnOk ended (exit_status result ≡ 0) }
@@ -162,19 +163,27 @@ pub fn report_admin_end(
     match ended {
         Ok(()) => ExitCode::SUCCESS,
         Err(fault) => {
-            report_admin_fault(rt, asked, &fault);
+            report_admin_fault(rt, asked, errors, &fault);
             ExitCode::FAILURE
         }
     }
 }
 
 // Reports a fault, and its cause on the next line.
-fn report_admin_fault(rt: &HostRuntime, asked: &Asked<'_>, fault: &AdminFault) {
+fn report_admin_fault(
+    rt: &HostRuntime,
+    asked: &Asked<'_>,
+    errors: StreamErrors,
+    fault: &AdminFault,
+) {
     match fault {
-        AdminFault::Shell(fault) => report_fault(rt, GivenNames::of_folder(asked.dir()), fault),
+        AdminFault::Shell(fault) => {
+            report_fault(rt, GivenNames::of_folder(asked.dir()), errors, fault)
+        }
         AdminFault::Target(fault) => report_fault(
             rt,
             GivenNames::of_folder(asked.into_dir()),
+            errors,
             fault,
         ),
         _ => {

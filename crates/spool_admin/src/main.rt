@@ -138,7 +138,9 @@ use crate::queue::edit_queue;
 use crate::queue_words::{RemoveWords, SetWords};
 use crate::split::split;
 use crate::words::{Asked, read_words};
+use fault_causes::{Noted, StreamErrors};
 use spool_runtime::{given_words, no_words, report_words_fault};
+use std::io::Write;
 use std::process::ExitCode;
 
 fn main(rt: HostRuntime) -> ExitCode {
@@ -150,16 +152,21 @@ fn main(rt: HostRuntime) -> ExitCode {
         Ok(asked) => asked,
         Err(fault) => return report_words_fault(&rt, &fault),
     };
-    let ended = done(&rt, &asked);
-    report_admin_end(&rt, &asked, ended)
+    let mut output = Noted::new(rt.stdout());
+    let ended = done(&rt, &asked, &mut output);
+    let errors = StreamErrors {
+        input: None,
+        output: output.error(),
+    };
+    report_admin_end(&rt, &asked, errors, ended)
 }
 
 // Does the task that the words request.
-fn done(rt: &HostRuntime, asked: &Asked<'_>) -> Result<(), AdminFault>
+fn done<W: Write>(rt: &HostRuntime, asked: &Asked<'_>, output: &mut W) -> Result<(), AdminFault>
     requires { IsInRange asked.now }
 {
     match asked {
-        Asked::Look(dir) => Ok(look(rt, dir, &mut rt.stdout())?),
+        Asked::Look(dir) => Ok(look(rt, dir, output)?),
         Asked::Grow(dir, size) => grow(rt, dir, *size),
         Asked::Split(parts) => split(rt, parts),
         Asked::Set(words) => set(rt, words),

@@ -8,7 +8,7 @@
 //! calls their functions in order is not proved.
 #![tactic(auto)]
 
-use fault_causes::{GivenNames, report_end};
+use fault_causes::{GivenNames, Noted, StreamErrors, report_run};
 use log::{Level, Logged};
 use spool_runtime::{LogLines, given_words, no_words, read_words, report_words_fault, run};
 use std::process::ExitCode;
@@ -24,12 +24,18 @@ fn main(rt: HostRuntime) -> ExitCode {
     };
     let most = Level::Warn;
     let logged = Logged::new(rt, most, LogLines { rt, most });
-    let ended = run(&logged, &rt, words, &mut rt.stdin(), &mut rt.stdout());
+    let mut input = Noted::new(rt.stdin());
+    let mut output = Noted::new(rt.stdout());
+    let ended = run(&logged, &rt, words, &mut input, &mut output);
     let names = GivenNames {
         dir: words.root,
         types: words.types,
         convs: words.convs,
         programs: words.programs,
     };
-    report_end(&rt, names, ended)
+    let errors = StreamErrors {
+        input: input.error(),
+        output: output.error(),
+    };
+    report_run(&rt, names, errors, ended)
 }
