@@ -1,5 +1,5 @@
 //! How a program of a spool begins and ends: its arguments, its errors on standard error, and its exit status.
-ghost use Rattle.std.specs.Prelude.{◌≡◌, ◌≢◌, OnErr, OnOk};
+ghost use Rattle.std.specs.Prelude.{◌≡◌, ◌≢◌};
 ghost use Rattle.std.specs.Process.{exit_status};
 ghost use Rattle.std.specs.IoError.{error_kind};
 ghost use Rattle.clap.specs.Words.{kind_of};
@@ -18,27 +18,12 @@ pub fn given_words<R: Env + AllocGlobal>(rt: &R) -> io::Result<Vec<String>> {
     Ok(words)
 }
 
-// Reports a fault, and the cause of a fault of the disk. If the report cannot be written, only the status shows the
-// fault.
+// Reports a fault that has no cause. If the report cannot be written, only the status shows it.
 fn fail<R: Eprint>(rt: &R, fault: &ShellFault) -> ExitCode
     ensures { exit_status result ≡ 1 }
 {
     let _ = eprintln!(rt; "spool: {fault}");
-    if let ShellFault::Disk(cause) = fault {
-        let _ = eprintln!(rt; "spool: cause: {cause}");
-    }
     ExitCode::FAILURE
-}
-
-/// Reports how a run ended, on standard error and by the exit status.
-pub fn report_end<R: Eprint>(rt: &R, ended: Result<(), ShellFault>) -> ExitCode
-    ensures ok { OnOk ended (exit_status result ≡ 0) }
-    ensures fault { OnErr ended (exit_status result ≡ 1) }
-{
-    match ended {
-        Ok(()) => ExitCode::SUCCESS,
-        Err(fault) => fail(rt, &fault),
-    }
 }
 
 // Prints why the arguments are refused, or the help that they ask for.

@@ -3,8 +3,8 @@
 //!
 //! `spool_shell` serves the commands on standard input, by [`run`]. Another program, such as a service, uses the parts.
 //! It owns a folder ([`SpoolFolder`]), reads the files of types, conversions and programs ([`read_rules`]), makes the
-//! launcher of its children and their place ([`launcher_in`]), opens an engine with them over the folder's disk
-//! ([`open_folder_engine`]), and reports its end ([`report_end`]). The programs share the options in [`options`].
+//! launcher of its children and their place ([`launcher_in`]), and opens an engine with them over the folder's disk
+//! ([`open_folder_engine`]). It reports its end by `fault_causes`. The programs share the options in [`options`].
 //!
 //! Arguments: `[--root DIR] [--types FILE] [--convs FILE] [--programs FILE] [--size BYTES] [--reserve] [--devices] [--version]`
 //! ([`read_words`]). With `--root` the spool is the file `DIR/spool.disk` ([`device`]), and otherwise a disk in memory
@@ -66,8 +66,8 @@
 //!   (`command_of`). The only errors are of writing and of memory (`IsOfPrinting`). If memory runs out for a line, the
 //!   line is not printed (`IsUnprinted`).
 //! - Each fault below is reported as it is (`from_gives` in [`fault`]).
-//! - The exit status is 0 if the run ended without a fault, and 1 after a fault ([`report_end`]). If the arguments
-//!   cannot be used, it is 2, or 0 if they ask for help, or 1 if memory ran out ([`report_words_fault`], [`no_words`]).
+//! - If the arguments cannot be used, the exit status is 2, or 0 if they ask for help, or 1 if memory ran out
+//!   ([`report_words_fault`], [`no_words`]).
 //! - [`LogLines`] is enabled for exactly the levels up to its own (`enables`).
 //!
 //! # Not proved
@@ -157,7 +157,7 @@ pub use begun::check_child_ends;
 pub use child_users::{ChildLimits, ChildSettings, ChildUser};
 pub use device::{SpoolFolder, new_file, remove_if_there};
 pub use devices::{ChildDiscovery, Discovery, print_devices};
-pub use ends::{given_words, no_words, report_end, report_words_fault};
+pub use ends::{given_words, no_words, report_words_fault};
 pub use fault::{DiskCause, ShellFault};
 pub use files::read_rules;
 pub use fitness::log_programs;
