@@ -5,6 +5,6 @@ use Rattle.ipp_facts.proofs.shown_uris.user_length.Given as goal
 
 abbrev pub invariant-loop-i : goal.invariant-loop-i
 invariant-loop-i l = record {
-  value : cond (user_length (drop l.i l.authority) == 0) l.most (l.i + user_length (drop l.i l.authority)) ≡ user_length l.authority;
+  value : cond (user_length l.is_special (drop l.i l.authority) == 0) l.most (l.i + user_length l.is_special (drop l.i l.authority)) ≡ user_length l.is_special l.authority;
   bound : l.most ≤ l.i;
 }
