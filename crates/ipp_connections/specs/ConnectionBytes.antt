@@ -1,5 +1,5 @@
 -- The bytes that a connection holds.
-use Rattle.std.specs.Prelude.{◌≤◌, ◌<◌, ℕ, List, length}
+use Rattle.std.specs.Prelude.{◌≤◌, ◌<◌, ℕ, Bool, cond, List, length}
 use Rattle.ipp_sockets.specs.UnwrittenBytes.{unwritten}
 use Rattle.ipp_connections.specs.declared.connection.Http.{Http}
 
@@ -7,14 +7,18 @@ use Rattle.ipp_connections.specs.declared.connection.Http.{Http}
 abbrev pub most_received : ℕ
 most_received = 16384
 
+-- How many bytes of a body may wait while more are received: the longest message, or of a document less than a piece by one read.
+abbrev pub most_waiting : Bool → ℕ
+most_waiting has_document = cond has_document 49153 65536
+
 -- More bytes may be received.
 abbrev pub HasRoom : Http → Type 0
-HasRoom http = length http.input.items < 65536
+HasRoom http = (length http.input.items < 65536) × (length http.body.items < most_waiting http.has_document)
 
 -- The bytes that wait to be read as requests, and the part of a body that waits, are bounded.
 pub record IsBounded (http : Http) : Type 0 where
   pub input : length http.input.items ≤ 81919
-  pub body : length http.body.items ≤ 163838
+  pub body : length http.body.items ≤ 147454
 
 -- The part of the body that waits.
 abbrev pub body_of : Http → List ℕ

@@ -7,10 +7,13 @@ use httparse::spans::{EMPTY_HEADER_SPAN, HeaderSpan, Span};
 use ipp_access::Place;
 use ipp_sockets::Outgoing;
 use std::alloc::{AllocError, Global};
-use std::str;
+use std::{mem, str};
 
-// No more of a body is read while so many of its bytes wait.
-const MOST_BODY: usize = 81_920;
+// No more of a body is read while so many of its bytes wait. It is the length of the longest message.
+const MOST_BODY: usize = 65_536;
+
+// No more of a document is received from this number of waiting bytes. One more read fills a piece for the service.
+const MOST_DOCUMENT: usize = 49_153;
 
 // No more is received while so many bytes wait to be read as requests.
 const MOST_INPUT: usize = 65_536;
@@ -58,15 +61,17 @@ pub struct Http {
     body: Vec<u8>,
     // Whether the body has ended.
     ended: bool,
+    // Whether the message at the beginning of the body is dropped, so that a document follows.
+    has_document: bool,
     // Whether the method of the request is HEAD.
     is_head: bool,
     output: Outgoing,
     ghost bounded_input: { length input.items ≤ 81919 },
-    ghost bounded_body: { length body.items ≤ 163838 },
+    ghost bounded_body: { length body.items ≤ 147454 },
 }
 
 impl Http {
-    ghost use Rattle.ipp_connections.specs.ConnectionBytes.{HasRoom, IsBounded, answers_of, body_of, most_received};
+    ghost use Rattle.ipp_connections.specs.ConnectionBytes.{HasRoom, IsBounded, answers_of, body_of, most_received, most_waiting};
 
     /// A connection before its first request.
     pub fn new(alloc: Global) -> Http {
@@ -75,6 +80,7 @@ impl Http {
             input: Vec::new(alloc),
             body: Vec::new(alloc),
             ended: true,
+            has_document: false,
             is_head: false,
             output: Outgoing::new(alloc),
         }
@@ -107,7 +113,18 @@ impl Http {
     pub fn has_room(&self) -> bool
         ensures { IsTrue result ↔ HasRoom self.now }
     {
-        self.input.len() < MOST_INPUT
+        self.input.len() < MOST_INPUT && self.body.len() < self.most_waiting()
+    }
+
+    // Returns how many bytes of the body may wait while more are received.
+    fn most_waiting(&self) -> usize
+        ensures { result ≡ most_waiting self.now.has_document }
+    {
+        if self.has_document {
+            MOST_DOCUMENT
+        } else {
+            MOST_BODY
+        }
     }
 
     /// Returns whether an answer waits to be written.
@@ -202,6 +219,7 @@ impl Http {
     fn begin(&mut self, method: Span) {
         self.is_head = piece_of(self.input.as_slice(), method) == b"HEAD".as_slice();
         self.ended = false;
+        self.has_document = false;
         self.body.clear();
     }
 
@@ -281,18 +299,23 @@ impl Http {
         ensures rest { OnOk result (body_of self.new ≡ drop (min (length (body_of self.old)) most) (body_of self.old)) }
         ensures err { OnErr result (body_of self.new ≡ body_of self.old) }
     {
-        let count = self.body.len().min(most);
-        let taken = Vec::from_slice(alloc, &self.body[..count])?;
-        self.body.drain(..count);
+        let count = self.body.len();
+        if count <= most {
+            let next = Vec::with_capacity(alloc, count)?;
+            return Ok(mem::replace(&mut self.body, next));
+        }
+        let taken = Vec::from_slice(alloc, &self.body[..most])?;
+        self.body.drain(..most);
         Ok(taken)
     }
 
-    /// Drops up to this many bytes from the beginning of the body.
+    /// Drops up to this many bytes from the beginning of the body, those of the message. A document follows.
     pub fn drop_body(&mut self, count: usize)
         ensures { body_of self.new ≡ drop (min (length (body_of self.old)) count) (body_of self.old) }
     {
         let count = self.body.len().min(count);
         self.body.drain(..count);
+        self.has_document = true;
     }
 }
 

@@ -5,8 +5,9 @@
 //!
 //! # Promises
 //!
-//! - *Bounded*: a connection holds less than 80 KiB that wait to be read as requests, and less than 160 KiB of a body, whatever comes
-//!   ([`Http::receive`], [`Http::pull`]: `bounded`).
+//! - *Bounded*: a connection holds less than 80 KiB that wait to be read as requests, and less than 144 KiB of a body, whatever comes
+//!   ([`Http::receive`], [`Http::pull`]: `bounded`). No more is received while 64 KiB of a message wait, or 48 KiB of a document
+//!   ([`Http::has_room`]).
 //! - [`Http::take_body`] and [`Http::drop_body`] take the bytes of a body in their order, each once.
 //! - [`Http::answer`]: without memory no part of an answer is appended (`err`).
 //!
