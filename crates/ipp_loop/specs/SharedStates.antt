@@ -1,5 +1,5 @@
 -- The state that all clients share.
-use Rattle.std.specs.Prelude.{ℕ, ◌+◌, Bool, false, cond, nat_lt, List, [], ◌∷◌, map, Option, None}
+use Rattle.std.specs.Prelude.{◌≡◌, ℕ, ◌+◌, Bool, false, cond, nat_lt, List, [], ◌∷◌, drop, length, map, Option, None}
 use Rattle.std.specs.Option.{option_map}
 use Rattle.ipp_submission.specs.JobParts.{Progress, current, is_ended}
 use Rattle.ipp_printing.specs.PrintingJobs.{submission_of}
@@ -22,6 +22,11 @@ unsent_of lost = cond lost.is_sent None (option_map (λ command. command.items) 
 -- The submissions of the lost jobs, in their order.
 abbrev pub submissions : LostJobs → List Progress
 submissions lost = map submission_of lost.jobs.items
+
+-- The number of lost jobs is the same, and only the first of them may have changed.
+pub record KeepsLost (old new : LostJobs) : Type 0 where
+  pub count : length new.jobs.items ≡ length old.jobs.items
+  pub others : drop 1 new.jobs.items ≡ drop 1 old.jobs.items
 
 -- Nothing more happens to the first of them.
 abbrev pub starts_ended : List Progress → Bool

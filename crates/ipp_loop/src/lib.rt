@@ -13,8 +13,9 @@
 //! - *Apart*: a turn of a client, a reply to its command and the loss of its command leave all other clients as they are (`others` of
 //!   `Front::serve_client`, `Front::heard` and `Front::lose`). A reply to a client that had the place before changes nothing (`Client::heard`,
 //!   `Client::lost`).
-//! - *Canceled*: a job that is given up is the last of the lost jobs, and leaves them only as the first one, after nothing more happens to it
-//!   or while the service is away (`Shared::give_up`, `LostJobs::push`, `LostJobs::forget_ended`).
+//! - *Canceled*: a job that is given up is the last of the lost jobs (`Shared::give_up`, `LostJobs::push`). It leaves them only as the first
+//!   one, after nothing more happens to it or while the service is away (`LostJobs::forget_ended`): replies and losses remove none, and leave
+//!   all but the first one as they are (`kept` of `Shared::lost_heard` and `Shared::lost_lost`).
 //! - *OnceForAll*: each command that waits for its reply is answered, is lost or waits still: once and in order (`Shared::exchange`: `once`).
 //!
 //! # Not proved

@@ -3,7 +3,7 @@ ghost use Rattle.std.specs.Prelude.{◌≡◌, ◌≢◌, ◌||◌, [], ◌∷�
 ghost use Rattle.std.specs.Option.{option_map};
 ghost use Rattle.ipp_submission.specs.JobParts.{given_up};
 ghost use Rattle.ipp_printing.specs.PrintingJobs.{submission_of};
-ghost use Rattle.ipp_loop.specs.SharedStates.{starts_ended, submissions, unsent_of};
+ghost use Rattle.ipp_loop.specs.SharedStates.{KeepsLost, starts_ended, submissions, unsent_of};
 
 use ipp_printing::PrintingJob;
 use service_client::Reply;
@@ -103,7 +103,8 @@ impl LostJobs {
     /// Takes the reply to the command of this job.
     pub fn heard(&mut self, alloc: Global, serial: u64, reply: &Reply) -> Result<(), AllocError>
         // A reply to a job that is gone changes nothing.
-        ensures { serial ≢ self.old.serial → self.new ≡ self.old }
+        ensures gone { serial ≢ self.old.serial → self.new ≡ self.old }
+        ensures kept { KeepsLost self.old self.new }
     {
         if serial != self.serial {
             return Ok(());
@@ -118,7 +119,8 @@ impl LostJobs {
 
     /// Notes that the connection was lost before the reply.
     pub fn lost(&mut self, serial: u64)
-        ensures { serial ≢ self.old.serial → self.new ≡ self.old }
+        ensures gone { serial ≢ self.old.serial → self.new ≡ self.old }
+        ensures kept { KeepsLost self.old self.new }
     {
         if serial != self.serial {
             return;

@@ -2,7 +2,7 @@
 ghost use Rattle.std.specs.Prelude.{◌≡◌, ◌≤◌, [], ◌∷◌, ◌++◌, is_some, false, true, OnOk};
 ghost use Rattle.ipp_submission.specs.JobParts.{given_up};
 ghost use Rattle.ipp_printing.specs.PrintingJobs.{submission_of};
-ghost use Rattle.ipp_loop.specs.SharedStates.{is_away, parked_count, submissions};
+ghost use Rattle.ipp_loop.specs.SharedStates.{KeepsLost, is_away, parked_count, submissions};
 ghost use Rattle.ipp_sockets.specs.LinkStates.{AreOnce, waiting};
 ghost use Rattle.ipp_tasks.specs.ParkedJobs.{most_parked};
 
@@ -167,12 +167,16 @@ impl<S: Stream> Shared<S> {
     }
 
     /// Takes the reply to a command of a job without a client.
-    pub fn lost_heard(&mut self, serial: u64, reply: &Reply) -> Result<(), AllocError> {
+    pub fn lost_heard(&mut self, serial: u64, reply: &Reply) -> Result<(), AllocError>
+        ensures kept { KeepsLost self.old.lost self.new.lost }
+    {
         self.lost.heard(self.alloc, serial, reply)
     }
 
     /// Notes that a command of a job without a client was lost.
-    pub fn lost_lost(&mut self, serial: u64) {
+    pub fn lost_lost(&mut self, serial: u64)
+        ensures kept { KeepsLost self.old.lost self.new.lost }
+    {
         self.lost.lost(serial);
     }
 }
