@@ -196,6 +196,7 @@ CAPACITIES = {
     # In reserved room.
     # 64 KiB, while a document is sent.
     ("service_client", "take_byte"): ["1"],
+    ("service_client", "send_text"): ["count.saturating_add(AROUND_PIECE)"],
     ("spool_front", "new"): ["PIECE"],
     ("spool_front", "open"): ["PIECE"],
     ("spool_runtime", "reserve"): ["1"],
