@@ -268,7 +268,7 @@ time.sleep(30)
 if stay():
     report("left", os.getpid())
     os.close(1), os.close(2)
-    time.sleep(60)
+    time.sleep(600)
 while not os.path.exists(HERE + "/reports/left"):
     time.sleep(0.01)
 """, lives),
@@ -276,7 +276,7 @@ while not os.path.exists(HERE + "/reports/left"):
 signal.signal(signal.SIGTERM, signal.SIG_IGN)
 if stay():
     report("left", os.getpid())
-    time.sleep(60)
+    time.sleep(600)
 time.sleep(60)
 """, end_it, ends=False),
     Case("stops its session", """
@@ -326,7 +326,7 @@ fcntl.flock(1, fcntl.LOCK_UN)
 os.closerange(0, 100)
 if stay():
     report("left", os.getpid())
-    time.sleep(60)
+    time.sleep(600)
 while not os.path.exists(HERE + "/reports/left"):
     time.sleep(0.01)
 """, lambda world: lives(world) or next_job_fails(world)),
@@ -422,7 +422,7 @@ time.sleep(0.1)
     Case("kills the shell that waits for it", """
 if stay():
     report("left", os.getpid())
-    time.sleep(60)
+    time.sleep(600)
 while not os.path.exists(HERE + "/reports/left"):
     time.sleep(0.01)
 os.kill(os.getppid(), signal.SIGKILL)
@@ -432,14 +432,14 @@ time.sleep(0.3)
 shell = os.getppid()
 if stay():
     report("left", os.getpid())
-    time.sleep(60)
+    time.sleep(600)
 os.kill(shell, signal.SIGSTOP)
 """, end_it, ends=False),
     Case("takes memory and files from the shell that waits for it", """
 shell = os.getppid()
 if stay():
     report("left", os.getpid())
-    time.sleep(60)
+    time.sleep(600)
 while not os.path.exists(HERE + "/reports/left"):
     time.sleep(0.01)
 for limit in (resource.RLIMIT_NOFILE, resource.RLIMIT_AS):
