@@ -145,7 +145,7 @@ def test_prints_errors(folder):
     Raw(folder, "hold", "error \u009b2J\x1b[31m\u202etxt\n".encode())
     text = Front(folder, 1).fails("spool", "hold", "5")
     is_clean("a refusal", text)
-    same("a refusal", text, "spool: job 5: error \ufffd2J\ufffd[31m\ufffdtxt\n")
+    same("a refusal", text, "spool: cannot hold job 5: error \ufffd2J\ufffd[31m\ufffdtxt\n")
 
 
 def test_prints_names_of_files(folder):
