@@ -5,7 +5,7 @@ import pytest
 
 from harness.checks import quoted, same
 from harness.journal import aborted, COMPLETED, current_payloads, Head, Job, Queue
-from harness.large_run import ask_jobs, bytes_of, DONE, listed, same_file, Script, SEND, TYPE, within
+from harness.large_run import ask_jobs, bytes_of, DONE, listed, REPORTS, same_file, Script, SEND, TYPE, within
 from harness.programs import TOOLS
 
 pytestmark = [pytest.mark.alone, pytest.mark.needs("spool_shell", "spool_tools")]
@@ -206,10 +206,6 @@ def test_long_outputs(place):
 
 # ---- standard error
 
-# The text may be longer than a document, so it is in a file that the title names.
-SAYS = 'cat "$3" >&2\n'
-
-
 class Says:
     """Queues of a backend that writes a text to standard error: the text of each, and the outcome of its queue and job."""
 
@@ -220,7 +216,7 @@ class Says:
         self.queues = []
         self.rows = []
         self.dropped = []
-        place.script("backend", "says", SAYS)
+        place.script("backend", "says", REPORTS)
         place.list_programs()
 
     def add(self, text, pages=0, reasons=(), message="", attributes=(), dropped=None):

@@ -7,8 +7,7 @@ import pytest
 
 from harness import written_spools
 from harness.checks import Difference
-from harness.large_run import Script, TYPE
-from harness.service import SAYS
+from harness.large_run import REPORTS, Script, TYPE
 
 pytestmark = [pytest.mark.alone, pytest.mark.needs("spool_shell", "spool_tools")]
 
@@ -150,7 +149,7 @@ HALF_SAID = 500_000
 def test_reports_grow(place):
     """About a mebibyte on standard error, in lines of each kind."""
     kinds = [b"PAGE: 1 2\n", b"STATE: +media-empty,toner-low\n", b"DEBUG: " + 60 * b"x" + b"\n", b"y\n"]
-    place.script("backend", "says", SAYS)
+    place.script("backend", "says", REPORTS)
     place.list_programs()
     script = Script()
     script.ask(f"queue lab says:/x {TYPE} abort-job", "ok")

@@ -36,6 +36,9 @@ SEND = 65_536
 # The type of a document if no rule gives another one.
 TYPE = "application/octet-stream"
 
+# A backend that writes a text to standard error. The text may be longer than a document, so it is in a file that the title names.
+REPORTS = 'cat "$3" >&2\n'
+
 
 def pieces_of(document):
     """The pieces of a document, each for one `send`."""
