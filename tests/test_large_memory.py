@@ -107,13 +107,18 @@ def cancel(reader, table, number):
 NO_STACK = -signal.SIGSEGV
 
 
+# The log of a child that the system did not start, because its address space has no room.
+NOT_STARTED = b": not started: refused by the system\n"
+
+
 def scarce_run(place, script, limit, *words):
     """A run in an address space of `limit` KiB, which may end with `spool: memory`, or because the stack has no room."""
     enough, place.limit = place.limit, limit
     ran = place.run([SHELL, "--root", "spool", *words], script.pieces())
     place.limit = enough
-    if (ran.status, ran.errors) not in ((0, b""), (1, b"spool: memory\n"), (NO_STACK, b"")):
-        same("the end", (ran.status, ran.errors), (0, b""))
+    errors = b"".join(line for line in ran.errors.splitlines(keepends=True) if not line.endswith(NOT_STARTED))
+    if (ran.status, errors) not in ((0, b""), (1, b"spool: memory\n"), (NO_STACK, b"")):
+        same("the end", (ran.status, errors), (0, b""))
     return ran
 
 
