@@ -178,8 +178,12 @@ def copied(folder, file):
 
 # ---- a real service
 
+# The jobs that a client keeps: more of them do not fit into the spool.
+MOST = 200
+
+
 class Load(threading.Thread):
-    """A client that submits jobs, cancels and purges every third one, and sends checkpoints.
+    """A client that submits jobs, cancels and purges every third one and the oldest of more than MOST, and sends checkpoints.
 
     It notes the jobs whose close was acknowledged.
     """
@@ -187,7 +191,7 @@ class Load(threading.Thread):
     def __init__(self, module, number):
         super().__init__()
         self.client, self.number, self.ends = module, number, threading.Event()
-        self.closed, self.gone, self.fault = set(), set(), None
+        self.closed, self.gone, self.kept, self.fault = set(), set(), [], None
 
     def run(self):
         try:
@@ -205,9 +209,11 @@ class Load(threading.Thread):
         assert self.client.reply().startswith("ok")
         assert self.client.ask(f"close {job} page\n").startswith("ok")
         self.closed.add(job)
-        if count % 3 == 0:
-            self.gone.add(job)
-            assert self.client.ask(f"cancel {job}\n") == "ok" and self.client.ask(f"purge {job}\n") == "ok"
+        self.kept.append(job)
+        if count % 3 == 0 or len(self.kept) > MOST:
+            gone = self.kept.pop(-1 if count % 3 == 0 else 0)
+            self.gone.add(gone)
+            assert self.client.ask(f"cancel {gone}\n") == "ok" and self.client.ask(f"purge {gone}\n") == "ok"
         if count % (7 + self.number) == 0:
             assert self.client.ask("checkpoint\n") == "ok"
 

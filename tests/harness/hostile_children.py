@@ -254,13 +254,13 @@ if stay():
             pass
         globals()["lock" + name.replace("/", "_").replace(".", "_").replace("-", "_")] = lock
     report("ready")
-    for turn in range(3000):
+    for turn in range(15000):
         for value in [value for name, value in globals().items() if name.startswith("lock_")]:
             try:
                 fcntl.flock(value, fcntl.LOCK_EX | fcntl.LOCK_NB)
             except OSError:
                 pass
-        time.sleep(0.005)
+        time.sleep(0.001)
     os._exit(0)
 time.sleep(30)
 """, restart_fails, ends=False, neighbour=False),
