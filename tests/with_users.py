@@ -27,7 +27,7 @@ ROOT = os.path.dirname(HERE)
 USERS = [f"cegmandi-w{number}" for number in range(1, 5)]
 # The backends that require root or the devices of the spooler's user (docs/STOCK.md).
 OF_ROOT = ("cups-brf", "lpd", "parallel", "serial")
-PROGRAMS = ("spool_service", "spool_shell", "spool_tools")
+PROGRAMS = ("spool_service", "spool_shell", "spool_tools", "spool_front")
 
 # Everybody may search the folders above the spool, and write the files of the printers, which are next to it.
 OPEN = """#!/usr/bin/env python3
@@ -100,7 +100,7 @@ def tree(folder, programs, kinds):
     shutil.copy(os.path.join(ROOT, "docs/STOCK.md"), os.path.join(folder, "docs"))
     out = {name: os.path.join(folder, "crates", name, "out", name) for name in PROGRAMS}
     words = {"USERS": ",".join(USERS), "HERE": os.path.join(folder, "tests"), "SERVICE": out["spool_service"], "KINDS": kinds, "OF_ROOT": OF_ROOT}
-    for name, text in (("spool_service", SERVICE), ("spool_shell", SHELL), ("spool_tools", None)):
+    for name, text in (("spool_service", SERVICE), ("spool_shell", SHELL), ("spool_tools", None), ("spool_front", None)):
         os.makedirs(os.path.dirname(out[name]))
         if text is None:
             shutil.copy(programs[name], out[name])
