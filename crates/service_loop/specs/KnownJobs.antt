@@ -1,12 +1,14 @@
--- The tokens that a command concerns.
-use Rattle.std.specs.Prelude.{ℕ, ⊤, cond, is_some, nat_eq, List, Option, None, Some}
+-- The tokens that a command concerns, and the jobs whose clients have disconnected.
+use Rattle.std.specs.Prelude.{ℕ, ⊤, cond, is_some, nat_eq, List, [], ◌∷◌, Option, None, Some}
 use Rattle.std.specs.Cmp.Lexicographic.{pointwise}
 use Rattle.std.specs.Option.{option_map}
 use Rattle.command_lines.specs.declared.command.Command.{Command}
 use Rattle.command_lines.specs.declared.command.Command.TheVariants as commands
 use Rattle.command_lines.specs.declared.reply.Answer.{Answer}
-use Rattle.command_lines.specs.declared.reply.Answer.TheVariants.{Created}
+use Rattle.command_lines.specs.declared.reply.Answer.TheVariants.{Created, Sent}
+use Rattle.service_texts.specs.LeftJobs.{touched, with_left}
 use Rattle.service_texts.specs.SubmissionTokens.{HasPlace, left_for, token_of}
+use Rattle.service_texts.specs.declared.left_jobs.LeftJob.{LeftJob}
 use Rattle.service_texts.specs.declared.tokens.Tokens.{Tokens}
 use Rattle.spool_types.specs.State.{State, Job, job_at}
 use Rattle.spool_types.specs.declared.event.Event.{Event}
@@ -64,3 +66,15 @@ event_sent_to event = None
 abbrev pub job_sent_to : Command → Option ℕ
 job_sent_to (commands.Apply event) = event_sent_to event
 job_sent_to command = None
+
+-- ## The jobs whose clients have disconnected
+
+-- The client of these jobs disconnected at this moment.
+abbrev pub all_noted : State → ℕ → List LeftJob → List ℕ → List LeftJob
+all_noted s since left [] = left
+all_noted s since left (job ∷ jobs) = all_noted s since (with_left s left job since) jobs
+
+-- If an answer reports that bytes were sent to a job, its age restarts at this moment.
+abbrev pub left_after : ℕ → Option ℕ → Answer → List LeftJob → List LeftJob
+left_after now (Some job) (Sent size) left = touched left job now
+left_after now job answer left = left

@@ -19,3 +19,5 @@ pub mod StagedRoom
 pub mod TakenRoom
 pub mod RetryClocks
 pub mod AbandonedJobs
+pub mod StagesAtRest
+pub mod TurnMarks

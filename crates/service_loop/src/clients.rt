@@ -302,7 +302,8 @@ impl<L: Connection> Clients<L> {
         let listens = one_if(client.is_listener());
         let sending = client.send(shared, now);
         if sending.disconnect.is_some() {
-            shared
+            // A job that is not noted, since memory ran out, is not canceled before the service is started again.
+            let _ = shared
                 .known
                 .leave(shared.engine.table(), client.made_jobs());
             self.slots.try_remove(key);
@@ -335,7 +336,8 @@ impl<L: Connection> Clients<L> {
         let turn = client.serve(shared, listening, now);
         self.listeners = others;
         if turn.disconnect.is_some() {
-            shared
+            // A job that is not noted, since memory ran out, is not canceled before the service is started again.
+            let _ = shared
                 .known
                 .leave(shared.engine.table(), client.made_jobs());
             self.slots.try_remove(key);

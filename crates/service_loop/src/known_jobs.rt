@@ -1,11 +1,11 @@
 //! Jobs by token, and incoming jobs whose clients have disconnected.
-ghost use Rattle.std.specs.Prelude.{◌≡◌, ℕ, List, None, Some, IfOk, IfSome};
+ghost use Rattle.std.specs.Prelude.{◌≡◌, ℕ, List, None, Some, IfOk, IfSome, OnOk};
 ghost use Rattle.std.specs.FinMap as finite;
 ghost use Rattle.std.specs.Option.{option_map};
 ghost use Rattle.spool_types.specs.State.{job_at};
-ghost use Rattle.service_texts.specs.LeftJobs.{all_left};
+ghost use Rattle.service_texts.specs.LeftJobs.{all_left, still_incoming};
 ghost use Rattle.service_texts.specs.SubmissionTokens.{HasPlace, HasSame, all_noted_for, entry_for};
-ghost use Rattle.service_loop.specs.KnownJobs.{HasRoom, created_for, created_token, event_sent_to, event_token, expected_token, job_sent_to, purged_for, purged_token, settled_for};
+ghost use Rattle.service_loop.specs.KnownJobs.{HasRoom, all_noted, created_for, created_token, event_sent_to, event_token, expected_token, job_sent_to, left_after, purged_for, purged_token, settled_for};
 
 use command_lines::{Answer, Command};
 use job_table::Table;
@@ -44,20 +44,20 @@ impl KnownJobs {
         })
     }
 
-    /// Notes that the client that created these jobs has disconnected. If memory runs out, a job is not noted.
-    pub fn leave(&mut self, table: &Table, jobs: &[JobId])
-        ensures { self.new ≡ record self.old { left = self.new.left } }
+    /// Notes that the client that created these jobs has disconnected. If memory runs out, some of them are not noted.
+    pub fn leave(&mut self, table: &Table, jobs: &[JobId]) -> Result<(), AllocError>
+        ensures noted { OnOk result (still_incoming table.now.state self.new.left ≡ all_noted table.now.state self.old.now (still_incoming table.now.state self.old.left) jobs.now) }
+        ensures kept { self.new ≡ record self.old { left = self.new.left } }
     {
         for job in jobs {
-            if self.left.note(table, *job, self.now).is_err() {
-                return;
-            }
+            self.left.note(table, *job, self.now)?;
         }
+        Ok(())
     }
 
     /// Notes that bytes of a job were sent, if the answer to a send reports it.
     pub fn note_sent(&mut self, job: Option<JobId>, answer: &Answer)
-        ensures { self.new ≡ record self.old { left = self.new.left } }
+        ensures { self.new ≡ record self.old { left = left_after self.old.now job answer.now self.old.left } }
     {
         if let (Some(job), Answer::Sent(_)) = (job, answer) {
             self.left.touch(job, self.now);
@@ -74,7 +74,7 @@ impl KnownJobs {
         ensures token { IfOk result (λ expected. option_map (λ e. (e.token, e.purged)) expected ≡ expected_token table.now.state command.now) }
         ensures place { IfOk result (λ expected. IfSome expected (λ e. HasRoom self.new.tokens e.token e.purged)) }
         ensures same { HasSame self.old.tokens self.new.tokens }
-        ensures left { self.new.left ≡ self.old.left }
+        ensures kept { self.new ≡ record self.old { tokens = self.new.tokens } }
     {
         match command {
             Command::Create(creation) => self.expect_created(&creation.options),
@@ -97,7 +97,7 @@ impl KnownJobs {
         ensures token { IfOk result (λ expected. option_map (λ e. (e.token, e.purged)) expected ≡ created_token options.now) }
         ensures place { IfOk result (λ expected. IfSome expected (λ e. HasRoom self.new.tokens e.token e.purged)) }
         ensures same { HasSame self.old.tokens self.new.tokens }
-        ensures left { self.new.left ≡ self.old.left }
+        ensures kept { self.new ≡ record self.old { tokens = self.new.tokens } }
     {
         let Some(token) = token_of(self.alloc, options)? else {
             return Ok(None);
@@ -129,7 +129,7 @@ impl KnownJobs {
     pub fn settle(&mut self, expected: &ExpectedToken, answer: &Answer, table: &Table)
         ensures entries { HasRoom self.old.tokens expected.now.token expected.now.purged → (token : List ℕ) →
             entry_for self.new.tokens token ≡ settled_for table.now.state answer.now token expected.now.token expected.now.purged (entry_for self.old.tokens token) }
-        ensures left { self.new.left ≡ self.old.left }
+        ensures kept { self.new ≡ record self.old { tokens = self.new.tokens } }
     {
         match expected.purged {
             Some(job) => self.settle_purged(&expected.token, job, table),
@@ -140,7 +140,7 @@ impl KnownJobs {
     // The same for a job to be created. If it was not, the place of its token is removed.
     fn settle_created(&mut self, token: &TokenText, answer: &Answer)
         ensures entries { HasPlace self.old.tokens token.now → (other : List ℕ) → entry_for self.new.tokens other ≡ created_for answer.now other token.now (entry_for self.old.tokens other) }
-        ensures left { self.new.left ≡ self.old.left }
+        ensures kept { self.new ≡ record self.old { tokens = self.new.tokens } }
     {
         match answer {
             Answer::Created(job) => self.tokens.note(token, *job),
@@ -151,7 +151,7 @@ impl KnownJobs {
     // The same for a purge. A job that is still in the table was not purged.
     fn settle_purged(&mut self, token: &TokenText, job: JobId, table: &Table)
         ensures entries { (other : List ℕ) → entry_for self.new.tokens other ≡ purged_for table.now.state other token.now job (entry_for self.old.tokens other) }
-        ensures left { self.new.left ≡ self.old.left }
+        ensures kept { self.new ≡ record self.old { tokens = self.new.tokens } }
     {
         match table.job(job) {
             Some(_) => self.tokens.tidy(token),

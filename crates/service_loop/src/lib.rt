@@ -131,7 +131,7 @@
 //! - **Waits.** The wait of a turn is at most the time until the next check of the children, by how long the last child ran, and until
 //!   maintenance has something to do; and at most a second while the journal is full, an end was requested, or a client could not be
 //!   accepted (`wait` of `Service::pause`, `loop_wait`; `lasted` of `Service::note_times`). A minute after it was requested, an end is
-//!   reached (`IsEndedBy`). A fault of the device ends the service in the turn that met it (`alive` of `Service::turn`).
+//!   reached (`IsEndedBy`), and before that only when no job is processing and no child runs (`quiet` of `Service::is_over`, `IsQuiet`). A fault of the device ends the service in the turn that met it (`alive` of `Service::turn`).
 //! - **Progress.** After the turns each remaining client was sent all that its connection takes: nothing is unread, or its connection is
 //!   marked as taking nothing now (`given` of `Clients::serve`, `IsGiven`). Unless the turn reports that there is more to do at once,
 //!   nothing can be done for the client now: it waits for a job's end, its connection is marked as having nothing to read now, or it left
@@ -159,7 +159,9 @@
 //!   purged job is removed from the list and no longer counted (`crossed`, `counted` of `Maintenance::purge`). Each purge is a command that
 //!   the engine answers (`purged`).
 //! - **Abandoned jobs.** An incoming job whose client has disconnected, and to which nothing was sent for `Keeping::incoming`, is canceled,
-//!   one a turn (`found`, `canceled` of `Maintenance::cancel_abandoned`). Such jobs are checked at most once a second (`next`), and the wait
+//!   one a turn (`found`, `canceled` of `Maintenance::cancel_abandoned`). The jobs of a client that disconnects are noted with the moment of
+//!   the turn, unless memory runs out (`noted` of `KnownJobs::leave`), and bytes that are sent to a noted job restart its age (`left` of
+//!   `Shared::execute`). Such jobs are checked at most once a second (`next`), and the wait
 //!   of the loop ends in time for it (`wait` of `Service::pause`).
 //! - **Retries.** Before a tick that may see the end of a last stage of a queue with an interval, or start one, the engine is sent the time
 //!   if the table's moment is earlier (`sent` of `Maintenance::refresh_time`, `may_retry`). Otherwise nothing is sent (`idle`).
@@ -176,7 +178,11 @@
 //! - **Children to end.** A child that must end is noted by its process group, once (`group` of `Endings::ask`, `with_ending`). It is sent
 //!   SIGTERM, and SIGKILL no sooner than 10 s later (`signal_of`). The children still noted are those noted before whose job still runs a
 //!   child in that group (`kept` of `Endings::act`, `is_current`). If [`Signals`] reports the signals that it sends, they were sent their
-//!   due signals, and nothing else was sent (`sent`, `due`).
+//!   due signals, and nothing else was sent (`sent`, `due`). Each turn of the clients ends so (`ended` of `Service::serve_clients`).
+//! - **Starts.** A tick may start as many children as there are queues with a processing job whose child does not run or, unless the
+//!   service must end, with a next job (`tick` of `Shared::tick`, `limits_of`).
+//! - **Marks.** After a command or a tick that did something maintenance checks again, and after one whose event did not fit it makes a
+//!   checkpoint (`kept` of `Shared::execute` and of `Shared::tick`, `TurnMarks`).
 //!
 //! # Not proved
 //!
@@ -190,10 +196,8 @@
 //!   is changed.
 //! - No clause states that a turn that leaves more to do has done something, or that a new client gets a slot. So these bodies meet their
 //!   clauses: a `serve_clients` that serves no client and reports that there is more; a `wait` that fails at once; a `note_readiness`,
-//!   `let_in`, `handle_turns`, `make_checkpoint`, `note_moment`, `log_events` or `notify_changes` that does nothing; an `end_children` of
-//!   `Shared` that does nothing.
-//! - No clause states which marks a command or a tick leaves (`full`, `active`, `watched` of `Shared`), how many starts a tick is given
-//!   (`starts`).
+//!   `let_in`, `handle_turns`, `make_checkpoint`, `note_moment`, `log_events` or `notify_changes` that does nothing.
+//! - The clients do not state that they note the jobs of a client that leaves (`Clients::serve`); `tests/test_service_incoming.py` shows it.
 //! - No clause states what sockets, clocks and signals do, or which process group the system gives a child. From its start on the number of
 //!   the group is exact (`Children::group`, `group` of `Engine::group_of`).
 //! - The launcher of the program reports no orders, so the clauses on children say nothing of it. `watched_children_tests` has the laws for

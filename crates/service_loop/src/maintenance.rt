@@ -2,7 +2,7 @@
 //!
 //! The table is asked for the next due moment and the ended jobs to purge at most once a second, and only if something was done since
 //! ([`Maintenance::look`]). It finds both without a search of its jobs. So an idle service asks for nothing and sends no command.
-ghost use Rattle.std.specs.Prelude.{◌≡◌, ◌≢◌, ◌<◌, ◌≤◌, ◌-◌, ◌/◌, ◌%◌, ◌^◌, nat_eq, not, true, false, [], None, Some, cond, length, IfOk, IfSome, OnErr, OnOk, Ok};
+ghost use Rattle.std.specs.Prelude.{◌≡◌, ◌≢◌, ◌<◌, ◌≤◌, ◌-◌, ◌/◌, ◌%◌, ◌^◌, ◌&&◌, nat_eq, nat_lt, not, true, false, [], None, Some, cond, length, IfOk, IfSome, OnErr, OnOk, Ok};
 ghost use Rattle.spool_types.specs.Limits.{greatest_moment};
 ghost use Rattle.service_rules.specs.Checkpoints.{is_wanted, room_in};
 ghost use Rattle.service_rules.specs.Clocks.{clock_for_retry, clock_to_announce, clock_wait};
@@ -260,7 +260,8 @@ impl Maintenance {
 
     /// Whether listed jobs may have to be purged.
     pub fn has_some_to_purge(&self) -> bool
-        ensures { result ≡ false → HasNoneToPurge self.now }
+        ensures some { result ≡ (not (nat_eq (length self.now.listed.items) 0) && nat_lt self.now.keep self.now.ended) }
+        ensures none { result ≡ false → HasNoneToPurge self.now }
     {
         !self.listed.is_empty() && self.keep < self.ended
     }

@@ -1,11 +1,14 @@
 //! The loop: serves clients while children run.
-ghost use Rattle.std.specs.Prelude.{◌≡◌, ◌*◌, ◌-◌, ◌^◌, ◌||◌, ◌≤◌, ℕ, Option, is_some, length, min, nat_eq, true, false, None, IfOk, IfSome, OnErr, OnOk, Ok, Err};
+ghost use Rattle.std.specs.Prelude.{◌≡◌, ◌↔◌, ◌*◌, ◌-◌, ◌^◌, ◌||◌, ◌<◌, ◌≤◌, ℕ, List, Option, is_some, length, map, min, nat_eq, true, false, None, IfOk, IfSome, IsTrue, OnErr, OnOk, Ok, Err};
 ghost use Rattle.slab.specs.Slab.{get};
 ghost use Rattle.std.specs.Option.{option_map};
 ghost use Rattle.service_rules.specs.Bounds.{millisecond, most_clients};
 ghost use Rattle.print_rounds.specs.RoundTicks.{count_running};
 ghost use Rattle.service_rules.specs.ChildPolling.{earlier, next_look};
-ghost use Rattle.service_loop.specs.LoopWaits.{IsEndedBy, check_bound, clock_bound, lasted_after, loop_wait};
+ghost use Rattle.service_loop.specs.Endings.{Sends, signalled, signals_due};
+ghost use Rattle.service_loop.specs.declared.endings.Ending.{Ending};
+ghost use Rattle.service_loop.specs.LoopWaits.{IsEndedBy, check_bound, clock_bound, lasted_after, longest_end, loop_wait};
+ghost use Rattle.service_loop.specs.StagesAtRest.{IsQuiet};
 ghost use Rattle.service_loop.specs.ServiceCalls.{GoesWithin};
 ghost use Rattle.service_loop.specs.SlotHistories.{GoesByEvents};
 ghost use Rattle.service_loop.specs.ServiceTurns.{AreAtRest, HasNoneToPurge, HasTicked, HasTriedAtMost, HasTurned, IsTimely, KeepsTime, has_moved, has_new_client_waiting};
@@ -192,6 +195,8 @@ impl<'a, L: Log, D: Disk + Drop, C: Children + Drop, R: Listener> Service<'a, L,
         ensures calls { GoesWithin D.device self.old.shared.most self.old.shared.engine self.new.shared.most self.new.shared.engine }
         ensures history { GoesByEvents D.device R.Stream.view self.old.shared.engine self.old.clients.slots self.new.shared.engine self.new.clients.slots }
         ensures rests { result.more ≡ false → AreAtRest self.new.clients.slots }
+        // The children that must still end were sent the signals that were due.
+        ensures ended { (asked : List Ending) × (self.new.shared.endings.list.items ≡ map (signalled now) asked) × Sends (S.sent signals.old) (S.sent signals.new) (signals_due now asked) }
     {
         let turns = self.clients.serve(&mut self.shared, now);
         self.handle_turns(turns, now);
@@ -560,7 +565,10 @@ impl<'a, L: Log, D: Disk + Drop, C: Children + Drop, R: Listener> Service<'a, L,
 
     // Whether the requested end is reached.
     fn is_over(&self, now: u64) -> bool
-        ensures { IsEndedBy self.now.ends now result }
+        ensures late { IsEndedBy self.now.ends now result }
+        // Until then it is reached when no job is processing and no child runs.
+        ensures quiet { count_running self.now.shared.engine.run_state.slots ≤ self.now.shared.most → IfSome self.now.ends (λ asked. now - asked < longest_end →
+            IsTrue result ↔ IsQuiet self.now.shared.engine.run_state.slots self.now.shared.engine.run_state.spool.state) }
     {
         match self.ends {
             Some(asked) => LONGEST_END <= now.saturating_sub(asked) || self.shared.is_quiet(),

@@ -1,10 +1,15 @@
 //! State that clients and maintenance share: the engine, and the record of its changes.
-ghost use Rattle.std.specs.Prelude.{◌≡◌, ◌≤◌, ◌++◌, ℕ, true, false, codes, length, max, List, Option, [], IfOk, IfSome, OnErr, OnOk, Some, map};
+ghost use Rattle.std.specs.Prelude.{◌≡◌, ◌↔◌, ◌||◌, ◌≤◌, ◌++◌, ℕ, true, false, codes, length, max, nat_lt, List, Option, [], IfOk, IfSome, IsTrue, OnErr, OnOk, Some, map};
+ghost use Rattle.std.specs.List.{filter};
 ghost use Rattle.std.specs.FinMap as finite;
 ghost use Rattle.std.specs.Option.{option_map};
 ghost use Rattle.service_texts.specs.LeftJobs.{has_left};
 ghost use Rattle.service_texts.specs.SubmissionTokens.{entry_for};
-ghost use Rattle.service_loop.specs.KnownJobs.{HasRoom, entry_after, expected_token};
+ghost use Rattle.service_loop.specs.KnownJobs.{HasRoom, entry_after, expected_token, job_sent_to, left_after};
+ghost use Rattle.service_loop.specs.Endings.{Sends, is_current, signalled, signals_due};
+ghost use Rattle.service_loop.specs.StagesAtRest.{IsQuiet, can_start, limits_of, resting, rests, startable, starts_of};
+ghost use Rattle.service_loop.specs.TurnMarks.{has_done, has_met_full, is_full};
+ghost use Rattle.print_rounds.specs.StageChecks.{runs};
 ghost use Rattle.service_texts.specs.Notices.{change_text, noted_since, watch_text};
 ghost use Rattle.spool_engine.specs.Script.{closing_as, closing_line};
 ghost use Rattle.service_loop.specs.ClientActions.{closed_answer};
@@ -118,7 +123,18 @@ impl<D: Disk, C: Children> Shared<D, C> {
         ensures recorded { IfOk result (λ answer. HasRecordedCommand self.old.engine.run_state.spool.state self.new.engine.run_state.spool.state command answer self.old.records self.new.records) }
         ensures known { IfOk result (λ answer. (token : List ℕ) → entry_for self.new.known.tokens token
             ≡ entry_after self.new.engine.run_state.spool.state (expected_token self.old.engine.run_state.spool.state command) answer token (entry_for self.old.known.tokens token)) }
+        // If bytes were sent to a job that its client had left, the job counts as left at this moment.
+        ensures left { IfOk result (λ answer. self.new.known ≡ record self.old.known { tokens = self.new.known.tokens; left = left_after self.old.known.now (job_sent_to command) answer self.old.known.left }) }
         ensures err { OnErr result ((self.new.engine ≡ self.old.engine) × (self.new.records ≡ self.old.records)) }
+        // Maintenance checks again, and makes a checkpoint if the event did not fit.
+        ensures kept { IfOk result (λ answer. self.new ≡ record self.old {
+          engine = self.new.engine;
+          records = self.new.records;
+          known = self.new.known;
+          settled_room = self.new.settled_room;
+          active = true;
+          full = self.old.full || is_full answer;
+        }) }
         // A checkpoint makes room. The bytes staged since are counted from there.
         ensures room { OnOk result (self.new.settled_room ≡ max self.old.settled_room self.new.engine.run_state.spool.room) }
         ensures calls { GoesWithin D.device self.old.most self.old.engine self.new.most self.new.engine }
@@ -187,8 +203,8 @@ impl<D: Disk, C: Children> Shared<D, C> {
 
     /// Settles the staged events, and runs one tick. No more children run after it than may at once.
     pub fn tick(&mut self) -> Result<Round, RoundFault>
-        ensures tick { (tried : List Event) × (starts : ℕ) × IsStagingTick (setting D.device self.old.engine.mime self.old.engine.place) self.old.engine.run_state
-            (record { limits = Some (record { most = self.old.most; starts = starts }); next = self.new.engine.run_state; result = result; tried = tried }) }
+        ensures tick { (tried : List Event) × IsStagingTick (setting D.device self.old.engine.mime self.old.engine.place) self.old.engine.run_state
+            (record { limits = Some (limits_of self.old); next = self.new.engine.run_state; result = result; tried = tried }) }
         // Exactly the accepted events are recorded.
         ensures recorded { (mid : RunState D) × SettlesTo D.device self.old.engine.run_state mid
             × (events : List Event) × (limits : Option LimitsOf) × IsTickThat (λ es. es ≡ events) D.device self.old.engine.place limits mid mid.spool.dead self.new.engine.run_state result
@@ -196,6 +212,16 @@ impl<D: Disk, C: Children> Shared<D, C> {
         // A queue that was left out is before each queue that was not in the next tick.
         ensures turn { (mid : RunState D) × SettlesTo D.device self.old.engine.run_state mid
             × (limits : Option LimitsOf) × IsTickInTurn self.old.engine.turn self.new.engine.turn D.device self.old.engine.place limits mid mid.spool.dead self.new.engine.run_state result }
+        // Maintenance checks again unless nothing was done, and makes a checkpoint if an event did not fit.
+        ensures kept { self.new ≡ record self.old {
+          engine = self.new.engine;
+          records = self.new.records;
+          happened = self.new.happened;
+          started = self.new.started;
+          full = self.old.full || has_met_full result;
+          active = self.old.active || has_done result;
+        } }
+        ensures started { IfOk result (λ round. self.new.started ≡ (self.old.started || nat_lt 0 round.started)) }
         ensures most { self.new.most ≡ self.old.most }
         ensures calls { GoesWithin D.device self.old.most self.old.engine self.new.most self.new.engine }
     {
@@ -208,16 +234,8 @@ impl<D: Disk, C: Children> Shared<D, C> {
         self.records
             .record_tick(&self.happened, self.engine.table());
         self.started = self.started | has_started(&counts, before < self.running());
-        match counts {
-            Ok(
-                Round {
-                    started: 0,
-                    finished: 0,
-                },
-            ) => {}
-            Err(RoundFault::Full) => self.full = true,
-            _ => self.active = true,
-        }
+        self.full = self.full | has_met_full(&counts);
+        self.active = self.active | has_done(&counts);
         counts
     }
 
@@ -257,30 +275,43 @@ impl<D: Disk, C: Children> Shared<D, C> {
 
     /// Sends the signals that are due now to the children that must end.
     pub fn end_children<S: Signals>(&mut self, signals: &mut S, now: u64)
-        ensures { self.new ≡ record self.old { endings = self.new.endings } }
+        // Children that have ended are forgotten.
+        ensures list { self.new.endings.list.items ≡ map (signalled now) (filter (is_current C.groups self.old.engine.run_state.slots) self.old.endings.list.items) }
+        ensures due { Sends (S.sent signals.old) (S.sent signals.new) (signals_due now (filter (is_current C.groups self.old.engine.run_state.slots) self.old.endings.list.items)) }
+        ensures kept { self.new ≡ record self.old { endings = self.new.endings } }
     {
         self.endings.act(&self.engine, signals, now);
     }
 
     /// The number of processing jobs without a running child.
     pub fn at_rest(&self) -> usize
-        ensures { result ≤ length (finite.values self.now.engine.run_state.spool.state.queues) }
+        ensures count { result ≡ resting self.now.engine.run_state.slots self.now.engine.run_state.spool.state }
+        ensures few { result ≤ length (finite.values self.now.engine.run_state.spool.state.queues) }
     {
-        let table = self.engine.table();
         let mut count = 0;
-        for queue in table.queues() {
-            if let Some(job) = table.processing(&queue.name) {
-                if !self.engine.is_running(job) {
-                    count += 1;
-                }
+        for queue in self.engine.table().queues() {
+            if self.rests(&queue.name) {
+                count += 1;
             }
         }
         count
     }
 
+    // Whether a queue has a processing job without a running child.
+    fn rests(&self, queue: &QueueName) -> bool
+        ensures { result ≡ rests self.now.engine.run_state.slots (busy_of self.now.engine.run_state.spool.state queue.now) }
+    {
+        match self.engine.table().processing(queue) {
+            Some(job) => !runs(&self.engine, job),
+            None => false,
+        }
+    }
+
     // How many children the next tick may start: those of the stages at rest and, unless the service must end, of the next job of each queue.
     // If none can be started, the children are not asked for their room, which takes a while.
-    fn starts(&self) -> usize {
+    fn starts(&self) -> usize
+        ensures { result ≡ starts_of self.now.ends self.now.engine.run_state.slots self.now.engine.run_state.spool.state }
+    {
         if self.ends {
             self.at_rest()
         } else {
@@ -289,19 +320,27 @@ impl<D: Disk, C: Children> Shared<D, C> {
     }
 
     // The number of queues with a processing job at rest or, if none is processing, with a next job.
-    fn startable(&self) -> usize {
-        let table = self.engine.table();
+    fn startable(&self) -> usize
+        ensures { result ≡ startable self.now.engine.run_state.slots self.now.engine.run_state.spool.state }
+    {
         let mut count = 0;
-        for queue in table.queues() {
-            let starts = match table.processing(&queue.name) {
-                Some(job) => !self.engine.is_running(job),
-                None => table.next(&queue.name).is_some(),
-            };
-            if starts {
+        for queue in self.engine.table().queues() {
+            if self.can_start(&queue.name) {
                 count += 1;
             }
         }
         count
+    }
+
+    // Whether a queue has a processing job at rest or, if none is processing, a next job.
+    fn can_start(&self, queue: &QueueName) -> bool
+        ensures { result ≡ can_start self.now.engine.run_state.slots self.now.engine.run_state.spool.state queue.now (busy_of self.now.engine.run_state.spool.state queue.now) }
+    {
+        let table = self.engine.table();
+        match table.processing(queue) {
+            Some(job) => !runs(&self.engine, job),
+            None => table.next(queue).is_some(),
+        }
     }
 
     /// Whether a stage runs or is started whose end may lead to a retry after an interval.
@@ -338,9 +377,18 @@ impl<D: Disk, C: Children> Shared<D, C> {
     }
 
     /// Whether no job is processing and no child runs.
-    pub fn is_quiet(&self) -> bool {
+    pub fn is_quiet(&self) -> bool
+        ensures { count_running self.now.engine.run_state.slots ≤ self.now.most → IsTrue result ↔ IsQuiet self.now.engine.run_state.slots self.now.engine.run_state.spool.state }
+    {
         self.running() == 0 && self.at_rest() == 0
     }
+}
+
+// Whether the child of a job runs.
+fn runs<D: Disk, C: Children>(engine: &StagingEngine<D, C>, job: JobId) -> bool
+    ensures { result ≡ runs engine.now.run_state.slots job }
+{
+    engine.is_running(job)
 }
 
 // Whether the processing job of a queue is in its last stage or, if none is processing, the next job is started.
@@ -375,7 +423,9 @@ fn push_watch(text: &mut Vec<u8>, lines: &[u8], last: u64) -> Result<(), AllocEr
 }
 
 // Whether the event of a command did not fit into the journal.
-fn is_full(answer: &Answer) -> bool {
+fn is_full(answer: &Answer) -> bool
+    ensures { result ≡ is_full answer.now }
+{
     matches!(answer, Answer::Full)
 }
 
@@ -398,6 +448,7 @@ fn settle_token(
 )
     ensures known { IfSome token.now (λ e. HasRoom known.old.tokens e.token e.purged) → (other : List ℕ) → entry_for known.new.tokens other
         ≡ entry_after table.now.state (option_map (λ e. (e.token, e.purged)) token.now) answer.now other (entry_for known.old.tokens other) }
+    ensures kept { known.new ≡ record known.old { tokens = known.new.tokens } }
 {
     if let Some(token) = token {
         known.settle(token, answer, table);
@@ -414,10 +465,33 @@ fn execute<D: Disk, C: Children>(engine: &mut StagingEngine<D, C>, command: Comm
     engine.execute(command)
 }
 
-// Whether a tick started a child. After a fault `more` tells it: whether more children run than before.
-fn has_started(counts: &Result<Round, RoundFault>, more: bool) -> bool {
+// Whether a tick started a child. After a fault `more` states it: whether more children run than before.
+fn has_started(counts: &Result<Round, RoundFault>, more: bool) -> bool
+    ensures ok { IfOk counts.now (λ round. result ≡ nat_lt 0 round.started) }
+    ensures err { OnErr counts.now (result ≡ more) }
+{
     match counts {
         Ok(round) => 0 < round.started,
         Err(_) => more,
+    }
+}
+
+// Whether an event of a tick did not fit into the journal.
+fn has_met_full(counts: &Result<Round, RoundFault>) -> bool
+    ensures { result ≡ has_met_full counts.now }
+{
+    match counts {
+        Ok(_) => false,
+        Err(fault) => matches!(fault, RoundFault::Full),
+    }
+}
+
+// Whether a tick started or finished a stage, or failed in another way.
+fn has_done(counts: &Result<Round, RoundFault>) -> bool
+    ensures { result ≡ has_done counts.now }
+{
+    match counts {
+        Ok(round) => 0 < round.started || 0 < round.finished,
+        Err(fault) => !matches!(fault, RoundFault::Full),
     }
 }

@@ -7,7 +7,7 @@ pub returns-in_ok-add_answer-in-Round-clause-done : goal.returns-in_ok-add_answe
 returns-in_ok-add_answer-in-Round-clause-done g c =
     let ticked = c.tick-counts.ensures in
     answered_by_tick _ _ _ _ _ _ c.args.command c.tick-counts.result _ (record { limits = _; next = _; result = c.tick-counts.result; tried = ticked.tick.0 }) refl refl ticked.calls.mime ticked.calls.place
-    (is_round_one c.args.command c.in-Round.is) c.requires.role ticked.tick.2 (c.round_answer.ensures c.table.result.now.state) c.in_ok-add_answer-in-Round.ensures.added c.requires.waits c.in_ok-add_answer-in-Round.ensures.status
+    (is_round_one c.args.command c.in-Round.is) c.requires.role ticked.tick.1 (c.round_answer.ensures c.table.result.now.state) c.in_ok-add_answer-in-Round.ensures.added c.requires.waits c.in_ok-add_answer-in-Round.ensures.status
 
 pub returns-in_ok-note_created-in_default-clause-done : goal.returns-in_ok-note_created-in_default-clause-done
 returns-in_ok-note_created-in_default-clause-done g c =

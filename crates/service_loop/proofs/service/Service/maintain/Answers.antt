@@ -38,6 +38,6 @@ returns-else-made-clause-idle g c = λ none.
     let (told, purged, canceled, made) = c.if-made.false in
     let left : c.has_some_to_purge-left.result ≡ false = cc in
     let same = c.announce_time.ensures.silent (c.in_ok-told.was ∙ ap Ok told) ∙ c.cancel_abandoned.ensures.silent (c.in_ok-canceled.was ∙ ap Ok canceled) ∙ (c.purge.ensures.none (c.in_ok-purged.was ∙ ap Ok purged)).1 in (
-      c.has_some_to_purge-left.ensures left,
+      c.has_some_to_purge-left.ensures.none left,
       subst (λ e. HasTriedAtMost g.D.Disk.device e c.make_checkpoint.new.self.shared.engine) same (c.make_checkpoint.ensures.tried (c.in_ok-made.was ∙ ap Ok made)),
     )

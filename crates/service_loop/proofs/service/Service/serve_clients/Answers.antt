@@ -9,9 +9,12 @@ returns-clause-history g c =
     let served = c.serve-turns.ensures.turns in
     history_kept _ _ _ _ _ _ _ _
     (history_then _ _ _ _ served.between served.mid _ _ (history_turns _ _ _ _ 1000 _ _ served.requests) (history_turns _ _ _ _ 1000 _ _ served.replies))
-    (ap (λ s. s.engine) c.end_children.ensures ∙ c.handle_turns.ensures.engine)
+    (ap (λ s. s.engine) c.end_children.ensures.kept ∙ c.handle_turns.ensures.engine)
     (ap (λ s. s.slots) c.handle_turns.ensures.clients)
 
 pub returns-clause-calls : goal.returns-clause-calls
 returns-clause-calls g c =
-    within_kept g.D.Disk.device _ _ _ _ _ _ c.serve-turns.ensures.calls (ap (λ s. s.engine) c.end_children.ensures ∙ c.handle_turns.ensures.engine) (ap (λ s. s.most) c.end_children.ensures ∙ c.handle_turns.ensures.most)
+    within_kept g.D.Disk.device _ _ _ _ _ _ c.serve-turns.ensures.calls (ap (λ s. s.engine) c.end_children.ensures.kept ∙ c.handle_turns.ensures.engine) (ap (λ s. s.most) c.end_children.ensures.kept ∙ c.handle_turns.ensures.most)
+
+pub returns-clause-ended : goal.returns-clause-ended
+returns-clause-ended g c = (_, c.end_children.ensures.list, c.end_children.ensures.due)

@@ -1,6 +1,9 @@
--- At most one job of each queue is processing.
-use Rattle.std.proofs.Common.{◌≤◌}
+-- Of the queues so far, those with a processing job at rest are counted.
+use Rattle.std.proofs.Common.{◌≡◌, ◌≤◌, take}
+use Rattle.std.specs.List.{count_by}
+use Rattle.service_loop.specs.StagesAtRest.{rests_in}
 use Rattle.service_loop.proofs.shared.Shared.at_rest.Given as goal
 
 abbrev pub invariant-loop-queue : goal.invariant-loop-queue
-invariant-loop-queue g l = l.count ≤ l.queue-index
+invariant-loop-queue g l =
+    (l.count ≤ l.queue-index) × (l.count ≡ count_by (rests_in l.self.engine.run_state.slots l.self.engine.run_state.spool.state) (take l.queue-index l.queue-items))
