@@ -5,11 +5,11 @@ use Rattle.std.specs.List.{count_by}
 use Rattle.child_pipeline.specs.StageSlots.{Slots}
 use Rattle.job_table.specs.Attempts.{busy_of, next_of}
 use Rattle.print_rounds.specs.RoundTicks.{count_running}
+use Rattle.print_rounds.specs.RunStates.{RunState}
 use Rattle.print_rounds.specs.StageChecks.{runs}
 use Rattle.print_rounds.specs.declared.start_room.TickLimits.{TickLimits}
 use Rattle.spool_types.specs.State.{State}
 use Rattle.spool_types.specs.declared.rows.QueueRow.{QueueRow}
-use Rattle.service_loop.specs.declared.shared.Shared.{Shared}
 
 -- A processing job has no running child.
 abbrev pub rests : Slots → Option ℕ → Bool
@@ -40,8 +40,8 @@ abbrev pub starts_of : Bool → Slots → State → ℕ
 starts_of ends slots s = cond ends (resting slots s) (startable slots s)
 
 -- The limits of the next tick.
-abbrev pub limits_of : {D C : Type 0} → Shared D C → TickLimits
-limits_of shared = record { most = shared.most; starts = starts_of shared.ends shared.engine.run_state.slots shared.engine.run_state.spool.state }
+abbrev pub limits_of : {D : Type 0} → ℕ → Bool → RunState D → TickLimits
+limits_of most ends s = record { most = most; starts = starts_of ends s.slots s.spool.state }
 
 -- No child runs, and no processing job is at rest.
 abbrev pub IsQuiet : Slots → State → Type 0

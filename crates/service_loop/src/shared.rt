@@ -204,7 +204,7 @@ impl<D: Disk, C: Children> Shared<D, C> {
     /// Settles the staged events, and runs one tick. No more children run after it than may at once.
     pub fn tick(&mut self) -> Result<Round, RoundFault>
         ensures tick { (tried : List Event) × IsStagingTick (setting D.device self.old.engine.mime self.old.engine.place) self.old.engine.run_state
-            (record { limits = Some (limits_of self.old); next = self.new.engine.run_state; result = result; tried = tried }) }
+            (record { limits = Some (limits_of self.old.most self.old.ends self.old.engine.run_state); next = self.new.engine.run_state; result = result; tried = tried }) }
         // Exactly the accepted events are recorded.
         ensures recorded { (mid : RunState D) × SettlesTo D.device self.old.engine.run_state mid
             × (events : List Event) × (limits : Option LimitsOf) × IsTickThat (λ es. es ≡ events) D.device self.old.engine.place limits mid mid.spool.dead self.new.engine.run_state result
