@@ -15,7 +15,7 @@ use Rattle.spool_types.specs.State.{State}
 use Rattle.service_loop.specs.Progress.{news_for}
 use Rattle.service_loop.specs.AdmissionViews.{heard_of}
 use Rattle.service_loop.specs.ClientSlots.{HadTurn, HaveTurns, IsEntered, IsLetIn, IsNewcomer, IsSlotNotified, IsSlotSignaled, KeepsOthers, SlotHadTurn, unless_parted}
-use Rattle.service_loop.specs.ClientSteps.{AreClientSteps, ClientStep, IsClientStepBy, actions_of, changes, client_after, is_starved, signs, status_of, turns}
+use Rattle.service_loop.specs.ClientSteps.{AreClientSteps, ClientStep, IsClientStepBy, actions_of, changes, client_after, signs, status_of, turns}
 use Rattle.service_loop.specs.ConnectionViews.{ConnectionView}
 use Rattle.service_loop.specs.ServiceCalls.{GoesByCalls}
 use Rattle.service_loop.specs.SlotHistories.{AreLoopEvents, AreNotified, AreServedApart, GoesByEvents, HasAdmitted, HasBrought, HasServed, IsLoopEvent, IsServedApart, IsServedRight, LoopEvent, enters, gives_up, notifies, readies, takes_turn, works}

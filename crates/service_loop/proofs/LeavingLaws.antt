@@ -6,7 +6,7 @@ use Rattle.spool_disk.specs.Disk.{DiskView}
 use Rattle.spool_engine.specs.EngineRuns.{Engine}
 use Rattle.service_rules.specs.Bounds.{most_clients}
 use Rattle.service_loop.specs.AdmissionViews.{watches}
-use Rattle.service_loop.specs.ClientSlots.{HadTurn, IsSlotNotified, IsSlotSignaled, KeepsOthers, SlotHadTurn, unless_parted}
+use Rattle.service_loop.specs.ClientSlots.{HadTurn, IsSlotNotified, IsSlotSignaled, KeepsOthers, SlotHadTurn}
 use Rattle.service_loop.specs.ConnectionViews.{ConnectionView}
 use Rattle.service_loop.specs.Progress.{news_for}
 use Rattle.service_loop.specs.SlotHistories.{HasParted, IsCause, IsLoopEvent, LoopEvent, enters, gives_up, notifies, readies, takes_turn, works}

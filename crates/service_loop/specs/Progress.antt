@@ -1,5 +1,5 @@
 -- Progress of a client: its replies are written, and its text is read and served, unless its connection reports that this is impossible.
-use Rattle.std.specs.Prelude.{◌≡◌, ◌⊎◌, ℕ, ◌<◌, ◌≤◌, Bool, true, false, cond, nat_eq, nat_le, nat_lt, not, ◌&&◌, ◌||◌, List, [], ◌++◌, length, codes, Option, None, Some, Ok, IfSome, is_some}
+use Rattle.std.specs.Prelude.{◌≡◌, ◌⊎◌, ℕ, ◌<◌, ◌≤◌, Bool, true, false, cond, nat_eq, nat_le, nat_lt, not, ◌&&◌, ◌||◌, List, [], ◌++◌, length, codes, Option, Some, Ok, IfSome, is_some}
 use Rattle.std.specs.Io.KnownBytes.{Consumes, Keeps}
 use Rattle.spool_types.specs.State.{State}
 use Rattle.spool_core.specs.OpenSpools.{OpenSpool}

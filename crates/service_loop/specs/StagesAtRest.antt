@@ -1,5 +1,5 @@
 -- The stages that a tick can start, and the quiet that a requested end waits for.
-use Rattle.std.specs.Prelude.{◌≡◌, ℕ, Bool, true, false, cond, is_some, not, List, Option, None, Some}
+use Rattle.std.specs.Prelude.{◌≡◌, ℕ, Bool, false, cond, is_some, not, List, Option, None, Some}
 use Rattle.std.specs.FinMap as finite
 use Rattle.std.specs.List.{count_by}
 use Rattle.child_pipeline.specs.StageSlots.{Slots}

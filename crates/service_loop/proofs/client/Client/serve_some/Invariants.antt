@@ -1,5 +1,5 @@
 -- The actions so far.
-use Rattle.std.proofs.Common.{◌≡◌, ◌≤◌, true, false}
+use Rattle.std.proofs.Common.{◌≡◌, ◌≤◌, true}
 use Rattle.service_rules.specs.Listeners.{may_listen}
 use Rattle.service_loop.specs.ServiceCalls.{GoesWithin}
 use Rattle.service_loop.specs.ClientListening.{BeginsAtMost}

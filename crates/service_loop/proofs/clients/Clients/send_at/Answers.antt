@@ -1,5 +1,5 @@
 -- The client of this slot had its turn, and stays or leaves. The number of clients that listen is kept.
-use Rattle.std.proofs.Common.{◌≡◌, ◌≤◌, None, Some, ap, refl, sym, ◌∙◌, arith}
+use Rattle.std.proofs.Common.{◌≡◌, None, Some, ap, refl, sym, ◌∙◌, arith}
 use Rattle.slab.specs.Slab.{get, with_value}
 use Rattle.service_loop.specs.AdmissionViews.{is_listener}
 use Rattle.service_loop.specs.ClientListening.{is_listened, one_if}

@@ -1,9 +1,8 @@
 -- The slots had their turns in order, and each client that stays was sent what its connection takes.
-use Rattle.std.proofs.Common.{◌≡◌, ◌<◌, ◌≤◌, None, ◌||◌, ℕ, Bool, true, false, IfSome, ap, refl, sym, ◌∙◌, subst, arith}
+use Rattle.std.proofs.Common.{◌≡◌, ◌<◌, ◌≤◌, None, ℕ, false, IfSome, ap, refl, sym, ◌∙◌, subst, arith}
 use Rattle.slab.specs.Slab.{get}
 use Rattle.service_loop.specs.ClientSlots.{HasNoneNow, goes_on}
 use Rattle.service_loop.specs.Progress.{IsGiven}
-use Rattle.service_loop.specs.declared.client.Client.{Client}
 use Rattle.service_loop.proofs.CallLaws.{within_none, within_then}
 use Rattle.service_loop.proofs.PlaceLaws.{each_more, each_of_all, none_yet, one_more, rest_turns, untouched}
 use Rattle.service_loop.proofs.ProgressLaws.{neither}

@@ -1,7 +1,6 @@
 -- One tick is one call.
 use Rattle.std.proofs.Common.{ℕ, List, Some, map, refl, subst, ◌∙◌}
 use Rattle.spool_types.specs.State.{State}
-use Rattle.spool_types.specs.declared.event.Event.{Event}
 use Rattle.spool_engine.specs.EventSteps.{setting}
 use Rattle.spool_engine.specs.StagedSteps.{IsStagingTick}
 use Rattle.print_rounds.specs.Happenings.{happenings_of}
