@@ -11,9 +11,8 @@ It takes seconds and proves nothing. The last line is `none`, with status 0. Oth
 import re
 import sys
 from collections import Counter
-from pathlib import Path
 
-HERE = Path(__file__).resolve().parent.parent
+from harness.sources import CRATES, crates, HERE, judged
 
 # The wrong bodies that the promises name. Two more are refused by tests: a call that always runs out of memory, and a start that waits for
 # its child's end.
@@ -145,7 +144,7 @@ def edits_in(crate, folder):
 def faults():
     """The errors, a line each."""
     places, dear = Counter(), Counter()
-    for crate in sorted(it for it in (HERE / "crates").iterdir() if it.is_dir()):
+    for crate in (CRATES / name for name in crates()):
         for folder in (IN_GATE, ON_DEMAND):
             for edit in edits_in(crate, folder):
                 is_edit = edit.is_file() and NAME.fullmatch(edit.name)
@@ -164,11 +163,5 @@ def faults():
                 yield f"{name}: it is in {folder} of {counts[name]} crates, and must be in one"
 
 
-def main():
-    found = list(faults())
-    print("\n".join(found or ["none"]))
-    return 1 if found else 0
-
-
 if __name__ == "__main__":
-    sys.exit(main())
+    sys.exit(judged(faults()))

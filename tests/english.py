@@ -23,7 +23,7 @@ from bisect import bisect_right
 from concurrent.futures import ThreadPoolExecutor
 from pathlib import Path
 
-HERE = Path(__file__).resolve().parent.parent
+from harness.sources import crates, files_of, HERE, shown
 
 # The groups of texts, each with limits of its own, in the order of the columns of LIMITS.
 GROUPS = {
@@ -261,9 +261,8 @@ def tree_files():
     for folder in ("docs", "examples"):
         yield from sorted(it for it in (HERE / folder).rglob("*.md") if it.parent != HERE / "docs/reference")
     yield from sorted((HERE / "docs/man").glob("*.[1-9]"))
-    for crate in sorted((HERE / "crates").iterdir()):
-        yield from sorted(crate.glob("src/**/*.rt"))
-        yield from (it for part in ("specs", "proofs") for it in sorted(crate.glob(f"{part}/**/*.antt")))
+    for crate in crates():
+        yield from files_of(crate, "src", "specs", "proofs")
     for folder in ("tests", "bench"):
         yield from sorted((HERE / folder).rglob("*.py"))
 
@@ -299,10 +298,6 @@ class Counts:
 def limit(idiom, group):
     row = LIMITS.get(idiom)
     return row[list(GROUPS).index(group)] if row else 3 * DEBIAN.get(idiom, 0)
-
-
-def shown(path):
-    return path.relative_to(HERE) if path.is_relative_to(HERE) else path
 
 
 def print_lines(lines):

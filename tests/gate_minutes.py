@@ -20,7 +20,8 @@ import threading
 import time
 from itertools import zip_longest
 
-TOP = os.path.join(os.path.dirname(os.path.abspath(__file__)), "..")
+from harness.sources import CRATES, HERE, uses
+
 TICKS = os.sysconf("SC_CLK_TCK")
 PARTS = ("proof", "tests", "edits")
 
@@ -83,8 +84,7 @@ class Polls:
 
 def names_of_checks(crate):
     """The names of a crate's edits in the order in which `rt ci` tries them, and then that of the check without an edit."""
-    folder = os.path.join(TOP, "crates", crate, "must-fail")
-    edits = sorted(name.removesuffix(".edit") for name in os.listdir(folder) if name.endswith(".edit"))
+    edits = sorted(it.stem for it in (CRATES / crate / "must-fail").glob("*.edit"))
     return [*edits, "no edit"] if len(edits) > 1 else edits
 
 
@@ -117,12 +117,9 @@ def gate(folder, polls):
 
 def write(minutes):
     """Writes the minutes of each crate to build-times.txt, in the order of crates.txt."""
-    with open(os.path.join(TOP, "crates.txt"), encoding="utf-8") as file:
-        names = [line.partition(":")[0].split()[0] for line in file if ":" in line.partition("#")[0]]
     lines = ["# The processor minutes of each crate in the gate: of its proof, of its tests, and of its edits."]
-    lines += [f"{name:24}" + "".join(f"{minutes[name][part]:8.1f}" for part in PARTS) for name in names if name in minutes]
-    with open(os.path.join(TOP, "build-times.txt"), "w", encoding="utf-8") as file:
-        file.write("\n".join(lines) + "\n")
+    lines += [f"{name:24}" + "".join(f"{minutes[name][part]:8.1f}" for part in PARTS) for name in uses() if name in minutes]
+    (HERE / "build-times.txt").write_text("\n".join(lines) + "\n", encoding="utf-8")
 
 
 def main():
@@ -130,7 +127,7 @@ def main():
     most = float(words[0]) if words else 240.0
     polls, start = Polls(), time.monotonic()
     with tempfile.TemporaryDirectory() as folder:
-        subprocess.run(["git", "clone", "--quiet", TOP, os.path.join(folder, "clone")], check=True)
+        subprocess.run(["git", "clone", "--quiet", HERE, os.path.join(folder, "clone")], check=True)
         status, text, seconds = gate(folder, polls)
     print(f"{'crate':24}{'proof':>8}{'tests':>8}{'edits':>8}{'sum':>8}")
     minutes = polls.table()

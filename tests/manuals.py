@@ -23,11 +23,10 @@ import shutil
 import subprocess
 import sys
 from datetime import date
-from pathlib import Path
 
-HERE = Path(__file__).resolve().parent.parent
+from harness.sources import CRATES, HERE
+
 PAGES = HERE / "docs" / "man"
-CRATES = HERE / "crates"
 
 # Pages of other packages that the pages may refer to.
 OTHERS = {"filter(7)", "backend(7)", "mime.types(5)", "mime.convs(5)", "lp(1)", "lpr(1)", "lpstat(1)", "cancel(1)", "lpq(1)", "lprm(1)"}

@@ -28,8 +28,7 @@ from dataclasses import dataclass, field
 from pathlib import Path
 
 from edits_apply import fault_of, pairs_of
-
-HERE = Path(__file__).resolve().parent.parent
+from harness.sources import CRATES, HERE, uses
 
 REFUSED, WEAKLY, MISSED, BAD = "refused", "name/limit", "not refused", "bad"
 COLUMNS = (REFUSED, WEAKLY, MISSED, BAD)
@@ -113,16 +112,6 @@ def heads():
     return f"{'crate':20} {'edits':>5} {numbers} {'minutes':>8} {'together':>8} {'alone':>5}"
 
 
-def uses():
-    """The crates of the repository, each with those of the repository that it uses."""
-    found = {}
-    for line in (HERE / "crates.txt").read_text().splitlines():
-        name, colon, used = line.partition("#")[0].partition(":")
-        if colon:
-            found[name.split()[0]] = used.split()
-    return {name: [it for it in used if it in found] for name, used in found.items()}
-
-
 def with_lower(crate, lower):
     """The crate and all that it uses, directly or not."""
     found, left = set(), [crate]
@@ -142,7 +131,7 @@ def copy_to(room, crate, lower):
     lines = (HERE / "crates.txt").read_text().splitlines()
     (room / "crates.txt").write_text("".join(f"{it}\n" for it in lines if it.partition(":")[0] in copied))
     for it in copied:
-        subprocess.run(["cp", "-a", HERE / "crates" / it, room / "crates" / it], check=True)
+        subprocess.run(["cp", "-a", CRATES / it, room / "crates" / it], check=True)
         for edits in ("must-fail", "more-edits"):
             shutil.rmtree(room / "crates" / it / edits, ignore_errors=True)
 
@@ -315,11 +304,11 @@ def try_group(folder, group, result):
 def tried(crate, lower):
     """Tries the edits of a crate in a copy."""
     result, edits = Tried(crate), []
-    for path in sorted((HERE / "crates" / crate / "more-edits").iterdir()):
-        fault = fault_of(path, HERE / "crates" / crate)
+    for path in sorted((CRATES / crate / "more-edits").iterdir()):
+        fault = fault_of(path, CRATES / crate)
         result.kinds[path.name] = (BAD, f"BAD EDIT: {fault}")
         if not fault:
-            edits.append(read_edit(path, HERE / "crates" / crate))
+            edits.append(read_edit(path, CRATES / crate))
     with tempfile.TemporaryDirectory(prefix="more-edits-") as room:
         copy_to(Path(room), crate, lower)
         folder = Path(room) / "crates" / crate
@@ -356,7 +345,7 @@ def main():
     words.add_argument("crates", nargs="*", metavar="CRATE")
     given = words.parse_args()
     lower = uses()
-    with_edits = [it for it in lower if (HERE / "crates" / it / "more-edits").is_dir()]
+    with_edits = [it for it in lower if (CRATES / it / "more-edits").is_dir()]
     crates = list(dict.fromkeys(given.crates)) or with_edits
     lacking = [it for it in crates if it not in with_edits]
     if lacking:

@@ -12,11 +12,11 @@ CAPACITIES. Every other large number in a body must be listed in NUMBERS, and ev
 
 Crates of tests are not checked. The last line is `none`, with status 0, or `N places`, with status 1.
 """
-import os
 import re
 import sys
+from collections import Counter
 
-top = os.path.join(os.path.dirname(os.path.abspath(__file__)), "..")
+from harness.sources import crates, files_of, judged, shown
 
 # The crates that only tests use, in addition to those whose names end in _tests.
 OF_TESTS = {"disk_images", "spool_scripts"}
@@ -24,140 +24,51 @@ OF_TESTS = {"disk_images", "spool_scripts"}
 # A program whose library is another crate. Both are listed in the tables under the library's name.
 LIBRARIES = {"spool_shell": "spool_runtime", "spool_tools": "builtin_stages"}
 
-# The functions with an arm, an `else` or a `map_err` for a call whose only error is out of memory, and how many of these they have. Check
-# that call before you add one here.
+# The functions of each crate with an arm, an `else` or a `map_err` for a call whose only error is out of memory, each as often as it has
+# one. Check that call before you add one here.
 PASSED_ON = {
-    ("child_pipeline", "insert"): 1,
-    ("command_lines", "push_closed"): 2,
-    ("command_lines", "push_count"): 1,
-    ("command_lines", "push_created"): 1,
-    ("command_lines", "push_drained"): 1,
-    ("command_lines", "push_head"): 1,
-    ("command_lines", "push_queue_head"): 1,
-    ("command_lines", "push_refusal"): 1,
-    ("command_lines", "push_rounded"): 1,
-    ("command_lines", "push_rules"): 1,
-    ("command_lines", "push_sent"): 1,
-    ("command_lines", "push_sizes"): 1,
-    ("device_uri", "options"): 1,
-    # Numbers of held jobs that exceed the greatest usize: no memory can hold that many.
-    ("job_table", "reserve"): 2,
-    ("job_table", "make_room"): 1,
-    ("front_words", "mistake"): 2,
+    "child_pipeline": "insert",
+    "command_lines": (
+        "push_closed push_closed push_count push_created push_drained push_head push_queue_head push_refusal push_rounded push_rules "
+        "push_sent push_sizes"
+    ),
+    "device_uri": "options",
+    "engine_reserve": "answer serve_end serve_whole take_piece",
+    "event_records": "push_aborted push_again push_closed push_held push_held push_purge_event push_queue_event push_started push_subject",
+    "front_texts": (
+        "push_accepting push_accepting push_bytes push_counted push_job_name push_long_number push_number push_printer push_printer "
+        "push_printing push_queued_for push_ready push_ready push_ready push_stopped"
+    ),
+    "front_words": "mistake mistake read_words words_fault",
     # A writer of HTTP refuses a whole answer only if memory runs out, and names and statuses that the program chose are within all limits.
-    ("ipp_connections", "given"): 1,
-    ("ipp_tasks", "answer"): 1,
-    ("ipp_tasks", "attribute"): 1,
-    ("ipp_printing", "close_line"): 1,
-    ("ipp_printing", "find_line"): 1,
-    ("ipp_printing", "indefinite_line"): 1,
-    ("ipp_printing", "job_line"): 1,
-    ("ipp_printing", "moment_line"): 1,
-    ("ipp_tasks", "create_words"): 2,
-    ("ipp_tasks", "list_line"): 1,
-    ("ipp_tasks", "queue_line"): 1,
+    "ipp_connections": "given",
     # The word of the service.
-    ("ipp_facts", "failed"): 1,
-    ("front_words", "read_words"): 1,
-    ("front_words", "words_fault"): 1,
-    ("front_texts", "push_accepting"): 2,
-    ("front_texts", "push_bytes"): 1,
-    ("front_texts", "push_counted"): 1,
-    ("front_texts", "push_long_number"): 1,
-    ("front_texts", "push_number"): 1,
-    ("front_texts", "push_job_name"): 1,
-    ("front_texts", "push_printer"): 2,
-    ("front_texts", "push_printing"): 1,
-    ("front_texts", "push_queued_for"): 1,
-    ("front_texts", "push_ready"): 3,
-    ("front_texts", "push_stopped"): 1,
-    ("print_rounds", "launch"): 1,
-    ("print_rounds", "pass"): 1,
-    ("program_pipes", "keep"): 1,
-    ("print_rounds", "start"): 1,
-    ("print_rounds", "end_stage"): 1,
-    ("service_client", "send_text"): 1,
-    ("service_texts", "push_now"): 1,
-    ("service_texts", "push_room"): 1,
-    ("queue_sayings", "push_head"): 1,
-    ("queue_sayings", "push_rules"): 1,
-    ("wait_causes", "push_cause"): 4,
-    ("service_texts", "push_by"): 1,
-    ("service_texts", "push_counts"): 1,
-    ("service_texts", "push_hold"): 1,
-    ("service_texts", "push_job_news"): 1,
-    ("service_texts", "push_media"): 1,
-    ("service_texts", "push_names"): 1,
-    ("service_texts", "push_phase"): 2,
-    ("service_texts", "push_queue_news"): 1,
-    ("service_texts", "push_ranks"): 1,
-    ("service_texts", "push_state"): 1,
-    ("spool_areas", "collect"): 1,
-    ("spool_areas", "new_window"): 1,
-    ("spool_core", "change_areas"): 1,
-    ("spool_core", "drive_all"): 1,
-    ("spool_core", "finish"): 1,
-    ("spool_core", "journal"): 1,
-    ("spool_core", "journal_reopening"): 1,
-    ("spool_core", "stage_record"): 1,
-    ("spool_core", "read_front"): 1,
-    ("spool_core", "read_payload"): 1,
-    ("spool_core", "take_row"): 2,
-    ("engine_reserve", "answer"): 1,
-    ("engine_reserve", "serve_end"): 1,
-    ("engine_reserve", "serve_whole"): 1,
-    ("engine_reserve", "take_piece"): 1,
-    ("spool_engine", "answer"): 1,
-    ("spool_engine", "close_typed"): 1,
-    ("spool_engine", "serve_end"): 1,
-    ("spool_engine", "serve_whole"): 1,
-    ("spool_engine", "take_piece"): 1,
-    ("spool_admin", "read_folder_words"): 2,
-    ("spool_admin", "read_remove_words"): 1,
-    ("spool_admin", "read_set_words"): 1,
-    ("spool_halves", "ordered_row"): 1,
+    "ipp_facts": "failed",
+    "ipp_printing": "close_line find_line indefinite_line job_line moment_line",
+    "ipp_tasks": "answer attribute create_words create_words list_line queue_line",
+    # Numbers of held jobs that exceed the greatest usize: no memory can hold that many.
+    "job_table": "make_room reserve reserve",
+    "print_rounds": "end_stage launch pass start tick",
+    "program_pipes": "keep",
+    "queue_sayings": "push_head push_rules",
+    "service_client": "send_text",
+    "service_texts": (
+        "found_text note_row prepare push_answer_line push_answer_line push_attribute push_by push_change push_counts push_device "
+        "push_device push_hold push_job_news push_media push_names push_now push_phase push_phase push_piece_line push_piece_line "
+        "push_policy push_printing push_queue_counts push_queue_news push_queue_state push_ranks push_room push_searched push_state "
+        "push_still push_time_word push_uri"
+    ),
+    "spool_admin": "read_folder_words read_folder_words read_remove_words read_set_words",
+    "spool_areas": "collect new_window",
+    "spool_core": "change_areas drive_all finish journal journal_reopening read_front read_payload stage_record take_row take_row",
+    "spool_engine": "answer close_typed serve_end serve_whole take_piece",
     # The text is written into memory, so no other error is possible; and an error of the system whose kind says so.
-    ("spool_front", "close_line"): 1,
-    ("spool_front", "from"): 1,
-    ("spool_front", "hold_line"): 2,
-    ("spool_front", "job_line"): 1,
-    ("spool_front", "list_line"): 1,
-    ("spool_front", "no_words"): 1,
-    ("spool_front", "push_moment"): 1,
-    ("spool_front", "push_ranks"): 1,
-    ("spool_front", "queue_line"): 1,
+    "spool_front": "close_line from hold_line hold_line job_line list_line no_words push_moment push_ranks queue_line",
+    "spool_halves": "ordered_row",
     # An error of the system whose kind says so.
-    ("spool_runtime", "from"): 1,
-    ("spool_runtime", "mistake"): 1,
-    ("spool_runtime", "no_words"): 1,
-    ("spool_runtime", "read_words"): 1,
-    ("spool_runtime", "words_fault"): 1,
-    ("spool_service", "read_words"): 1,
-    ("event_records", "push_aborted"): 1,
-    ("event_records", "push_again"): 1,
-    ("event_records", "push_closed"): 1,
-    ("event_records", "push_held"): 2,
-    ("event_records", "push_purge_event"): 1,
-    ("event_records", "push_queue_event"): 1,
-    ("event_records", "push_started"): 1,
-    ("event_records", "push_subject"): 1,
-    ("print_rounds", "tick"): 1,
-    ("service_texts", "found_text"): 1,
-    ("service_texts", "note_row"): 1,
-    ("service_texts", "prepare"): 1,
-    ("service_texts", "push_answer_line"): 2,
-    ("service_texts", "push_attribute"): 1,
-    ("service_texts", "push_change"): 1,
-    ("service_texts", "push_device"): 2,
-    ("service_texts", "push_piece_line"): 2,
-    ("service_texts", "push_policy"): 1,
-    ("service_texts", "push_printing"): 1,
-    ("service_texts", "push_queue_counts"): 1,
-    ("service_texts", "push_queue_state"): 1,
-    ("service_texts", "push_searched"): 1,
-    ("service_texts", "push_still"): 1,
-    ("service_texts", "push_time_word"): 1,
-    ("service_texts", "push_uri"): 1,
+    "spool_runtime": "from mistake no_words read_words words_fault",
+    "spool_service": "read_words",
+    "wait_causes": "push_cause push_cause push_cause push_cause",
 }
 
 # The capacities and counts with a number, a constant or a sum in them, of each function. Each requests a few items, or at most the number
@@ -193,9 +104,8 @@ CAPACITIES = {
     ("spool_core", "drive_all"): ["1"],
     # 576 KiB, during a checkpoint.
     ("spool_core", "prepare"): ["BLOCK_ROOM"],
-    # In reserved room.
-    # 64 KiB, while a document is sent.
     ("service_client", "take_byte"): ["1"],
+    # 64 KiB, while a document is sent.
     ("service_client", "send_text"): ["count.saturating_add(AROUND_PIECE)"],
     ("spool_front", "new"): ["PIECE"],
     ("spool_front", "open"): ["PIECE"],
@@ -207,114 +117,76 @@ CAPACITIES = {
     ("user_proofs", "note"): ["1"],
 }
 
-# The large numbers in bodies: bounds of loops, of counts and of fields. None is a capacity.
+# The large numbers in bodies, each with the functions of each crate that have it: bounds of loops, of counts and of fields. None is a
+# capacity.
 NUMBERS = {
-    ("backend_codes", "unless_spent"): ["u32::MAX"],
-    ("front_texts", "count"): ["4_294_967_295"],
-    ("front_texts", "size_text"): ["1_048_576"],
-    ("ipp_loop", "limit"): ["u64::MAX"],
-    ("ipp_loop", "note_readiness"): ["u32::MAX"],
-    ("ipp_loop", "serve"): ["u64::MAX"],
-    ("ipp_loop", "write_some"): ["u32::MAX"],
-    ("ipp_sockets", "read_in"): ["u32::MAX"],
-    ("ipp_sockets", "write_out"): ["u32::MAX"],
-    ("ipp_tasks", "names_in"): ["u32::MAX"],
-    ("spool_ipp", "millis"): ["<<"],
-    ("job_table", "is_startable"): ["u32::MAX"],
-    ("job_table", "is_untyped"): ["u32::MAX"],
-    ("mime_rules", "int_bytes"): ["16_777_216"],
-    ("mime_rules", "most"): ["4_294_967_295"],
-    ("service_loop", "note_readiness"): ["u32::MAX"],
-    ("service_loop", "read_of"): ["u32::MAX"],
-    ("service_loop", "write_to"): ["u32::MAX"],
-    ("service_loop", "serve"): ["u64::MAX"],
-    ("side_channel", "read"): ["u32::MAX"],
-    ("spool_disk", "counted"): ["u64::MAX"],
-    ("spool_disk", "read"): ["u64::MAX"],
-    ("spool_disk", "sync"): ["u64::MAX"],
-    ("spool_disk", "write"): ["u64::MAX"],
-    ("engine_reserve", "serve_text"): ["u32::MAX"],
-    ("spool_engine", "serve"): ["u32::MAX"],
-    ("service_client", "receive_lines"): ["u64::MAX"],
-    ("service_client", "settle"): ["u64::MAX"],
-    ("service_client", "wait_for_room"): ["u64::MAX"],
-    ("spool_front", "aged_jobs"): ["u64::MAX"],
-    ("spool_front", "follow_by"): ["u64::MAX"],
-    ("spool_front", "print_until_end"): ["u64::MAX"],
-    ("spool_front", "read_command"): ["u64::MAX"],
-    ("spool_front", "read_some"): ["u32::MAX"],
-    ("spool_front", "say_lines"): ["u64::MAX"],
-    ("spool_front", "submit"): ["u64::MAX"],
-    ("spool_front", "wait_for"): ["u64::MAX"],
-    ("spool_front", "watch_by"): ["u64::MAX"],
-    ("spool_front", "width_in"): ["u64::MAX"],
-    ("spool_front", "write_page"): ["u64::MAX"],
-    ("spool_runtime", "attend"): ["u64::MAX"],
-    ("spool_runtime", "counted"): ["u64::MAX"],
-    ("spool_runtime", "read_at_most"): ["u64::MAX"],
-    ("spool_service", "bound_options"): ["1_000_000"],
-    ("spool_service", "child_options"): ["1_048_576", "100_000", "1_048_576", "1_048_576"],
-    ("builtin_stages", "connect_seconds_of"): ["u32::MAX"],
-    ("builtin_stages", "end_seconds_of"): ["u32::MAX"],
-    ("builtin_stages", "turns_of"): ["u32::MAX"],
-    ("builtin_stages", "wait"): ["u64::MAX"],
-    ("builtin_stages", "write"): ["u64::MAX"],
-    ("builtin_stages", "write_result"): ["u64::MAX"],
-    ("stderr_lines", "number_of"): ["u32::MAX"],
-    ("whole_writes", "write_whole"): ["u64::MAX"],
-    ("spool_service", "open_operators_socket"): ["u32::MAX"],
-    ("user_proofs", "id_in"): ["4_294_967_295"],
+    "100_000": {"spool_service": "child_options"},
+    "16_777_216": {"mime_rules": "int_bytes"},
+    "1_000_000": {"spool_service": "bound_options"},
+    "1_048_576": {
+        "front_texts": "size_text",
+        "spool_service": "child_options child_options child_options",
+    },
+    "4_294_967_295": {
+        "front_texts": "count",
+        "mime_rules": "most",
+        "user_proofs": "id_in",
+    },
+    "<<": {"spool_ipp": "millis"},
+    "u32::MAX": {
+        "backend_codes": "unless_spent",
+        "builtin_stages": "connect_seconds_of end_seconds_of turns_of",
+        "engine_reserve": "serve_text",
+        "ipp_loop": "note_readiness write_some",
+        "ipp_sockets": "read_in write_out",
+        "ipp_tasks": "names_in",
+        "job_table": "is_startable is_untyped",
+        "service_loop": "note_readiness read_of write_to",
+        "side_channel": "read",
+        "spool_engine": "serve",
+        "spool_front": "read_some",
+        "spool_service": "open_operators_socket",
+        "stderr_lines": "number_of",
+    },
+    "u64::MAX": {
+        "builtin_stages": "wait write write_result",
+        "ipp_loop": "limit serve",
+        "service_client": "receive_lines settle wait_for_room",
+        "service_loop": "serve",
+        "spool_disk": "counted read sync write",
+        "spool_front": "aged_jobs follow_by print_until_end read_command say_lines submit wait_for watch_by width_in write_page",
+        "spool_runtime": "attend counted read_at_most",
+        "whole_writes": "write_whole",
+    },
 }
 
-# The large constants: limits on input, the numbers of fields, and how far a step advances.
+# The large constants of each crate: limits on input, the numbers of fields, and how far a step advances.
 CONSTANTS = {
-    ("child_pipeline", "MOST_ERRORS"): 1,
-    ("clean_texts", "FIRST_PAIR"): 1,
-    ("command_lines", "GREATEST"): 1,
-    ("front_texts", "GREATEST_MOMENT"): 1,
-    ("front_texts", "GREATEST_NUMBER"): 1,
-    ("front_texts", "MOST_IN_HOURS"): 1,
-    ("front_words", "GREATEST_JOB"): 1,
-    ("front_words", "GREATEST_MOMENT"): 1,
-    ("ipp_loop", "MOST_SKIPPED"): 1,
-    ("ipp_loop", "NO_CLIENT"): 1,
-    ("service_replies", "GREATEST_SIZE"): 1,
-    ("ipp_tasks", "LONGEST_DOCUMENT"): 1,
-    ("ipp_facts", "MOST_JOBS"): 1,
-    ("ipp_tasks", "MOST_NUMBER"): 1,
-    ("ipp_facts", "MOST_SECONDS"): 1,
-    ("mime_lines", "TOO_GREAT"): 1,
-    ("mime_rules", "GREATEST"): 1,
-    ("side_channel", "SESSION_READS"): 1,
-    ("spool_areas", "LAST_EPOCH"): 1,
-    ("ipp_answers", "END"): 1,
-    ("ipp_answers", "MOST_INTEGER"): 1,
-    ("ipp_options", "MOST_INTEGER"): 1,
-    ("listing_rows", "BLOCK_ROOM"): 1,
-    ("service_rules", "LONGEST_DOCUMENT"): 1,
-    ("service_rules", "LONGEST_DOUBT"): 1,
-    ("service_rules", "LONGEST_STEP"): 1,
-    ("service_client", "GREATEST_CHANGE"): 1,
-    ("service_client", "GREATEST_JOB"): 1,
-    ("service_client", "MOST_UNANSWERED"): 1,
-    ("spool_front", "GREATEST_ROOM"): 1,
-    ("spool_front", "MEBIBYTE"): 1,
-    ("spool_front", "MOST_PATIENCE"): 1,
-    ("spool_front", "PIECE"): 1,
-    ("spool_runtime", "DEFAULT_SIZE"): 1,
-    ("spool_runtime", "GREATEST_SIZE"): 1,
-    ("spool_runtime", "MOST_BLOCKS"): 1,
-    ("spool_runtime", "MOST_ERRORS"): 1,
-    ("spool_runtime", "MOST_LINES"): 1,
-    ("service_loop", "LONGEST_IDLE"): 1,
-    ("service_loop", "MOST_STAGED"): 1,
-    ("spool_service", "MEBIBYTE"): 1,
-    ("spool_service", "MOST"): 1,
-    ("spool_types", "GREATEST"): 2,
-    ("spool_types", "LONGEST_DOCUMENT"): 1,
-    ("event_records", "GREATEST_CHANGE"): 1,
-    ("spool_service", "MOST_MILLIS"): 1,
-    ("user_proofs", "LIFETIME"): 1,
+    "child_pipeline": "MOST_ERRORS",
+    "clean_texts": "FIRST_PAIR",
+    "command_lines": "GREATEST",
+    "event_records": "GREATEST_CHANGE",
+    "front_texts": "GREATEST_MOMENT GREATEST_NUMBER MOST_IN_HOURS",
+    "front_words": "GREATEST_JOB GREATEST_MOMENT",
+    "ipp_answers": "END MOST_INTEGER",
+    "ipp_facts": "MOST_JOBS MOST_SECONDS",
+    "ipp_loop": "MOST_SKIPPED NO_CLIENT",
+    "ipp_options": "MOST_INTEGER",
+    "ipp_tasks": "LONGEST_DOCUMENT MOST_NUMBER",
+    "listing_rows": "BLOCK_ROOM",
+    "mime_lines": "TOO_GREAT",
+    "mime_rules": "GREATEST",
+    "service_client": "GREATEST_CHANGE GREATEST_JOB MOST_UNANSWERED",
+    "service_loop": "LONGEST_IDLE MOST_STAGED",
+    "service_replies": "GREATEST_SIZE",
+    "service_rules": "LONGEST_DOCUMENT LONGEST_DOUBT LONGEST_STEP",
+    "side_channel": "SESSION_READS",
+    "spool_areas": "LAST_EPOCH",
+    "spool_front": "GREATEST_ROOM MEBIBYTE MOST_PATIENCE PIECE",
+    "spool_runtime": "DEFAULT_SIZE GREATEST_SIZE MOST_BLOCKS MOST_ERRORS MOST_LINES",
+    "spool_service": "MEBIBYTE MOST MOST_MILLIS",
+    "spool_types": "GREATEST GREATEST LONGEST_DOCUMENT",
+    "user_proofs": "LIFETIME",
 }
 
 # Expressions that evaluate to out of memory.
@@ -348,13 +220,11 @@ class Function:
         self.crate, self.path, self.name, self.head = LIBRARIES.get(crate, crate), path, name, head
         self.first, self.lines = first, []
 
+    def key(self):
+        return self.crate, self.name
+
     def where(self, line):
-        return f"{os.path.relpath(self.path, top)}:{self.first + line} {self.name}"
-
-
-def crates():
-    folder = os.path.join(top, "crates")
-    return sorted(name for name in os.listdir(folder) if os.path.isdir(os.path.join(folder, name, "src")))
+        return f"{shown(self.path)}:{self.first + line} {self.name}"
 
 
 def sources():
@@ -362,12 +232,9 @@ def sources():
     for crate in crates():
         if crate in OF_TESTS or crate.endswith("_tests"):
             continue
-        for folder, _, names in os.walk(os.path.join(top, "crates", crate, "src")):
-            for name in sorted(names):
-                if name.endswith(".rt") and not TESTS.search(name):
-                    path = os.path.join(folder, name)
-                    with open(path, encoding="utf-8") as file:
-                        yield crate, path, [line.split("//")[0] for line in file.read().split("\n")]
+        for path in files_of(crate, "src"):
+            if path.suffix == ".rt" and not TESTS.search(path.name):
+                yield crate, path, [line.split("//")[0] for line in path.read_text(encoding="utf-8").split("\n")]
 
 
 def bodies(crate, path, lines):
@@ -461,7 +328,7 @@ def great_constants(crate, path, lines):
     for number, line in enumerate(lines, 1):
         found = CONSTANT.match(line)
         if found and GREAT.search(TEXT.sub('""', found[2])):
-            yield (LIBRARIES.get(crate, crate), found[1]), f"{os.path.relpath(path, top)}:{number}: {line.strip()}"
+            yield (LIBRARIES.get(crate, crate), found[1]), f"{shown(path)}:{number}: {line.strip()}"
 
 
 def compared(found, table, what):
@@ -475,42 +342,52 @@ def compared(found, table, what):
         yield f"{key[0]} {key[1]}: {what}: the table has {', '.join(table[key])}, and the code none"
 
 
-def gone():
-    """The crates in the tables that do not exist: they are reported once, and not row by row."""
-    there = {LIBRARIES.get(crate, crate) for crate in crates()}
-    return {crate for table in (PASSED_ON, CAPACITIES, NUMBERS, CONSTANTS) for crate, _ in table if crate not in there}
+def named(table):
+    """The crates and names of a table, each pair as often as the table has it."""
+    return Counter((crate, name) for crate, names in table.items() for name in names.split())
 
 
-def main():
-    said, asked, great, constants = {}, {}, {}, {}
+def tables(said):
+    """The four tables, as `compared` takes them. That of errors has the lines of the code if their number is right."""
+    passed, numbers = {}, {}
+    for key, count in named(PASSED_ON).items():
+        there = [text for _, text in said.get(key, [])]
+        passed[key] = there if len(there) == count else [f"{count} answers" if there else "an answer"]
+    for number, functions in NUMBERS.items():
+        for key, count in named(functions).items():
+            numbers.setdefault(key, []).extend([number] * count)
+    constants = {key: [key[1]] * count for key, count in named(CONSTANTS).items()}
+    return {"out of memory": passed, "capacity": CAPACITIES, "great number": numbers, "great constant": constants}
+
+
+def found_in_code():
+    """The places of the code that the tables must have, for each table by crate and name."""
+    found = {"out of memory": {}, "capacity": {}, "great number": {}, "great constant": {}}
+
+    def add(what, key, place, text):
+        found[what].setdefault(key, []).append((place, text))
+
     for crate, path, lines in sources():
         for key, place in great_constants(crate, path, lines):
-            constants.setdefault(key, []).append((place, key[1]))
+            add("great constant", key, place, key[1])
         for function in bodies(crate, path, lines):
-            key = (function.crate, function.name)
             for line in answers(function):
-                said.setdefault(key, []).append((function.where(line), function.lines[line].strip()))
-            for line, text in capacities(function):
-                asked.setdefault(key, []).append((function.where(line), text))
-            for line, text in great_numbers(function):
-                great.setdefault(key, []).append((function.where(line), text))
-    missing = gone()
-    places = [f"{crate}: in a table of this script, and no crate any more: take its rows out" for crate in sorted(missing)]
-    passed = {key: [text for _, text in said.get(key, [])] or ["an answer"] for key in PASSED_ON}
-    for key, count in PASSED_ON.items():
-        if key in said and len(said[key]) != count:
-            passed[key] = [f"{count} answers"]
-    for found, table, what in (
-        (said, passed, "out of memory"),
-        (asked, CAPACITIES, "capacity"),
-        (great, NUMBERS, "great number"),
-        (constants, {key: [key[1]] * count for key, count in CONSTANTS.items()}, "great constant"),
-    ):
-        places += compared(found, {key: texts for key, texts in table.items() if key[0] not in missing}, what)
-    for place in places:
-        print(place)
-    print("none" if not places else f"{len(places)} places")
-    sys.exit(1 if places else 0)
+                add("out of memory", function.key(), function.where(line), function.lines[line].strip())
+            for what, places in (("capacity", capacities(function)), ("great number", great_numbers(function))):
+                for line, text in places:
+                    add(what, function.key(), function.where(line), text)
+    return found
 
 
-main()
+def faults():
+    found, there = found_in_code(), {LIBRARIES.get(crate, crate) for crate in crates()}
+    listed = tables(found["out of memory"])
+    # These are reported once, and not row by row.
+    missing = {crate for table in listed.values() for crate, _ in table} - there
+    yield from (f"{crate}: in a table of this script, and no crate any more: take its rows out" for crate in sorted(missing))
+    for what, table in listed.items():
+        yield from compared(found[what], {key: texts for key, texts in table.items() if key[0] not in missing}, what)
+
+
+if __name__ == "__main__":
+    sys.exit(judged(faults(), "places"))

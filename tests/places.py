@@ -16,12 +16,10 @@ the errors and ends with status 1.
 import re
 import sys
 from dataclasses import dataclass
-from pathlib import Path
 
 from edits_apply import fault_in
+from harness.sources import CRATES, files_of, HERE, judged, uses
 
-HERE = Path(__file__).resolve().parent.parent
-CRATES = HERE / "crates"
 PAGE = HERE / "CONTRIBUTING.md"
 
 PARTS = ("specs", "src", "proofs")
@@ -226,11 +224,11 @@ def name_in_logic(lines, number):
 def places(listing, aside=ASIDE, parts=None):
     """The names of the places, by the path of their file below crates/, without the crates of these names."""
     found = {}
-    for crate in crates(aside):
+    for crate in uses():
         functions = set()
-        if crate.name in OTHERS.get(listing.name, ()):
+        if aside.fullmatch(crate) or crate in OTHERS.get(listing.name, ()):
             continue
-        for file in files_of(crate, parts or listing.parts):
+        for file in files_of(crate, *(parts or listing.parts)):
             lines = code_of(file)
             naming = name_in_code if file.suffix == ".rt" else name_in_logic
             names = [naming(lines, n) for n, line in enumerate(lines) if re.search(listing.word, line)]
@@ -240,17 +238,6 @@ def places(listing, aside=ASIDE, parts=None):
             if names:
                 found[str(file.relative_to(CRATES))] = list(dict.fromkeys(names))
     return found
-
-
-def crates(aside):
-    """The crates whose names do not match, lowest first."""
-    named = [it.partition(":")[0] for it in (HERE / "crates.txt").read_text().splitlines() if not it.startswith("#")]
-    return [CRATES / it.split()[0] for it in named if it.strip() and not aside.fullmatch(it.split()[0])]
-
-
-def files_of(crate, parts):
-    found = [it for part in parts for it in sorted((crate / part).rglob("*"))]
-    return [it for it in found if it.suffix in (".rt", ".antt")]
 
 
 def shown(listing):
@@ -315,9 +302,7 @@ def main():
         return 0
     if words:
         sys.exit(__doc__)
-    found = list(faults())
-    print("\n".join(found or ["none"]))
-    return 1 if found else 0
+    return judged(faults())
 
 
 if __name__ == "__main__":

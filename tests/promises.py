@@ -38,10 +38,10 @@ import sys
 from pathlib import Path
 
 import reference
+from harness import sources
+from harness.sources import CRATES, HERE, judged
 
-HERE = Path(__file__).resolve().parent.parent
 DOCS = HERE / "docs"
-CRATES = HERE / "crates"
 PROMISES, ARCHITECTURE, DECISIONS, PROVING = PAGES = ("PROMISES.md", "ARCHITECTURE.md", "DECISIONS.md", "PROVING.md")
 
 WORD = re.compile(r"[A-Za-z_][A-Za-z0-9_]*")
@@ -91,14 +91,8 @@ def text_of(file):
     return file.read_text(encoding="utf-8")
 
 
-@functools.cache
-def crates():
-    return sorted(it.name for it in CRATES.iterdir() if it.is_dir())
-
-
-@functools.cache
-def files_of(crate, part):
-    return [it for it in (CRATES / crate / part).rglob("*") if it.suffix in (".rt", ".antt")]
+crates = functools.cache(sources.crates)
+files_of = functools.cache(sources.files_of)
 
 
 @functools.cache
@@ -307,9 +301,7 @@ def page_faults(page, text):
 
 def main(words):
     folder = Path(words[0]) if words else DOCS
-    found = [f"{page}: {it}" for page in PAGES for it in page_faults(page, text_of(folder / page))]
-    print("\n".join(dict.fromkeys(found)) or "none")
-    return 1 if found else 0
+    return judged(dict.fromkeys(f"{page}: {it}" for page in PAGES for it in page_faults(page, text_of(folder / page))))
 
 
 if __name__ == "__main__":

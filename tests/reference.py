@@ -32,7 +32,7 @@ import re
 import sys
 from pathlib import Path
 
-HERE = Path(__file__).resolve().parent.parent
+from harness.sources import HERE
 PAGES = HERE / "docs" / "reference"
 
 TOKEN = re.compile(

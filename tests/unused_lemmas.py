@@ -5,11 +5,11 @@ A name is used if it occurs outside its own definition: in another definition of
 by its path in the tactic of a function. Lemmas of nested modules are not checked. The last line is `none`, with status 0, or `N that
 nothing names`, with status 1.
 """
-import os
 import re
 import sys
+from collections import Counter
 
-top = os.path.join(os.path.dirname(os.path.abspath(__file__)), "..", "crates")
+from harness.sources import crates, files_of, judged, shown
 
 # A signature at the beginning of a line, `pub name : type`, and a record or a data type, `pub record Name ..`.
 SIGNATURE = re.compile(r"^(?:pub |abbrev |unfoldable )*([^\s:{(]+) :(?: |$)")
@@ -22,15 +22,10 @@ WORD = re.compile(r"[^\s(){}\[\],;.]+")
 ASKED = ("Answers.antt", "Invariants.antt", "Proof.antt", "Lib.antt")
 
 
-def files(ending):
-    """Every file of the crates with this ending, with its text."""
-    for folder, folders, names in os.walk(top):
-        folders[:] = [name for name in folders if name not in ("out", "must-fail", "more-edits", "data")]
-        for name in sorted(names):
-            if name.endswith(ending):
-                path = os.path.join(folder, name)
-                with open(path, encoding="utf-8") as file:
-                    yield path, file.read()
+def texts(ending):
+    """The text of each source with this ending."""
+    files = [it for crate in crates() for it in files_of(crate, "specs", "src", "proofs") if it.suffix == ending]
+    return {it: it.read_text(encoding="utf-8") for it in files}
 
 
 def without_remarks(text):
@@ -52,37 +47,28 @@ def definitions(text):
 
 
 def words(text):
-    counts = {}
-    for word in WORD.findall(text):
-        for part in {word, word.strip("'?"), *word.split("◌"), *word.split("::")}:
-            counts[part] = counts.get(part, 0) + 1
-    return counts
+    return Counter(part for word in WORD.findall(text) for part in {word, word.strip("'?"), *word.split("◌"), *word.split("::")})
 
 
-def main():
-    texts = {path: without_remarks(text) for path, text in files(".antt")}
-    uses = {}
-    for text in texts.values():
-        body = "\n".join(line for line in text.split("\n") if not line.startswith(("use ", "pub use ", "mod ", "pub mod ")))
-        for word, count in words(body).items():
-            uses[word] = uses.get(word, 0) + count
-    for _, text in files(".rt"):
-        body = "\n".join(line for line in text.split("\n") if not line.lstrip().startswith(("ghost use", "//")))
-        for word, count in words(body).items():
-            uses[word] = uses.get(word, 0) + count
-    unused = []
-    for path, text in texts.items():
-        if os.path.basename(path) in ASKED:
-            continue
-        for name, own in definitions(text):
+def words_used(logic):
+    """How often each word occurs in the logic, given as texts, and in the code, without imports and comments."""
+    uses = Counter()
+    for text in logic:
+        uses += words("\n".join(line for line in text.split("\n") if not line.startswith(("use ", "pub use ", "mod ", "pub mod "))))
+    for text in texts(".rt").values():
+        uses += words("\n".join(line for line in text.split("\n") if not line.lstrip().startswith(("ghost use", "//"))))
+    return uses
+
+
+def unused():
+    logic = {path: without_remarks(text) for path, text in texts(".antt").items()}
+    uses = words_used(logic.values())
+    for path, text in logic.items():
+        for name, own in definitions(text) if path.name not in ASKED else ():
             plain = name.replace("◌", "")
-            inside = words(own).get(plain, 0) or words(own).get(name, 0)
-            if uses.get(plain, 0) <= inside:
-                unused.append(f"{os.path.relpath(path, os.path.join(top, '..'))}: {name}")
-    for line in unused:
-        print(line)
-    print("none" if not unused else f"{len(unused)} that nothing names")
-    sys.exit(1 if unused else 0)
+            if uses[plain] <= (words(own)[plain] or words(own)[name]):
+                yield f"{shown(path)}: {name}"
 
 
-main()
+if __name__ == "__main__":
+    sys.exit(judged(unused(), "that nothing names"))

@@ -8,7 +8,8 @@
 | journal, spool_model, stories, admin | a second encoder of a spool's file, its model, spools with any bytes, `spool_admin` |
 | real_children, child_folder, stored_scripts | filters and backends, the folder of a test of children, the scripts of `spool_scripts` |
 | traces | the system calls of a program, by strace |
-| large_run, large_parts | the limits of one spool |
+| large_run | the limits of one spool |
+| sources | the crates and their sources, for the scripts of the gate |
 | cups, stock_documents, stock_runs | a private CUPS, and its filters and backends |
 | failover_volume, debian_machine, hostile_children | a replicated volume, a fresh Debian, children that do harm |
 """
