@@ -11,12 +11,11 @@ The cheapest chain is the same 15 conversions in each file, so the replies are t
 conversions should take well under a millisecond. No test checks these times.
 """
 import os
-import subprocess
 import sys
 import tempfile
-import time
 
 from harness.programs import SHELL
+from measures import least_served, needed
 
 CLOSES = 500
 CHAIN = 15
@@ -58,24 +57,14 @@ def seconds(folder, convs, closes):
     """The shortest time of three runs."""
     with open(os.path.join(folder, "convs"), "w") as file:
         file.write(convs)
-    best = None
-    for _ in range(3):
-        start = time.perf_counter()
-        run = subprocess.run(
-            [SHELL, "--types", "types", "--convs", "convs"], cwd=folder, input=script(closes), stdout=subprocess.PIPE, check=True
-        )
-        took = time.perf_counter() - start
-        best = took if best is None else min(best, took)
-        if b"error" in run.stdout:
-            sys.exit("a reply was an error")
-        if run.stdout.count(b"ok type t/0 stages %d\n" % (CHAIN + 1)) != closes:
-            sys.exit("a chain is not that of 15 filters")
-    return best
+    took, replies = least_served(script(closes), "--types", "types", "--convs", "convs", cwd=folder)
+    if replies.count(b"ok type t/0 stages %d\n" % (CHAIN + 1)) != closes:
+        sys.exit("a chain is not that of 15 filters")
+    return took
 
 
 def main():
-    if not os.path.exists(SHELL):
-        sys.exit("no program: run `rt run` in crates/spool_shell first")
+    needed(SHELL)
     with tempfile.TemporaryDirectory() as folder:
         with open(os.path.join(folder, "types"), "w") as file:
             file.write(TYPES)
@@ -90,4 +79,5 @@ def main():
                 print(f"  {count:6} lines: read {read * 1e3:9.2f} ms, {(close - least) * 1e6:9.2f} us a close more than with {CHAIN}")
 
 
-main()
+if __name__ == "__main__":
+    main()

@@ -10,42 +10,23 @@ A checkpoint writes its rows from one block and syncs three times. Its time shou
 its memory should not grow with them. Times depend on the machine and its disk, so only the ratios are of interest. No test checks them.
 """
 import os
-import subprocess
-import sys
 import tempfile
 import time
 
-from clocks import ask
-from opening import given, rows, spool
+from harness.written_spools import rows, spool
+from measures import given_program, given_room, Shell, spool_folder
 
 COUNTS = (1_000, 10_000, 100_000, 1_000_000)
 BLOCK = 65_536
 
 
-def memory(running):
-    """The peak memory of a program so far, in KiB."""
-    with open(f"/proc/{running.pid}/status", encoding="ascii") as file:
-        for line in file:
-            if line.startswith("VmHWM:"):
-                return int(line.split()[1])
-    sys.exit("the program reports no memory")
-
-
 def measured(folder, program, contents):
     """The seconds that a checkpoint took, and its memory in KiB."""
-    with tempfile.TemporaryDirectory(dir=folder) as root:
-        with open(os.path.join(root, "spool.disk"), "wb") as file:
-            file.write(contents)
-            file.flush()
-            os.fsync(file.fileno())
-        words = [program, "--root", "."]
-        with subprocess.Popen(words, cwd=root, stdin=subprocess.PIPE, stdout=subprocess.PIPE) as running:
-            ask(running, b"clock 0\n")
-            before = memory(running)
-            took = ask(running, b"checkpoint\n")
-            after = memory(running)
-            running.stdin.close()
-    return took, after - before
+    with spool_folder(folder, contents) as root, Shell("--root", ".", program=program, cwd=root) as shell:
+        shell.ask(b"clock 0\n")
+        before = shell.memory()
+        took = shell.ask(b"checkpoint\n")
+        return took, shell.memory() - before
 
 
 def written(folder, length):
@@ -63,8 +44,8 @@ def written(folder, length):
 
 
 def main():
-    program, room = given()
-    with room as folder:
+    program = given_program(2)
+    with given_room() as folder:
         for count in COUNTS:
             contents = spool(rows(count + 2))
             took, more = measured(folder, program, contents)

@@ -11,6 +11,7 @@ the milliseconds of processor time that each adds to a child without a user, and
 with the shortest script without a user, and so is the cheapest form of them that is known.
 """
 import ast
+import contextlib
 import os
 import shutil
 import statistics
@@ -19,11 +20,23 @@ import sys
 import tempfile
 import time
 
-from harness.programs import SERVICE
+from harness.programs import compiled, CRATES, SERVICE
 from harness.service import Client, Folder
 
 USERS = [f"cegmandi-b{number}" for number in range(1, 5)]
 TURN = 20
+
+
+@contextlib.contextmanager
+def made(*users):
+    """Makes these users of the system, and removes them at the end of the `with`."""
+    try:
+        for user in users:
+            subprocess.run(["useradd", "--system", "--user-group", "--no-create-home", user], check=True, capture_output=True)
+        yield
+    finally:
+        for user in users:
+            subprocess.run(["userdel", user], capture_output=True)
 
 
 def service(program, words):
@@ -50,28 +63,22 @@ def turn(client):
 
 def script():
     """The text of the script, from its source."""
-    source = os.path.join(os.path.dirname(os.path.abspath(__file__)), "..", "crates", "spool_runtime", "src", "script.rt")
-    with open(source) as file:
+    with open(os.path.join(CRATES, "spool_runtime", "src", "script.rt")) as file:
         lines = file.read().split("const SCRIPT: &str = concat!(\n")[1].split("\n);\n")[0].splitlines()
     return "".join(ast.literal_eval(line.strip().rstrip(",")) for line in lines)
 
 
 def programs(rounds):
     user = USERS[0]
-    subprocess.run(["useradd", "--system", "--user-group", "--no-create-home", user], check=True, capture_output=True)
-    try:
-        with tempfile.TemporaryDirectory() as room:
-            os.chmod(room, 0o711)
-            text, place, floor = (os.path.join(room, name) for name in ("script", "place", "child_users"))
-            with open(text, "w") as file:
-                file.write(script())
-            os.mkdir(place, 0o700)
-            shutil.chown(place, user, user)
-            subprocess.run(["cc", "-O2", "-o", floor, os.path.join(os.path.dirname(os.path.abspath(__file__)), "child_users.c")], check=True)
-            uid = str(os.stat(place).st_uid)
-            ran = subprocess.run([floor, str(rounds), text, place, uid, user, "/bin/true"], stdout=subprocess.PIPE, check=True, text=True)
-    finally:
-        subprocess.run(["userdel", user], capture_output=True)
+    with made(user), tempfile.TemporaryDirectory() as room:
+        os.chmod(room, 0o711)
+        text, place = (os.path.join(room, name) for name in ("script", "place"))
+        with open(text, "w") as file:
+            file.write(script())
+        os.mkdir(place, 0o700)
+        shutil.chown(place, user, user)
+        words = [compiled("child_users.c", "-O2"), str(rounds), text, place, str(os.stat(place).st_uid), user, "/bin/true"]
+        ran = subprocess.run(words, stdout=subprocess.PIPE, check=True, text=True)
     plain, whole, calls, needed, least, bare = (float(word) for word in ran.stdout.split())
     more, calls, needed, least = whole - plain, calls - plain, needed - bare, least - bare
     print(f"without a user {plain:.2f} ms; the user adds {more:.2f} ms, the system calls alone {calls:.2f} ms, the programs alone {needed:.2f} ms")
@@ -80,21 +87,15 @@ def programs(rounds):
 
 
 def main(program, jobs):
-    for user in USERS:
-        subprocess.run(["useradd", "--system", "--user-group", "--no-create-home", user], check=True, capture_output=True)
-    both = []
-    try:
+    with made(*USERS), contextlib.ExitStack() as ends:
         both = [service(program, []), service(program, ["--children-user", ",".join(USERS)])]
+        for folder, _ in both:
+            ends.callback(folder.remove)
+            ends.callback(folder.end)
         times = [[turn(client) for _, client in both] for _ in range(max(2, jobs // TURN))][1:]
         plain, users = [statistics.median(column) for column in zip(*times)]
         more = statistics.median(after - before for before, after in times)
         print(f"as the service {plain:.2f} ms per job, as users {users:.2f} ms, difference {more:.2f} ms")
-    finally:
-        for folder, _ in both:
-            folder.end()
-            folder.remove()
-        for user in USERS:
-            subprocess.run(["userdel", user], capture_output=True)
 
 
 if __name__ == "__main__":

@@ -13,15 +13,11 @@ of waiting jobs, as by `cancel`, which moves no other job, so its time should ha
 take no time, so the times show the work of the program itself. Times depend on the machine and its disk, so only the ratios are of
 interest. No test checks them.
 """
-import os
-import subprocess
 import sys
-import tempfile
-import time
 
-from opening import given, rows, spool
+from harness.written_spools import rows, spool
+from measures import floor, given_program, given_room, Shell, spool_folder
 
-here = os.path.dirname(os.path.abspath(__file__))
 COUNTS = (10, 1_000, 100_000, 1_000_000)
 CANCELED = (1, 100, 1_000)
 TURNS = 200
@@ -30,29 +26,14 @@ FIRST = 1_000
 RECORD = 14  # bytes of a clock's record
 
 
-def ask(running, command):
-    """The seconds from a command to its reply."""
-    start = time.perf_counter()
-    running.stdin.write(command)
-    running.stdin.flush()
-    reply = running.stdout.readline()
-    took = time.perf_counter() - start
-    if reply != b"ok\n":
-        sys.exit(f"a reply was {reply!r}")
-    return took
-
-
-def state_counts(running):
+def state_counts(shell):
     """The number of jobs in each state."""
-    running.stdin.write(b"jobs\n")
-    running.stdin.flush()
+    shell.write(b"jobs\n")
     counts = {}
-    for line in running.stdout:
-        if line.startswith(b"ok "):
-            return counts
+    while not (line := shell.read(1)).startswith(b"ok "):
         state = line.split()[3]
         counts[state] = counts.get(state, 0) + 1
-    sys.exit("the listing has no end")
+    return counts
 
 
 def measured(folder, program, count, is_timed):
@@ -60,41 +41,28 @@ def measured(folder, program, count, is_timed):
     # A number that has no divisor in common with the count, so that each moment occurs once.
     step = 7_919
     by = (lambda number: FIRST + number * step % count) if is_timed else (lambda number: None)
-    with tempfile.TemporaryDirectory(dir=folder) as root:
-        with open(os.path.join(root, "spool.disk"), "wb") as file:
-            file.write(spool(rows(count + 2, by)))
-        words = [program, "--root", "."]
-        with subprocess.Popen(words, cwd=root, stdin=subprocess.PIPE, stdout=subprocess.PIPE) as running:
-            ask(running, b"clock 0\n")
-            none = sum(ask(running, b"clock %d\n" % moment) for moment in range(1, TURNS + 1)) / TURNS
-            some, done = [], 0
-            for canceled in CANCELED:
-                canceled = min(canceled, count - done)
-                if is_timed and canceled:
-                    done += canceled
-                    some.append((canceled, ask(running, b"clock %d\n" % (FIRST + done))))
-            found = state_counts(running)
-            if (found.get(b"7", 0), found.get(b"3", 0)) != (done, count - done):
-                sys.exit(f"the jobs are in the states {found}, and {done} were canceled")
-            running.stdin.close()
+    with spool_folder(folder, spool(rows(count + 2, by))) as root, Shell("--root", ".", program=program, cwd=root) as shell:
+        shell.ask(b"clock 0\n")
+        none = sum(shell.ask(b"clock %d\n" % moment) for moment in range(1, TURNS + 1)) / TURNS
+        some, done = [], 0
+        for canceled in CANCELED:
+            canceled = min(canceled, count - done)
+            if is_timed and canceled:
+                done += canceled
+                some.append((canceled, shell.ask(b"clock %d\n" % (FIRST + done))))
+        found = state_counts(shell)
+        if (found.get(b"7", 0), found.get(b"3", 0)) != (done, count - done):
+            sys.exit(f"the jobs are in the states {found}, and {done} were canceled")
     return none, some
 
 
-def floor(folder):
-    """The seconds of two writes and two syncs by the plain program."""
-    program = os.path.join(folder, "floor")
-    subprocess.run(["cc", "-O2", "-o", program, os.path.join(here, "floor.c")], check=True)
-    words = [program, os.path.join(folder, "floor.disk"), str(TURNS), str(RECORD)]
-    return float(subprocess.run(words, stdout=subprocess.PIPE, check=True).stdout) / TURNS
-
-
 def main():
-    program, room = given()
-    with room as folder:
+    program = given_program(2)
+    with given_room() as folder:
         for is_timed in (False, True):
             print("each job has a start deadline" if is_timed else "no job has a start deadline")
             for count in COUNTS:
-                least = floor(folder)
+                least = floor(folder, TURNS, RECORD)
                 none, some = measured(folder, program, count, is_timed)
                 print(f"  {count:9,} jobs: {1e6 * none:8.1f} us, the floor {1e6 * least:8.1f} us, ratio {none / least:5.2f}")
                 for canceled, took in some:

@@ -8,12 +8,10 @@ without rules, and the ratio to the case before.
 A ratio near 2 when the document or the file doubles means that the time of type detection is proportional to both. Times depend on the
 machine, so only the ratios are of interest. No test checks them.
 """
-import subprocess
-import sys
 import tempfile
-import time
 
 from harness.programs import SHELL
+from measures import least_served, needed
 
 MEBIBYTE = 1_048_576
 
@@ -36,20 +34,10 @@ def rules(count):
 
 def seconds(size, count):
     """The shortest time of three runs."""
-    best = None
     with tempfile.NamedTemporaryFile("w", suffix=".types") as types:
         types.write(rules(count))
         types.flush()
-        for _ in range(3):
-            start = time.perf_counter()
-            run = subprocess.run(
-                [SHELL, "--types", types.name], input=script(size), stdout=subprocess.PIPE, check=True
-            )
-            took = time.perf_counter() - start
-            best = took if best is None else min(best, took)
-            if b"error" in run.stdout:
-                sys.exit("a reply was an error")
-    return best
+        return least_served(script(size), "--types", types.name)[0]
 
 
 def show(title, cases):
@@ -64,5 +52,6 @@ def show(title, cases):
 
 
 if __name__ == "__main__":
+    needed(SHELL)
     show("the document doubles", [(MEBIBYTE // 4, 400), (MEBIBYTE // 2, 400), (MEBIBYTE, 400)])
     show("the file of types doubles", [(MEBIBYTE, 100), (MEBIBYTE, 200), (MEBIBYTE, 400)])

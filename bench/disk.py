@@ -13,18 +13,13 @@ Times depend on the machine and its disk, so only the ratios are of interest. No
 """
 import os
 import struct
-import subprocess
-import sys
 import tempfile
-import time
 
+from harness.checks import timed
 from harness.programs import SHELL
 from harness.written_spools import rows, spool
+from measures import CREATE, floor, given_room, least_served, needed, QUEUE, served, written
 
-here = os.path.dirname(os.path.abspath(__file__))
-
-QUEUE = b"queue lab spoolfile:/out application/octet-stream abort-job\n"
-CREATE = b'create lab ann "A title" 1 50 ""\n'
 EVENTS = 2000
 PIECE = 65_536
 PIECES = 16  # for a document of the greatest length
@@ -35,18 +30,13 @@ GATE = b"\xa5"
 
 
 def run(root, script, *words):
-    """The seconds of a script over the spool in this folder. The script is read from a file, because Python fills a pipe slowly."""
-    with tempfile.TemporaryFile(dir=root) as file:
-        file.write(script)
-        file.flush()
-        os.fsync(file.fileno())
-        file.seek(0)
-        start = time.perf_counter()
-        done = subprocess.run([SHELL, "--root", ".", *words], cwd=root, stdin=file, stdout=subprocess.PIPE, check=True)
-        took = time.perf_counter() - start
-    if b"error" in done.stdout:
-        sys.exit("a reply was an error")
-    return took
+    """The seconds of a script over the spool in this folder."""
+    return served(script, "--root", ".", *words, cwd=root)[0]
+
+
+def opening(root):
+    """The shortest time of three openings."""
+    return least_served(b"", "--root", ".", cwd=root)[0]
 
 
 def record_length(payload):
@@ -65,29 +55,17 @@ def journal_end(root):
     return at
 
 
-def floor(folder, count, bytes_each):
-    """The seconds of `count` events by the plain program."""
-    program = os.path.join(folder, "floor")
-    subprocess.run(["cc", "-O2", "-o", program, os.path.join(here, "floor.c")], check=True)
-    words = [program, os.path.join(folder, "floor.disk"), str(count), str(bytes_each)]
-    return float(subprocess.run(words, stdout=subprocess.PIPE, check=True).stdout)
-
-
 def events(folder):
     """Events and their floor, alternately."""
     print(f"{EVENTS} events, next to two writes and two syncs each")
-    for turn in range(3):
-        root = os.path.join(folder, f"events-{turn}")
-        os.mkdir(root)
+    for _ in range(3):
+        root = tempfile.mkdtemp(dir=folder)
         run(root, QUEUE)
         before = journal_end(root)
-        took = run(root, CREATE * EVENTS)
+        took = run(root, CREATE * EVENTS) / EVENTS
         bytes_each = (journal_end(root) - before) // EVENTS
         least = floor(folder, EVENTS, bytes_each)
-        print(
-            f"  {EVENTS / took:8.0f} a second of {bytes_each} bytes, the floor {EVENTS / least:8.0f},"
-            f" ratio {took / least:5.2f}"
-        )
+        print(f"  {1 / took:8.0f} a second of {bytes_each} bytes, the floor {1 / least:8.0f}, ratio {took / least:5.2f}")
 
 
 def sends(folder):
@@ -95,54 +73,36 @@ def sends(folder):
     count = DOCUMENTS * PIECES
     print(f"{count} sends of {PIECE} bytes, next to two writes and two syncs each")
     piece = bytes(PIECE)
-    for turn in range(3):
-        root = os.path.join(folder, f"sends-{turn}")
-        os.mkdir(root)
+    for _ in range(3):
+        root = tempfile.mkdtemp(dir=folder)
         run(root, QUEUE + CREATE * DOCUMENTS, "--size", str(4 * DOCUMENTS * PIECES * PIECE))
         lines = (b"send %d %d\n%b\n" % (job, PIECE, piece) for job in range(1, DOCUMENTS + 1) for _ in range(PIECES))
         script = b"".join(lines)
-        opened = min(run(root, b"") for _ in range(3))
-        took = run(root, script) - opened
+        opened = opening(root)
+        took = (run(root, script) - opened) / count
         least = floor(folder, count, record_length(9 + PIECE))
-        print(f"  {count / took:8.0f} a second, the floor {count / least:8.0f}, ratio {took / least:5.2f}")
-
-
-def written(folder, size):
-    """The seconds to write and sync `size` bytes at once."""
-    there = bytes(size)
-    with open(os.path.join(folder, "written"), "wb") as file:
-        start = time.perf_counter()
-        file.write(there)
-        file.flush()
-        os.fsync(file.fileno())
-        return time.perf_counter() - start
+        print(f"  {1 / took:8.0f} a second, the floor {1 / least:8.0f}, ratio {took / least:5.2f}")
 
 
 def checkpoints(folder):
     """Checkpoints of tables of growing length, with jobs that have no documents."""
     print("checkpoints")
     for count in (1000, 10000, 100000):
-        root = os.path.join(folder, f"checkpoint-{count}")
-        os.mkdir(root)
         size = sum(record_length(len(row)) for row in rows(count))
-        with open(os.path.join(root, "spool.disk"), "wb") as file:
-            file.write(spool(rows(count)))
-        opened = min(run(root, b"") for _ in range(3))
-        took = run(root, b"checkpoint\n") - opened
-        least = floor(folder, count, size // count)
-        print(
-            f"  {count:8} rows: {took:8.3f} s, the floor {least:8.3f}, ratio {took / least:5.2f};"
-            f" {size} bytes at once {written(folder, size):8.3f} s"
-        )
+        root = written(folder, spool(rows(count)))
+        took = run(root, b"checkpoint\n") - opening(root)
+        least = count * floor(folder, count, size // count)
+        at_once = timed(lambda: written(folder, bytes(size)))
+        print(f"  {count:8} rows: {took:8.3f} s, the floor {least:8.3f}, ratio {took / least:5.2f}; {size} bytes at once {at_once:8.3f} s")
 
 
 def main():
-    if not os.path.exists(SHELL):
-        sys.exit("no program: run `rt run` in crates/spool_shell first")
-    with tempfile.TemporaryDirectory(dir=sys.argv[1] if len(sys.argv) > 1 else ".") as folder:
+    needed(SHELL)
+    with given_room() as folder:
         events(folder)
         sends(folder)
         checkpoints(folder)
 
 
-main()
+if __name__ == "__main__":
+    main()

@@ -10,25 +10,16 @@ The job is in a stopped queue of its own: when a hold ends, the index of the job
 from that, a turn should take as long whatever the number of waiting jobs, so the ratios should be near 1. Times depend on the machine, so
 only the ratios are of interest. No test checks them. The largest spool takes several seconds to open.
 """
-import os
-import sys
 import time
 
-from harness.checks import same, until
+from harness.checks import same
 from harness.programs import SERVICE
-from harness.service import Client, Folder
-from harness.written_spools import rows, spool
+from harness.service import Client, Folder, work_of
+from harness.written_spools import stopped_rows
+from measures import given_program, service
 
 COUNTS = (10, 1_000, 100_000, 1_000_000)
 TURNS = 10
-# The time in seconds until a large spool is open.
-LONGEST = 300
-
-
-def stopped(count):
-    """The listing of a table with this number of waiting jobs in a stopped queue."""
-    for place, row in enumerate(rows(count + 2)):
-        yield row[:-5] + b"\x01" + row[-4:] if place == 1 else row
 
 
 def submit(folder, client):
@@ -47,38 +38,21 @@ def hold_once(client, watcher, job):
             return
 
 
-def processor_time(folder):
-    """The milliseconds that the service has run."""
-    with open(f"/proc/{folder.running.pid}/schedstat") as file:
-        return int(file.read().split()[0]) / 1e6
-
-
 def measured(count):
     """The milliseconds of processor time of a turn."""
-    folder = Folder()
-    try:
-        with open(folder.at("spool", "spool.disk"), "wb") as file:
-            file.write(spool(stopped(count)))
-        folder.launch("--quiet", "--keep", "1000000")
-        until("the service", folder.serves, LONGEST)
+    with service("--keep", "1000000", payloads=stopped_rows(count + 2)) as folder:
         client, watcher = Client(folder), Client(folder)
         job = submit(folder, client)
         same("watch", watcher.ask("watch\n"), "ok")
         hold_once(client, watcher, job)
-        before = processor_time(folder)
+        before = work_of(folder.running.pid)
         for _ in range(TURNS):
             hold_once(client, watcher, job)
-        took = processor_time(folder) - before
-    finally:
-        folder.end()
-        folder.remove()
-    return took / TURNS
+        return (work_of(folder.running.pid) - before) / 1e6 / TURNS
 
 
 def main():
-    Folder.service = os.path.abspath(sys.argv[1]) if len(sys.argv) > 1 else SERVICE
-    if not os.path.exists(Folder.service):
-        sys.exit("no program: run `rt run` in crates/spool_service first")
+    Folder.service = given_program(1, SERVICE)
     first = None
     for count in COUNTS:
         took = measured(count)

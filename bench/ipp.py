@@ -23,17 +23,16 @@ machine before and after: on a busy machine the figures mean little. It takes ab
 """
 import contextlib
 import functools
-import os
 import statistics
-import sys
 import time
 from collections import namedtuple
 
 from harness import ipp
 from harness.checks import at_once, same, timed
 from harness.cups import attribute, Connection, Cups, JOB_NUMBER
-from harness.programs import IPP, unbuilt
-from harness.service import memory_of
+from harness.programs import IPP, SERVICE
+from harness.service import memory_of, PIECE
+from measures import given_program, needed
 from service import medians, print_rates, run_parts, RunningService, share_of, TIMES
 
 CONNECTIONS = (1, 8, 32)
@@ -45,7 +44,7 @@ ANSWERS = 192
 LISTED = {500: 24, 10_000: 4}
 FILLING = 8
 # The clients that send slowly, the length of a document, and the bytes of it that are sent, in pieces with a pause between them.
-SLOW, LONG, SENT, PIECE, PAUSE = 40, 16_777_216, 12_582_912, 65_536, 0.05
+SLOW, LONG, SENT, PAUSE = 40, 16_777_216, 12_582_912, 0.05
 
 # The attributes of a job that `lpstat -o` requests.
 COLUMNS = (
@@ -197,11 +196,8 @@ def memory_of_slow(server):
 
 
 def main():
-    ipp.IPP = os.path.abspath(sys.argv[1] if len(sys.argv) > 1 else IPP)
-    if not os.path.exists(ipp.IPP):
-        sys.exit("no program: run `rt run` in crates/spool_ipp first")
-    if unbuilt("spool_service"):
-        sys.exit(f"it needs {unbuilt('spool_service')}")
+    ipp.IPP = given_program(1, IPP)
+    needed(SERVICE)
     run_parts(print_job, create_job, printer, listing, memory)
 
 

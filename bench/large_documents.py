@@ -11,12 +11,9 @@ When a document is closed, the program reads the first bytes that the type rules
 that inspects the first bytes, and with a rule that inspects all bytes. Times depend on the machine. No test checks them.
 """
 import os
-import sys
-import tempfile
-import time
 
-from harness.programs import SHELL
-from harness.service import PIECE
+from harness.programs import BENCH, SHELL
+from measures import given_room, needed
 from printing import Spooler
 
 DOCUMENT = 16_777_216
@@ -44,34 +41,23 @@ def programs(room):
     return "".join(line + "\n" for line in lines)
 
 
-class Case:
+class Case(Spooler):
     """A spooler with its own folder and files."""
 
-    def __init__(self, room, name, types="", convs="", size=SIZE):
-        self.folder = os.path.join(room, name.replace(" ", "-"))
-        files = {}
+    def __init__(self, room, name, types="", convs=""):
+        folder = os.path.join(room, name.replace(" ", "-"))
+        words = []
         for kind, text in (("types", types), ("convs", convs)):
-            files[kind] = f"{self.folder}.{kind}"
-            with open(files[kind], "w") as file:
+            words += [f"--{kind}", f"{folder}.{kind}"]
+            with open(f"{folder}.{kind}", "w") as file:
                 file.write(text)
-        words = [word for kind, path in files.items() for word in (f"--{kind}", path)]
-        self.spooler = Spooler(self.folder, size, programs(room), words)
+        super().__init__(folder, programs(room), *words, size=SIZE)
 
-    def ask(self, command):
-        return self.spooler.ask(command)
-
-    def send(self, job, queue, target=UNKNOWN):
+    def submit(self, job, queue, target=UNKNOWN):
         """Creates a job on a queue of its own, and sends its document."""
         self.ask(b"queue %s nothing:/ %s abort-job\n" % (queue, target))
         self.ask(b'create %s ann t 1 50 ""\n' % queue)
-        for _ in range(DOCUMENT // PIECE):
-            self.ask(b"send %d %d\n" % (job, PIECE) + PIECE * b"x" + b"\n")
-
-    def memory(self):
-        return self.spooler.memory()
-
-    def end(self):
-        self.spooler.end()
+        self.send(job, DOCUMENT)
 
 
 def tell(name, memory, nothing):
@@ -80,68 +66,59 @@ def tell(name, memory, nothing):
 
 def steps(room, filter_name):
     """The peak memory after each step of a job that a filter and a backend print."""
-    case = Case(room, filter_name, convs=f"application/octet-stream a/b 10 {filter_name}\n")
-    case.ask(b"jobs\n")
-    nothing = case.memory()
-    tell("nothing", nothing, nothing)
-    case.send(1, b"q", target=b"a/b")
-    tell("a document was sent", case.memory(), nothing)
-    case.ask(b"close 1 x\n")
-    tell("and closed", case.memory(), nothing)
-    case.ask(b"round\n")
-    tell(f"handed to a filter with {filter_name} output", case.memory(), nothing)
-    case.ask(b"round\n")
-    tell("and its output to a backend", case.memory(), nothing)
-    case.end()
+    with Case(room, filter_name, convs=f"application/octet-stream a/b 10 {filter_name}\n") as case:
+        case.ask(b"jobs\n")
+        nothing = case.memory()
+        tell("nothing", nothing, nothing)
+        case.submit(1, b"q", target=b"a/b")
+        tell("a document was sent", case.memory(), nothing)
+        case.ask(b"close 1 x\n")
+        tell("and closed", case.memory(), nothing)
+        case.ask(b"round\n")
+        tell(f"handed to a filter with {filter_name} output", case.memory(), nothing)
+        case.ask(b"round\n")
+        tell("and its output to a backend", case.memory(), nothing)
     return nothing
 
 
 def checkpoint(room, nothing):
-    case = Case(room, "checkpoint")
-    case.send(1, b"q")
-    case.ask(b"checkpoint\n")
-    tell("a document in a checkpoint", case.memory(), nothing)
-    case.end()
+    with Case(room, "checkpoint") as case:
+        case.submit(1, b"q")
+        case.ask(b"checkpoint\n")
+        tell("a document in a checkpoint", case.memory(), nothing)
 
 
 def in_flight(room, nothing):
     """Eight documents, handed to their backends at once, and listed by a checkpoint."""
-    case = Case(room, "flight")
-    for n in range(QUEUES):
-        case.send(n + 1, b"q%d" % n)
-        case.ask(b"close %d x\n" % (n + 1))
-    tell("eight documents, closed", case.memory(), nothing)
-    case.ask(b"round\n")
-    tell("all eight in flight", case.memory(), nothing)
-    case.end()
-    case = Case(room, "eight")
-    for n in range(QUEUES):
-        case.send(n + 1, b"q%d" % n)
-    case.ask(b"checkpoint\n")
-    tell("all eight in a checkpoint", case.memory(), nothing)
-    case.end()
+    with Case(room, "flight") as case:
+        for n in range(QUEUES):
+            case.submit(n + 1, b"q%d" % n)
+            case.ask(b"close %d x\n" % (n + 1))
+        tell("eight documents, closed", case.memory(), nothing)
+        case.ask(b"round\n")
+        tell("all eight in flight", case.memory(), nothing)
+    with Case(room, "eight") as case:
+        for n in range(QUEUES):
+            case.submit(n + 1, b"q%d" % n)
+        case.ask(b"checkpoint\n")
+        tell("all eight in a checkpoint", case.memory(), nothing)
 
 
 def closes(room, nothing):
     """The shortest time of several closes of documents of the greatest length."""
     for name, rules in RULES.items():
-        case = Case(room, name, types=rules)
-        times = []
-        for job in range(1, RUNS + 1):
-            case.send(job, b"q%d" % job)
-            start = time.perf_counter()
-            case.ask(b"close %d x\n" % job)
-            times.append(time.perf_counter() - start)
-        tell(f"close, by {name}", case.memory(), nothing)
+        with Case(room, name, types=rules) as case:
+            times = []
+            for job in range(1, RUNS + 1):
+                case.submit(job, b"q%d" % job)
+                times.append(case.ask(b"close %d x\n" % job))
+            tell(f"close, by {name}", case.memory(), nothing)
         print(f"    {1000 * min(times):.2f} ms at least, {1000 * max(times):.2f} at most", flush=True)
-        case.end()
 
 
 def main():
-    if not os.path.exists(SHELL):
-        sys.exit("no program: run `rt run` in crates/spool_shell first")
-    folder = sys.argv[1] if len(sys.argv) > 1 else os.path.dirname(os.path.abspath(__file__))
-    with tempfile.TemporaryDirectory(dir=os.path.abspath(folder)) as room:
+    needed(SHELL)
+    with given_room(BENCH) as room:
         nothing = steps(room, "small")
         steps(room, "whole")
         checkpoint(room, nothing)

@@ -14,19 +14,15 @@ The script prints the processor time of the service for each reply, and its rati
 those with 1,000, so the last column, the ratio of the two, should be near 1. Times depend on the machine, so only the ratios are of
 interest. No test checks them.
 """
-import os
-import sys
-
-from harness.checks import same, until
+from harness.checks import same
 from harness.programs import SERVICE
-from harness.service import Client, Folder
-from harness.written_spools import rows, spool
+from harness.service import Client, Folder, work_of
+from harness.written_spools import stopped_rows
+from measures import given_program, service
 
 COUNTS = (1_000, 100_000)
 TURNS = 200
 PIECE = 50
-# The time in seconds until a large spool is open.
-LONGEST = 300
 
 
 def token(number):
@@ -35,9 +31,7 @@ def token(number):
 
 def stopped(count):
     """The listing of a table with this number of waiting jobs in a stopped queue, each with a token."""
-    listing = rows(count + 2, options=lambda number: f"sides=one-sided submission={token(number)}".encode())
-    for place, row in enumerate(listing):
-        yield row[:-5] + b"\x01" + row[-4:] if place == 1 else row
+    return stopped_rows(count + 2, options=lambda number: f"sides=one-sided submission={token(number)}".encode())
 
 
 def requests(count):
@@ -73,41 +67,25 @@ def check(count, answers):
     same("the queue", f"waiting {count}" in answers["the queue"], True)
 
 
-def processor_time(folder):
-    """The microseconds that the service has run."""
-    with open(f"/proc/{folder.running.pid}/schedstat") as file:
-        return int(file.read().split()[0]) / 1e3
-
-
 def time_of(folder, client, request):
     """The microseconds of the service's processor time for a request."""
-    before = processor_time(folder)
+    before = work_of(folder.running.pid)
     for _ in range(TURNS):
         answer(client, request)
-    return (processor_time(folder) - before) / TURNS
+    return (work_of(folder.running.pid) - before) / 1e3 / TURNS
 
 
 def measured(count):
     """The microseconds of each request."""
-    folder = Folder()
-    try:
-        with open(folder.at("spool", "spool.disk"), "wb") as file:
-            file.write(spool(stopped(count)))
-        folder.launch("--quiet", "--keep", "1000000")
-        until("the service", folder.serves, LONGEST)
+    with service("--keep", "1000000", payloads=stopped(count)) as folder:
         client = Client(folder)
         wanted = requests(count)
         check(count, {name: answer(client, request) for name, request in wanted.items()})
         return {name: time_of(folder, client, request) for name, request in wanted.items()}
-    finally:
-        folder.end()
-        folder.remove()
 
 
 def main():
-    Folder.service = os.path.abspath(sys.argv[1]) if len(sys.argv) > 1 else SERVICE
-    if not os.path.exists(Folder.service):
-        sys.exit("no program: run `rt run` in crates/spool_service first")
+    Folder.service = given_program(1, SERVICE)
     few, many = (measured(count) for count in COUNTS)
     print(f"{'':20}{COUNTS[0]:>12,} jobs{COUNTS[1]:>20,} jobs")
     for name, took in few.items():

@@ -12,15 +12,13 @@ are of interest. No test checks them.
 import os
 import time
 
-from harness.checks import same, until
+from harness.checks import same
 from harness.front import Front
-from harness.service import Folder
-from harness.written_spools import spool, stopped_rows
+from harness.written_spools import stopped_rows
+from measures import service
 
 COUNTS = (100, 1_000, 5_000, 20_000)
 TURNS = 5
-# The time in seconds until a large spool is open.
-LONGEST = 300
 
 
 def seconds_of(front, *words):
@@ -32,12 +30,7 @@ def seconds_of(front, *words):
 
 def measured(count):
     """The seconds of the fastest page and the fastest listing, and the length of the page."""
-    folder = Folder()
-    try:
-        with open(folder.at("spool", "spool.disk"), "wb") as file:
-            file.write(spool(stopped_rows(count + 2)))
-        folder.launch("--quiet", "--keep", "1000000")
-        until("the service", folder.serves, LONGEST)
+    with service("--keep", "1000000", payloads=stopped_rows(count + 2)) as folder:
         front = Front(folder, patience=60)
         pages, listings = [], []
         for _ in range(TURNS):
@@ -47,9 +40,6 @@ def measured(count):
             same("the rows of the listing", text.count("\n"), count + 1)
         same("the rows of the page", folder.read("page.html").count("A title"), count)
         return min(pages), min(listings), os.path.getsize(folder.at("page.html"))
-    finally:
-        folder.end()
-        folder.remove()
 
 
 def main():

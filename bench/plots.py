@@ -15,33 +15,29 @@ import tempfile
 import matplotlib
 
 from harness.checks import at_once, timed
-from harness.programs import ROOT, SERVICE, SHELL
-from harness.service import Client, Folder
+from harness.programs import ended, ROOT, SERVICE, SHELL
 from harness.written_spools import jobs, rows, sends, spool
+from measures import spool_folder
+from service import ACCEPTED, RunningService, submit_some
 
 matplotlib.use("svg")
 from matplotlib import pyplot  # noqa: E402
 
 COUNTS = (1_000, 3_000, 10_000, 30_000, 100_000)
 CLIENTS = (1, 2, 4, 8, 16)
-ACCEPTED = 192
 
 
 def processor_time(folder, contents, script):
     """The seconds of processor time of the shell that serves a script over a spool: the least of three."""
-    with tempfile.TemporaryDirectory(dir=folder) as root:
-        took = []
-        for _ in range(3):
-            with open(os.path.join(root, "spool.disk"), "wb") as file:
-                file.write(contents)
-            with subprocess.Popen([SHELL, "--root", "."], cwd=root, stdin=subprocess.PIPE, stdout=subprocess.DEVNULL) as running:
-                running.stdin.write(script)
-                running.stdin.close()
-                _, status, usage = os.wait4(running.pid, 0)
-                running.returncode = os.waitstatus_to_exitcode(status)
-            if running.returncode:
-                sys.exit(f"the shell ended with {running.returncode}")
-            took.append(usage.ru_utime + usage.ru_stime)
+    took = []
+    for _ in range(3):
+        with spool_folder(folder, contents) as root, tempfile.TemporaryFile() as given:
+            given.write(script)
+            given.seek(0)
+            status, usage = ended([SHELL, "--root", "."], cwd=root, stdin=given, stdout=subprocess.DEVNULL)
+        if status:
+            sys.exit(f"the shell ended with {status}")
+        took.append(usage.ru_utime + usage.ru_stime)
     return min(took)
 
 
@@ -66,24 +62,9 @@ def checkpoints(folder):
 
 def accepted():
     """Jobs of a KiB that a service accepts per second from some clients, on one queue that prints nothing."""
-    folder = Folder()
-    folder.size = 67_108_864
-
-    def submit(count):
-        client = Client(folder)
-        for _ in range(count):
-            client.submit("q", "x" * 1_023 + "\n")
-        client.close()
-
-    try:
-        folder.start("--quiet", "--keep", "1000000")
-        client = Client(folder)
-        folder.queue(client, "q")
-        client.ask("disable q\n")
-        return [ACCEPTED / timed(lambda n=clients: at_once([lambda: submit(ACCEPTED // n)] * n)) for clients in CLIENTS]
-    finally:
-        folder.end()
-        folder.remove()
+    with RunningService(1, 0) as service:
+        service.say_to_all("disable")
+        return [ACCEPTED / timed(lambda n=clients: at_once([lambda: submit_some(service, 0, ACCEPTED // n)] * n)) for clients in CLIENTS]
 
 
 def draw(to, name, title, places, lines, label, across, floor):

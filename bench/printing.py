@@ -22,52 +22,29 @@ import os
 import statistics
 import subprocess
 import sys
-import tempfile
-import time
 
-from harness.programs import SHELL
+from harness.programs import BENCH, compiled, SHELL
+from measures import given_room, needed, Shell
 
-here = os.path.dirname(os.path.abspath(__file__))
 PROGRAM = "/bin/true"
 JOBS = 800
 PART = 40  # jobs that are printed at once, between two runs of the floors
 DOCUMENT = 1_048_576
-PIECE = 65_536
 
 
-class Spooler:
-    """A program that serves commands, one at a time."""
+class Spooler(Shell):
+    """A shell in a new folder, with these programs."""
 
-    def __init__(self, folder, size, programs, more=()):
+    def __init__(self, folder, programs, *more, size=67_108_864):
         os.mkdir(folder)
         listed = folder + ".programs"
         with open(listed, "w") as file:
             file.write(programs)
-        words = [SHELL, "--root", ".", "--size", str(size), "--programs", listed, *more]
-        self.running = subprocess.Popen(words, cwd=folder, stdin=subprocess.PIPE, stdout=subprocess.PIPE)
-
-    def ask(self, command):
-        self.running.stdin.write(command)
-        self.running.stdin.flush()
-        reply = self.running.stdout.readline()
-        if reply.startswith(b"error"):
-            sys.exit(f"{command[:60]!r}: {reply!r}")
-        return reply
-
-    def memory(self):
-        """Its peak memory, in KiB."""
-        with open(f"/proc/{self.running.pid}/status") as file:
-            return next(int(line.split()[1]) for line in file if line.startswith("VmHWM:"))
-
-    def end(self):
-        self.running.stdin.close()
-        if self.running.wait():
-            sys.exit("the program failed")
+        super().__init__("--root", ".", "--size", str(size), "--programs", listed, *more, cwd=folder)
 
 
-def filled(folder, queues):
-    """A spooler with all jobs, and one more, which is held."""
-    spooler = Spooler(folder, 67_108_864, f"backend nothing {PROGRAM}\n")
+def fill(spooler, queues):
+    """Creates all jobs, and one more, which is held."""
     for n in range(queues):
         spooler.ask(b"queue q%d nothing:/ application/octet-stream abort-job\n" % n)
     spooler.ask(b'create q0 ann t 1 50 ""\n')
@@ -75,55 +52,41 @@ def filled(folder, queues):
     for job in range(2, JOBS + 2):
         spooler.ask(b'create q%d ann t 1 50 ""\n' % (job % queues))
         spooler.ask(b"close %d x\n" % job)
-    return spooler
 
 
 def printed(spooler, queues):
     """The seconds to print the jobs of a part, and of the same number of other events."""
-    start = time.perf_counter()
-    reply = spooler.ask(b"drain %d\n" % (PART // queues))
-    took = time.perf_counter() - start
-    if reply != b"ok rounds %d\n" % (PART // queues):
-        sys.exit(f"not all jobs of a part were printed: {reply!r}")
-    start = time.perf_counter()
-    for moment in range(2 * PART):
-        spooler.ask(b"hold 1 %d\n" % (moment + 1))
-    return took, time.perf_counter() - start
+    took = spooler.ask(b"drain %d\n" % (PART // queues))
+    if spooler.last != b"ok rounds %d\n" % (PART // queues):
+        sys.exit(f"not all jobs of a part were printed: {spooler.last!r}")
+    return took, sum(spooler.ask(b"hold 1 %d\n" % (moment + 1)) for moment in range(2 * PART))
 
 
-def build(room):
-    """The program of the floors."""
-    program = os.path.join(room, "launches")
-    subprocess.run(["cc", "-O2", "-o", program, os.path.join(here, "launches.c")], check=True)
-    return program
-
-
-def launched(room, program, queues, *disk, jobs=PART):
+def launched(room, queues, *disk, jobs=PART):
     """The seconds of a floor: of the second one if a file for its events is given."""
     folder = os.path.join(room, "files")
     os.makedirs(folder, exist_ok=True)
-    words = [program, str(jobs), str(queues), folder, PROGRAM, *disk]
+    words = [compiled("launches.c", "-O2"), str(jobs), str(queues), folder, PROGRAM, *disk]
     return float(subprocess.run(words, stdout=subprocess.PIPE, check=True).stdout)
 
 
-def floors(room, program, queues):
+def floors(room, queues):
     """The seconds of both floors."""
-    return launched(room, program, queues), launched(room, program, queues, os.path.join(room, "disk"))
+    return launched(room, queues), launched(room, queues, os.path.join(room, "disk"))
 
 
 def rates(room):
-    program = build(room)
     for queues in (1, 8):
         times = []
-        spooler = filled(os.path.join(room, f"spool-{queues}"), queues)
-        before = floors(room, program, queues)
-        for _ in range(JOBS // PART):
-            took, events = printed(spooler, queues)
-            after = floors(room, program, queues)
-            bare, whole = ((one + other) / 2 for one, other in zip(before, after))
-            times.append((took, events, bare, whole))
-            before = after
-        spooler.end()
+        with Spooler(os.path.join(room, f"spool-{queues}"), f"backend nothing {PROGRAM}\n") as spooler:
+            fill(spooler, queues)
+            before = floors(room, queues)
+            for _ in range(JOBS // PART):
+                took, events = printed(spooler, queues)
+                after = floors(room, queues)
+                bare, whole = ((one + other) / 2 for one, other in zip(before, after))
+                times.append((took, events, bare, whole))
+                before = after
         print_medians(queues, times)
 
 
@@ -147,27 +110,23 @@ def print_medians(queues, times):
 
 def memory(room):
     """Eight documents of a mebibyte, handed to their backends at once."""
-    folder = os.path.join(room, "memory")
-    spooler = Spooler(folder, 67_108_864, "backend cat /bin/cat\n")
-    spooler.ask(b"jobs\n")
-    nothing = spooler.memory()
-    for n in range(8):
-        spooler.ask(b"queue q%d cat:/ application/octet-stream abort-job\n" % n)
-        spooler.ask(b'create q%d ann t 1 50 ""\n' % n)
-        for _ in range(DOCUMENT // PIECE):
-            spooler.ask(b"send %d %d\n" % (n + 1, PIECE) + PIECE * b"x" + b"\n")
-        spooler.ask(b"close %d x\n" % (n + 1))
-    kept = spooler.memory()
-    spooler.ask(b"round\n")
-    ran = spooler.memory()
-    spooler.end()
+    with Spooler(os.path.join(room, "memory"), "backend cat /bin/cat\n") as spooler:
+        spooler.ask(b"jobs\n")
+        nothing = spooler.memory()
+        for n in range(8):
+            spooler.ask(b"queue q%d cat:/ application/octet-stream abort-job\n" % n)
+            spooler.ask(b'create q%d ann t 1 50 ""\n' % n)
+            spooler.send(n + 1, DOCUMENT)
+            spooler.ask(b"close %d x\n" % (n + 1))
+        kept = spooler.memory()
+        spooler.ask(b"round\n")
+        ran = spooler.memory()
     print(f"memory: {nothing} KiB, with eight documents of a mebibyte {kept} KiB, with all of them in flight {ran} KiB")
 
 
 def main():
-    if not os.path.exists(SHELL):
-        sys.exit("no program: run `rt run` in crates/spool_shell first")
-    with tempfile.TemporaryDirectory(dir=sys.argv[1] if len(sys.argv) > 1 else here) as room:
+    needed(SHELL)
+    with given_room(BENCH) as room:
         rates(room)
         memory(room)
 

@@ -11,43 +11,28 @@ A purge should take as long as any event, whatever the number of jobs and the or
 time, so the times show the work of the program itself. Times depend on the machine and its disk, so only the ratios are of interest. No
 test checks them.
 """
-import os
 import random
-import subprocess
-import tempfile
 
-from clocks import ask, floor
-from opening import given, rows, spool
+from harness.written_spools import rows, spool
+from measures import floor, given_program, given_room, Shell, spool_folder
 
 COUNTS = (1_000, 100_000, 1_000_000)
 PURGED = 10_000
 BY = 1_000
+TURNS = 200
+RECORD = 14  # bytes of a clock's record, which is that of the floor
 
 
 def measured(folder, program, count, numbers):
     """The seconds of a purge, for these jobs in this order."""
     ended = set(numbers)
-    with tempfile.TemporaryDirectory(dir=folder) as root:
-        with open(os.path.join(root, "spool.disk"), "wb") as file:
-            file.write(spool(rows(count + 2, lambda number: BY if number in ended else None)))
-            # Room for the events after the listing.
-            half = os.path.getsize(file.name) // 2
-        grow(os.path.join(root, "spool.disk"), half, 32 * len(numbers))
-        words = [program, "--root", "."]
-        with subprocess.Popen(words, cwd=root, stdin=subprocess.PIPE, stdout=subprocess.PIPE) as running:
-            ask(running, b"clock %d\n" % (BY + 1))
-            took = sum(ask(running, b"purge %d\n" % number) for number in numbers)
-            running.stdin.close()
-    return took / len(numbers)
-
-
-def grow(path, half, more):
-    """Extends each half of a spool's file by `more` zero bytes."""
-    with open(path, "rb") as file:
-        halves = file.read(half), file.read(half)
-    with open(path, "wb") as file:
-        for bytes_of in halves:
-            file.write(bytes_of + bytes(more))
+    contents = spool(rows(count + 2, lambda number: BY if number in ended else None))
+    # Room for the events after the listing.
+    half, more = len(contents) // 2, bytes(32 * len(numbers))
+    contents = contents[:half] + more + contents[half:] + more
+    with spool_folder(folder, contents) as root, Shell("--root", ".", program=program, cwd=root) as shell:
+        shell.ask(b"clock %d\n" % (BY + 1))
+        return sum(shell.ask(b"purge %d\n" % number) for number in numbers) / len(numbers)
 
 
 def orders(count):
@@ -61,10 +46,10 @@ def orders(count):
 
 
 def main():
-    program, room = given()
-    with room as folder:
+    program = given_program(2)
+    with given_room() as folder:
         for count in COUNTS:
-            least = floor(folder)
+            least = floor(folder, TURNS, RECORD)
             print(f"  {count:9,} jobs, the floor {1e6 * least:8.1f} us")
             for name, numbers in orders(count):
                 took = measured(folder, program, count, numbers)

@@ -9,12 +9,10 @@ A ratio near 2 means that the time to read the text is linear in its length. Tim
 interest. No test checks them.
 """
 import os
-import subprocess
 import sys
 import tempfile
-import time
 
-from harness.programs import SHELL
+from measures import given_program, served
 
 MEBIBYTE = 1_048_576
 
@@ -53,10 +51,7 @@ def run(shell, said):
         tool = write(folder, "says", b"cat " + write(folder, "said", said).encode() + b" >&2\n")
         programs = write(folder, "programs", f"backend says /bin/sh {tool}\n".encode())
         os.mkdir(os.path.join(folder, "spool"))
-        words = [shell, "--root", os.path.join(folder, "spool"), "--programs", programs]
-        start = time.perf_counter()
-        replies = subprocess.run(words, input=SCRIPT, stdout=subprocess.PIPE, check=True).stdout
-        took = time.perf_counter() - start
+        took, replies = served(SCRIPT, "--root", os.path.join(folder, "spool"), "--programs", programs, program=shell)
     if not replies.endswith(b"ok started 1 finished 1\n"):
         sys.exit(f"report: the backend was not run: {replies!r}")
     return took
@@ -68,7 +63,7 @@ def seconds(shell, said):
 
 
 if __name__ == "__main__":
-    shell = os.path.abspath(sys.argv[1] if len(sys.argv) > 1 else SHELL)
+    shell = given_program(1)
     nothing = seconds(shell, b"")
     before = None
     for size in [MEBIBYTE // 4, MEBIBYTE // 2, MEBIBYTE]:

@@ -9,13 +9,8 @@ The jobs that do not run are held. A queue chooses its next job from an index of
 (crates/queue_sched). So the time of a round should hardly grow with the number of held jobs. Times depend on the machine, so only the
 ratios are of interest. No test checks them.
 """
-import os
-import subprocess
-import sys
-import threading
-import time
-
 from harness.programs import SHELL
+from measures import needed, Shell
 
 ROUNDS = 20
 
@@ -35,44 +30,19 @@ def before(queues, held):
 
 
 def round_seconds(queues, held):
-    """The shortest time of a round in three runs."""
-    script = before(queues, held)
-    replies = script.count(b"\n")
-    best = None
-    for _ in range(3):
-        words = [SHELL, "--size", "268435456"]
-        with subprocess.Popen(words, stdin=subprocess.PIPE, stdout=subprocess.PIPE) as running:
-            writing = threading.Thread(target=ask, args=(running, script))
-            writing.start()
-            wait_for(running, replies)
-            writing.join()
-            start = time.perf_counter()
-            ask(running, b"round\n" * ROUNDS)
-            wait_for(running, ROUNDS)
-            took = (time.perf_counter() - start) / ROUNDS
-            running.stdin.close()
-        best = took if best is None else min(best, took)
-    return best
-
-
-def ask(running, script):
-    running.stdin.write(script)
-    running.stdin.flush()
-
-
-def wait_for(running, replies):
-    for _ in range(replies):
-        if running.stdout.readline().startswith(b"error"):
-            sys.exit("a reply was an error")
+    """The time of a round in one run."""
+    with Shell("--size", "268435456") as shell:
+        shell.serve(before(queues, held))
+        return shell.serve(b"round\n" * ROUNDS) / ROUNDS
 
 
 def main():
-    if not os.path.exists(SHELL):
-        sys.exit("no program: run `rt run` in crates/spool_shell first")
+    needed(SHELL)
     for queues in (1, 8, 64):
         for held in (0, 1000, 10000, 100000):
-            took = round_seconds(queues, held)
+            took = min(round_seconds(queues, held) for _ in range(3))
             print(f"{queues:3} queues, {held:6} jobs held: {1e6 * took:10.0f} microseconds a round, {1e6 * took / queues:8.1f} a queue")
 
 
-main()
+if __name__ == "__main__":
+    main()

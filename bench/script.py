@@ -7,60 +7,44 @@ the ratio of the times per command.
 A ratio near 1 means that a command takes no longer in a long script than in a short one. Times depend on the machine, so only the ratios
 are of interest. No test checks them.
 """
-import os
-import subprocess
-import sys
-import time
-
 from harness.programs import SHELL
+from measures import CREATE, least_served, needed, QUEUE
 
 
 def seconds(script):
-    """The shortest time of three runs."""
-    best = None
-    # A spool in memory with room for all of it.
-    size = str(max(4_194_304, 4 * len(script)))
-    for _ in range(3):
-        start = time.perf_counter()
-        run = subprocess.run([SHELL, "--size", size], input=script, stdout=subprocess.PIPE, check=True)
-        took = time.perf_counter() - start
-        best = took if best is None else min(best, took)
-        if b"error" in run.stdout:
-            sys.exit("a reply was an error")
-    return best
+    """The shortest time of three runs, on a spool in memory with room for all of it."""
+    return least_served(script, "--size", str(max(4_194_304, 4 * len(script))))[0]
 
 
 def jobs(count):
     """Jobs are created and canceled, each with a small document."""
-    lines = [b"queue lab spoolfile:/out application/octet-stream abort-job\n"]
+    lines = [QUEUE]
     for n in range(1, count + 1):
-        lines.append(b'create lab ann "A title" 1 50 ""\nsend %d 5\nhello\ncancel %d\n' % (n, n))
+        lines.append(CREATE + b"send %d 5\nhello\ncancel %d\n" % (n, n))
     return b"".join(lines), 3 * count
 
 
 def held(count):
     """Jobs are created, and each is held and released."""
-    lines = [b"queue lab spoolfile:/out application/octet-stream abort-job\n"]
-    lines += [b'create lab ann "A title" 1 50 ""\n'] * count
+    lines = [QUEUE] + [CREATE] * count
     lines += [b"hold %d indefinite\nrelease %d\n" % (n, n) for n in range(1, count + 1)]
     return b"".join(lines), 3 * count
 
 
 def listed(count):
     """Jobs are created, and listed once."""
-    lines = [b"queue lab spoolfile:/out application/octet-stream abort-job\n"]
-    lines += [b'create lab ann "A title" 1 50 ""\n'] * count
+    lines = [QUEUE] + [CREATE] * count
     return b"".join(lines) + b"jobs\n", count
 
 
 def sends(count):
     """`send` commands of the greatest length, sixteen to a job."""
-    lines = [b"queue lab spoolfile:/out application/octet-stream abort-job\n"]
+    lines = [QUEUE]
     piece = b"x" * 65536
     for n in range(count):
         job = n // 16 + 1
         if n % 16 == 0:
-            lines.append(b'create lab ann "A title" 1 50 ""\n')
+            lines.append(CREATE)
         lines.append(b"send %d 65536\n" % job + piece + b"\n")
         if n % 16 == 15:
             lines.append(b"cancel %d\n" % job)
@@ -72,10 +56,12 @@ def remarks(count):
     return (b"#" + b"x" * 999 + b"\n") * count, count
 
 
+SMALL, LARGE = (16, 160, 1_600), (1_000, 10_000, 100_000)
+
+
 def main():
-    if not os.path.exists(SHELL):
-        sys.exit("no program: run `rt run` in crates/spool_shell first")
-    for make, counts in ((jobs, (1000, 10000, 100000)), (held, (1000, 10000, 100000)), (listed, (1000, 10000, 100000)), (sends, (16, 160, 1600)), (remarks, (1000, 10000, 100000))):
+    needed(SHELL)
+    for make, counts in ((jobs, LARGE), (held, LARGE), (listed, LARGE), (sends, SMALL), (remarks, LARGE)):
         first = None
         print(make.__doc__)
         for count in counts:
@@ -86,4 +72,5 @@ def main():
             print(f"  {commands:7} commands, {len(script):10} bytes: {took:8.3f} s, {each * 1e6:8.2f} us a command, ratio {each / first:5.2f}")
 
 
-main()
+if __name__ == "__main__":
+    main()

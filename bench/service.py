@@ -37,7 +37,8 @@ import printing
 from harness.checks import at_once, print_times, same, timed
 from harness.cups import Connection, Cups
 from harness.programs import SERVICE
-from harness.service import Client, Folder
+from harness.service import Client, Folder, PIECE
+from measures import given_program
 
 CLIENTS = (1, 4, 16, 63)
 QUEUES = (1, 8)
@@ -49,7 +50,6 @@ TIMES = 3
 REST = 6
 DOCUMENT = "x" * 1_023 + "\n"
 MEBIBYTE = 1_048_576
-PIECE = 65_536
 
 
 class RunningService:
@@ -107,7 +107,7 @@ def ask_for(service, seconds):
 # ---- accepted and printed
 
 
-def submit_some(service, first, count, together):
+def submit_some(service, first, count, together=False):
     client = Client(service.folder)
     for number in range(first, first + count):
         job = client.create(service.names[number % len(service.names)])
@@ -197,21 +197,20 @@ def print_rates(title, places, rates):
 
 def printed():
     with tempfile.TemporaryDirectory() as room:
-        program = printing.build(room)
         for queues in QUEUES:
-            runs = [with_floors(room, program, queues) for _ in range(TIMES)]
+            runs = [with_floors(room, queues) for _ in range(TIMES)]
             took, floor = (statistics.median(column) for column in zip(*runs))
             ratio = statistics.median(floor / took for took, floor in runs)
             print(f"  jobs printed per second by {queues} queues: {1 / took:.0f}, floor {1 / floor:.0f}, ratio {ratio:.2f}", flush=True)
 
 
-def with_floors(room, program, queues):
+def with_floors(room, queues):
     """The seconds of a job of the service, and of one of the floor."""
     disk = os.path.join(room, "disk")
 
     def floor():
         time.sleep(REST)
-        return printing.launched(room, program, queues, disk, jobs=PRINTED)
+        return printing.launched(room, queues, disk, jobs=PRINTED)
 
     before = floor()
     time.sleep(REST)
@@ -269,9 +268,7 @@ def memory():
 
 
 def main():
-    Folder.service = os.path.abspath(sys.argv[1] if len(sys.argv) > 1 else SERVICE)
-    if not os.path.exists(Folder.service):
-        sys.exit("no program: run `rt run` in crates/spool_service first")
+    Folder.service = given_program(1, SERVICE)
     run_parts(replies, accepted, printed, work, memory)
 
 

@@ -24,15 +24,15 @@ processor time of the idle service in ten seconds. Its folder is in TMPDIR.
 Times depend on the machine, so only their ratios are of interest. No test checks them.
 """
 import os
-import subprocess
 import sys
 import tempfile
 import threading
 import time
 
 from harness.checks import print_times, timed
-from harness.programs import SCRIPTS, SERVICE
+from harness.programs import ended, SCRIPTS, SERVICE
 from harness.service import Client, Folder
+from measures import given_program, service
 
 QUEUES = 64
 COUNTS = (1_000, 10_000, 100_000)
@@ -122,12 +122,10 @@ def seconds(program, count, kind, ticks):
 
 def run(program, folder):
     with tempfile.TemporaryFile() as output:
-        running = subprocess.Popen([program, folder], stdout=output)
-        _, status, used = os.wait4(running.pid, 0)
-        running.returncode = os.waitstatus_to_exitcode(status)
+        status, used = ended([program, folder], stdout=output)
         output.seek(0)
         said = output.read()
-    if running.returncode or said != b"case ok\n1 scripts, 0 differ\n":
+    if status or said != b"case ok\n1 scripts, 0 differ\n":
         sys.exit(f"the program printed {said[:300]!r}")
     return used.ru_utime + used.ru_stime
 
@@ -158,9 +156,8 @@ def ask_on_and_on(folder, stop, times):
 
 def printed_next_to(slow):
     """The number of jobs of 10 ms that are printed next to `slow` slow queues, and the time of each reply to another client."""
-    folder, stop, times = Folder(), threading.Event(), []
-    try:
-        folder.start("--quiet")
+    stop, times = threading.Event(), []
+    with service() as folder:
         client = Client(folder)
         queues = {**{f"fast{n}": FAST for n in range(2)}, **{f"slow{n}": SLOW for n in range(slow)}}
         for name, seconds in queues.items():
@@ -176,16 +173,11 @@ def printed_next_to(slow):
             thread.join()
         folder.shut_down()
         return found, times
-    finally:
-        folder.end()
-        folder.remove()
 
 
 def idle_work():
     """The processor time in milliseconds of a service that does nothing for ten seconds."""
-    folder = Folder()
-    try:
-        folder.start("--quiet")
+    with service() as folder:
         client = Client(folder)
         folder.queue(client, "q")
         client.until_state(client.submit("q"), "9")
@@ -193,9 +185,6 @@ def idle_work():
         before = folder.work()
         time.sleep(10)
         return folder.work() - before
-    finally:
-        folder.end()
-        folder.remove()
 
 
 def with_real_children(program):
@@ -222,11 +211,10 @@ def in_memory(program):
 
 def main():
     kind = sys.argv[1] if len(sys.argv) > 1 else "all"
-    program = sys.argv[2:]
     if kind in ("memory", "all"):
-        in_memory(os.path.abspath(*program or [SCRIPTS]))
+        in_memory(given_program(2, SCRIPTS))
     if kind in ("real", "all"):
-        with_real_children(os.path.abspath(*program or [SERVICE]))
+        with_real_children(given_program(2, SERVICE))
 
 
 if __name__ == "__main__":

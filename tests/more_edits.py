@@ -16,7 +16,6 @@ tried), the processor minutes, and the numbers of checks of several edits and of
 that no clause refused. The last line is `N edits refused`, with status 0, or says how many were not, with status 1.
 """
 import argparse
-import os
 import re
 import shutil
 import subprocess
@@ -28,6 +27,7 @@ from dataclasses import dataclass, field
 from pathlib import Path
 
 from edits_apply import fault_of, pairs_of
+from harness.programs import ended
 from harness.sources import CRATES, HERE, uses
 
 REFUSED, WEAKLY, MISSED, BAD = "refused", "name/limit", "not refused", "bad"
@@ -205,14 +205,11 @@ def check(folder, result):
     """Checks the crate in this folder, adds the time and the check to `result`, and returns the status and the output."""
     with tempfile.TemporaryFile("w+", errors="replace") as log:
         words = ["rt", "check", "--jobs", "1"]
-        begun = subprocess.Popen(words, cwd=folder, stdin=subprocess.DEVNULL, stdout=log, stderr=log)
-        _, status, used = os.wait4(begun.pid, 0)
-        # Popen must not wait once more.
-        begun.returncode = os.waitstatus_to_exitcode(status)
+        status, used = ended(words, cwd=folder, stdin=subprocess.DEVNULL, stdout=log, stderr=log)
         log.seek(0)
         output = log.read()
     result.seconds += used.ru_utime + used.ru_stime
-    return begun.returncode, output
+    return status, output
 
 
 def check_edited(folder, edits, result):

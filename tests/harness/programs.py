@@ -3,6 +3,7 @@
 A program is crates/NAME/out/NAME, which `./build.py` or `rt run` in that crate makes. CEGMANDI_PROGRAMS is a folder of other ones, with the
 same names: tests and benchmarks then run these, such as programs that were built without a proof, or wrong ones.
 """
+import atexit
 import functools
 import os
 import shutil
@@ -47,9 +48,20 @@ def memory_folder():
 def compiled(name, *words):
     """The program, or with `-shared` the library, that gcc builds from a C file of this folder or of bench/."""
     source = next(path for path in (os.path.join(folder, name) for folder in (HERE, BENCH)) if os.path.exists(path))
-    built = os.path.join(tempfile.mkdtemp(prefix="compiled-"), name.removesuffix(".c"))
+    folder = tempfile.mkdtemp(prefix="compiled-")
+    atexit.register(shutil.rmtree, folder, ignore_errors=True)
+    built = os.path.join(folder, name.removesuffix(".c"))
     subprocess.run(["gcc", "-O1", *words, "-o", built, source], check=True)
     return built
+
+
+def ended(words, **how):
+    """The status of a program that has ended, and its usage (getrusage(2)). The words after the program's are those of Popen."""
+    running = subprocess.Popen(words, **how)
+    _, status, usage = os.wait4(running.pid, 0)
+    # Popen must not wait once more.
+    running.returncode = os.waitstatus_to_exitcode(status)
+    return running.returncode, usage
 
 
 @functools.lru_cache(maxsize=None)

@@ -59,9 +59,9 @@ def rows(count, by=lambda number: None, options=lambda number: b""):
         yield b"\x42" + job + b"\x01" + text(b"a/b") + bytes(13) + b"\x01" + bytes(10) + moment(by(number))
 
 
-def stopped_rows(count):
+def stopped_rows(count, **fields):
     """The same, with the queue stopped: no job starts."""
-    for place, row in enumerate(rows(count)):
+    for place, row in enumerate(rows(count, **fields)):
         yield row[:-5] + b"\x01" + row[-4:] if place == 1 else row
 
 
