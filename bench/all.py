@@ -18,7 +18,7 @@ import time
 HERE = os.path.dirname(os.path.abspath(__file__))
 
 # These are parts of others, or need arguments.
-OTHERS = ("all", "harness", "many_spools", "measures", "plots")
+OTHERS = ("all", "harness", "ipp_client", "many_spools", "measures", "plots")
 
 # After this many seconds a benchmark is killed.
 SECONDS = 3_600

@@ -20,23 +20,12 @@ import sys
 import tempfile
 import time
 
+from harness.people import made_users
 from harness.programs import compiled, CRATES, SERVICE
 from harness.service import Client, Folder
 
 USERS = [f"cegmandi-b{number}" for number in range(1, 5)]
 TURN = 20
-
-
-@contextlib.contextmanager
-def made(*users):
-    """Makes these users of the system, and removes them at the end of the `with`."""
-    try:
-        for user in users:
-            subprocess.run(["useradd", "--system", "--user-group", "--no-create-home", user], check=True, capture_output=True)
-        yield
-    finally:
-        for user in users:
-            subprocess.run(["userdel", user], capture_output=True)
 
 
 def service(program, words):
@@ -70,7 +59,7 @@ def script():
 
 def programs(rounds):
     user = USERS[0]
-    with made(user), tempfile.TemporaryDirectory() as room:
+    with made_users(user), tempfile.TemporaryDirectory() as room:
         os.chmod(room, 0o711)
         text, place = (os.path.join(room, name) for name in ("script", "place"))
         with open(text, "w") as file:
@@ -87,7 +76,7 @@ def programs(rounds):
 
 
 def main(program, jobs):
-    with made(*USERS), contextlib.ExitStack() as ends:
+    with made_users(*USERS), contextlib.ExitStack() as ends:
         both = [service(program, []), service(program, ["--children-user", ",".join(USERS)])]
         for folder, _ in both:
             ends.callback(folder.remove)

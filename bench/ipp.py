@@ -29,9 +29,10 @@ from collections import namedtuple
 
 from harness import ipp
 from harness.checks import at_once, same, timed
-from harness.cups import attribute, Connection, Cups, JOB_NUMBER
+from harness.cups import Cups
 from harness.programs import IPP, SERVICE
 from harness.service import memory_of, PIECE
+from ipp_client import Connection, JOB_NUMBER
 from measures import given_program, needed
 from service import medians, print_rates, run_parts, RunningService, share_of, TIMES
 
@@ -138,7 +139,7 @@ def printer():
 
 
 def ask_for_printer(connection):
-    connection.exchange(Connection.GET_PRINTER, QUEUE, connection.about(QUEUE))
+    connection.exchange(ipp.GET_PRINTER, QUEUE)
 
 
 def listing():
@@ -160,9 +161,7 @@ def listed(server, jobs, count, connections):
 
 def ask_for_jobs(connection):
     """The number of jobs of a listing."""
-    first, *others = (name.encode() for name in COLUMNS)
-    asked = attribute(0x44, "requested-attributes", first) + b"".join(attribute(0x44, "", name) for name in others)
-    return connection.exchange(Connection.GET_JOBS, QUEUE, connection.about(QUEUE) + asked).count(JOB_NUMBER)
+    return connection.exchange(ipp.GET_JOBS, QUEUE, ipp.attribute(ipp.KEYWORD, "requested-attributes", *COLUMNS)).count(JOB_NUMBER)
 
 
 # ---- memory

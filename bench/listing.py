@@ -31,7 +31,7 @@ def token(number):
 
 def stopped(count):
     """The listing of a table with this number of waiting jobs in a stopped queue, each with a token."""
-    return stopped_rows(count + 2, options=lambda number: f"sides=one-sided submission={token(number)}".encode())
+    return stopped_rows(count + 2, options=lambda number: f"sides=one-sided submission={token(number)}")
 
 
 def requests(count):

@@ -35,9 +35,10 @@ import time
 
 import printing
 from harness.checks import at_once, print_times, same, timed
-from harness.cups import Connection, Cups
+from harness.cups import Cups
 from harness.programs import SERVICE
 from harness.service import Client, Folder, PIECE
+from ipp_client import Connection
 from measures import given_program
 
 CLIENTS = (1, 4, 16, 63)

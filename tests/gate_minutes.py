@@ -20,6 +20,7 @@ import threading
 import time
 from itertools import zip_longest
 
+from harness.programs import ended
 from harness.sources import CRATES, HERE, uses
 
 TICKS = os.sysconf("SC_CLK_TCK")
@@ -97,8 +98,6 @@ def words_of_gate():
 def gate(folder, polls):
     """Runs the gate in a folder. Returns its status, its output, and the processor seconds of all processes that it started."""
     log = os.path.join(folder, "gate.log")
-    with open(log, "w", encoding="utf-8") as file:
-        begun = subprocess.Popen(words_of_gate(), cwd=os.path.join(folder, "clone"), stdout=file, stderr=file)
     done = threading.Event()
 
     def keep_polling():
@@ -108,11 +107,12 @@ def gate(folder, polls):
 
     polling = threading.Thread(target=keep_polling)
     polling.start()
-    _, status, usage = os.wait4(begun.pid, 0)
+    with open(log, "w", encoding="utf-8") as file:
+        status, usage = ended(words_of_gate(), cwd=os.path.join(folder, "clone"), stdout=file, stderr=file)
     done.set()
     polling.join()
     with open(log, encoding="utf-8", errors="replace") as file:
-        return os.waitstatus_to_exitcode(status), file.read(), usage.ru_utime + usage.ru_stime
+        return status, file.read(), usage.ru_utime + usage.ru_stime
 
 
 def write(minutes):

@@ -20,9 +20,10 @@ import pytest
 
 from harness import journal, spool_model as model
 from harness.admin import (administer, image_of, image_of_rows, in_second_area, LOCK, NAME, names_in, OTHERS, OWNED, renames_when_synced, SIZE,
-                           SpoolFolder, Trial, while_a_shell_runs)
+                           SpoolFolder, Trial)
 from harness.checks import same
 from harness.journal import image
+from harness.programs import shell_on
 from harness.stories import Q, spelled
 
 pytestmark = pytest.mark.needs("spool_admin", "spool_shell")
@@ -69,20 +70,20 @@ def look_output(file):
     return "".join(f"{word} {count}\n" for word, count in rows.items())
 
 
-def test_look_prints_the_contents(folder):
+def test_look_prints_the_contents(room):
     for file in (image(SIZE), image_of(), image_of(1), in_second_area(image_of()), image_of(size=8_193), image_of(epoch=2 ** 64 - 1)):
-        place = Place(folder, file)
+        place = Place(room, file)
         times = os.stat(place.file).st_mtime_ns, os.stat(place.file).st_ctime_ns, os.stat(place.root).st_mtime_ns
         same("the output", administer("look", place.root), (0, look_output(file), ""))
         same("the file is unchanged", place.content() == file, True)
         same("the times", (os.stat(place.file).st_mtime_ns, os.stat(place.file).st_ctime_ns, os.stat(place.root).st_mtime_ns), times)
 
 
-def test_look_without_a_spool(folder):
-    Place(folder, bytes(SIZE)).refuses("spool: not-a-spool\n")
-    place = Place(folder, bytes(SIZE))
+def test_look_without_a_spool(room):
+    Place(room, bytes(SIZE)).refuses("spool: not-a-spool\n")
+    place = Place(room, bytes(SIZE))
     place.refuses("spool: not-a-spool\n", "look", place.root)
-    absent = Place(folder)
+    absent = Place(room)
     same("no file", administer("look", absent.root), (1, "", "spool: disk\nspool: cause: absent\n"))
     same("no spool is created", os.listdir(absent.root), [LOCK])
     same("no folder", administer("look", f"{absent.root}/none"), (1, "", "spool: disk\nspool: cause: absent\n"))
@@ -90,10 +91,10 @@ def test_look_without_a_spool(folder):
 
 # ---- `grow`
 
-def test_a_larger_file_has_the_table(folder):
+def test_a_larger_file_has_the_table(room):
     for file in (image(SIZE), image_of(), image_of(1), in_second_area(image_of()), in_second_area(image_of(1)), image_of(size=8_193)):
         for size in (len(file), LARGER, 1_000_000):
-            place = Place(folder, file)
+            place = Place(room, file)
             os.chmod(place.file, 0o640)
             os.chown(place.file, *OTHERS)
             place.grow(size)
@@ -104,8 +105,8 @@ def test_a_larger_file_has_the_table(folder):
             lists_grown(place, file)
 
 
-def test_a_full_spool_takes_events_again(folder):
-    place = Place(folder, image_of(size=4_096))
+def test_a_full_spool_takes_events_again(room):
+    place = Place(room, image_of(size=4_096))
     for command in ('create q ann "More" 1 50 ""', "checkpoint"):
         while place.serve(command)[-1].startswith("ok") and command != "checkpoint":
             pass
@@ -117,10 +118,9 @@ def test_a_full_spool_takes_events_again(folder):
     same("it takes events", [line.split()[0] for line in place.serve('create q ann "More" 1 50 ""', "checkpoint")], ["ok", "ok"])
 
 
-def test_leftovers_are_removed(folder):
-    place = Place(folder, image_of())
-    with open(os.path.join(place.root, UNFINISHED), "wb") as file:
-        file.write(b"left" * 9_000)
+def test_leftovers_are_removed(room):
+    place = Place(room, image_of())
+    place.with_file(UNFINISHED, "left" * 9_000)
     place.grow()
     same("the names", names_in(place.root), [NAME])
     same("the table", is_grown(image_of(), place.content()), True)
@@ -128,44 +128,41 @@ def test_leftovers_are_removed(folder):
 
 # ---- refusals
 
-def test_refusals(folder):
-    Place(folder, image_of(size=LARGER + 1)).refuses("spool: smaller\n")
-    Place(folder, image_of(epoch=2 ** 64 - 1)).refuses("spool: epoch-end\n")
+def test_refusals(room):
+    Place(room, image_of(size=LARGER + 1)).refuses("spool: smaller\n")
+    Place(room, image_of(epoch=2 ** 64 - 1)).refuses("spool: epoch-end\n")
     damaged = in_second_area(image(SIZE, [spelled(Q.event()), b"\xFF"]))
-    Place(folder, damaged).refuses(f"spool: damaged {SIZE // 2 + journal.places([spelled(Q.event())])[-1]}\n")
-    place = Place(folder, image_of())
-    os.link(place.file, os.path.join(folder, "second"))
+    Place(room, damaged).refuses(f"spool: damaged {SIZE // 2 + journal.places([spelled(Q.event())])[-1]}\n")
+    place = Place(room, image_of())
+    os.link(place.file, os.path.join(room, "second"))
     place.refuses("spool: disk\nspool: cause: no file\n")
-    linked = Place(folder)
+    linked = Place(room)
     os.symlink(place.file, linked.file)
     linked.refuses("spool: disk\nspool: cause: no file\n")
 
 
-def test_a_listing_that_does_not_fit(folder):
+def test_a_listing_that_does_not_fit(room):
     """Rows are longer than the events that created them, so even an area of the same length may be too short."""
     file = image_of_rows()
     needed = journal.HEADER + sum(journal.FRAME + len(row) for row in model.opened(file).table.listing()) + 7
     same("the rows are too long for it", needed > SIZE // 2, True)
-    Place(folder, file).refuses("spool: full\n", "grow", Place(folder, file).root, str(SIZE))
-    place = Place(folder, file)
+    Place(room, file).refuses("spool: full\n", "grow", Place(room, file).root, str(SIZE))
+    place = Place(room, file)
     place.refuses("spool: full\n", "grow", place.root, str(2 * needed - 2))
     place.grow(2 * needed)
     same("the table", is_grown(file, place.content(), 2 * needed), True)
 
 
-def test_a_running_shell_keeps_it(folder):
-    place = Place(folder, image_of())
-
-    def refused():
+def test_a_running_shell_keeps_it(room):
+    place = Place(room, image_of())
+    with shell_on(place.root):
         place.refuses(OWNED)
         place.refuses(OWNED, "look", place.root)
-
-    while_a_shell_runs(place.root, refused)
     place.grow()
 
 
-def test_invalid_arguments(folder):
-    place = Place(folder, image_of())
+def test_invalid_arguments(room):
+    place = Place(room, image_of())
     root = place.root
     for words in ((), ("look",), ("grow",), ("grow", root), ("look", root, "8192"), ("grow", root, "4095"), ("grow", root, "1073741825"),
                   ("grow", root, "x"), ("shrink", root), ("look", ""), ("grow", root, "8192", "1"), ("--size", "8192", root)):
@@ -181,7 +178,7 @@ def test_invalid_arguments(folder):
 # ---- kills, failures and cuts
 
 @pytest.fixture
-def trial(folder):
+def trial(room):
     def is_changed(place, what):
         place.old = place.content()
         same(f"{what}: other names", {*names_in(place.root)} - {NAME, UNFINISHED}, set())
@@ -192,7 +189,7 @@ def trial(folder):
         same(f"{what}: the table", is_grown(place.old, place.content()), True)
         same(f"{what}: the names", names_in(place.root), [NAME])
 
-    return Trial(folder, lambda: Place(folder, image_of()), lambda place: ("grow", place.root, str(LARGER)), is_changed, is_done)
+    return Trial(room, lambda: Place(room, image_of()), lambda place: ("grow", place.root, str(LARGER)), is_changed, is_done)
 
 
 @pytest.mark.strace
@@ -208,8 +205,3 @@ def test_each_call_fails_once(trial):
 @pytest.mark.strace
 def test_a_power_cut_leaves_the_old_or_the_new(trial):
     same("the renames", renames_when_synced(trial.calls()), [(UNFINISHED, NAME)])
-
-
-@pytest.fixture
-def folder(room):
-    return room

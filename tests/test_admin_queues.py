@@ -23,9 +23,10 @@ import pytest
 
 from harness import journal, spool_model as model
 from harness.admin import (administer, image_of, image_of_documents, image_of_rows, in_second_area, NAME, names_in, OTHERS, OWNED,
-                           renames_when_synced, SIZE, SpoolFolder, Trial, while_a_shell_runs)
+                           renames_when_synced, SIZE, SpoolFolder, Trial)
 from harness.checks import same, until
 from harness.journal import cancel, close, image, send
+from harness.programs import shell_on
 from harness.service import Client, Folder
 from harness.stories import LAB, of_lab, of_q, Q, spelled
 
@@ -80,12 +81,12 @@ FILES = (lambda: image_of(), lambda: image_of(1), lambda: in_second_area(image_o
 
 # ---- `set`
 
-def test_only_the_given_fields_change(folder):
+def test_only_the_given_fields_change(room):
     for make in FILES:
         file = make()
         for words, fields in ((ALL, ALL_FIELDS), (ALL[:2], {"uri": ALL[1]}), (("--limit", "65535"), {"limit": 65_535}), (("--interval", "0"), {"interval": 0})):
             for name in ("q", "lab"):
-                place = Place(folder, file)
+                place = Place(room, file)
                 os.chmod(place.file, 0o640)
                 os.chown(place.file, *OTHERS)
                 place.set(*words, name=name)
@@ -94,16 +95,16 @@ def test_only_the_given_fields_change(folder):
                 same("the mode and the owner", (stat.S_IMODE(found.st_mode), found.st_uid, found.st_gid), (0o640, *OTHERS))
 
 
-def test_each_policy_is_set(folder):
+def test_each_policy_is_set(room):
     for policy in ("abort-job", "retry-job", "retry-current-job", "stop-printer"):
-        place = Place(folder, image_of())
+        place = Place(room, image_of())
         place.set("--policy", policy)
         rows = [row for row in place.serve("queues") if " lab " in f"{row} "]
         same(f"the policy {policy}", any(policy in row.split() for row in rows), True)
 
 
-def test_the_changed_spool_is_served(folder):
-    place = Place(folder, image_of())
+def test_the_changed_spool_is_served(room):
+    place = Place(room, image_of())
     place.set(*ALL)
     table = with_fields(image_of(), "lab", ALL_FIELDS)
     # The attempt in progress is given up by the opening, with the new policy.
@@ -112,10 +113,10 @@ def test_the_changed_spool_is_served(folder):
     same("the next number", place.serve('create lab ann "More" 1 50 ""')[0], "ok job 6")
 
 
-def test_documents_are_whole(folder):
+def test_documents_are_whole(room):
     """Documents of several pieces, and of none, that wait."""
     file = image_of_documents()
-    place = Place(folder, file)
+    place = Place(room, file)
     place.set(*ALL)
     place.lists(with_fields(file, "lab", ALL_FIELDS), len(file))
 
@@ -126,37 +127,37 @@ def ended_file():
     return image(SIZE, [spelled(event) for event in events])
 
 
-def test_the_media_type_changes_without_jobs(folder):
-    place = Place(folder, image_of())
+def test_the_media_type_changes_without_jobs(room):
+    place = Place(room, image_of())
     place.refuses(UNENDED, "set", "--media", "a/other")
     # The same type is no change, in any case of its letters.
     same_type = model.stored_table(image_of()).queues["lab"].target
     place.set("--media", same_type.upper())
     place.lists(model.stored_table(image_of()), SIZE)
-    place = Place(folder, ended_file())
+    place = Place(room, ended_file())
     place.set("--media", "Application/PDF")
     place.lists(with_fields(ended_file(), "lab", {"target": "application/pdf"}), SIZE)
 
 
 # ---- `remove`
 
-def test_a_queue_is_removed_with_its_ended_jobs(folder):
-    place = Place(folder, ended_file())
+def test_a_queue_is_removed_with_its_ended_jobs(room):
+    place = Place(room, ended_file())
     place.refuses(ENDED, "remove")
     place.remove("--purge")
     place.lists(without(ended_file(), "lab"), SIZE)
     same("the next number", place.serve('create q ann "More" 1 50 ""')[0], "ok job 3")
     same("the queue may be made again", place.serve("queue lab socket:/ a/b retry-job")[0], "ok")
     empty = image(SIZE, [spelled(event) for event in (Q.event(), LAB.event(), of_q(1).event(), close(1))])
-    place = Place(folder, empty)
+    place = Place(room, empty)
     place.remove()
     place.lists(without(empty, "lab"), SIZE)
 
 
 # ---- refusals
 
-def test_refusals(folder):
-    place = Place(folder, image_of())
+def test_refusals(room):
+    place = Place(room, image_of())
     place.refuses("spool: queue\n", "set", *ALL, name="none")
     place.refuses("spool: queue\n", "set", *ALL, name="no name")
     place.refuses("spool: queue\n", "remove", name="none")
@@ -168,39 +169,36 @@ def test_refusals(folder):
         place.refuses(UNENDED, "remove", *words, name="q")
     damaged = in_second_area(image(SIZE, [spelled(Q.event()), b"\xFF"]))
     at = SIZE // 2 + journal.places([spelled(Q.event())])[-1]
-    Place(folder, damaged).refuses(f"spool: damaged {at}\n", "set", *ALL, name="q")
-    place = Place(folder, image_of())
-    os.link(place.file, os.path.join(folder, "second"))
+    Place(room, damaged).refuses(f"spool: damaged {at}\n", "set", *ALL, name="q")
+    place = Place(room, image_of())
+    os.link(place.file, os.path.join(room, "second"))
     place.refuses("spool: disk\nspool: cause: no file\n", "set", *ALL)
-    place = Place(folder)
+    place = Place(room)
     same("no file", administer("queue", "remove", place.root, "q"), (1, "", "spool: disk\nspool: cause: absent\n"))
     same("nothing is created", names_in(place.root), [])
 
 
-def test_rows_that_do_not_fit(folder):
+def test_rows_that_do_not_fit(room):
     """Rows are longer than the events that created them."""
-    Place(folder, image_of_rows()).refuses("spool: full\n", "set", "--limit", "1", name="q")
+    Place(room, image_of_rows()).refuses("spool: full\n", "set", "--limit", "1", name="q")
     # A URI of its greatest length takes more room than the old one.
     small = image(4_096, [spelled(event) for event in (Q.event(), of_q(1, title="t" * 255).event(), of_q(2, title="t" * 255).event(),
                                                         of_q(3, title="t" * 255).event(), of_q(4, title="t" * 255).event())])
-    Place(folder, small).set("--uri", "socket:/" + "x" * 15, name="q")
-    Place(folder, small).refuses("spool: full\n", "set", "--uri", "socket:/" + "x" * 1_015, name="q")
+    Place(room, small).set("--uri", "socket:/" + "x" * 15, name="q")
+    Place(room, small).refuses("spool: full\n", "set", "--uri", "socket:/" + "x" * 1_015, name="q")
 
 
-def test_a_running_shell_keeps_it(folder):
-    place = Place(folder, image_of())
-
-    def refused():
+def test_a_running_shell_keeps_it(room):
+    place = Place(room, image_of())
+    with shell_on(place.root):
         place.refuses(OWNED, "set", *ALL)
         place.refuses(OWNED, "remove", "--purge")
 
-    while_a_shell_runs(place.root, refused)
-
 
 @pytest.mark.root
-def test_a_full_file_system(folder):
+def test_a_full_file_system(room):
     """A file system with room for one file only. It needs a mount, so root."""
-    at = os.path.join(folder, "full")
+    at = os.path.join(room, "full")
     os.mkdir(at)
     if subprocess.run(["mount", "-t", "tmpfs", "-o", "size=1m", "tmpfs", at], capture_output=True).returncode:
         pytest.skip("nothing can be mounted")
@@ -213,8 +211,8 @@ def test_a_full_file_system(folder):
         subprocess.run(["umount", at], check=True)
 
 
-def test_invalid_arguments(folder):
-    place = Place(folder, image_of())
+def test_invalid_arguments(room):
+    place = Place(room, image_of())
     for words in (("queue",), ("queue", "set"), ("queue", "set", place.root), ("queue", "set", place.root, "lab"), ("queue", "drop", place.root, "lab"),
                   ("queue", "set", place.root, "lab", "--policy", "none"), ("queue", "set", place.root, "lab", "--interval", "86401"),
                   ("queue", "set", place.root, "lab", "--limit", "65536"), ("queue", "set", place.root, "lab", "--limit", "-1"),
@@ -231,9 +229,9 @@ def test_invalid_arguments(folder):
 # ---- the service
 
 @pytest.mark.needs("spool_service")
-def test_the_service_prints_to_the_new_address(folder):
+def test_the_service_prints_to_the_new_address(room):
     """A job waits for a printer that does not take it, the queue gets another address, and the job prints there."""
-    it = Folder(folder)
+    it = Folder(room)
     it.backend("lost", "#!/bin/sh\nexit 4\n")
     it.size = 1_000_000
     it.start()
@@ -263,7 +261,7 @@ TASKS = {"set": (ALL, image_of, lambda file: with_fields(file, "lab", ALL_FIELDS
 
 
 @pytest.fixture(params=TASKS)
-def trial(request, folder):
+def trial(request, room):
     act = request.param
     words, make, after, again = TASKS[act]
     file = make()
@@ -276,7 +274,7 @@ def trial(request, folder):
         same(f"{what}: the new spool is complete", (len(content), journal.current(content)[0]), (len(file), table.listing()))
         return True
 
-    return Trial(folder, lambda: Place(folder, file), lambda place: ("queue", act, place.root, "lab", *words), is_changed,
+    return Trial(room, lambda: Place(room, file), lambda place: ("queue", act, place.root, "lab", *words), is_changed,
                  lambda place, what: place.lists(table, len(file)), again)
 
 
@@ -293,8 +291,3 @@ def test_each_call_fails_once(trial):
 @pytest.mark.strace
 def test_a_power_cut_leaves_one_or_the_other(trial):
     same("the names of the new spool", [to for _, to in renames_when_synced(trial.calls())], [NAME])
-
-
-@pytest.fixture
-def folder(room):
-    return room

@@ -17,17 +17,17 @@ them processing.
 import copy
 import os
 import stat
-import subprocess
 import tempfile
+from pathlib import Path
 
 import pytest
 
 from harness import journal, spool_model as model
-from harness.admin import (administer, image_of, image_of_documents, image_of_rows, in_second_area, LOCK, NAME, OTHERS, OWNED, renames_when_synced,
-                           SIZE, TAKEN, traced, Trial, while_a_shell_runs)
-from harness.checks import LONGEST, same
+from harness.admin import (administer, image_of, image_of_documents, image_of_rows, in_second_area, LOCK, NAME, names_in, OTHERS, OWNED,
+                           renames_when_synced, SIZE, SpoolFolder, TAKEN, traced, Trial)
+from harness.checks import same
 from harness.journal import image
-from harness.programs import SHELL
+from harness.programs import shell_on
 from harness.stories import Q, spelled
 
 pytestmark = pytest.mark.needs("spool_admin", "spool_shell")
@@ -46,41 +46,28 @@ def half_of(file, names, named):
 class Place:
     """The folder of a spool with these bytes, and a second folder."""
 
-    def __init__(self, folder, content=None):
-        self.root = tempfile.mkdtemp(dir=folder)
-        self.source, self.target = (os.path.join(self.root, name) for name in ("from", "into"))
-        os.mkdir(self.source)
-        os.mkdir(self.target)
+    def __init__(self, room, content=None):
+        self.root = tempfile.mkdtemp(dir=room)
+        self.source, self.target = SpoolFolder(self.root, content), SpoolFolder(self.root)
         if content is not None:
-            with open(os.path.join(self.source, NAME), "wb") as file:
-                file.write(content)
-            # The lock files of an earlier program.
-            for root in (self.source, self.target):
-                os.close(os.open(os.path.join(root, LOCK), os.O_CREAT, 0o600))
+            self.target.with_file(LOCK, "")
 
-    def content(self, root, name=NAME):
-        with open(os.path.join(root, name), "rb") as file:
-            return file.read()
+    def words(self, *queues):
+        """The arguments that split it."""
+        return ("split", self.source.root, self.target.root, *(queues or ("lab",)))
 
     def split(self, *queues):
-        same("the end of `split`", administer("split", self.source, self.target, *(queues or ("lab",))), (0, "", ""))
+        same("the end of `split`", administer(*self.words(*queues)), (0, "", ""))
 
     def names(self):
-        """The names in both folders, except those of the lock files, which remain."""
-        return tuple(sorted(name for name in os.listdir(root) if name != LOCK) for root in (self.source, self.target))
+        """The names in both folders."""
+        return names_in(self.source.root), names_in(self.target.root)
 
     def refuses(self, fault, *queues, words=None):
         """Both folders are unchanged."""
-        names, before = self.names(), self.content(self.source)
-        same("the end", administer(*(words or ("split", self.source, self.target, *(queues or ("lab",))))), (1, "", fault))
+        names = self.names()
+        self.source.is_unchanged(fault, *(words or self.words(*queues)))
         same("the names", self.names(), names)
-        same("the file is unchanged", self.content(self.source) == before, True)
-
-    def serve(self, root, *commands):
-        script = "".join(f"{command}\n" for command in commands)
-        done = subprocess.run([SHELL, "--root", root], input=script, capture_output=True, text=True, timeout=LONGEST)
-        same("the shell's end", (done.returncode, done.stderr), (0, ""))
-        return done.stdout.splitlines()
 
 
 def is_listed(file, table, size):
@@ -91,106 +78,106 @@ def is_listed(file, table, size):
 
 def is_split(place, old, names=("lab",)):
     same("the names", place.names(), ([NAME], [NAME]))
-    same("the named queues", is_listed(place.content(place.target), half_of(old, names, True), len(old)), True)
-    same("the other queues", is_listed(place.content(place.source), half_of(old, names, False), len(old)), True)
+    same("the named queues", is_listed(place.target.content(), half_of(old, names, True), len(old)), True)
+    same("the other queues", is_listed(place.source.content(), half_of(old, names, False), len(old)), True)
 
 
-def next_number(place, root, queue):
-    reply, = place.serve(root, f'create {queue} ann "More" 1 50 ""')
+def next_number(half, queue):
+    reply, = half.serve(f'create {queue} ann "More" 1 50 ""')
     return int(reply.split()[-1])
 
 
 # ---- splitting
 
-def test_each_row_is_in_one_half(folder):
+def test_each_row_is_in_one_half(room):
     for file in (image_of(), image_of(1), in_second_area(image_of()), in_second_area(image_of(1)), image_of(size=8_193)):
         for names in (("lab",), ("q",), ("q", "lab"), ("lab", "lab")):
-            place = Place(folder, file)
-            os.chmod(os.path.join(place.source, NAME), 0o640)
-            os.chown(os.path.join(place.source, NAME), *OTHERS)
+            place = Place(room, file)
+            os.chmod(place.source.file, 0o640)
+            os.chown(place.source.file, *OTHERS)
             place.split(*names)
             is_split(place, file, names)
-            for root in (place.source, place.target):
-                found = os.stat(os.path.join(root, NAME))
+            for half in (place.source, place.target):
+                found = os.stat(half.file)
                 same("the mode and the owner", (stat.S_IMODE(found.st_mode), found.st_uid, found.st_gid), (0o640, *OTHERS))
 
 
-def test_both_are_served(folder):
+def test_both_are_served(room):
     file = image_of()
-    place = Place(folder, file)
+    place = Place(room, file)
     place.split()
-    for root, named in ((place.source, False), (place.target, True)):
+    for half, named in ((place.source, False), (place.target, True)):
         # The attempt in progress is given up by the opening of its half, as by that of the whole spool.
         table = half_of(file, ("lab",), named)
         table.reopen()
-        same("the shell's listing", place.serve(root, "jobs", "queues"), [*table.jobs_reply(), *table.queues_reply()])
-    same("the next numbers", (next_number(place, place.source, "q"), next_number(place, place.target, "lab")), (6, 6))
+        same("the shell's listing", half.serve("jobs", "queues"), [*table.jobs_reply(), *table.queues_reply()])
+    same("the next numbers", (next_number(place.source, "q"), next_number(place.target, "lab")), (6, 6))
 
 
-def test_documents_are_whole(folder):
+def test_documents_are_whole(room):
     """Documents of several pieces, and of none."""
     file = image_of_documents()
-    place = Place(folder, file)
+    place = Place(room, file)
     place.split()
     is_split(place, file)
 
 
-def test_a_half_is_split_again(folder):
-    place = Place(folder, image_of())
+def test_a_half_is_split_again(room):
+    place = Place(room, image_of())
     place.split()
-    half = place.content(place.source)
-    second = Place(folder, half)
+    half = place.source.content()
+    second = Place(room, half)
     second.split("q")
     is_split(second, half, ("q",))
 
 
 # ---- refusals
 
-def test_refusals(folder):
-    Place(folder, image_of()).refuses("spool: queue\n", "lab", "none")
-    Place(folder, image_of()).refuses("spool: queue\n", "no name")
-    place = Place(folder, image_of())
-    with open(os.path.join(place.target, NAME), "wb") as file:
-        file.write(image(SIZE))
+def test_refusals(room):
+    Place(room, image_of()).refuses("spool: queue\n", "lab", "none")
+    Place(room, image_of()).refuses("spool: queue\n", "no name")
+    place = Place(room, image_of())
+    place.target.write(image(SIZE))
     place.refuses(TAKEN)
-    place = Place(folder, image_of())
-    place.refuses(OWNED, words=("split", place.source, place.source, "lab"))
+    place = Place(room, image_of())
+    place.refuses(OWNED, words=("split", place.source.root, place.source.root, "lab"))
     damaged = in_second_area(image(SIZE, [spelled(Q.event()), b"\xFF"]))
-    Place(folder, damaged).refuses(f"spool: damaged {SIZE // 2 + journal.places([spelled(Q.event())])[-1]}\n", "q")
-    place = Place(folder, image_of())
-    os.link(os.path.join(place.source, NAME), os.path.join(place.root, "second"))
+    Place(room, damaged).refuses(f"spool: damaged {SIZE // 2 + journal.places([spelled(Q.event())])[-1]}\n", "q")
+    place = Place(room, image_of())
+    os.link(place.source.file, os.path.join(place.root, "second"))
     place.refuses("spool: disk\nspool: cause: no file\n")
-    place = Place(folder)
-    same("no file", administer("split", place.source, place.target, "q"), (1, "", "spool: disk\nspool: cause: absent\n"))
+    place = Place(room)
+    same("no file", administer(*place.words("q")), (1, "", "spool: disk\nspool: cause: absent\n"))
     same("nothing is created", place.names(), ([], []))
-    same("no folder", administer("split", place.source, f"{place.root}/none", "q"), (1, "", "spool: disk\nspool: cause: absent\n"))
+    same("no folder", administer("split", place.source.root, f"{place.root}/none", "q"), (1, "", "spool: disk\nspool: cause: absent\n"))
 
 
-def test_rows_that_do_not_fit(folder):
+def test_rows_that_do_not_fit(room):
     """Rows are longer than the events that created them."""
-    Place(folder, image_of_rows()).refuses("spool: full\n", "q")
+    Place(room, image_of_rows()).refuses("spool: full\n", "q")
 
 
-def test_a_running_shell_keeps_it(folder):
-    place = Place(folder, image_of())
-    for root in (place.source, place.target):
-        while_a_shell_runs(root, lambda: place.refuses(OWNED))
+def test_a_running_shell_keeps_it(room):
+    place = Place(room, image_of())
+    for half in (place.source, place.target):
+        with shell_on(half.root):
+            place.refuses(OWNED)
 
 
-def test_invalid_arguments(folder):
-    place = Place(folder, image_of())
-    for words in (("split",), ("split", place.source), ("split", place.source, place.target), ("split", place.source, place.target, ""),
-                  ("join", place.source, place.target, "lab"), ("look", place.source, "lab"), ("grow", place.source, "8192", "lab")):
+def test_invalid_arguments(room):
+    place = Place(room, image_of())
+    source, target = place.source.root, place.target.root
+    for words in (("split",), ("split", source), ("split", source, target), ("split", source, target, ""),
+                  ("join", source, target, "lab"), ("look", source, "lab"), ("grow", source, "8192", "lab")):
         status, shown, errors = administer(*words)
         same(f"the end of {words}", (status, shown, errors.startswith("error: ")), (2, "", True))
-    same("the file is unchanged", place.content(place.source) == image_of(), True)
+    same("the file is unchanged", place.source.content() == image_of(), True)
 
 
-def test_another_split_waits_for_the_first(folder):
+def test_another_split_waits_for_the_first(room):
     """A split that was begun with other arguments must be finished first."""
-    place = Place(folder, image_of())
-    with open(os.path.join(place.source, "spool.split"), "w", encoding="ascii") as file:
-        file.write(f"{PART}1\n{place.target}\nq\n")
+    place = Place(room, image_of())
+    place.source.with_file("spool.split", f"{PART}1\n{place.target.root}\nq\n")
     place.refuses("spool: unfinished\n")
 
 
@@ -201,20 +188,20 @@ def is_whole_or_split(place, what):
     old = image_of()
     source, target = place.names()
     parts = [name for name in target if name == NAME or name.startswith(PART)]
-    if place.content(place.source) == old:
+    if place.source.content() == old:
         same(f"{what}: the other folder has no spool", NAME in target, False)
         return False
-    same(f"{what}: the other queues", is_listed(place.content(place.source), half_of(old, ("lab",), False), SIZE), True)
+    same(f"{what}: the other queues", is_listed(place.source.content(), half_of(old, ("lab",), False), SIZE), True)
     same(f"{what}: one part exists", len(parts), 1)
-    same(f"{what}: the named queues", is_listed(place.content(place.target, parts[0]), half_of(old, ("lab",), True), SIZE), True)
+    part = Path(place.target.root, parts[0]).read_bytes()
+    same(f"{what}: the named queues", is_listed(part, half_of(old, ("lab",), True), SIZE), True)
     return True
 
 
 @pytest.fixture
-def trial(folder):
+def trial(room):
     again = ((1, "", "spool: queue\n"), (1, "", TAKEN))
-    return Trial(folder, lambda: Place(folder, image_of()), lambda place: ("split", place.source, place.target, "lab"), is_whole_or_split,
-                 lambda place, what: is_split(place, image_of()), again)
+    return Trial(room, lambda: Place(room, image_of()), Place.words, is_whole_or_split, lambda place, what: is_split(place, image_of()), again)
 
 
 @pytest.mark.strace
@@ -235,23 +222,18 @@ def test_a_power_cut_leaves_one_or_the_other(trial):
 
 
 @pytest.mark.strace
-def test_a_power_cut_after_a_kill(folder, trial):
+def test_a_power_cut_after_a_kill(room, trial):
     """A run that is killed before the switch, and repeated, syncs the files before the part gets its name."""
     calls = trial.calls()
     over = next(at for at, call in enumerate(calls) if call.name.startswith("rename") and b"/spool.rest" in call.texts[0])
     sync = next(call for call in calls[over:] if call.name in ("fsync", "fdatasync"))
     place = trial.make()
-    (status, _, _), _ = traced(folder, trial.words(place), f"{sync.name}:signal=KILL:when={sync.number}")
+    (status, _, _), _ = traced(room, trial.words(place), f"{sync.name}:signal=KILL:when={sync.number}")
     same("the status, killed at the sync of the switch", status in (-9, 137), True)
     same("the part waits", is_whole_or_split(place, "killed at the sync"), True)
-    done, calls = traced(folder, trial.words(place))
+    done, calls = traced(room, trial.words(place))
     same("the end of the next one", done, (0, "", ""))
     named = next(at for at, call in enumerate(calls) if call.name.startswith("rename"))
     synced = [call.files[0] for call in calls[:named] if call.name in ("fsync", "fdatasync")]
-    same("the switch is synced before the part has its name", place.source in synced, True)
+    same("the switch is synced before the part has its name", place.source.root in synced, True)
     is_split(place, image_of())
-
-
-@pytest.fixture
-def folder(room):
-    return room

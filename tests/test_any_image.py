@@ -23,6 +23,7 @@ strategies = pytest.importorskip("hypothesis.strategies")
 
 from harness import journal, real_children, spool_model as model
 from harness.checks import Difference, holds, LONGEST
+from harness.files import read, write
 from harness.programs import memory_folder, SHELL
 
 pytestmark = pytest.mark.needs("spool_shell")
@@ -104,23 +105,22 @@ round
 """
 
 
-def serve(shell, root, script, words=()):
-    return subprocess.run([shell, "--root", root, *words], input=script.encode(), capture_output=True, timeout=LONGEST)
+def serve(root, script, words=()):
+    return subprocess.run([SHELL, "--root", root, *words], input=script.encode(), capture_output=True, timeout=LONGEST)
 
 
-def real_spools(shell, folder):
+def real_spools(folder):
     """The spool files that the program leaves, one after each of some scripts."""
     root = os.path.join(folder, "made")
     os.mkdir(root)
     words = [*real_children.Children(folder).words, "--size", "8192"]
     spools = []
     for script in (FIRST, MORE, "checkpoint\n" + LATER, "round\ncheckpoint\nround\n", "clock 9000\nround\ncheckpoint\n", "jobs\n"):
-        done = serve(shell, root, script, words)
+        done = serve(root, script, words)
         replies = done.stdout.decode().splitlines()
         if done.returncode or any(reply.startswith("error") for reply in replies):
             raise Difference(f"a spool cannot be created: {done.stderr!r}, {replies}")
-        with open(os.path.join(root, "spool.disk"), "rb") as file:
-            spools.append(file.read())
+        spools.append(read(os.path.join(root, "spool.disk")))
     kinds = {payload[0] for spool in spools for half in journal.halves(spool) for payload in journal.payloads_of(half)}
     missing = {*range(1, 0x12), *range(0x40, 0x44)} - kinds
     if missing:
@@ -427,19 +427,15 @@ def wanted_of(file):
     return lines, "", 0, it.file, version
 
 
-def check(shell, root, file):
+def check(root, file):
     """The version of the file's table, if it has one. Fails if the program does anything else."""
-    path = os.path.join(root, "spool.disk")
-    with open(path, "wb") as out:
-        out.write(file)
+    path = write(os.path.join(root, "spool.disk"), file)
     lines, errors, status, left, version = wanted_of(file)
-    done = serve(shell, root, "".join(f"{command}\n" for command in COMMANDS))
-    with open(path, "rb") as found:
-        is_left = found.read() == left
+    done = serve(root, "".join(f"{command}\n" for command in COMMANDS))
     got = done.stdout.decode().splitlines(), real_children.faults_in(done.stderr.decode()), done.returncode
     if got != (lines, errors, status):
         raise Difference(f"{got} in place of {(lines, errors, status)}")
-    if not is_left:
+    if read(path) != left:
         raise Difference(f"the resulting file differs from the model's, after {lines}")
     return version
 
@@ -447,13 +443,13 @@ def check(shell, root, file):
 @pytest.fixture(scope="module")
 def spools():
     with tempfile.TemporaryDirectory(dir=memory_folder()) as folder:
-        made = real_spools(SHELL, folder)
+        made = real_spools(folder)
     return made + old_spools(made)
 
 
 def test_real_spools_have_tables(spools, memory_room):
     for spool in spools:
-        holds("it has a table", check(SHELL, memory_room, spool) is not None)
+        holds("it has a table", check(memory_room, spool) is not None)
 
 
 def test_any_changed_spool(spools, memory_room, is_long):
@@ -465,7 +461,7 @@ def test_any_changed_spool(spools, memory_room, is_long):
     def is_opened(chance):
         file, names = some_file(spools, chance)
         hypothesis.note(f"{len(file)} bytes, {', '.join(names)}")
-        versions.append(check(SHELL, memory_room, file))
+        versions.append(check(memory_room, file))
 
     is_opened()
     tables, old = len(versions) - versions.count(None), versions.count(1)

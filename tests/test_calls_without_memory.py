@@ -14,10 +14,12 @@ import os
 import re
 import subprocess
 import tempfile
+from pathlib import Path
 
 import pytest
 
 from harness.checks import Difference, holds, LONGEST, same
+from harness.files import write
 from harness.programs import CRATES, TOOLS
 
 pytestmark = pytest.mark.needs("valgrind", "spool_tools")
@@ -98,10 +100,8 @@ def functions_of(call, symbols):
 
 
 def collected(profile):
-    """The names of all functions in a profile, and whether anything was collected."""
-    with open(profile, encoding="utf-8", errors="replace") as file:
-        text = file.read()
-    names = re.findall(r"^c?fn=\(\d+\) (.+)$", text, re.M)
+    """The names of all functions in a profile."""
+    names = re.findall(r"^c?fn=\(\d+\) (.+)$", Path(profile).read_text(encoding="utf-8", errors="replace"), re.M)
     return {re.sub(r"'\d+$", "", it) for it in names}
 
 
@@ -127,8 +127,7 @@ def report(program, call, symbols):
     with tempfile.TemporaryDirectory(prefix="calls-") as folder:
         os.mkdir(os.path.join(folder, "spool"))
         for name, text in (("types", TYPES), ("convs", CONVS), ("programs", PROGRAMS)):
-            with open(os.path.join(folder, name), "w", encoding="utf-8") as file:
-                file.write(text.replace("TOOLS", os.path.realpath(TOOLS)))
+            write(os.path.join(folder, name), text.replace("TOOLS", os.path.realpath(TOOLS)))
         names, replies = serve(program, folder, functions, FIRST.replace("FOLDER", folder), 1)
         if not all(part in replies for part in ("job 3 lab 9 job-completed-successfully", "job 4 hall 5", "job 5 hall 7", "job 6 lab")):
             raise Difference(f"the run had other results:\n{replies}")

@@ -24,8 +24,8 @@ EFFECTS = (journal.add_reasons("toner-low", "door-open"), journal.pages(1, 2), j
            journal.message("hello"), journal.total_pages(9))
 
 
-def test_each_command_is_its_event(folder):
-    spool = Spool(folder, image(SIZE))
+def test_each_command_is_its_event(room):
+    spool = Spool(room, image(SIZE))
     backend = spool.with_file("backend", SAYS, 0o700)
     words = spool.options(types="a/a x\n", convs="a/a a/b 10 f\n", programs=f"filter f /bin/true\nbackend s {backend}\n")
     lab = Queue("lab", uri="s:/dev", policy="stop-printer", interval=60, limit=7)
@@ -69,16 +69,16 @@ def test_each_command_is_its_event(folder):
     same("the rows", spool.listing(), [Head(4, 100), reported, done, of_lab(2, media=octets, phase=aborted("no-filter")), late])
 
 
-def test_a_65th_queue(folder):
+def test_a_65th_queue(room):
     queues = [Queue("q" * count, policy="retry-job") for count in range(1, 65)]
-    story = Story(folder, *[queue.event() for queue in queues], size=32_768)
+    story = Story(room, *[queue.event() for queue in queues], size=32_768)
     story.refuses(LAB.event(), queues[0].event())
     story.lists(Head(0), *queues)
-    Story(folder, Head(0), *queues, size=32_768).refuses(Queue("r"), Queue("r").event())
+    Story(room, Head(0), *queues, size=32_768).refuses(Queue("r"), Queue("r").event())
 
 
-def test_queues_created_and_changed(folder):
-    story = Story(folder)
+def test_queues_created_and_changed(room):
+    story = Story(room)
     notes = journal.info("lab", "Laser", "Room 5")
     story.refuses(notes, set_accept("lab", False), set_accept("lab", True), set_stop("lab", True), set_stop("lab", False))
     lab = Queue("lab", uri="socket://printer", target="application/postscript", policy="retry-job")
@@ -97,8 +97,8 @@ def test_queues_created_and_changed(folder):
     story.lists(Head(1), lab, of_lab(1, user="ann"))
 
 
-def test_jobs_filled_closed_and_canceled(folder):
-    story = Story(folder, LAB.event(), of_lab(1, user="ann").event(), send(1, b"hello"), send(1, b" you"))
+def test_jobs_filled_closed_and_canceled(room):
+    story = Story(room, LAB.event(), of_lab(1, user="ann").event(), send(1, b"hello"), send(1, b" you"))
     story.refuses(of_lab(1).event())
     story.lists(Head(1), LAB, of_lab(1, user="ann", size=9), Piece(1, b"hello you"))
     story.takes(close(1, ["texttops"]))
@@ -121,8 +121,8 @@ def test_jobs_filled_closed_and_canceled(folder):
     story.spool().says(('create lab u "" 1 50 ""', "error 9 NoNumberLeft"))
 
 
-def test_jobs_held_and_released(folder):
-    story = Story(folder, clock(43_200), clock(0), LAB.event(), of_lab(1).event())
+def test_jobs_held_and_released(room):
+    story = Story(room, clock(43_200), clock(0), LAB.event(), of_lab(1).event())
     story.refuses(release(1), hold(9), release(9))
     story.takes(hold(1))
     story.lists(Head(1, 43_200), LAB, of_lab(1, phase=incoming(held())))
@@ -140,16 +140,16 @@ def test_jobs_held_and_released(folder):
     story.lists(Head(2, 43_400), LAB, first, of_lab(2, phase=incoming(until(43_400))))
 
 
-def test_the_longest_document(folder):
+def test_the_longest_document(room):
     part = b"x" * 65_536
-    story = Story(folder, LAB.event(), of_lab(1).event(), *[send(1, part)] * 256, size=67_108_864)
+    story = Story(room, LAB.event(), of_lab(1).event(), *[send(1, part)] * 256, size=67_108_864)
     story.refuses(send(1, b"!"))
     story.lists(Head(1), LAB, of_lab(1, size=16_777_216), *[Piece(1, part)] * 256)
 
 
-def test_the_next_job_is_chosen_and_started(folder):
+def test_the_next_job_is_chosen_and_started(room):
     lab = Queue("lab")
-    story = Story(folder, lab.event(), of_lab(1).event())
+    story = Story(room, lab.event(), of_lab(1).event())
     story.refuses(start(1), abandon(1), stage(1, 1, 1, 0))
     story.takes(close(1))
     story.refuses(abandon(1))
@@ -190,8 +190,8 @@ def test_the_next_job_is_chosen_and_started(folder):
     story.starts(3, 1, 4)
 
 
-def test_a_held_job_keeps_its_position(folder):
-    story = Story(folder, LAB.event(), *closed_job(1), *closed_job(2), *closed_job(3, priority=80), *closed_job(4))
+def test_a_held_job_keeps_its_position(room):
+    story = Story(room, LAB.event(), *closed_job(1), *closed_job(2), *closed_job(3, priority=80), *closed_job(4))
     first, third = of_lab(1, media="a/b"), of_lab(3, priority=80, media="a/b")
     second, fourth = replace(first, number=2), replace(first, number=4)
     story.runs(3, 1, 2, 4)
@@ -234,14 +234,14 @@ def test_a_held_job_keeps_its_position(folder):
     story.runs(1, 4)
     story.takes(hold(1, 300))
     # The order is the same if the table is loaded from its listing.
-    again = Story(folder, *story.spool().listing())
+    again = Story(room, *story.spool().listing())
     again.starts(4, 1)
     again.takes(release(1))
     again.runs(1, 4)
 
 
-def test_jobs_wait_in_order(folder):
-    story = Story(folder, LAB.event(), of_lab(1).event(), of_lab(2, priority=80).event(), of_lab(3, priority=80).event(),
+def test_jobs_wait_in_order(room):
+    story = Story(room, LAB.event(), of_lab(1).event(), of_lab(2, priority=80).event(), of_lab(3, priority=80).event(),
                   hold(3, 100))
     story.refuses(*map(start, (1, 2, 3)))
     story.takes(close(1))
@@ -254,9 +254,9 @@ def test_jobs_wait_in_order(folder):
     story.runs(3, 1)
 
 
-def test_a_mark_moves_to_the_front(folder):
+def test_a_mark_moves_to_the_front(room):
     lab, attic = Queue("lab", policy="retry-current-job"), Queue("attic", policy="retry-job")
-    story = Story(folder, lab.event(), attic.event(), *closed_job(1), start(1), of_lab(2, priority=80).event(),
+    story = Story(room, lab.event(), attic.event(), *closed_job(1), start(1), of_lab(2, priority=80).event(),
                   of_lab(3, priority=80).event(), Job(4, "attic", priority=90).event(), close(2), close(3), close(4), hold(3, 100))
     story.refuses(start(2), start(3))
     story.takes(stage(1, 1, 1, 1))
@@ -271,7 +271,7 @@ def test_a_mark_moves_to_the_front(folder):
     story.runs(1, 2, 3)
     story.takes(cancel(1), cancel(4))
     story.runs(2, 3)
-    again = Story(folder, *story.spool().listing())
+    again = Story(room, *story.spool().listing())
     again.runs(2, 3)
     again.refuses(start(4))
     again.takes(Job(5, "attic", priority=90).event(), close(5))
@@ -289,8 +289,8 @@ def waits(number, by, queue="lab", **fields):
     return Job(number, queue, media="a/b", by=by, **{"phase": waiting(), **fields})
 
 
-def test_a_deadline_that_has_passed_cancels(folder):
-    story = Story(folder, clock(1_000), LAB.event(), *timed(1, 2_000))
+def test_a_deadline_that_has_passed_cancels(room):
+    story = Story(room, clock(1_000), LAB.event(), *timed(1, 2_000))
     for moment in (1_000, 2_000):
         story.takes(clock(moment))
         story.lists(Head(1, moment), LAB, waits(1, 2_000))
@@ -301,19 +301,19 @@ def test_a_deadline_that_has_passed_cancels(folder):
     story.refuses(start(1), cancel(1), hold(1), release(1), send(1, b"!"), close(1), abandon(1))
     story.takes(clock(3_000), REOPEN)
     story.lists(Head(1, 3_000), LAB, gone)
-    again = Story(folder, Head(1, 3_000), LAB, gone)
+    again = Story(room, Head(1, 3_000), LAB, gone)
     again.refuses(start(1))
     again.lists(Head(1, 3_000), LAB, gone)
 
 
-def test_deadlines_in_any_order(folder):
+def test_deadlines_in_any_order(room):
     # Two with the same deadline, one of another queue, and jobs with none, or with the greatest.
     moments = {1: 500, 2: 300, 3: None, 4: 300, 5: 400, 6: 4_000_000_000_000, 7: 300, 8: 0}
     queues = {5: "hall", 7: "hall"}
-    story = Story(folder, LAB.event(), HALL.event())
+    story = Story(room, LAB.event(), HALL.event())
     for number, by in moments.items():
         story.takes(*timed(number, by, queues.get(number, "lab")))
-    tables = [story, Story(folder, *story.spool().listing())]
+    tables = [story, Story(room, *story.spool().listing())]
     for now in (0, 1, 300, 301, 400, 401, 500, 501, 4_000_000_000_000):
         rows = [waits(number, by, queues.get(number, "lab"), phase=CANCELED if by is not None and by < now else waiting())
                 for number, by in moments.items()]
@@ -321,20 +321,20 @@ def test_deadlines_in_any_order(folder):
             table.takes(clock(now))
             table.lists(Head(8, now), HALL, LAB, *rows)
         # One step of the clock has the same effect as several.
-        Story(folder, *tables[0].payloads[:18], clock(now)).lists(Head(8, now), HALL, LAB, *rows)
+        Story(room, *tables[0].payloads[:18], clock(now)).lists(Head(8, now), HALL, LAB, *rows)
         left = {row.number for row in rows if row.phase == waiting()}
         for table in tables:
             table.runs(*sorted(left - set(queues)))
             table.runs(*sorted(left & set(queues)))
 
 
-def test_only_waiting_jobs_are_canceled(folder):
+def test_only_waiting_jobs_are_canceled(room):
     # All with one deadline: incoming, held while incoming, waiting, held, held until a moment, processing, completed, canceled, aborted.
     spare = Queue("spare")
     begun = (LAB.event(), HALL.event(), spare.event(), of_lab(1, by=50).event(), send(1, b"abc"), of_lab(2, by=50).event(), hold(2),
              *timed(3, 50), *timed(4, 50), hold(4), *timed(5, 50), hold(5, 10_000), *timed(6, 50, "hall"), start(6),
              *timed(7, 50, "spare"), start(7), stage(7, 1, 1, 0), *timed(8, 50), cancel(8), of_lab(9, by=50).event(), close(9, None))
-    story = Story(folder, *begun)
+    story = Story(room, *begun)
     # Opening the listing loses the attempt of job 6, so its end is checked here.
     story.takes(clock(51), stage(6, 1, 1, 5))
     rows = [of_lab(1, by=50, size=3), Piece(1, b"abc"), of_lab(2, by=50, phase=incoming(held())),
@@ -342,7 +342,7 @@ def test_only_waiting_jobs_are_canceled(folder):
             waits(7, 50, "spare", attempts=1, phase=COMPLETED), waits(8, 50, phase=CANCELED),
             waits(9, 50, phase=aborted("no-filter"))]
     story.lists(Head(9, 51), HALL, LAB, spare, *rows)
-    story = Story(folder, *begun, clock(51))
+    story = Story(room, *begun, clock(51))
     story.takes(stage(6, 1, 1, 0))
     story.has(waits(6, 50, "hall", attempts=1, phase=COMPLETED))
     # The incoming job waits once it is closed, until the time is set again.
@@ -354,9 +354,9 @@ def test_only_waiting_jobs_are_canceled(folder):
     story.refuses(start(1), start(2), Piece(1, b"abc"))
 
 
-def test_deadlines_before_the_current_time(folder):
+def test_deadlines_before_the_current_time(room):
     for back in (1_000, 999, 0):
-        story = Story(folder, clock(1_000), LAB.event(), of_lab(1, by=999).event())
+        story = Story(room, clock(1_000), LAB.event(), of_lab(1, by=999).event())
         story.takes(clock(back), send(1, b"abc"), clock(back))
         story.lists(Head(1, 1_000), LAB, of_lab(1, by=999, size=3), Piece(1, b"abc"))
         story.takes(close(1))
@@ -366,13 +366,13 @@ def test_deadlines_before_the_current_time(folder):
         story.takes(clock(back))
         story.lists(Head(1, 1_000), LAB, waits(1, 999, size=3, phase=CANCELED))
     # A deadline that is now has not passed.
-    story = Story(folder, clock(1_000), LAB.event(), *timed(1, 1_000), clock(0), clock(1_000))
+    story = Story(room, clock(1_000), LAB.event(), *timed(1, 1_000), clock(0), clock(1_000))
     story.lists(Head(1, 1_000), LAB, waits(1, 1_000))
 
 
-def test_a_deadline_never_changes(folder):
+def test_a_deadline_never_changes(room):
     lab = Queue("lab", policy="retry-current-job", interval=100)
-    story = Story(folder, lab.event(), *timed(1, 500), hold(1))
+    story = Story(room, lab.event(), *timed(1, 500), hold(1))
     story.has(waits(1, 500, phase=waiting(held())))
     story.takes(release(1), hold(1, 40), clock(30))
     story.has(waits(1, 500, phase=waiting(until(40))))
@@ -390,25 +390,25 @@ def test_a_deadline_never_changes(folder):
     running = story.payloads
     for end, phase in ((abandon(1), waiting(first=True)), (REOPEN, waiting(first=True)), (stage(1, 4, 1, 6), waiting(not_before=601)),
                        (stage(1, 4, 1, 3), waiting(held("held-by-backend")))):
-        story = Story(folder, *running, end)
+        story = Story(room, *running, end)
         story.has(replace(tried, attempts=4, phase=phase))
         story.takes(clock(0))
         story.has(replace(tried, attempts=4, phase=CANCELED))
-    Story(folder, *running, stage(1, 4, 1, 0), clock(600)).has(replace(tried, attempts=4, phase=COMPLETED))
+    Story(room, *running, stage(1, 4, 1, 0), clock(600)).has(replace(tried, attempts=4, phase=COMPLETED))
 
 
-def test_many_deadlines(folder):
+def test_many_deadlines(room):
     size, count = 1_048_576, 2_000
     by = [None if number % 7 == 0 else number * 7_919 % 1_009 for number in range(count + 1)]
     events = [LAB.event()]
     for number in range(1, count + 1):
         events += timed(number, by[number], priority=number % 3 + 1)
-    tables = [events, Story(folder, *events, size=size).spool().listing()]
+    tables = [events, Story(room, *events, size=size).spool().listing()]
     for now in (1, 500, 1_010):
         rows = [waits(number, by[number], priority=number % 3 + 1, phase=CANCELED if by[number] is not None and by[number] < now else waiting())
                 for number in range(1, count + 1)]
         for table in tables:
-            story = Story(folder, *table, clock(now), size=size)
+            story = Story(room, *table, clock(now), size=size)
             same("the listing is its rows", story.spool().listing() == [Head(count, now), LAB, *rows], True)
 
 
@@ -422,12 +422,12 @@ LOST_ATTEMPTS = (
 )
 
 
-def test_a_lost_attempt(folder):
+def test_a_lost_attempt(room):
     for policy, limit, phase, stopped in LOST_ATTEMPTS:
         queue = Queue("q", policy=policy, limit=limit)
         job = of_q(1, media="a/b", phase=waiting())
         # An idle table is unchanged.
-        story = Story(folder, queue.event(), clock(1_000), of_q(1).event(), close(1), REOPEN)
+        story = Story(room, queue.event(), clock(1_000), of_q(1).event(), close(1), REOPEN)
         story.lists(Head(1, 1_000), queue, job)
         story.takes(start(1))
         spool = story.spool()
@@ -438,8 +438,8 @@ def test_a_lost_attempt(folder):
         story.lists(Head(1, 1_000), *rows)
         # The same applies if the job is given up, and the moment of the first opening counts.
         for lost in (REOPEN, abandon(1)):
-            Story(folder, *story.payloads, lost).lists(Head(1, 1_000), *rows)
-            Story(folder, *story.payloads, lost, clock(2_000), REOPEN).lists(Head(1, 2_000), *rows)
+            Story(room, *story.payloads, lost).lists(Head(1, 1_000), *rows)
+            Story(room, *story.payloads, lost, clock(2_000), REOPEN).lists(Head(1, 2_000), *rows)
 
 
 # The outcome of a job whose last stage ends at the moment 1000, by its child's exit, and whether the queue stops; otherwise by the queue's
@@ -462,40 +462,40 @@ BY_POLICY = {
 EXITS = (0, 1, 2, 3, 4, 5, 6, 7, 8, 255, SIGNAL, NO_START, LOST)
 
 
-def test_each_end_of_a_stage(folder):
+def test_each_end_of_a_stage(room):
     for policy in journal.POLICIES:
         queue = Queue("q", policy=policy)
         events = [queue.event(), clock(1_000), of_q(1).event(), close(1, ["f"]), start(1)]
         job = of_q(1, media="a/b", filters=("f",), attempts=1)
         for code in EXITS[1:]:
-            early = Story(folder, *events, stage(1, 1, 1, code))
+            early = Story(room, *events, stage(1, 1, 1, code))
             early.lists(Head(1, 1_000), queue, replace(job, phase=aborted("filter-failed")))
         for code in EXITS:
             phase, stopped = BY_EXIT.get(code, BY_POLICY[policy])
-            late = Story(folder, *events, stage(1, 1, 1, 0), stage(1, 1, 2, code))
+            late = Story(room, *events, stage(1, 1, 1, 0), stage(1, 1, 2, code))
             late.lists(Head(1, 1_000), replace(queue, stopped=stopped), replace(job, phase=phase))
 
 
-def test_attempts_reach_the_limit(folder):
+def test_attempts_reach_the_limit(room):
     spent = aborted("retry-limit")
     for policy in journal.POLICIES:
         queue = Queue("q", policy=policy, limit=2)
         job = of_q(1, media="a/b", attempts=1, phase=waiting())
         for code in (6, 7):
-            story = Story(folder, Head(1), queue, job, start(1), stage(1, 2, 1, code))
+            story = Story(room, Head(1), queue, job, start(1), stage(1, 2, 1, code))
             story.lists(Head(1), queue, replace(job, attempts=2, phase=spent))
         for code in (2, 3, 4):
-            story = Story(folder, Head(1), queue, job, start(1), stage(1, 2, 1, code))
+            story = Story(room, Head(1), queue, job, start(1), stage(1, 2, 1, code))
             phase, stopped = BY_EXIT[code]
             story.lists(Head(1), replace(queue, stopped=stopped), replace(job, attempts=2, phase=phase))
 
 
-def test_attempts_at_their_greatest(folder):
+def test_attempts_at_their_greatest(room):
     spent = aborted("retry-limit")
     for policy in journal.POLICIES:
         queue = Queue("q", policy=policy, limit=0)
         job = of_q(1, media="a/b", attempts=GREATEST - 1, phase=waiting())
-        story = Story(folder, Head(1), queue)
+        story = Story(room, Head(1), queue)
         story.refuses(replace(job, attempts=GREATEST))
         story.takes(job)
         story.refuses(stage(1, GREATEST, 1, 0))
@@ -508,14 +508,14 @@ def test_attempts_at_their_greatest(folder):
             phase = {0: COMPLETED, 5: CANCELED}.get(code, spent)
             if policy == "abort-job" and code not in BY_EXIT:
                 phase = aborted("backend-failed")
-            late = Story(folder, *story.payloads, stage(1, GREATEST, 1, code))
+            late = Story(room, *story.payloads, stage(1, GREATEST, 1, code))
             late.lists(Head(1), queue, replace(ended, phase=phase))
             late.refuses(start(1))
 
 
-def test_effects_precede_the_verdict(folder):
+def test_effects_precede_the_verdict(room):
     lab = Queue("lab", policy="stop-printer")
-    story = Story(folder, lab.event(), HALL.event(), of_lab(1).event(), close(1, ["texttops"]), start(1),
+    story = Story(room, lab.event(), HALL.event(), of_lab(1).event(), close(1, ["texttops"]), start(1),
                   stage(1, 1, 1, 0, journal.add_reasons("media-empty", "toner-low"), journal.pages(1, 2), journal.total_pages(9)))
     # The program loses the attempt of the job that is processing, and stops its queue.
     reported = replace(lab, reasons=("media-empty", "toner-low"), stopped=True)
@@ -535,31 +535,31 @@ def test_effects_precede_the_verdict(folder):
     story.lists(Head(1), HALL, replace(reported, stopped=False), replace(job, attempts=2, pages=7, phase=COMPLETED))
 
 
-def test_effects_outlive_the_program(folder):
+def test_effects_outlive_the_program(room):
     ended = stage(1, 1, 1, 0, journal.add_reasons("media-empty", "toner-low"), journal.pages(1, 2), journal.total_pages(9))
-    story = Story(folder, *FIRST, start(1), ended)
+    story = Story(room, *FIRST, start(1), ended)
     rows = [Head(1), replace(Q, reasons=("media-empty", "toner-low")), of_q(1, media="a/b", attempts=1, pages=9, phase=COMPLETED)]
     story.lists(*rows)
-    Story(folder, *rows).lists(*rows)
+    Story(room, *rows).lists(*rows)
     spool = story.spool()
     for _ in range(2):
         spool.says(("queues", ['queue q 3 accepting a/b abort-job 30 5 media-empty,toner-low ""', "ok 1"]),
                    ("jobs", ['job 1 q 9 job-completed-successfully "u" 0 9 ""', "ok 1"]), ("checkpoint", "ok"))
 
 
-def test_a_completed_job_is_not_started_again(folder):
-    story = Story(folder, *FIRST, start(1), stage(1, 1, 1, 0))
+def test_a_completed_job_is_not_started_again(room):
+    story = Story(room, *FIRST, start(1), stage(1, 1, 1, 0))
     for _ in range(3):
         story.refuses(start(1), stage(1, 1, 1, 0), abandon(1))
         story.has(of_q(1, media="a/b", attempts=1, phase=COMPLETED))
         story.takes(REOPEN)
-    again = Story(folder, *story.spool().listing())
+    again = Story(room, *story.spool().listing())
     again.refuses(start(1), stage(1, 1, 1, 0), abandon(1))
 
 
-def test_jobs_are_purged(folder):
+def test_jobs_are_purged(room):
     # Incoming, waiting, processing, completed, canceled, aborted.
-    story = Story(folder, LAB.event(), Q.event(), of_lab(1).event(), of_lab(2).event(), close(2), of_q(3).event(), close(3), start(3))
+    story = Story(room, LAB.event(), Q.event(), of_lab(1).event(), of_lab(2).event(), close(2), of_q(3).event(), close(3), start(3))
     story.takes(stage(3, 1, 1, 0), of_q(4).event(), close(4), start(4), of_lab(5).event(), cancel(5), of_lab(6).event(), close(6, None))
     story.refuses(purge(1), purge(2), purge(4), purge(7), purge(GREATEST_NUMBER))
     for job in (6, 3, 5):
@@ -567,23 +567,18 @@ def test_jobs_are_purged(folder):
         story.refuses(purge(job), cancel(job), send(job, b"!"), close(job), start(job), of_lab(job).event())
     story.takes(REOPEN, cancel(1), cancel(2), purge(1), purge(2))
     # The highest number remains, also after a checkpoint.
-    again = Story(folder, *story.spool().listing())
+    again = Story(room, *story.spool().listing())
     for table in (story, again):
         table.refuses(*(of_lab(job).event() for job in range(1, 7)), *(purge(job) for job in (1, 2, 3, 5, 6)))
         table.takes(of_lab(7).event())
 
 
-def test_three_thousand_events(folder):
+def test_three_thousand_events(room):
     size = 1_048_576
     events = [Q.event()]
     for number in range(1, 1_001):
         events += [of_q(number).event(), cancel(number), clock(number)]
     rows = [Head(1_000, 1_000), Q, *[of_q(number, phase=CANCELED) for number in range(1, 1_001)]]
     for payloads in (events, rows):
-        story = Story(folder, *payloads, size=size)
+        story = Story(room, *payloads, size=size)
         same("the listing is its rows", story.spool().listing() == rows, True)
-
-
-@pytest.fixture
-def folder(room):
-    return room

@@ -22,15 +22,14 @@ without a failure, and the jobs are printed to their end: no stage of an attempt
 import os
 import re
 import shutil
-import subprocess
 import sys
 from dataclasses import dataclass
 
 import pytest
 
-from harness import journal, real_children, spool_model as model, traces
-from harness.checks import holds, LONGEST
-from harness.programs import SHELL
+from harness import journal, real_children, traces
+from harness.checks import holds
+from harness.files import write
 
 pytestmark = [pytest.mark.strace, pytest.mark.long, pytest.mark.needs("spool_shell")]
 
@@ -114,20 +113,13 @@ def replies_to(commands):
     return [reply for _, reply in commands]
 
 
-class Place:
+class Place(real_children.ShellFolder):
     """A folder with a spool, and the programs of its children."""
 
-    def __init__(self, shell, folder):
-        self.folder = folder
-        self.root = os.path.join(folder, "r")
-        self.file = os.path.join(self.root, DISK[0])
+    def __init__(self, folder):
         side = os.path.join(folder, "side")
-        os.makedirs(self.root)
-        self.children = real_children.Children(folder, f"side {side}\n")
-        with open(side, "w", encoding="utf-8") as file:
-            file.write(SIDE.replace("PYTHON", sys.executable))
-        os.chmod(side, 0o700)
-        self.words = [shell, "--root", self.root, "--size", str(SIZE), *self.children.words]
+        super().__init__(folder, SIZE, f"side {side}\n")
+        write(side, SIDE.replace("PYTHON", sys.executable), 0o700)
 
     def begin(self, scene):
         """Serves the commands before a scene. Returns their replies."""
@@ -138,27 +130,13 @@ class Place:
                 file.write(b"\1")
         return lines
 
-    def serve(self, script):
-        done = subprocess.run(self.words, input=script, capture_output=True, timeout=LONGEST)
-        holds(f"it ended with {done.returncode} and {done.stderr!r}", done.returncode == 0 and not real_children.faults_in(done.stderr.decode()))
-        return done.stdout.decode().splitlines()
-
     def traced(self, commands, inject=None):
         return traces.run(self.words, None, text_of(commands), os.path.join(self.folder, "trace"), ERRORS, inject)
 
-    def table(self):
-        return self.stored_table()[0]
-
-    def rows_and_version(self):
-        return rows_and_version(self.table())
-
     def stored_table(self):
         """The table of the file, and its payloads."""
-        if not os.path.exists(self.file):
-            return model.Table(), []
-        with open(self.file, "rb") as file:
-            content = file.read()
-        return model.stored_table(content), journal.current(content)[0]
+        content = self.content()
+        return self.table(), journal.current(content)[0] if content else []
 
 
 # ---- the required results of a failure
@@ -328,22 +306,22 @@ def check_file(place, end, commands, kept, first):
 
 def check_again(place, before):
     """The spool is opened again and printed to its end."""
-    ended = {number for number, job in place.table().jobs.items() if job.has_ended()}
+    ended = place.ended()
     place.serve(b"clock 100000\ndrain 9\nclock 200000\ndrain 9\n")
     after = place.children.stages()
     again = [key for key in after if key[0] in ended or key in before or after.count(key) > 1]
     holds(f"stages ran again, or of jobs that had ended: {again}", not again)
 
 
-def check(shell, folder, scene, kept, failure):
+def check(folder, scene, kept, failure):
     """One run with a failing call. Returns whether it failed: calls that wait for children differ from run to run."""
     earlier, commands = SCENES[scene]
-    place = Place(shell, folder)
+    place = Place(folder)
     place.begin(scene)
     if not earlier:
         shutil.rmtree(place.root)
         os.mkdir(place.root)
-    before, first = place.children.stages(), place.rows_and_version()
+    before, first = place.children.stages(), rows_and_version(place.table())
     done, calls = place.traced(commands, failure.inject())
     end = failed_in(done, calls)
     if end and end.outcome:
@@ -354,12 +332,12 @@ def check(shell, folder, scene, kept, failure):
     return bool(end and end.outcome)
 
 
-def usual(shell, folder, scene):
+def usual(folder, scene):
     """The calls of a scene without a failure, and for each number of its commands the table in the file, as rows, and its payloads."""
     earlier, commands = SCENES[scene]
     kept = []
     for number in range(len(commands) + 1):
-        place = Place(shell, os.path.join(folder, f"{scene}{number}"))
+        place = Place(os.path.join(folder, f"{scene}{number}"))
         lines = place.begin(scene) if earlier else []
         holds(f"{scene}: before it, it replied {lines}", lines == replies_to(earlier))
         done, calls = place.traced(commands[:number])
@@ -383,9 +361,9 @@ def failures(calls):
 
 @pytest.mark.parametrize("scene", SCENES)
 def test_each_call_fails(scene, memory_room):
-    calls, kept = usual(SHELL, memory_room, scene)
+    calls, kept = usual(memory_room, scene)
     done, tried = 0, 0
     for tried, failure in enumerate(failures(calls), 1):
         print(f"{failure}, in {memory_room}/{scene[0]}{tried}")
-        done += check(SHELL, os.path.join(memory_room, f"{scene[0]}{tried}"), scene, kept, failure)
+        done += check(os.path.join(memory_room, f"{scene[0]}{tried}"), scene, kept, failure)
     holds(f"only {done} of {tried} calls could be made to fail", done > tried * 9 // 10)

@@ -24,9 +24,9 @@ from pathlib import Path
 import pytest
 
 from harness.checks import check, reports_all, same
+from harness.programs import PROGRAMS
 
 ROOT = Path(__file__).resolve().parent.parent
-PROGRAMS = ["spool_front", "spool_shell", "spool_service", "spool_ipp", "spool_admin", "spool_tools"]
 LINKS = ["lp", "lpr", "lpstat", "cancel", "lpq", "lprm", "lpoptions", "lpmove", "cupsenable", "cupsdisable", "cupsaccept", "cupsreject"]
 # The shell scripts of the repository: all files that begin with a line for sh or bash, and the completion.
 SCRIPTS = ["completions/spool.bash", *subprocess.run(["git", "grep", "-lE", "^#!.*[/ ](ba)?sh$", "--", ":!*.py", ":!*.rt", ":!*.md"], cwd=ROOT,
@@ -296,7 +296,7 @@ def test_completion_of_zsh():
     check(run.returncode == 0, f"zsh reads completions/_spool: {run.stderr}")
 
 
-@pytest.mark.needs("spool_front", "spool_shell", "spool_service", "spool_ipp", "spool_admin", "spool_tools")
+@pytest.mark.needs(*PROGRAMS)
 @reports_all
 def test_prints(room):
     """The installed programs print a letter, from a folder of their own."""
@@ -329,8 +329,7 @@ def debian():
 
 @pytest.mark.root
 @pytest.mark.long
-@pytest.mark.needs("debootstrap")
-@pytest.mark.needs("spool_front", "spool_shell", "spool_service", "spool_ipp", "spool_admin", "spool_tools")
+@pytest.mark.needs("debootstrap", *PROGRAMS)
 @reports_all
 def test_prints_in_debian(debian):
     """The same in a fresh Debian, installed below /usr/local."""

@@ -1,7 +1,7 @@
 """Twice the input takes at most twice the time.
 
 Only ratios are checked, of the best of three runs, in processor seconds, so that other load on the machine has little effect.
-bench/opening.py writes the spools, byte by byte.
+harness/written_spools.py writes the spools, byte by byte.
 """
 import pytest
 
@@ -41,20 +41,17 @@ def keeps_pace(what, seconds, half=HALF):
     raise Difference(f"{what}: {twice:.3f} s for {2 * half}, and {once:.3f} s for {half}")
 
 
-def over_spool(place, payloads, script=None):
-    """The seconds of a script on a spool of these payloads."""
-    script = script or Script()
+def over_spool(place, payloads, asked=()):
+    """The seconds of a script on a spool of these payloads, by their number, as are the commands with their replies."""
 
     def run(size):
+        script = Script()
+        for ask in asked:
+            script.ask(*ask(size))
         place.write("spool/spool.disk", written_spools.spool(payloads(size)))
-        return place.serve(script if isinstance(script, Script) else script(size)).seconds
+        return place.serve(script).seconds
 
     return run
-
-
-def rows(size):
-    """A listing of a head, a queue and waiting jobs."""
-    return written_spools.rows(size)
 
 
 def listed_rows(size):
@@ -69,29 +66,19 @@ def test_openings_grow(place):
 
 
 def test_listings_grow(place):
-    """`jobs`, `queues` and a checkpoint of 40,000 jobs, each three times."""
+    """`jobs`, `queues` and a checkpoint of 40,000 jobs, each three times. After the checkpoints the jobs are listed."""
 
     def jobs(size):
-        script = Script()
-        for _ in range(3):
-            script.ask("jobs", *listed_rows(size), f"ok {size - 2}")
-        return script
+        return "jobs", *listed_rows(size), f"ok {size - 2}"
 
     def queues(_):
-        script = Script()
-        for _ in range(3):
-            script.ask("queues", f'queue lab 3 accepting {TYPE} abort-job 30 5 none ""', "ok 1")
-        return script
+        return "queues", f'queue lab 3 accepting {TYPE} abort-job 30 5 none ""', "ok 1"
 
-    def checkpoints(size):
-        script = Script()
-        for _ in range(3):
-            script.ask("checkpoint", "ok")
-        script.ask("jobs", *listed_rows(size), f"ok {size - 2}")
-        return script
+    def checkpoint(_):
+        return "checkpoint", "ok"
 
-    for name, ask in (("jobs", jobs), ("queues", queues), ("checkpoint", checkpoints)):
-        keeps_pace(name, over_spool(place, rows, ask))
+    for asked in ([jobs] * 3, [queues] * 3, [checkpoint] * 3 + [jobs]):
+        keeps_pace(asked[0].__name__, over_spool(place, written_spools.rows, asked))
 
 
 def test_commands_grow(place):

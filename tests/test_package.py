@@ -20,19 +20,18 @@ import hashlib
 import os
 import re
 import shutil
-import socket
 import subprocess
 import threading
 import time
 from pathlib import Path
+from types import SimpleNamespace
 
 import pytest
 
-from harness import debian_machine
+from harness import debian_machine, service
 from harness.checks import check, reports_all
-from harness.programs import GIVEN, path_of, ROOT
+from harness.programs import GIVEN, path_of, PROGRAMS, ROOT
 
-PROGRAMS = ["spool_front", "spool_shell", "spool_service", "spool_ipp", "spool_admin", "spool_tools"]
 GATE = os.environ.get("CEGMANDI_GATE")
 
 pytestmark = [pytest.mark.root, pytest.mark.needs("dpkg-deb", *PROGRAMS)]
@@ -212,20 +211,13 @@ def prints(machine, name):
         check(text == (b"" if wanted else b"Dear Bo,\r\ncome. Ann\r\n\x0c"), f"{name}: {user} printed {text}")
 
 
-class Client:
-    """A connection to the service."""
+class Client(service.Client):
+    """A connection to the service of a machine."""
 
     def __init__(self, machine):
-        self.connection = socket.socket(socket.AF_UNIX)
-        self.connection.settimeout(60)
-        self.connection.connect(str(machine.at(SOCKET)))
-        self.replies = self.connection.makefile("rb")
+        super().__init__(SimpleNamespace(socket=str(machine.at(SOCKET))))
 
-    def ask(self, text):
-        self.connection.sendall(text)
-        return self.replies.readline().decode().strip()
-
-    def submit(self, queue, title):
+    def is_accepted(self, queue, title):
         """Submits a job. Returns whether it was accepted."""
         reply = self.ask(f'create {queue} ann "{title}" 1 50 ""\n'.encode())
         job = reply.removeprefix("ok job ").encode()
@@ -260,7 +252,7 @@ def upgrades(machine, package, name):
         reply = client.ask(f"queue q{number} slow:x application/octet-stream retry-job 5 9\n".encode())
         check(reply.startswith("ok"), f"{name}: queue q{number}: {reply}")
     titles = [f"slow-{number}" for number in range(PRINTING)] + [f"job-{number}" for number in range(WAITING)]
-    accepted = [client.submit(f"q{number % PRINTING}", title) for number, title in enumerate(titles)]
+    accepted = [client.is_accepted(f"q{number % PRINTING}", title) for number, title in enumerate(titles)]
     check(all(accepted), f"{name}: {accepted.count(False)} jobs are not accepted")
     begun = len([it for it in machine.at(PRINTED).glob("slow-*") if it.suffix != ".done"])
     check(begun == PRINTING and not done(machine), f"{name}: at the upgrade {begun} jobs are printing and {len(done(machine))} are printed")
@@ -308,7 +300,7 @@ def removes(machine, package, name):
     """A removal keeps the configuration and the spool, so that another install continues."""
     client = Client(machine)
     client.ask(b"disable q0\n")
-    check(all([client.submit("q0", f"late-{number}") for number in range(3)]), f"{name}: jobs before the removal are not accepted")
+    check(all([client.is_accepted("q0", f"late-{number}") for number in range(3)]), f"{name}: jobs before the removal are not accepted")
     run = machine.run("/usr/lib/cegmandi/copy-spool.py", SPOOL, "/root/spool.disk")
     check(run.returncode == 0 and run.stdout.startswith("copied "), f"{name}: the copy of the spool: {run.stdout}{run.stderr}")
     run = machine.run("apt-get", "remove", "-q", "-y", "cegmandi")

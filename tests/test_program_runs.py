@@ -15,7 +15,8 @@ import pytest
 
 from harness import journal
 from harness.checks import LONGEST as SECONDS, same as check, words_of_faults
-from harness.programs import is_sanitized, SHELL
+from harness.files import read, write
+from harness.programs import is_sanitized, SHELL, shell_on
 
 pytestmark = pytest.mark.needs("spool_shell")
 
@@ -39,19 +40,6 @@ def run(*words, given=b"queues\n", folder=None, **more):
 def fault(text):
     """A run that ends with this error."""
     return b"", b"".join(b"spool: %s\n" % it.encode() for it in text.split(", ")), 1
-
-
-def write(path, content):
-    with open(path, "wb") as file:
-        file.write(content)
-
-
-def read(path):
-    try:
-        with open(path, "rb") as file:
-            return file.read()
-    except FileNotFoundError:
-        return None
 
 
 FINE = b"ok 0\n", b"", 0
@@ -197,10 +185,8 @@ def test_a_folder_has_one_owner(folder):
         check(f"{path} is locked", (run("--root", shared), os.path.exists(disk)), (OWNED, False))
         os.close(lock)
     check("its owner has left", run("--root", shared), FINE)
-    with subprocess.Popen([SHELL, "--root", shared], stdin=subprocess.PIPE, stdout=subprocess.PIPE) as first:
-        first.stdin.write(b"queues\n")
-        first.stdin.flush()
-        check("the first program", first.stdout.readline(), b"ok 0\n")
+    with shell_on(shared) as reply:
+        check("the first program", reply, b"ok 0\n")
         check("a second program", run("--root", shared), OWNED)
     check("after both", run("--root", shared), FINE)
 
@@ -214,10 +200,8 @@ def test_a_device_of_two_folders_has_one_owner(folder):
     replies, errors, status = run("--root", other)
     check("a link to nothing", (replies, errors.startswith(b"spool: disk\n"), status), (b"", True, 1))
     check("no file is made", os.listdir(one), [])
-    with subprocess.Popen([SHELL, "--root", one], stdin=subprocess.PIPE, stdout=subprocess.PIPE) as first:
-        first.stdin.write(b"queues\n")
-        first.stdin.flush()
-        check("the owner", first.stdout.readline(), b"ok 0\n")
+    with shell_on(one) as reply:
+        check("the owner", reply, b"ok 0\n")
         check("the other folder", run("--root", other), OWNED)
     # The owner of the folder alone does not own the device.
     locks = [os.open(path, os.O_RDONLY) for path in (one, os.path.join(one, "spool.lock"))]

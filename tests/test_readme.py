@@ -17,9 +17,9 @@ from pathlib import Path
 import pytest
 
 from harness.checks import check, reports_all, same
+from harness.programs import PROGRAMS
 
 ROOT = Path(__file__).resolve().parent.parent
-PROGRAMS = ["spool_front", "spool_shell", "spool_service", "spool_ipp", "spool_admin", "spool_tools"]
 SECONDS = 1_700
 
 BLOCK = re.compile(r"^```console\n(.*?)^```$", re.MULTILINE | re.DOTALL)

@@ -23,12 +23,9 @@ import pytest
 
 from harness import real_children, spool_model as model
 from harness.checks import holds, LONGEST
-from harness.programs import compiled, SHELL
+from harness.programs import compiled
 
 pytestmark = pytest.mark.needs("gcc", "plain spool_shell")
-
-# The tests, each of which refuses every so many allocations.
-PARTS = 4
 
 # The tests, each of which refuses every so many allocations.
 PARTS = 4
@@ -67,17 +64,12 @@ class Ended(Exception):
     """The program ended instead of replying."""
 
 
-class Run:
+class Run(real_children.ShellFolder):
     """A run with a refused allocation, in a folder of its own."""
 
-    def __init__(self, shell, library, room, refused):
-        self.room = room
-        self.root = os.path.join(room, "r")
-        os.makedirs(self.root)
-        self.file = os.path.join(self.root, "spool.disk")
-        self.log = os.path.join(room, "counted")
-        self.children = real_children.Children(room)
-        self.words = [shell, "--root", self.root, "--size", str(SIZE), *self.children.words]
+    def __init__(self, library, folder, refused):
+        super().__init__(folder, SIZE)
+        self.log = os.path.join(folder, "counted")
         self.environment = {"PATH": "/bin", "LD_PRELOAD": library, "REFUSED": str(refused), "COUNTED": self.log}
         self.started = []
         self.process = None
@@ -108,17 +100,6 @@ class Run:
         self.process.stdout.close()
         self.process.stderr.close()
         return left
-
-    def bytes(self):
-        if not os.path.exists(self.file):
-            return b""
-        with open(self.file, "rb") as file:
-            return file.read()
-
-    def table(self):
-        """The table of the file as it is now, or an empty one if the file does not exist."""
-        file = self.bytes()
-        return model.stored_table(file) if file else model.Table()
 
     def count(self):
         """The number of its allocations, and whether one was refused."""
@@ -168,10 +149,10 @@ def serve_rounds(run, text):
 
 def serve_event(run, text, reply):
     """A command of one event, or a checkpoint, which is repeated if it runs out of memory."""
-    before = run.bytes()
+    before = run.content()
     got = run.give(text)
     if got == MEMORY:
-        holds(f"{text!r} got the reply {MEMORY}, and the file has changed", run.bytes() == before or text == "jobs\n")
+        holds(f"{text!r} got the reply {MEMORY}, and the file has changed", run.content() == before or text == "jobs\n")
         got = run.give(text)
     holds(f"{text!r} got the reply {got!r}, not {reply!r}", got == reply)
 
@@ -222,33 +203,32 @@ def check_jobs(table):
     holds(f"the jobs have ended with {table.jobs_reply()}", len(well) + len(ill) == len(jobs) and len(ill) <= 1)
 
 
-def check_again(shell, run):
+def check_again(run):
     """The spool is opened again, and printed to its end."""
-    ended = {number for number, job in run.table().jobs.items() if job.has_ended()}
+    ended = run.ended()
     before = len(run.started) + len(run.take_stages())
-    done = subprocess.run([*run.words], input=b"clock 5000\ndrain 9\nclock 9000\ndrain 9\njobs\n", capture_output=True, timeout=LONGEST)
+    run.serve(b"clock 5000\ndrain 9\nclock 9000\ndrain 9\njobs\n")
     run.take_stages()
     again = [key for key in run.started[before:] if key[0] in ended] + [key for key in run.started if run.started.count(key) > 1]
-    holds(f"opened again it ended with {done.returncode} and {done.stderr!r}", done.returncode == 0 and not real_children.faults_in(done.stderr.decode()))
     holds(f"stages ran again, or of a job that had ended: {again}", not again)
 
 
-def check(shell, tables, run):
+def check(tables, run):
     """One run. Returns whether an allocation was refused, and whether a round did nothing."""
     answered, idle, is_whole = check_end(run)
     run.take_stages()
     check_tables(run, tables, answered, is_whole)
     if answered == len(SCRIPT):
         check_jobs(run.table())
-    check_again(shell, run)
+    check_again(run)
     is_refused = run.count()[1] if os.path.exists(run.log) else True
-    shutil.rmtree(run.room)
+    shutil.rmtree(run.folder)
     return is_refused, idle
 
 
-def usual(shell, library, room):
+def usual(library, room):
     """The number of allocations of a run, and the tables before and after each command."""
-    run = Run(shell, library, room, 0)
+    run = Run(library, room, 0)
     run.begin()
     tables = [model.Table()]
     for text, reply in SCRIPT:
@@ -269,10 +249,10 @@ def usual(shell, library, room):
 def test_each_allocation_is_refused(part, memory_room, is_long):
     """In parts, so that they can run side by side. Usually every fourth allocation is refused."""
     library, passed, idle = compiled("count_allocations.c", "-shared", "-fPIC"), 0, 0
-    count, tables = usual(SHELL, library, os.path.join(memory_room, "0"))
+    count, tables = usual(library, os.path.join(memory_room, "0"))
     for number in range(1 + part, count + 1, PARTS if is_long else 4 * PARTS):
         print(f"allocation {number} of {count} refused, in {memory_room}/{number}")
-        is_refused, did_nothing = check(SHELL, tables, Run(SHELL, library, os.path.join(memory_room, str(number)), number))
+        is_refused, did_nothing = check(tables, Run(library, os.path.join(memory_room, str(number)), number))
         passed += is_refused
         idle += did_nothing
     rounds = sum(text in ROUNDS for text, _ in SCRIPT)

@@ -24,6 +24,7 @@ from dataclasses import dataclass
 import pytest
 
 from harness.checks import Difference, holds, LONGEST
+from harness.files import write
 from harness.programs import compiled, SCRIPTS
 
 pytestmark = pytest.mark.needs("gcc", "plain spool_scripts")
@@ -163,8 +164,7 @@ class Bench:
 
 def write_case(room, **files):
     for ending, text in files.items():
-        with open(os.path.join(room, "cases", f"case.{ending}"), "w", encoding="utf-8") as file:
-            file.write(text)
+        write(os.path.join(room, "cases", f"case.{ending}"), text)
 
 
 # ---- scripts

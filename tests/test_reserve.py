@@ -12,19 +12,18 @@ import pytest
 
 from harness.checks import holds, same, until
 from harness.programs import SHELL
-from harness.service import Client
+from harness.service import Client, PIECE
 
 pytestmark = pytest.mark.needs("spool_shell", "spool_service")
 
 WHOLE = 600  # seconds for a program
-PIECE = 65_536  # the most bytes of a send
 DOCUMENT = 12 * 1_048_576
 CREATE = 'create q u "t" 1 50 ""\n'
 LATER = 4_000_000_000
 
 
-class Shell:
-    """The shell, which serves one command at a time."""
+class Shell(Client):
+    """The client of a shell, which serves one command at a time."""
 
     def __init__(self, *words):
         pipe = subprocess.PIPE
@@ -32,20 +31,14 @@ class Shell:
         self.clock = threading.Timer(WHOLE, self.process.kill)
         self.clock.start()
 
-    def ask(self, command):
-        """Sends a command, and returns the line of its reply."""
-        self.process.stdin.write(command if isinstance(command, bytes) else command.encode())
+    def say(self, text):
+        self.process.stdin.write(text if isinstance(text, bytes) else text.encode())
         self.process.stdin.flush()
-        line = self.process.stdout.readline()
-        holds(f"a reply to {command[:40]!r}", line.endswith(b"\n"))
-        return line[:-1].decode()
 
-    def listing(self, command):
-        """The lines of `jobs` or `queues`, without the last one."""
-        lines = [self.ask(command)]
-        while not lines[-1].startswith("ok "):
-            lines.append(self.process.stdout.readline()[:-1].decode())
-        return lines[:-1]
+    def reply(self):
+        line = self.process.stdout.readline()
+        holds(f"a whole reply: {line!r}", line.endswith(b"\n"))
+        return line[:-1].decode()
 
     def end(self):
         """Ends the input, and waits for the end of the program."""
@@ -107,15 +100,9 @@ def send(program, job, count):
     return program.ask(b"send %d %d\n" % (job, count) + b"x" * count + b"\n")
 
 
-def create(program):
-    reply = program.ask(CREATE)
-    holds(f"a job: {reply}", reply.startswith("ok job "))
-    return int(reply.split()[2])
-
-
 def submit(program, count):
     """Submits a document of `count` bytes, and returns its job, and the first refusal, or None."""
-    job = create(program)
+    job = program.create("q")
     while 0 < count:
         piece = min(count, PIECE)
         reply = send(program, job, piece)
@@ -158,7 +145,7 @@ def test_a_full_spool_is_emptied(spool):
     same("another queue", program.ask("queue other spoolfile:/dev/null application/octet-stream abort-job\n"), "ok")
     first, second = [submit(program, DOCUMENT) for _ in range(2)]
     same("two documents", (first[1], second[1]), (None, None))
-    filling = create(program)
+    filling = program.create("q")
     jobs = fill(program, filling)
     print(f"  {len(jobs)} small jobs next to two documents of 12 MiB")
     for count in range(100):
@@ -181,7 +168,7 @@ def test_a_full_spool_is_emptied(spool):
 def test_the_reserve_is_left(spool):
     """Nothing that takes room takes it from the reserve. What is refused changes nothing, and thousands of other events find the reserve."""
     program = begun(spool.open(1_048_576))
-    job = create(program)
+    job = program.create("q")
     fill(program, job)
     rows = program.listing("jobs\n")
     refused = [f"close {job} f\n", CREATE, 'createby q u "t" 1 50 "" 4000000000\n', b"send %d 10\n0123456789\n" % job]
@@ -201,7 +188,7 @@ def test_without_the_word_all_room_is_taken(folder):
     """
     words = ["--root", folder.at("spool")]
     program = begun(Shell(*words, "--size", "1048576"))
-    jobs = fill(program, create(program))
+    jobs = fill(program, program.create("q"))
     replies = [program.ask(f"cancel {job}\n") for job in jobs]
     print(f"  {replies.count('error full')} of {len(jobs)} cancels find no room")
     holds("a cancel is refused", "error full" in replies)

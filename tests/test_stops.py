@@ -19,8 +19,10 @@ from dataclasses import dataclass, replace
 import pytest
 
 from harness.checks import Difference, LONGEST
+from harness.files import write
 from harness.journal import clock, close, image, Job, NEWEST, purge, Queue, send, stage, start
-from harness.programs import SCRIPTS, SHELL
+from harness.programs import SCRIPTS
+from harness.stories import Spool
 
 pytestmark = pytest.mark.needs("spool_scripts", "spool_shell")
 
@@ -160,15 +162,10 @@ def stopped_at(story, call, checkpoint):
     return done
 
 
-def listed(shell, folder, version, events):
+def listed(folder, version, events):
     """The shell's replies to the last commands, on a spool whose journal has these events. It can start no child."""
-    root = tempfile.mkdtemp(dir=folder)
-    with open(os.path.join(root, "spool.disk"), "wb") as file:
-        file.write(image(SIZE, events, version=version))
-    done = subprocess.run([shell, "--root", root], input=AFTER, capture_output=True, text=True, timeout=LONGEST)
-    if done.returncode != 0:
-        raise Difference(f"the shell ends with {done.returncode}: {done.stderr}")
-    return done.stdout
+    replies = Spool(folder, image(SIZE, events, version=version)).lines(AFTER.splitlines())
+    return "".join(f"{line}\n" for line in replies)
 
 
 def can_start(events):
@@ -210,18 +207,17 @@ def write_case(folder, name, version, fuse, done, after):
         # The spool remains as it was created.
         del files["version"]
     for kind, words in files.items():
-        with open(os.path.join(folder, f"{name}.{kind}"), "w") as file:
-            file.write(words)
+        write(os.path.join(folder, f"{name}.{kind}"), words)
 
 
-def served(program, folder):
+def served(folder):
     """The results of the stored scripts of a folder: those that pass, and the other lines."""
-    done = subprocess.run([program, folder], capture_output=True, text=True, timeout=5 * LONGEST)
+    done = subprocess.run([SCRIPTS, folder], capture_output=True, text=True, timeout=5 * LONGEST)
     lines = done.stdout.splitlines()
     return [line[:-3] for line in lines if line.endswith(" ok")], [line for line in lines if not line.endswith(" ok")]
 
 
-def calls_of_checkpoint(scripts, folder, version):
+def calls_of_checkpoint(folder, version):
     """The number of calls of the checkpoint: the least number that makes an event after it the first to fail."""
     story = STORIES[version]
     before = story[:[command for command, _, _ in story].index("checkpoint")]
@@ -234,31 +230,25 @@ def calls_of_checkpoint(scripts, folder, version):
     for calls in range(1, 100):
         name = f"c{calls:03}"
         write_case(room, name, version, f"{first + calls} {first + calls}\n", done, "")
-        with open(os.path.join(room, f"{name}.script"), "w") as file:
-            file.write(script)
-    passed, _ = served(scripts, room)
+        write(os.path.join(room, f"{name}.script"), script)
+    passed, _ = served(room)
     if len(passed) != APPEND:
         raise Difference(f"{len(passed)} numbers of calls for a checkpoint, in {room}")
     return int(passed[0][1:])
 
 
-def all_cases(scripts, shell, folder, version):
-    """Serves the script of a version with each of its calls stopped and failed. Returns the number of cases."""
-    story, checkpoint = STORIES[version], calls_of_checkpoint(scripts, folder, version)
+@pytest.mark.parametrize("version", STORIES)
+def test_each_call_of_the_disk_fails(version, room):
+    """The script of a version is served with each of its calls stopped and failed."""
+    story, checkpoint = STORIES[version], calls_of_checkpoint(room, version)
     events = [step for _, _, steps in story for step in steps if isinstance(step, bytes)]
     last = calls_of_all(story, checkpoint)
-    after = {count: listed(shell, folder, version, events[:count]) for count in range(len(events) + 1)}
-    room = tempfile.mkdtemp(dir=folder)
+    after = {count: listed(room, version, events[:count]) for count in range(len(events) + 1)}
+    cases = tempfile.mkdtemp(dir=room)
     for call in range(OPENING, last + 1):
         done = stopped_at(story, call, checkpoint)
         for kind, before in (("stop", ""), ("once", "once ")):
-            write_case(room, f"{kind}{call:03}", version, f"{before}{call} {call}\n", done, after[len(done.events)])
-    passed, others = served(scripts, room)
+            write_case(cases, f"{kind}{call:03}", version, f"{before}{call} {call}\n", done, after[len(done.events)])
+    passed, others = served(cases)
     if len(others) != 1 or len(passed) != 2 * (last + 1 - OPENING):
-        raise Difference(f"{others[0]}, in {room}")
-    return len(passed)
-
-
-@pytest.mark.parametrize("version", STORIES)
-def test_each_call_of_the_disk_fails(version, room):
-    all_cases(SCRIPTS, SHELL, room, version)
+        raise Difference(f"{others[0]}, in {cases}")

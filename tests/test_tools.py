@@ -18,6 +18,7 @@ import time
 import pytest
 
 from harness.checks import compare, LONGEST, reports_all, until
+from harness.files import read, write
 from harness.printers import Printer, reset, reset_after, take
 from harness.programs import TOOLS
 
@@ -27,29 +28,29 @@ JOB = ["7", "ann", "First page", "3", "media=A4"]
 NO_FILE = "No such file or directory"
 
 
-def run(words, given=b"", uri=None, side=None, **more):
-    """The output, the standard error and the status of the program with these arguments."""
-    env = {"PATH": "/usr/bin:/bin"}
-    if uri is not None:
-        env["DEVICE_URI"] = uri
-    if side is not None:
-        env["SPOOL_SIDE"] = side
-    ended = subprocess.run([TOOLS, *words], input=given, capture_output=True, env=env, timeout=LONGEST, **more)
+def run(words, given=b"", uri=None, side=None, stdout=subprocess.PIPE, stderr=subprocess.PIPE, **more):
+    """The output, the standard error and the status of the program with these arguments, and with further variables."""
+    variables = {"PATH": "/usr/bin:/bin", "DEVICE_URI": uri, "SPOOL_SIDE": side, **more}
+    env = {name: value for name, value in variables.items() if value is not None}
+    ended = subprocess.run([TOOLS, *words], input=given, stdout=stdout, stderr=stderr, env=env, timeout=LONGEST)
     return ended.stdout, ended.stderr, ended.returncode
 
 
-def read(path):
-    try:
-        with open(path, "rb") as file:
-            return file.read()
-    except FileNotFoundError:
-        return None
+def run_full(words, stream="stdout", given=b"a\n"):
+    """The same with a stream on a disk that is full, whose text is None."""
+    with open("/dev/full", "wb") as full:
+        return run(words, given, **{stream: full})
 
 
-def write(path, data):
-    with open(path, "wb") as file:
-        file.write(data)
-    return path
+def start(words, uri, stdin=subprocess.DEVNULL):
+    """The program, which runs with these arguments."""
+    return subprocess.Popen([TOOLS, *words], stdin=stdin, stdout=subprocess.PIPE, stderr=subprocess.PIPE, env={"DEVICE_URI": uri})
+
+
+def end(child, given=None):
+    """The output, the standard error and the status of a started program."""
+    out, errors = child.communicate(given, timeout=LONGEST)
+    return out, errors, child.returncode
 
 
 def printed(data):
@@ -77,8 +78,8 @@ def run_with_room(size, words, path):
 
 
 @reports_all
-def test_filters(folder):
-    document = os.path.join(folder, "document")
+def test_filters(room):
+    document = os.path.join(room, "document")
     for number, text in enumerate(texts()):
         write(document, text)
         for copies in ("1", "3"):
@@ -95,34 +96,28 @@ def test_filters(folder):
             compare(f"prncount of its input, {name}", run(["prncount", *job], text),
                   (text, b"PAGE: total %d\n" % feeds, 0))
     # The greatest number of copies, leading zeros, and a name with all characters that are special to a shell.
-    odd = write(os.path.join(folder, "a 'b' \"c\" $d;e\n-f"), b"x\n")
+    odd = write(os.path.join(room, "a 'b' \"c\" $d;e\n-f"), b"x\n")
     job = ["1", "u", "t", "9999", ""]
     compare("9999 copies", run(["texttoprn", *job, odd]), (b"x\r\n\f" * 9999, b"PAGE: 1 9999\n", 0))
     compare("copies 0002", run(["prncount", "1", "u", "t", "0002", "", odd]), (b"x\nx\n", b"PAGE: total 0\n", 0))
     # Errors: a file that does not exist, a folder, an output that is full.
     for tool in ("texttoprn", "prncount"):
-        for name, reason in (("/nowhere", NO_FILE), (folder, "Is a directory"), ("", NO_FILE), ("/no\n\x1b", NO_FILE)):
+        for name, reason in (("/nowhere", NO_FILE), (room, "Is a directory"), ("", NO_FILE), ("/no\n\x1b", NO_FILE)):
             shown = name.replace("\n", "\ufffd").replace("\x1b", "\ufffd")
             compare(f"{tool} of {name!r}", run([tool, *JOB, name]), (b"", f"ERROR: cannot read {shown}: {reason}\n".encode(), 1))
-        with open("/dev/full", "wb") as full:
-            ended = subprocess.run([TOOLS, tool, *JOB], input=b"a\n", stdout=full, stderr=subprocess.PIPE,
-                                   timeout=LONGEST)
-        compare(f"{tool} on a full disk", (ended.stderr, ended.returncode), (b"ERROR: cannot write\n", 1))
+        compare(f"{tool} on a full disk", run_full([tool, *JOB]), (None, b"ERROR: cannot write\n", 1))
         text = write(document, b"a\n\fb\n")
         whole = printed(read(text)) if tool == "texttoprn" else read(text)
-        compare(f"{tool} of three copies, ten bytes of which fit", run_with_room(10, [tool, *JOB, text], os.path.join(folder, "ten")),
+        compare(f"{tool} of three copies, ten bytes of which fit", run_with_room(10, [tool, *JOB, text], os.path.join(room, "ten")),
               ((whole * 3)[:10], b"ERROR: cannot write\n", 1))
-        with open("/dev/full", "wb") as full:
-            ended = subprocess.run([TOOLS, tool, *JOB], input=b"a\n", stdout=subprocess.PIPE, stderr=full,
-                                   timeout=LONGEST)
-        compare(f"{tool} that cannot report its pages", ended.returncode, 1)
+        compare(f"{tool} that cannot report its pages", run_full([tool, *JOB], "stderr")[2], 1)
 
 
 @pytest.mark.needs("plain spool_tools")
 @reports_all
-def test_bounded(folder):
+def test_bounded(room):
     """A document of 64 MiB and three copies of it, in 32 MiB of memory."""
-    large = write(os.path.join(folder, "large"), b"0123456789abcde\n" * (4 << 20))
+    large = write(os.path.join(room, "large"), b"0123456789abcde\n" * (4 << 20))
 
     def limit():
         resource.setrlimit(resource.RLIMIT_AS, (32 << 20, 32 << 20))
@@ -138,9 +133,9 @@ def test_bounded(folder):
 
 
 @reports_all
-def test_spoolfile(folder):
-    document = write(os.path.join(folder, "document"), b"some\n\fbytes\0\xff")
-    out = os.path.join(folder, "out")
+def test_spoolfile(room):
+    document = write(os.path.join(room, "document"), b"some\n\fbytes\0\xff")
+    out = os.path.join(room, "out")
     for name, query, status in (
         ("no options", "", 0),
         ("exit 0", "?exit=0", 0),
@@ -166,8 +161,8 @@ def test_spoolfile(folder):
             compare(f"spoolfile with {name}, {len(words)} words", (got, read(out)), ((b"", b"", status), wanted))
     # The path is decoded, as the value of an option is.
     for name, path, file in (("a coded path", "/a%20b%25%c3%a4", "a b%ä"), ("a path with braces", "/{a}", "{a}")):
-        got = run(["spoolfile", *JOB], b"x", uri=f"spoolfile:{folder}{path}")
-        compare(name, (got, read(os.path.join(folder, file))), ((b"", b"", 0), b"x"))
+        got = run(["spoolfile", *JOB], b"x", uri=f"spoolfile:{room}{path}")
+        compare(name, (got, read(os.path.join(room, file))), ((b"", b"", 0), b"x"))
     got = run(["spoolfile", *JOB], b"y", uri=f"spoolfile://host{out}")
     compare("a URI with a host", (got, read(out)), ((b"", b"", 0), b"y"))
     fault = (b"", b"ERROR: cannot write\n", 1)
@@ -176,8 +171,8 @@ def test_spoolfile(folder):
         ("an empty URI", ""),
         ("no scheme", out),
         ("a long URI", "spoolfile:/" + "a" * 1023),
-        ("a folder", f"spoolfile:{folder}?exit=6"),
-        ("no folder", f"spoolfile:{folder}/none/out?exit=6"),
+        ("a folder", f"spoolfile:{room}?exit=6"),
+        ("no folder", f"spoolfile:{room}/none/out?exit=6"),
         ("no path", "spoolfile:"),
         ("no text", "spoolfile:/%ff"),
         ("a full disk", "spoolfile:/dev/full?exit=6"),
@@ -187,21 +182,18 @@ def test_spoolfile(folder):
 
 
 @reports_all
-def test_targets(folder):
+def test_targets(room):
     """The files that the backends refuse, and that none of them is changed."""
-    spool, printed = os.path.join(folder, "spool"), os.path.join(folder, "printed")
+    spool, printed = os.path.join(room, "spool"), os.path.join(room, "printed")
     for it in (spool, os.path.join(spool, "below"), printed):
         os.mkdir(it)
     disk = write(os.path.join(spool, "spool.disk"), b"all jobs")
     out, other = os.path.join(printed, "out"), write(os.path.join(printed, "other"), b"other")
     os.symlink(spool, os.path.join(printed, "way"))
-    child = {"TMPDIR": spool, "SPOOL_STAGE": "1"}
     refused = (b"", b"ERROR: cannot write\n", 1)
 
-    def at(path, query="", tool="spoolfile", **more):
-        env = {"PATH": "/usr/bin:/bin", "DEVICE_URI": f"{tool}:{path}{query}", **child, **more}
-        ended = subprocess.run([TOOLS, tool, *JOB], input=b"page", capture_output=True, env=env, timeout=LONGEST)
-        return ended.stdout, ended.stderr, ended.returncode
+    def at(path, query="", tool="spoolfile", words=()):
+        return run([tool, *JOB, *words], b"page", uri=f"{tool}:{path}{query}", TMPDIR=spool, SPOOL_STAGE="1")
 
     for query in ("", "?replace"):
         for name, path in (
@@ -254,8 +246,7 @@ def test_targets(folder):
     os.rmdir(f"{out}.new")
     # A failed attempt leaves the old file.
     write(out, b"before")
-    ended = subprocess.run([TOOLS, "spoolfile", *JOB, "/nowhere"], capture_output=True, env={**child, "DEVICE_URI": f"spoolfile:{out}"})
-    compare("an unread document", (ended.returncode, read(out), os.path.exists(f"{out}.new")), (1, b"before", False))
+    compare("an unread document", (at(out, words=["/nowhere"])[2], read(out), os.path.exists(f"{out}.new")), (1, b"before", False))
     # `meet` makes its mark by the same rules, and removes no file of the spool.
     compare("meet in the spool's folder", (at(disk, f"?partner={printed}/none&turns=1", "meet"), read(disk)), ((b"", b"", 1), b"all jobs"))
     compare("a new mark there", (at(f"{spool}/mark", f"?partner={disk}", "meet"), os.path.exists(f"{spool}/mark")), ((b"", b"", 1), False))
@@ -265,50 +256,44 @@ def test_targets(folder):
 
 
 @reports_all
-def test_meet(folder, is_long):
-    a, b = os.path.join(folder, "a"), os.path.join(folder, "b")
+def test_meet(room, is_long):
+    a, b = os.path.join(room, "a"), os.path.join(room, "b")
 
-    def start(mine, other, query=""):
-        env = {"DEVICE_URI": f"meet:{mine}?partner={other}{query}"}
-        return subprocess.Popen([TOOLS, "meet", *JOB], stdin=subprocess.DEVNULL, stdout=subprocess.PIPE,
-                                stderr=subprocess.PIPE, env=env)
+    def meet(mine, other, query=""):
+        return start(["meet", *JOB], f"meet:{mine}?partner={other}{query}")
 
-    def end(child):
-        out, errors = child.communicate(timeout=LONGEST)
-        return out, errors, child.returncode
-
-    both = [start(a, b), start(b, a)]
+    both = [meet(a, b), meet(b, a)]
     compare("two that meet", ([end(child) for child in both], read(a), read(b)), ([(b"", b"", 0)] * 2, b"", b""))
     # Both marks still exist, so each is found by the first check, and an existing mark keeps its contents.
     write(a, b"kept")
-    compare("a mark that exists", (end(start(a, b, "&turns=1")), read(a)), ((b"", b"", 0), b"kept"))
+    compare("a mark that exists", (end(meet(a, b, "&turns=1")), read(a)), ((b"", b"", 0), b"kept"))
     os.remove(a)
     os.remove(b)
     for turns, least, most in (("0", 0, 15), ("1", 0, 15), ("3", 1.9, 15)):
         began = time.monotonic()
-        got = end(start(a, b, f"&turns={turns}"))
+        got = end(meet(a, b, f"&turns={turns}"))
         took = time.monotonic() - began
         got = got, read(a), read(b), least <= took < most
         compare(f"no partner in {turns} turns", got, ((b"", b"", 1), None, None, True))
-    late = start(a, b, "&turns=30")
+    late = meet(a, b, "&turns=30")
     until("its mark", lambda: read(a) is not None)
     time.sleep(1.5)
     write(b, b"")
     compare("one that comes late", (end(late), read(a)), ((b"", b"", 0), b""))
     os.remove(a)
-    compare("the last of two turns", (end(start(a, "/nowhere", "&turns=9&turns=1")), read(a)), ((b"", b"", 1), None))
+    compare("the last of two turns", (end(meet(a, "/nowhere", "&turns=9&turns=1")), read(a)), ((b"", b"", 1), None))
     compare("no partner", (run(["meet", *JOB], uri=f"meet:{a}?turns=1"), read(a)), ((b"", b"", 1), None))
-    compare("no place for a mark", run(["meet", *JOB], uri=f"meet:{folder}/none/a?partner=/&turns=9"), (b"", b"", 1))
+    compare("no place for a mark", run(["meet", *JOB], uri=f"meet:{room}/none/a?partner=/&turns=9"), (b"", b"", 1))
     compare("no URI to meet at", run(["meet", *JOB]), (b"", b"", 1))
     for query, status in (("?partner={}%2Fmet&turns=0", 1), ("?partner={}%2Fmet&turns=1", 0), ("?partner={}/met&turns=4294967296", 0), ("?turns=0", 1)):
         # Without turns a partner is not waited for, although its file exists.
-        write(os.path.join(folder, "met"), b"")
-        compare(f"a partner that is there, {query}", run(["meet", *JOB], uri=f"meet:{a}{query.format(folder)}"), (b"", b"", status))
+        write(os.path.join(room, "met"), b"")
+        compare(f"a partner that is there, {query}", run(["meet", *JOB], uri=f"meet:{a}{query.format(room)}"), (b"", b"", status))
     for uri in ("meet:/%FF", "/out"):
         compare(f"meet at {uri}", run(["meet", *JOB], uri=uri), (b"", b"", 1))
     if is_long:
         began = time.monotonic()
-        got = end(start(a, "/nowhere"))
+        got = end(meet(a, "/nowhere"))
         compare("no partner in 20 turns", (got, 18.9 <= time.monotonic() - began < 40), ((b"", b"", 1), True))
 
 
@@ -348,8 +333,8 @@ class Server(threading.Thread):
 
 
 @reports_all
-def test_side(folder):
-    out = os.path.join(folder, "id")
+def test_side(room):
+    out = os.path.join(room, "id")
     uri = f"sideask:{out}?id=unused"
     longest = bytes(range(256)) * 8
     for number, (name, answer, status, wanted) in enumerate((
@@ -365,26 +350,26 @@ def test_side(folder):
         ("no answer", b"", 1, None),
         ("a socket that closes", None, 1, None),
     )):
-        path = os.path.join(folder, f"side-{number}")
+        path = os.path.join(room, f"side-{number}")
         server = Server(path, answer)
         got = run(["sideask", *JOB], b"unread", uri=uri, side=path)
         server.join(LONGEST)
         compare(f"sideask with {name}", (got, server.got, read(out)), ((b"", b"", status), b"\4\0\0\0", wanted))
         if os.path.exists(out):
             os.remove(out)
-    document = write(os.path.join(folder, "document"), b"")
-    none = os.path.join(folder, "none")
+    document = write(os.path.join(room, "document"), b"")
+    none = os.path.join(room, "none")
     for name, path in (("no variable", None), ("an empty variable", ""), ("no socket", none), ("a file", document)):
         compare(f"sideask with {name}", (run(["sideask", *JOB], uri=uri, side=path), read(out)), ((b"", b"", 1), None))
-    path = os.path.join(folder, "side-full")
+    path = os.path.join(room, "side-full")
     server = Server(path, b"\4\1\0\1A")
     compare("sideask on a full disk", run(["sideask", *JOB], uri="sideask:/dev/full", side=path), (b"", b"", 1))
-    path = os.path.join(folder, "end")
+    path = os.path.join(room, "end")
     server = Server(path, b"")
     got = run(["side-end", path])
     server.join(LONGEST)
     compare("side-end", (got, server.got), ((b"", b"", 0), b"\xff\0\0\0"))
-    for path in (os.path.join(folder, "end"), os.path.join(folder, "none"), "", "x" * 200):
+    for path in (os.path.join(room, "end"), os.path.join(room, "none"), "", "x" * 200):
         compare(f"side-end {path:.20}", run(["side-end", path]), (b"", b"", 1))
 
 
@@ -466,14 +451,14 @@ def told(printer, what, level="ERROR"):
 
 
 @reports_all
-def test_appsocket(folder, is_long):
+def test_appsocket(room, is_long):
     text = bytes(range(256)) * 79  # more than 20,000 bytes
     large = text * 500  # about ten million, more than any system accepts at once
     for length in (0, 1, 500, 20_000):
         printer = Printer(take, TIMES)
         ended = [sent(printer, text[:length]) for _ in range(TIMES)]
         compare(f"a printer that takes {length} bytes", (ended, printer.all()), ([SENT] * TIMES, [text[:length]] * TIMES))
-    document = write(os.path.join(folder, "document"), text)
+    document = write(os.path.join(room, "document"), text)
     for given, words, serve, wanted in (
         (text, [*JOB, document], take, text * 3),  # three copies
         (large, JOB, take, large),
@@ -493,7 +478,7 @@ def test_appsocket(folder, is_long):
     unknown_options(text)
     early_close()
     resets(text, large)
-    unreached(folder, text)
+    unreached(room, text)
     bounds(text, is_long)
 
 
@@ -557,14 +542,11 @@ def early_close():
     """A printer that closes its half before the document has come, which is sent a second later."""
     for query in ("", "?waiteof=false", "?waiteof=false&afterlast=done"):
         printer = Printer(end_before)
-        uri = f"appsocket://127.0.0.1:{printer.port}/{query}"
-        child = subprocess.Popen([TOOLS, "appsocket", *JOB], stdin=subprocess.PIPE, stdout=subprocess.PIPE,
-                                 stderr=subprocess.PIPE, env={"DEVICE_URI": uri})
+        child = start(["appsocket", *JOB], f"appsocket://127.0.0.1:{printer.port}/{query}", subprocess.PIPE)
         until("the connection", lambda: printer.accepted)
         time.sleep(1)
-        out, errors = child.communicate(b"x" * 500, timeout=LONGEST)
         wanted = (b"", told(printer, "closed the connection too early, after 0 bytes"), 1)
-        compare(f"a close before the document {query}", (out, errors, child.returncode), wanted)
+        compare(f"a close before the document {query}", end(child, b"x" * 500), wanted)
         compare(f"nothing was sent {query}", printer.all(), [b""])
 
 
@@ -604,7 +586,7 @@ def resets(text, large):
             printer.all()
 
 
-def unreached(folder, text):
+def unreached(room, text):
     unreachable = (b"", b"ERROR: cannot connect\n", 6)
     with socket.create_server(("127.0.0.1", 0)) as listener:
         port = listener.getsockname()[1]
@@ -635,7 +617,7 @@ def unreached(folder, text):
                       ("a port too high", "appsocket://127.0.0.1:65536/"), ("an empty host", "appsocket:///a")):
         compare(f"appsocket with {name}", run(["appsocket", *JOB], text, uri=uri), no_device)
     printer = Printer(take)
-    none = os.path.join(folder, "none")
+    none = os.path.join(room, "none")
     compare("a document that does not exist", sent(printer, b"", words=[*JOB, none]),
           (b"", f"ERROR: cannot read {none}: {NO_FILE}\n".encode(), 1))
     printer.all()
@@ -651,13 +633,11 @@ def unreached(folder, text):
     except OSError:
         return
     with listener:
-        child = subprocess.Popen([TOOLS, "appsocket", *JOB], stdin=subprocess.DEVNULL, stdout=subprocess.PIPE,
-                                 stderr=subprocess.PIPE, env={"DEVICE_URI": "appsocket://127.0.0.1"})
+        child = start(["appsocket", *JOB], "appsocket://127.0.0.1")
         connection, _ = listener.accept()
         take(connection)
         connection.close()
-        out, errors = child.communicate(timeout=LONGEST)
-        compare("the usual port", (out, errors, child.returncode), SENT)
+        compare("the usual port", end(child), SENT)
 
 
 def bounds(text, is_long):
@@ -674,19 +654,15 @@ def bounds(text, is_long):
 
 
 @reports_all
-def test_words(folder):
-    out = os.path.join(folder, "refused")
+def test_words(room):
+    out = os.path.join(room, "refused")
     for tool in ("spoolfile", "meet", "sideask", "appsocket"):
         line = f'{"network" if tool == "appsocket" else "file"} {tool} "Unknown" "{tool}"\n'
         compare(f"the device of {tool}", run([tool]), (line.encode(), b"", 0))
-        with open("/dev/full", "wb") as full:
-            ended = subprocess.run([TOOLS, tool], stdout=full, stderr=subprocess.PIPE)
-        compare(f"the device of {tool} on a full disk", (ended.stderr, ended.returncode), (b"", 1))
+        compare(f"the device of {tool} on a full disk", run_full([tool]), (None, b"", 1))
     got, errors, status = run(["--version"])
     compare("the version", (re.fullmatch(rb"spool_tools \(Cegmandi\) \d+\.\d+\.\d+\n", got) is not None, errors, status), (True, b"", 0))
-    with open("/dev/full", "wb") as full:
-        ended = subprocess.run([TOOLS, "--version"], stdout=full, stderr=subprocess.PIPE)
-    compare("the version on a full disk", (ended.stderr, ended.returncode), (b"", 1))
+    compare("the version on a full disk", run_full(["--version"]), (None, b"", 1))
     refused = [["--version", ""], ["--version", *JOB], [], [""], ["-"], ["--help"], ["other", *JOB], [*JOB], ["Spoolfile"], ["spoolfile "], ["spoolfil"]]
     refused += [["texttoprn"], ["prncount"], ["side-end"], ["side-end", "a", "b"], ["side-end", *JOB]]
     for tool in ("texttoprn", "prncount", "spoolfile", "meet", "sideask", "appsocket"):
@@ -696,10 +672,4 @@ def test_words(folder):
     for given in refused:
         for uri in (f"spoolfile:{out}", f"meet:{out}?partner=/dev/null"):
             compare(f"the words {given}", (run(given, b"a\n", uri=uri, side=out), read(out)), ((b"", b"", 1), None))
-    got = subprocess.run([TOOLS, "prncount", "1", b"\xff", "t", "1", "o"], input=b"a", capture_output=True)
-    compare("a word that is no text", (got.stdout, got.stderr, got.returncode), (b"", b"", 1))
-
-
-@pytest.fixture
-def folder(room):
-    return room
+    compare("a word that is no text", run(["prncount", "1", b"\xff", "t", "1", "o"], b"a"), (b"", b"", 1))

@@ -22,11 +22,12 @@ import shutil
 import signal
 import subprocess
 import tempfile
+from pathlib import Path
 
 import pytest
 
-from harness import journal, spool_model as model
-from harness.checks import Difference, LONGEST, same
+from harness import journal, spool_model as model, stories
+from harness.checks import Difference, same
 from harness.programs import SHELL, TESTS
 
 pytestmark = pytest.mark.needs("spool_shell")
@@ -35,7 +36,6 @@ OLD = os.environ.get("VERSION_ONE")
 STORED = os.path.join(TESTS, "version_one.txt")
 SIZE = 16_384
 HALF = SIZE // 2
-DISK = "spool.disk"
 SCRIPTS = 40  # that are given to both programs
 COMMANDS = 40  # of each
 
@@ -164,46 +164,18 @@ def commands_of(text):
             yield line.encode() + b"\n"
 
 
-def write(folder, name, text, mode=0o600):
-    path = os.path.join(folder, name)
-    with open(path, "w", encoding="utf-8") as file:
-        file.write(text)
-    os.chmod(path, mode)
-    return path
-
-
-def options(folder, backend):
-    """The arguments that name files of types, of conversions and of programs."""
-    programs = f"filter f {write(folder, 'f', FILTER, 0o700)}\nbackend s {write(folder, 's', backend, 0o700)}\n"
-    files = {"types": TYPES, "convs": CONVS, "programs": programs}
-    return [word for name, text in files.items() for word in (f"--{name}", write(folder, name, text))]
-
-
-class Spool:
+class Spool(stories.Spool):
     """A copy of a spool in a folder of its own."""
 
-    def __init__(self, program, folder, content):
-        self.program = program
-        self.root = tempfile.mkdtemp(dir=folder)
-        self.file = os.path.join(self.root, DISK)
-        with open(self.file, "wb") as file:
-            file.write(content)
+    notice = NOTICE
 
-    def content(self):
-        with open(self.file, "rb") as file:
-            return file.read()
-
-    def serve(self, script, words=()):
-        """The lines of the replies, the standard error without log lines about stages, and the status."""
-        done = subprocess.run([self.program, "--root", self.root, *words], input=script, capture_output=True, timeout=LONGEST)
-        return done.stdout.decode().splitlines(), NOTICE.sub("", done.stderr.decode()), done.returncode
+    def options(self, backend=BACKEND):
+        """The arguments that name files of types, of conversions and of programs."""
+        programs = f"filter f {self.with_file('f', FILTER, 0o700)}\nbackend s {self.with_file('s', backend, 0o700)}\n"
+        return super().options(types=TYPES, convs=CONVS, programs=programs)
 
     def answers(self, script, replies, words=()):
-        same(f"the replies to {script!r}", self.serve(script, words), (replies, "", 0))
-
-    def says(self, *rows):
-        """Sends the commands of the rows. Each row is a command and the line of its reply."""
-        self.answers("".join(f"{command}\n" for command, _ in rows).encode(), [reply for _, reply in rows])
+        same(f"the replies to {script!r}", self.served(script, words), (replies, "", 0))
 
     def versions(self):
         return [journal.version_of(half) for half in journal.halves(self.content())]
@@ -213,8 +185,7 @@ class Spool:
 
 def stored():
     """The bytes of the file, and the replies on a copy."""
-    with open(STORED, encoding="utf-8") as file:
-        lines = [line for line in file.read().splitlines() if not line.startswith("#")]
+    lines = [line for line in Path(STORED).read_text(encoding="utf-8").splitlines() if not line.startswith("#")]
     answers, bytes_from = lines.index("answers"), lines.index("bytes")
     content, at = bytearray(SIZE), 0
     for line in lines[bytes_from + 1:]:
@@ -236,9 +207,8 @@ def hex_lines(base, part):
 
 def made_by(program, folder):
     """The file of a spool that a program was killed on."""
-    root = os.path.join(folder, "made")
-    os.mkdir(root)
-    words = [program, "--root", root, "--size", str(SIZE), *options(folder, BACKEND)]
+    spool = Spool(folder)
+    words = [program, "--root", spool.root, "--size", str(SIZE), *spool.options()]
     pipe = subprocess.PIPE
     running = subprocess.Popen(words, stdin=pipe, stdout=pipe, stderr=subprocess.DEVNULL)
     for command in commands_of(MADE):
@@ -249,13 +219,12 @@ def made_by(program, folder):
             raise Difference(f"{command!r} got the reply {reply!r}")
     running.send_signal(signal.SIGKILL)
     running.wait()
-    with open(os.path.join(root, DISK), "rb") as file:
-        return file.read()
+    return spool.content()
 
 
 def write_stored(program, folder):
     content = made_by(program, folder)
-    replies, errors, status = Spool(program, folder, content).serve(LOOK)
+    replies, errors, status = Spool(folder, content, program).served(LOOK)
     same("the standard error and the status", (errors, status), ("", 0))
     lines = [
         "# A spool of version 1, which `tests/test_version_one.py --write OLD` created. OLD was built from the last commit that wrote version 1.",
@@ -263,8 +232,7 @@ def write_stored(program, folder):
         "# some places on. All others are zeros.",
         "answers", *replies, "bytes", *hex_lines(0, content[:HALF]), *hex_lines(HALF, content[HALF:]),
     ]
-    with open(STORED, "w", encoding="utf-8") as file:
-        file.write("".join(f"{line}\n" for line in lines))
+    Path(STORED).write_text("".join(f"{line}\n" for line in lines), encoding="utf-8")
     same("the file that is read again", stored(), (content, replies))
 
 
@@ -289,7 +257,7 @@ def has_all(content):
 
 
 def test_answers_the_same(room, content, replies):
-    spool = Spool(SHELL, room, content)
+    spool = Spool(room, content)
     spool.answers(LOOK, replies)
     it = model.opened(content)
     same("the listing of the model", it.table.jobs_reply() + it.table.queues_reply(), replies[:len(replies) // 2])
@@ -319,9 +287,9 @@ CREATE_BY = 'createby aim ann "By then" 1 50 "" 8000'
 NOT_YET = "error 17 NeedsCheckpoint"
 
 
-def test_takes_the_events_of_version_one(room, content, replies):
-    spool = Spool(SHELL, room, content)
-    words = options(spool.root, BACKEND)
+def test_takes_the_events_of_version_one(room, content):
+    spool = Spool(room, content)
+    words = spool.options()
     it = model.opened(content)
     for command, reply, event in EVENTS:
         spool.answers(f"{CREATE_BY}\n{command}\npurge 1\npurge 99\n".encode(), [NOT_YET, reply, NOT_YET, NOT_YET], words)
@@ -337,27 +305,22 @@ cat > "FOLDER/printed-$1"
 """
 
 
-def test_prints_remaining_jobs(room, content, replies):
+def test_prints_remaining_jobs(room, content):
     """Before a checkpoint, and after one."""
     for first in (b"", b"checkpoint\n"):
-        spool = Spool(SHELL, room, content)
-        words = options(spool.root, KEEPS.replace("FOLDER", spool.root))
+        spool = Spool(room, content)
+        words = spool.options(KEEPS.replace("FOLDER", spool.root))
         script = first + b"close 12 p.x\nclose 13 q.x\nclock 6000\nrelease 15\nrelease 5\nrelease 6\nenable den\nenable fig\ndrain 20\n"
-        lines, errors, status = spool.serve(script, words)
+        lines, errors, status = spool.served(script, words)
         same("the standard error, the status, and faults", (errors, status, [line for line in lines if not line.startswith("ok")]), ("", 0, []))
-        found = {}
-        for number in model.stored_table(content).jobs:
-            path = os.path.join(spool.root, f"printed-{number}")
-            if os.path.exists(path):
-                with open(path, "rb") as file:
-                    found[number] = file.read()
+        found = {int(it.name.removeprefix("printed-")): it.read_bytes() for it in Path(spool.root).glob("printed-*")}
         left = [number for number, job in model.opened(content).table.jobs.items() if not job.has_ended()]
         same("the printed documents", found, {number: DOCUMENTS.get(number, b"") for number in left})
 
 
-def converts(shell, folder, content, replies):
+def converts(folder, content):
     """The newer spool. After the checkpoint it has the same contents, and a job that the clock cancels."""
-    spool = Spool(shell, folder, content)
+    spool = Spool(folder, content)
     it = model.opened(content)
     jobs, queues = it.table.jobs_reply(), it.table.queues_reply()
     spool.answers(b"jobs\nqueues\n", jobs + queues)
@@ -379,15 +342,14 @@ def converts(shell, folder, content, replies):
     # It is incoming, so the clock does not cancel it until it is closed.
     spool.answers(b"clock 8001\ncheckpoint\n", ["ok", "ok"])
     same("the versions", spool.versions(), [2, 2])
-    words = options(spool.root, BACKEND)
-    spool.answers(b"close 19 a.x\nclock 8001\n", ["ok type a/a stages 2", "ok"], words)
+    spool.answers(b"close 19 a.x\nclock 8001\n", ["ok type a/a stages 2", "ok"], spool.options())
     for _ in range(2):
-        found = spool.serve(b"jobs\n")[0]
+        found = spool.lines(["jobs"])
         same("the other jobs", [line.split()[:3] for line in found[:-2]], [line.split()[:3] for line in jobs[:-1]])
         same("the job that is late", found[-2:], ['job 19 aim 7 canceled "ann" 0 0 "By then"', "ok 19"])
         spool.says(("checkpoint", "ok"))
     spool.says(("purge 19", "ok"))
-    left = spool.serve(b"jobs\n")[0]
+    left = spool.lines(["jobs"])
     same("the jobs without it", [line.split()[:3] for line in left[:-1]], [line.split()[:3] for line in jobs[:-1]])
     return newer, spool.content()
 
@@ -419,29 +381,21 @@ def some_commands(chance):
         ]) + b"\n"
 
 
-def compares_programs(shell, old, folder, content):
+def compares_programs(folder, content):
     """The same commands on both, each in one run or in several."""
     for turn in range(SCRIPTS):
         chance = random.Random(turn)
-        both = [Spool(program, folder, content) for program in (shell, old)]
-        words = options(both[0].root, BACKEND)
+        both = [Spool(folder, content, program) for program in (SHELL, OLD)]
+        words = both[0].options()
         commands = list(some_commands(chance))
         while commands:
             count = chance.randrange(1, len(commands) + 1)
             script, commands = b"".join(commands[:count]), commands[count:]
-            one, other = (spool.serve(script, words) for spool in both)
+            one, other = (spool.served(script, words) for spool in both)
             same(f"the replies to {script!r}", one, other)
             same(f"the files after {script!r}", both[0].content() == both[1].content(), True)
         for spool in both:
             shutil.rmtree(spool.root)
-
-
-def is_refused_by(old, folder, *newer):
-    """The program of version 1 opens none of these, and leaves them unchanged."""
-    for content in newer:
-        spool = Spool(old, folder, content)
-        same("the output of the program of version 1", spool.serve(b"jobs\n"), ([], "spool: damaged 0\n", 1))
-        same("the file", spool.content() == content, True)
 
 
 @pytest.fixture(scope="module")
@@ -456,14 +410,16 @@ def content():
     return content
 
 
-def test_converts(room, content, replies):
-    converts(SHELL, room, content, replies)
+def test_converts(room, content):
+    converts(room, content)
 
 
 @pytest.mark.skipif(not OLD, reason="it needs a program of version 1, which VERSION_ONE names")
-def test_a_program_of_version_one(room, content, replies):
-    compares_programs(SHELL, OLD, room, content)
-    is_refused_by(OLD, room, *converts(SHELL, room, content, replies))
+def test_a_program_of_version_one(room, content):
+    """It replies as the shell does, opens no newer spool, and leaves that unchanged."""
+    compares_programs(room, content)
+    for newer in converts(room, content):
+        Spool(room, newer, OLD).is_refused("damaged 0")
 
 
 if __name__ == "__main__":

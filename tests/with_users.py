@@ -20,6 +20,7 @@ import subprocess
 import sys
 import tempfile
 
+from harness.people import made_users
 from harness.programs import path_of
 
 HERE = os.path.dirname(os.path.realpath(__file__))
@@ -121,22 +122,12 @@ def main(arguments):
     while arguments[0].startswith("--"):
         programs[f"spool_{arguments[0][2:]}"] = os.path.abspath(arguments[1])
         arguments = arguments[2:]
-    folder = tempfile.mkdtemp(prefix="cegmandi-users-")
-    os.chmod(folder, 0o755)
-    made = []
-    try:
-        for user in USERS:
-            subprocess.run(["useradd", "--system", "--user-group", "--no-create-home", user], check=True, capture_output=True)
-            made.append(user)
+    with tempfile.TemporaryDirectory(prefix="cegmandi-users-", ignore_cleanup_errors=True) as folder, made_users(*USERS):
+        os.chmod(folder, 0o755)
         tree(folder, programs, ["/"] if arguments[0] == "stock" else ["texttopdf"])
         words = [sys.executable, "-m", "pytest", os.path.join(folder, "tests", f"test_{arguments[0]}.py"), *arguments[1:]]
         variables = {name: value for name, value in os.environ.items() if name != "CEGMANDI_PROGRAMS"}
         return subprocess.run(words, env={**variables, "WITH_USERS": "yes"}).returncode
-    finally:
-        for user in made:
-            subprocess.run(["pkill", "-KILL", "-u", user], capture_output=True)
-            subprocess.run(["userdel", user], capture_output=True)
-        shutil.rmtree(folder, ignore_errors=True)
 
 
 if __name__ == "__main__":

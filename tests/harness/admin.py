@@ -8,8 +8,8 @@ from concurrent.futures import ThreadPoolExecutor
 from harness import journal, spool_model as model, traces
 from harness.checks import LONGEST, same, words_of_faults
 from harness.journal import cancel, close, hold, image, send, start
-from harness.programs import ADMIN, SHELL
-from harness.stories import LAB, of_lab, of_q, Q, spelled
+from harness.programs import ADMIN
+from harness.stories import LAB, of_lab, of_q, Q, spelled, Spool
 
 SIZE = 8_192
 NAME = "spool.disk"
@@ -54,8 +54,8 @@ def in_second_area(file, epoch=7):
 
 
 def names_in(root):
-    """The names in a folder, except that of the lock file, which remains."""
-    return [name for name in os.listdir(root) if name != LOCK]
+    """The names in a folder, sorted, except that of the lock file, which remains."""
+    return sorted(name for name in os.listdir(root) if name != LOCK)
 
 
 def image_of_rows(size=SIZE):
@@ -66,23 +66,13 @@ def image_of_rows(size=SIZE):
     return image(size, [*map(spelled, events)])
 
 
-class SpoolFolder:
+class SpoolFolder(Spool):
     """A folder with a spool of these bytes, and the lock file of an earlier program."""
 
     def __init__(self, folder, content=None):
-        self.root = tempfile.mkdtemp(dir=folder)
-        self.file = os.path.join(self.root, NAME)
+        super().__init__(folder, content)
         if content is not None:
-            self.write(content)
-            os.close(os.open(os.path.join(self.root, LOCK), os.O_CREAT, 0o600))
-
-    def write(self, content):
-        with open(self.file, "wb") as file:
-            file.write(content)
-
-    def content(self):
-        with open(self.file, "rb") as file:
-            return file.read()
+            self.with_file(LOCK, "")
 
     def is_unchanged(self, fault, *words):
         """The arguments are refused with this error, and the file and its folder are unchanged."""
@@ -92,29 +82,13 @@ class SpoolFolder:
         same("the names", names_in(self.root), names)
 
     def serve(self, *commands):
-        script = "".join(f"{command}\n" for command in commands)
-        done = subprocess.run([SHELL, "--root", self.root], input=script, capture_output=True, text=True, timeout=LONGEST)
-        same("the shell's end", (done.returncode, done.stderr), (0, ""))
-        return done.stdout.splitlines()
+        return self.lines(commands)
 
 
 def administer(*words, before=()):
     """The result of spool_admin with these arguments, its output, and the words of its faults. `before` is a command that runs it."""
     done = subprocess.run([*before, ADMIN, *words], capture_output=True, text=True, timeout=LONGEST)
     return done.returncode, done.stdout, words_of_faults(done.stderr)
-
-
-def while_a_shell_runs(root, act):
-    """Does this while a shell owns the spool of a folder."""
-    pipe = subprocess.PIPE
-    shell = subprocess.Popen([SHELL, "--root", root], stdin=pipe, stdout=pipe, stderr=pipe, text=True)
-    try:
-        shell.stdin.write("jobs\n")
-        shell.stdin.flush()
-        shell.stdout.readline()
-        act()
-    finally:
-        shell.communicate()
 
 
 # ---- kills, failures and cuts

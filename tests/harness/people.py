@@ -1,5 +1,6 @@
 """Users of the system, and how they prove who they are to the service."""
 import collections
+import contextlib
 import os
 import random
 import re
@@ -17,12 +18,25 @@ FAILED = "error proof"
 # The options of a service whose unproved clients submit and look only.
 STRICT = ["--trust", "none"]
 
-NEEDED = ["useradd", "userdel", "groupadd", "groupdel", "getent", "id", "timeout"]
-
 # A user without a line in passwd(5), and the user who represents unknown users.
 NAMELESS, NOBODY = 54_321, 65_534
 
 User = collections.namedtuple("User", "name uid gid")
+
+
+@contextlib.contextmanager
+def made_users(*names):
+    """Makes these users of the system, each with a group of its own. At the end of the `with` they and their processes are gone."""
+    made = []
+    try:
+        for name in names:
+            run("useradd", "--system", "--user-group", "--no-create-home", name)
+            made.append(name)
+        yield
+    finally:
+        for name in made:
+            subprocess.run(["pkill", "-KILL", "-u", name], capture_output=True, check=False)
+            subprocess.run(["userdel", name], capture_output=True, check=False)
 
 
 class People:

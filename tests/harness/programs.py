@@ -4,6 +4,7 @@ A program is crates/NAME/out/NAME, which `./build.py` or `rt run` in that crate 
 same names: tests and benchmarks then run these, such as programs that were built without a proof, or wrong ones.
 """
 import atexit
+import contextlib
 import functools
 import os
 import shutil
@@ -23,6 +24,9 @@ def path_of(name):
     given = os.path.join(os.path.abspath(GIVEN), name) if GIVEN else ""
     return given if os.path.exists(given) else os.path.join(CRATES, name, "out", name)
 
+
+# The programs of an installed spool.
+PROGRAMS = ["spool_front", "spool_shell", "spool_service", "spool_ipp", "spool_admin", "spool_tools"]
 
 SHELL = path_of("spool_shell")
 SERVICE = path_of("spool_service")
@@ -70,6 +74,15 @@ def may_trace():
     if not shutil.which("strace"):
         return False
     return subprocess.run(["strace", "-o", "/dev/null", "true"], capture_output=True).returncode == 0
+
+
+@contextlib.contextmanager
+def shell_on(root):
+    """A shell that owns the spool of a folder, during a `with`: the first line of its reply to `queues`."""
+    with subprocess.Popen([SHELL, "--root", root], stdin=subprocess.PIPE, stdout=subprocess.PIPE) as shell:
+        shell.stdin.write(b"queues\n")
+        shell.stdin.flush()
+        yield shell.stdout.readline()
 
 
 def is_sanitized(program):

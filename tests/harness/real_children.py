@@ -1,8 +1,12 @@
-"""A filter and a backend that record which stages ran, and the files that name them."""
+"""A filter and a backend that record which stages ran, the files that name them, and the folder of a shell that runs them."""
 import os
 import re
+import subprocess
 
-from harness.checks import words_of_faults
+from harness import spool_model as model
+from harness.checks import holds, LONGEST, words_of_faults
+from harness.files import read, write
+from harness.programs import SHELL
 
 # The shell's log lines about stages and programs, which are not errors of the shell.
 NOTICE = re.compile(r"spool: (?:job \d+|filter|backend|side program)\b.*\n")
@@ -45,10 +49,7 @@ class Children:
         self.words = []
         files = {"f": FILTER, "s": BACKEND, "types": TYPES, "convs": CONVS, "programs": PROGRAMS + line}
         for name, text in files.items():
-            path = os.path.join(folder, name)
-            with open(path, "w", encoding="utf-8") as file:
-                file.write(text.replace("FOLDER", folder))
-            os.chmod(path, 0o700)
+            path = write(os.path.join(folder, name), text.replace("FOLDER", folder), 0o700)
             # The arguments of the shell that name the files.
             self.words += [f"--{name}", path] if len(name) > 1 else []
 
@@ -60,3 +61,34 @@ class Children:
             keys = [tuple(map(int, line.split())) for line in file]
         os.remove(self.ran)
         return keys
+
+
+class ShellFolder:
+    """The folder of a shell, with its spool and the programs of its children."""
+
+    def __init__(self, folder, size, line=""):
+        self.folder = folder
+        self.root = os.path.join(folder, "r")
+        self.file = os.path.join(self.root, "spool.disk")
+        os.makedirs(self.root)
+        self.children = Children(folder, line)
+        self.words = [SHELL, "--root", self.root, "--size", str(size), *self.children.words]
+
+    def content(self):
+        return read(self.file) or b""
+
+    def table(self):
+        """The table of the file, or an empty one if the file does not exist."""
+        content = self.content()
+        return model.stored_table(content) if content else model.Table()
+
+    def serve(self, script):
+        """The lines of the replies to a script, which must cause no error."""
+        done = subprocess.run(self.words, input=script, capture_output=True, timeout=LONGEST)
+        faults = faults_in(done.stderr.decode())
+        holds(f"it ended with {done.returncode} and {done.stderr!r}", done.returncode == 0 and not faults)
+        return done.stdout.decode().splitlines()
+
+    def ended(self):
+        """The numbers of the jobs that have ended."""
+        return {number for number, job in self.table().jobs.items() if job.has_ended()}

@@ -8,6 +8,7 @@ import re
 from dataclasses import dataclass, field
 
 from harness import journal
+from harness.checks import quoted
 
 HALF_AT_LEAST = 23
 ROOM_KEPT = 7  # for the record of a reopening, and the gate after it
@@ -196,10 +197,6 @@ class Job:
             "canceled": (7, "canceled"),
             "aborted": (8, self.reason),
         }[self.phase]
-
-
-def quoted(text):
-    return '"' + re.sub(r'(["\\])', r"\\\1", text) + '"'
 
 
 class Table:

@@ -2,13 +2,12 @@
 import os
 import pty
 import select
-import socket
 import subprocess
-import threading
 import tty
 
-from harness.checks import LONGEST
 from harness.cups import Cups
+from harness.files import read
+from harness.printers import Printer, take
 from harness.stock_documents import TEXT
 
 AS_IS, LISTS, NO = "as it is", "lists devices", "no"
@@ -30,33 +29,19 @@ LISTERS = ("driverless", "driverless-fax", "snmp")
 FEW_SECONDS = 6
 
 
-class Taken:
-    """Receives data on a socket. A printer of lpd answers each part with a byte 0."""
+def take_from_lpd(connection):
+    """The text, if it is among the descriptions of the job that lpd sends, or else all data. A printer answers each part with a byte 0."""
+    taken = b""
+    while piece := connection.recv(65_536):
+        taken += piece
+        connection.sendall(b"\0")
+    return TEXT if TEXT in taken else taken
 
-    def __init__(self, answers):
-        self.answers, self.got = answers, []
-        self.listener = socket.create_server(("127.0.0.1", 0))
-        self.listener.settimeout(LONGEST)
-        self.port = self.listener.getsockname()[1]
-        self.taker = threading.Thread(target=self.take)
-        self.taker.start()
 
-    def take(self):
-        try:
-            client, _ = self.listener.accept()
-            client.settimeout(LONGEST)
-            while piece := client.recv(65_536):
-                self.got.append(piece)
-                if self.answers:
-                    client.sendall(b"\0")
-            client.close()
-        except OSError as error:
-            self.got.append(repr(error).encode())
-
-    def end(self):
-        self.taker.join()
-        self.listener.close()
-        return b"".join(self.got)
+def result_of(end, printer, message, wanted=TEXT):
+    """Whether a job ended well and its printer has got exactly this, and the messages."""
+    got = printer.all()
+    return end.startswith("9 ") and got == [wanted], f"{end}, {got!r:.100}, {message}"
 
 
 def printed(place, name, uri, user="ann"):
@@ -66,30 +51,18 @@ def printed(place, name, uri, user="ann"):
 
 
 def to_socket(place, name):
-    taken = Taken(name == "lpd")
-    end, message = printed(place, name, SOCKETS[name].replace("PORT", str(taken.port)))
-    got = taken.end()
-    # lpd sends its description of the job before and after the document.
-    whole = TEXT in got if name == "lpd" else got == TEXT
-    return end.startswith("9 ") and whole, f"{end}, {got!r:.100}, {message}"
+    printer = Printer(take_from_lpd if name == "lpd" else take)
+    end, message = printed(place, name, SOCKETS[name].replace("PORT", str(printer.port)))
+    return result_of(end, printer, message)
 
 
 def to_printer(place, name):
     """The queue of CUPS sends the document on to a socket."""
-    taken = Taken(False)
+    printer = Printer(take)
     with Cups() as cups:
-        cups.queue("got", f"socket://127.0.0.1:{taken.port}/?waiteof=false")
+        cups.queue("got", f"socket://127.0.0.1:{printer.port}/?waiteof=false")
         end, message = printed(place, name, f"{name}://localhost:{cups.port}/printers/got")
-        got = taken.end()
-    return end.startswith("9 ") and got == TEXT, f"{end}, {got!r:.100}, {message}"
-
-
-def read(path):
-    try:
-        with open(path, "rb") as file:
-            return file.read()
-    except OSError:
-        return b""
+        return result_of(end, printer, message)
 
 
 def to_device(place, name):
@@ -158,35 +131,23 @@ def seen(place, name):
 ANSWER = b"@PJL USTATUS DEVICE\r\nCODE=10001\r\nONLINE=TRUE\r\n"
 
 
-def answers(listener, got):
+def answer(connection):
     """A printer that reports its status again and again while it receives a job."""
-    listener.settimeout(LONGEST)
-    try:
-        client, _ = listener.accept()
-        client.settimeout(LONGEST)
-        for count in range(1_000_000):
-            if count < 3:
-                client.sendall(ANSWER)
-            piece = client.recv(65_536)
-            if not piece:
-                break
-            got.append(piece)
-        client.sendall(ANSWER)
-        client.close()
-    except OSError as error:
-        got.append(repr(error).encode())
+    taken = b""
+    for _ in range(3):
+        connection.sendall(ANSWER)
+        taken += connection.recv(65_536)
+    taken += take(connection)
+    connection.sendall(ANSWER)
+    return taken
 
 
 def answered(place):
     """How a job ends whose later stage is the backend `socket`, to a printer that answers, and what the printer has got."""
     first = place.write("first", "#!/bin/sh\nhead -c 960000 /dev/zero | tr '\\0' x\n")
     os.chmod(first, 0o755)
-    got = []
-    with socket.create_server(("127.0.0.1", 0)) as listener:
-        printer = threading.Thread(target=answers, args=(listener, got))
-        printer.start()
-        uri = f"socket://127.0.0.1:{listener.getsockname()[1]}/?waiteof=true"
-        programs = f"filter first {first}\nbackend socket {place.backends}/socket\n"
-        end, message = place.run(programs, "text/plain document\n", "text/plain test/printer 1 first\n", uri, "test/printer", TEXT)
-        printer.join()
-    return f"{end}, {message}", b"".join(got)
+    printer = Printer(answer)
+    uri = f"socket://127.0.0.1:{printer.port}/?waiteof=true"
+    programs = f"filter first {first}\nbackend socket {place.backends}/socket\n"
+    end, message = place.run(programs, "text/plain document\n", "text/plain test/printer 1 first\n", uri, "test/printer", TEXT)
+    return f"{end}, {message}", printer.all()

@@ -8,8 +8,10 @@ import os
 import re
 import shutil
 import subprocess
+from pathlib import Path
 
 from harness.checks import check, compare, LONGEST, until
+from harness.files import read, write
 from harness.service import Client
 from harness.stock_documents import boxes, OFFICE
 
@@ -29,11 +31,9 @@ class ChainSpool:
         spool = os.path.join(self.folder, "spool")
         os.makedirs(spool)
         self.socket = os.path.join(spool, "spool.sock")
-        programs = os.path.join(self.folder, "programs")
-        with open(os.path.join(place.office, "stock-programs")) as file:
-            text = file.read().replace("@libdir@/cegmandi/spool_tools", place.tools).replace("@libdir@/cegmandi", place.office)
-        with open(programs, "w") as file:
-            file.write(text)
+        text = Path(place.office, "stock-programs").read_text()
+        text = text.replace("@libdir@/cegmandi/spool_tools", place.tools).replace("@libdir@/cegmandi", place.office)
+        programs = write(os.path.join(self.folder, "programs"), text)
         self.program = place.service if place.serves() else place.shell
         self.serves = place.serves()
         self.words = [self.program, "--root", spool, "--programs", programs, "--size", "67108864"]
@@ -76,11 +76,7 @@ class ChainSpool:
         return [(lines[4 * number - 1], state_of(rows.get(number, ""))) for number in range(1, len(commands) + 1)]
 
     def printed(self, number):
-        try:
-            with open(os.path.join(self.folder, f"q{number}"), "rb") as file:
-                return file.read()
-        except OSError:
-            return b""
+        return read(os.path.join(self.folder, f"q{number}")) or b""
 
 
 def state_of(row):
@@ -90,8 +86,8 @@ def state_of(row):
 
 def conversions(place):
     """The lines of convs: source, target and filter."""
-    with open(os.path.join(place.office, "convs")) as file:
-        lines = [line.split() for line in file if line.strip() and not line.startswith("#")]
+    text = Path(place.office, "convs").read_text()
+    lines = [line.split() for line in text.splitlines() if line.strip() and not line.startswith("#")]
     return [(source, target, name) for source, target, _, name in lines]
 
 
@@ -117,9 +113,7 @@ def paper_of(place, output):
     """The paper size of a PDF's first page in points, or None if Poppler's pdfinfo is not installed."""
     if not shutil.which("pdfinfo"):
         return None
-    path = os.path.join(place.room, "paper")
-    with open(path, "wb") as file:
-        file.write(output)
+    path = place.write("paper", output)
     output = subprocess.run(["pdfinfo", path], capture_output=True, text=True).stdout
     found = re.search(r"^Page size: +(.*?) pts", output, re.M)
     return found[1] if found else "none"

@@ -8,6 +8,7 @@ import subprocess
 import zlib
 
 from harness.checks import LONGEST
+from harness.files import write
 
 TEXT = b"Dear Bo,\ncome. Ann\n"
 PAGE_OF_THE_WEB = b"<!DOCTYPE html>\n<html><body><p>Dear Bo,</p><p>come. Ann</p></body></html>\n"
@@ -140,10 +141,7 @@ def boxes(room, output):
     """For each page of a PDF, or of PostScript, the area with something on it, or None if Ghostscript is not installed."""
     if shutil.which("gs") is None:
         return None
-    path = os.path.join(room, "page")
-    with open(path, "wb") as file:
-        file.write(output)
-    words = ["gs", "-q", "-dNOPAUSE", "-dBATCH", "-dSAFER", "-sDEVICE=bbox", path]
+    words = ["gs", "-q", "-dNOPAUSE", "-dBATCH", "-dSAFER", "-sDEVICE=bbox", write(os.path.join(room, "page"), output)]
     lines = subprocess.run(words, capture_output=True, timeout=3 * LONGEST).stderr.splitlines()
     return [line.split()[1:] for line in lines if line.startswith(b"%%BoundingBox:")]
 

@@ -6,6 +6,7 @@ import subprocess
 from dataclasses import dataclass
 
 from harness.checks import LONGEST
+from harness.files import read, write
 from harness.programs import SERVICE, SHELL, TOOLS
 
 KEEP = """#!/bin/sh
@@ -88,10 +89,7 @@ class Place:
         os.chmod(self.write("keep", KEEP), 0o755)
 
     def write(self, name, text):
-        path = os.path.join(self.room, name)
-        with open(path, "wb") as file:
-            file.write(text if isinstance(text, bytes) else text.encode())
-        return path
+        return write(os.path.join(self.room, name), text)
 
     def describe(self, ppd):
         """Gives the queue a PPD, or none."""
@@ -136,11 +134,7 @@ class Place:
         source = "test/document" if row.source == target else row.source
         types, convs = f"{source} document\n", f"{source} {target} 1 {row.name}\n"
         end, message = self.run(programs, types, convs, f"keep:{kept}", target, document, options)
-        output = b""
-        if os.path.isfile(kept):
-            with open(kept, "rb") as file:
-                output = file.read()
-        return end, message, output
+        return end, message, read(kept) or b""
 
     def made(self, name, source, document, target):
         """A filter's output for a document, run as the spooler does, with the queue's PPD."""

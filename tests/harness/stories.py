@@ -3,6 +3,7 @@ import os
 import re
 import subprocess
 import tempfile
+from pathlib import Path
 
 from harness import journal
 from harness.checks import LONGEST, same, words_of_faults
@@ -21,28 +22,38 @@ BACKEND = '#!/bin/sh\ncat "$6" > "$0.$1"\n'
 
 
 class Spool:
-    """A spool of these bytes in a folder of its own."""
+    """A folder of its own with a spool of these bytes, or with none, and the program that serves it."""
 
-    def __init__(self, folder, content):
+    # The log lines that are no errors.
+    notice = NO_PROGRAM
+
+    def __init__(self, folder, content=None, program=SHELL):
         self.root = tempfile.mkdtemp(dir=folder)
         self.file = os.path.join(self.root, "spool.disk")
-        with open(self.file, "wb") as file:
-            file.write(content)
+        self.program = program
+        if content is not None:
+            self.write(content)
+
+    def write(self, content):
+        Path(self.file).write_bytes(content)
 
     def content(self):
-        with open(self.file, "rb") as file:
-            return file.read()
+        return Path(self.file).read_bytes()
+
+    def served(self, script, words=()):
+        """The lines of the replies to a script, the words of the errors, and the status."""
+        done = subprocess.run([self.program, "--root", self.root, *words], input=script, capture_output=True, timeout=LONGEST)
+        lines = [line for line in words_of_faults(done.stderr.decode()).splitlines(True) if not self.notice.fullmatch(line)]
+        return done.stdout.decode().splitlines(), "".join(lines), done.returncode
 
     def lines(self, commands, words=(), status=0, errors=""):
         """The lines of the replies to commands. The status and standard error must be these, except for log lines about stages, which have
         no program here.
         """
         script = b"".join(command if isinstance(command, bytes) else command.encode() + b"\n" for command in commands)
-        done = subprocess.run([SHELL, "--root", self.root, *words], input=script, capture_output=True, timeout=LONGEST)
-        lines = [line for line in words_of_faults(done.stderr.decode()).splitlines(True) if not NO_PROGRAM.fullmatch(line)]
-        same("standard error", "".join(lines), errors)
-        same("status", done.returncode, status)
-        return done.stdout.decode().splitlines()
+        replies, *end = self.served(script, words)
+        same("standard error and status", end, [errors, status])
+        return replies
 
     def says(self, *rows, words=()):
         """Sends the commands of the rows. Each row is a command and the line, or the lines, of its reply."""
@@ -70,11 +81,10 @@ class Spool:
 
     def with_file(self, name, words, mode=0o600):
         """A file in its folder."""
-        path = os.path.join(self.root, name)
-        with open(path, "w") as file:
-            file.write(words)
-        os.chmod(path, mode)
-        return path
+        path = Path(self.root, name)
+        path.write_text(words, encoding="utf-8")
+        path.chmod(mode)
+        return str(path)
 
     def options(self, **files):
         """The arguments that name files of types, of conversions and of programs."""
@@ -84,8 +94,7 @@ class Spool:
         """The document that the backend gets for a job in a round."""
         backend = self.with_file("backend", BACKEND, 0o700)
         self.says(("round", "ok started 1 finished 1"), words=self.options(programs=f"backend s {backend}\n"))
-        with open(f"{backend}.{job}", "rb") as file:
-            return file.read()
+        return Path(f"{backend}.{job}").read_bytes()
 
 
 def spelled(payload, version=journal.NEWEST):

@@ -1,0 +1,18 @@
+"""Files of tests, as bytes."""
+from pathlib import Path
+
+
+def read(path):
+    """The contents of a file, or None if it does not exist."""
+    try:
+        return Path(path).read_bytes()
+    except FileNotFoundError:
+        return None
+
+
+def write(path, data, mode=None):
+    """Writes a file, with this mode if one is given. Returns its path."""
+    Path(path).write_bytes(data if isinstance(data, bytes) else data.encode())
+    if mode is not None:
+        Path(path).chmod(mode)
+    return path
