@@ -32,13 +32,16 @@ import pytest
 from harness import stored_scripts as scripts
 from harness import programs
 from harness.checks import LONGEST, same
-from harness.programs import compiled, CRATES, SHELL, TESTS
+from harness.programs import compiled, SHELL, TESTS
 
 pytestmark = pytest.mark.needs("gcc")
 
 STORED = os.path.join(TESTS, "allocations.txt")
 
 SHELL_NAME = "shell"
+
+# The crates whose tests run with refused allocations.
+CRATES = ("decision_tests", "disk_tests", "spool_core_tests", "text_tests")
 
 # The scripts whose allocations are refused, up to their first opening.
 REFUSED_SCRIPTS = [

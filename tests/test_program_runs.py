@@ -9,7 +9,6 @@ import os
 import resource
 import signal
 import subprocess
-import tempfile
 
 import pytest
 
@@ -22,13 +21,6 @@ pytestmark = pytest.mark.needs("spool_shell")
 
 LEAST, MOST = 4_096, 1 << 30  # the sizes of a spool
 LONGEST = 64  # the bytes of the name of a folder
-
-
-@pytest.fixture(name="folder")
-def folder_with_a_short_name():
-    """A folder whose path is short enough for the argument --root."""
-    with tempfile.TemporaryDirectory(prefix="runs-", dir="/tmp") as path:
-        yield path
 
 
 def run(*words, given=b"queues\n", folder=None, **more):
@@ -47,31 +39,31 @@ FINE = b"ok 0\n", b"", 0
 
 # ---- the arguments of the shell
 
-def test_arguments_are_used(folder):
+def test_arguments_are_used(room):
     """Each argument has its effect. With `--devices` no command is read, and no folder is opened."""
     longest = "0" * LONGEST
-    os.mkdir(longest_path := os.path.join(folder, longest))
+    os.mkdir(longest_path := os.path.join(room, longest))
     check("no argument", run(), FINE)
-    check("a folder with a long name", run("--root", longest, folder=folder), FINE)
+    check("a folder with a long name", run("--root", longest, folder=room), FINE)
     check("the default size", os.path.getsize(f"{longest_path}/spool.disk"), 4_194_304)
-    os.mkdir(os.path.join(folder, "least"))
-    check("the least size", run("--root=least", "--size", str(LEAST), folder=folder), FINE)
-    check("its file", os.path.getsize(os.path.join(folder, "least", "spool.disk")), LEAST)
+    os.mkdir(os.path.join(room, "least"))
+    check("the least size", run("--root=least", "--size", str(LEAST), folder=room), FINE)
+    check("its file", os.path.getsize(os.path.join(room, "least", "spool.disk")), LEAST)
     # The files are read before the spool is made, so the greatest size needs no room here.
-    check("the greatest size", run("--size", str(MOST), "--types", "absent", folder=folder), fault("file absent"))
+    check("the greatest size", run("--size", str(MOST), "--types", "absent", folder=room), fault("file absent"))
     for name in ("types", "convs"):
-        write(os.path.join(folder, f"a.{name}"), b"")
-    write(os.path.join(folder, "a.programs"), b"backend b /bin/true\n")
+        write(os.path.join(room, f"a.{name}"), b"")
+    write(os.path.join(room, "a.programs"), b"backend b /bin/true\n")
     every = ["--convs", "a.convs", "--devices", "--reserve", "--size", "4096", "--root=var", "--types=a.types", "--programs", "a.programs"]
-    check("all arguments", run(*every, folder=folder), (b"", b"", 0))
-    check("no spool is made", os.path.exists(os.path.join(folder, "var")), False)
+    check("all arguments", run(*every, folder=room), (b"", b"", 0))
+    check("no spool is made", os.path.exists(os.path.join(room, "var")), False)
     # So small a spool has the reserve and no room for a job.
     given = b"queue a s:/ a/b abort-job\ncreate a ann x 1 50 \"\"\n"
     check("no reserve", run("--size", "4096", given=given), (b"ok\nok job 1\n", b"", 0))
     check("the reserve", run("--size", "4096", "--reserve", given=given), (b"ok\nerror full\n", b"", 0))
 
 
-def test_other_arguments_are_refused(folder):
+def test_other_arguments_are_refused(room):
     more = "0" * (LONGEST + 1)
     for words in (
         ["--what"], ["stray"],
@@ -82,16 +74,16 @@ def test_other_arguments_are_refused(folder):
         ["--size", str(LEAST - 1)], ["--size", str(MOST + 1)], ["--size", "x"],
         ["--devices=true"], ["--devices", "--devices"],
     ):
-        replies, errors, status = run(*words, folder=folder)
+        replies, errors, status = run(*words, folder=room)
         check(f"refused {words}", (replies, errors.startswith(b"error: "), status), (b"", True, 2))
-    check("nothing is made", os.listdir(folder), [])
+    check("nothing is made", os.listdir(room), [])
 
 
 # ---- the errors of the shell
 
-def test_each_error_has_its_word(folder):
-    check("a file with a blank", run("--types", "a b.types", folder=folder), fault("file a b.types"))
-    check("no folder", run("--root", "absent", folder=folder), fault("disk, cause: absent"))
+def test_each_error_has_its_word(room):
+    check("a file with a blank", run("--types", "a b.types", folder=room), fault("file a b.types"))
+    check("no folder", run("--root", "absent", folder=room), fault("disk, cause: absent"))
 
     def little_memory():
         resource.setrlimit(resource.RLIMIT_AS, (256 << 20, 256 << 20))
@@ -99,18 +91,18 @@ def test_each_error_has_its_word(folder):
     # An address sanitizer takes terabytes of address space.
     if not is_sanitized(SHELL):
         check("little memory", run("--size", str(MOST), preexec_fn=little_memory), fault("memory"))
-    write(os.path.join(folder, "a.programs"), b"")
+    write(os.path.join(room, "a.programs"), b"")
 
     def no_ends_of_children():
         signal.signal(signal.SIGCHLD, signal.SIG_IGN)
 
-    ignored = run("--programs", "a.programs", folder=folder, preexec_fn=no_ends_of_children)
+    ignored = run("--programs", "a.programs", folder=room, preexec_fn=no_ends_of_children)
     check("SIGCHLD is ignored", ignored, fault("sigchld-ignored"))
 
 
-def test_a_reader_or_a_writer_may_fail(folder):
+def test_a_reader_or_a_writer_may_fail(room):
     """The input is a folder that cannot be read, and the output a file that may have seven bytes."""
-    given = os.open(folder, os.O_RDONLY)
+    given = os.open(room, os.O_RDONLY)
     ended = subprocess.run([SHELL, "--size", "4096"], stdin=given, capture_output=True, timeout=SECONDS)
     os.close(given)
     check("a reader that fails", (ended.stdout, words_of_faults(ended.stderr.decode()).encode(), ended.returncode), fault("read"))
@@ -119,7 +111,7 @@ def test_a_reader_or_a_writer_may_fail(folder):
         signal.signal(signal.SIGXFSZ, signal.SIG_IGN)
         resource.setrlimit(resource.RLIMIT_FSIZE, (7, 7))
 
-    path = os.path.join(folder, "replies")
+    path = os.path.join(room, "replies")
     with open(path, "wb") as replies:
         ended = subprocess.run([SHELL, "--size", "4096"], input=b"queues\nqueues\n", stdout=replies, stderr=subprocess.PIPE,
                                timeout=SECONDS, preexec_fn=seven_bytes)
@@ -135,7 +127,7 @@ TYPE_WARNINGS = "warning 1 UnknownRule, warning 2 BadType, warning 3 BadNumber, 
 CONV_WARNINGS = "warning 1 BadNumber, warning 2 BadLine, warning 3 BadType"
 
 
-def test_files_are_read_in_their_order(folder):
+def test_files_are_read_in_their_order(room):
     """Files of types, conversions and programs, in this order and before the folder is opened. They must be UTF-8."""
     every = ["--root", "absent", "--types", "a.types", "--convs", "a.convs", "--programs", "a.programs"]
     warned = b"ok 0\n", fault(f"{TYPE_WARNINGS}, {CONV_WARNINGS}")[1], 0
@@ -152,14 +144,14 @@ def test_files_are_read_in_their_order(folder):
         ("a.convs", b"a/a b/b 10 \xff\n", every[2:6], fault("file a.convs")),
         ("a.programs", b"", ["--types", "a.convs", "--convs", "a.types"], fault("file a.convs")),
     ):
-        write(os.path.join(folder, name), text)
-        check(f"{name} {text} {words}", run("--size", "4096", *words, folder=folder), wanted)
+        write(os.path.join(room, name), text)
+        check(f"{name} {text} {words}", run("--size", "4096", *words, folder=room), wanted)
 
 
 # ---- spool files, folders and devices
 
-def test_a_file_that_is_no_whole_spool_stays(folder):
-    disk = os.path.join(folder, "spool.disk")
+def test_a_file_that_is_no_whole_spool_stays(room):
+    disk = os.path.join(room, "spool.disk")
     fresh = journal.image(4_096)
     # The record of an event that does not exist, followed by the next closed gate.
     damaged = fresh[:16] + bytes.fromhex("A5 00 00 00 01 7F 00") + fresh[23:]
@@ -169,15 +161,15 @@ def test_a_file_that_is_no_whole_spool_stays(folder):
         (damaged, fault("damaged 16")),
     ):
         write(disk, content)
-        check(f"{content[:30]}", (run("--root", folder), read(disk) == content), (wanted, True))
+        check(f"{content[:30]}", (run("--root", room), read(disk) == content), (wanted, True))
 
 
 OWNED = fault("disk, cause: owned")
 
 
-def test_a_folder_has_one_owner(folder):
+def test_a_folder_has_one_owner(room):
     """A folder whose lock another process has is not opened, and nothing is made there."""
-    shared, disk = os.path.join(folder, "shared"), os.path.join(folder, "shared", "spool.disk")
+    shared, disk = os.path.join(room, "shared"), os.path.join(room, "shared", "spool.disk")
     os.mkdir(shared)
     for path in (shared, os.path.join(shared, "spool.lock")):
         lock = os.open(path, os.O_RDONLY if path == shared else os.O_RDWR | os.O_CREAT)
@@ -191,8 +183,8 @@ def test_a_folder_has_one_owner(folder):
     check("after both", run("--root", shared), FINE)
 
 
-def test_a_device_of_two_folders_has_one_owner(folder):
-    one, other = os.path.join(folder, "one"), os.path.join(folder, "other")
+def test_a_device_of_two_folders_has_one_owner(room):
+    one, other = os.path.join(room, "one"), os.path.join(room, "other")
     os.mkdir(one)
     os.mkdir(other)
     os.symlink("../one/spool.disk", os.path.join(other, "spool.disk"))
@@ -212,11 +204,11 @@ def test_a_device_of_two_folders_has_one_owner(folder):
         os.close(lock)
 
 
-def test_a_device_is_made_once(folder):
-    disk, unfinished = os.path.join(folder, "spool.disk"), os.path.join(folder, "spool.disk.new")
+def test_a_device_is_made_once(room):
+    disk, unfinished = os.path.join(room, "spool.disk"), os.path.join(room, "spool.disk.new")
 
     def sized(size):
-        return run("--root", folder, "--size", str(size)), os.path.getsize(disk), os.path.lexists(unfinished)
+        return run("--root", room, "--size", str(size)), os.path.getsize(disk), os.path.lexists(unfinished)
 
     os.symlink("absent", unfinished)
     check("a link of the unfinished file's name", sized(200_000), (FINE, 200_000, False))
@@ -229,11 +221,11 @@ def test_a_device_is_made_once(folder):
     check("an unfinished file", sized(8_192), (FINE, 8_192, False))
 
 
-def test_a_device_needs_its_folder(folder):
-    check("no folder", run("--root", os.path.join(folder, "absent")), fault("disk, cause: absent"))
+def test_a_device_needs_its_folder(room):
+    check("no folder", run("--root", os.path.join(room, "absent")), fault("disk, cause: absent"))
     # A folder has the name of the file, and then the name of the unfinished file.
     for name, taken in (("taken", "spool.disk"), ("blocked", "spool.disk.new")):
-        os.makedirs(os.path.join(folder, name, taken))
-        replies, errors, status = run("--root", os.path.join(folder, name))
+        os.makedirs(os.path.join(room, name, taken))
+        replies, errors, status = run("--root", os.path.join(room, name))
         check(f"a folder {taken}", (replies, errors.startswith(b"spool: disk\n"), status), (b"", True, 1))
-    check("no file is made", os.path.exists(os.path.join(folder, "blocked", "spool.disk")), False)
+    check("no file is made", os.path.exists(os.path.join(room, "blocked", "spool.disk")), False)

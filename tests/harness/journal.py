@@ -196,20 +196,8 @@ def hold(job, moment=None):
     return b"\x08" + number(job, 4) + (b"\1" if moment is None else b"\2" + number(moment, 8))
 
 
-def release(job):
-    return b"\x09" + number(job, 4)
-
-
-def cancel(job):
-    return b"\x0A" + number(job, 4)
-
-
 def clock(moment):
     return b"\x0B" + number(moment, 8)
-
-
-def start(job):
-    return b"\x0C" + number(job, 4)
 
 
 def stage(job, attempt, at, code, *effects):
@@ -224,15 +212,15 @@ NO_START = b"\2"
 LOST = b"\3"
 
 
-def abandon(job):
-    return b"\x0E" + number(job, 4)
-
-
 REOPEN = b"\x0F"
 
 
-def purge(job):
-    return b"\x10" + number(job, 4)
+def of_job(kind):
+    """An event that has only the number of a job."""
+    return lambda job: kind + number(job, 4)
+
+
+release, cancel, start, abandon, purge = map(of_job, (b"\x09", b"\x0A", b"\x0C", b"\x0E", b"\x10"))
 
 
 # ---- effects
@@ -245,16 +233,12 @@ def total_pages(count):
     return b"\2" + number(count, 4)
 
 
-def set_reasons(*words):
-    return b"\3" + texts(words, 2)
+def of_reasons(kind):
+    """An effect that has only reasons."""
+    return lambda *words: kind + texts(words, 2)
 
 
-def add_reasons(*words):
-    return b"\4" + texts(words, 2)
-
-
-def drop_reasons(*words):
-    return b"\5" + texts(words, 2)
+set_reasons, add_reasons, drop_reasons = map(of_reasons, (b"\3", b"\4", b"\5"))
 
 
 def attribute(name, value):
