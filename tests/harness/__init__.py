@@ -2,7 +2,7 @@
 
 | Module | Contents |
 |---|---|
-| checks | `Difference`, comparisons, waiting for an event, times |
+| checks, files | `Difference`, comparisons, waiting for an event, times; files as bytes |
 | programs | where the built programs are, C programs of this folder, and what this machine lacks |
 | service, front | the service in a folder of its own, its clients; the front end, and a service that a test simulates |
 | journal, spool_model, stories, admin | a second encoder of a spool's file, its model, spools with any bytes, `spool_admin` |

@@ -1,4 +1,5 @@
 """Tries the backends of docs/STOCK.md, each with a receiver for its output."""
+import contextlib
 import os
 import pty
 import select
@@ -32,9 +33,11 @@ FEW_SECONDS = 6
 def take_from_lpd(connection):
     """The text, if it is among the descriptions of the job that lpd sends, or else all data. A printer answers each part with a byte 0."""
     taken = b""
-    while piece := connection.recv(65_536):
-        taken += piece
-        connection.sendall(b"\0")
+    with contextlib.suppress(ConnectionError):
+        # The client need not wait for the last answer.
+        while piece := connection.recv(65_536):
+            taken += piece
+            connection.sendall(b"\0")
     return TEXT if TEXT in taken else taken
 
 
