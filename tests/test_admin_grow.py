@@ -14,13 +14,12 @@ them processing.
 """
 import os
 import re
-import stat
 
 import pytest
 
 from harness import journal, spool_model as model
-from harness.admin import (administer, image_of, image_of_rows, in_second_area, LOCK, NAME, names_in, OTHERS, OWNED, renames_when_synced, SIZE,
-                           SpoolFolder, Trial)
+from harness.admin import (administer, are_invalid, image_of, image_of_rows, images, in_second_area, LOCK, NAME, names_in, OWNED,
+                           renames_when_synced, SIZE, SpoolFolder, Trial)
 from harness.checks import same
 from harness.journal import image
 from harness.programs import shell_on
@@ -92,15 +91,13 @@ def test_look_without_a_spool(room):
 # ---- `grow`
 
 def test_a_larger_file_has_the_table(room):
-    for file in (image(SIZE), image_of(), image_of(1), in_second_area(image_of()), in_second_area(image_of(1)), image_of(size=8_193)):
+    for file in (image(SIZE), *images()):
         for size in (len(file), LARGER, 1_000_000):
             place = Place(room, file)
-            os.chmod(place.file, 0o640)
-            os.chown(place.file, *OTHERS)
+            place.give_away()
             place.grow(size)
             same(f"the table in {size} bytes", is_grown(file, place.content(), size), True)
-            found = os.stat(place.file)
-            same("the mode and the owner", (stat.S_IMODE(found.st_mode), found.st_uid, found.st_gid), (0o640, *OTHERS))
+            place.is_given_away()
             same("the names", names_in(place.root), [NAME])
             lists_grown(place, file)
 
@@ -164,10 +161,8 @@ def test_a_running_shell_keeps_it(room):
 def test_invalid_arguments(room):
     place = Place(room, image_of())
     root = place.root
-    for words in ((), ("look",), ("grow",), ("grow", root), ("look", root, "8192"), ("grow", root, "4095"), ("grow", root, "1073741825"),
-                  ("grow", root, "x"), ("shrink", root), ("look", ""), ("grow", root, "8192", "1"), ("--size", "8192", root)):
-        status, shown, errors = administer(*words)
-        same(f"the end of {words}", (status, shown, errors.startswith("error: ")), (2, "", True))
+    are_invalid((), ("look",), ("grow",), ("grow", root), ("look", root, "8192"), ("grow", root, "4095"), ("grow", root, "1073741825"),
+                ("grow", root, "x"), ("shrink", root), ("look", ""), ("grow", root, "8192", "1"), ("--size", "8192", root))
     same("the file is unchanged", place.content() == image_of(), True)
     status, shown, errors = administer("--help")
     same("the help", (status, "DIR" in shown and "BYTES" in shown, errors), (0, True, ""))

@@ -16,14 +16,13 @@ them processing.
 """
 import copy
 import os
-import stat
 import subprocess
 
 import pytest
 
 from harness import journal, spool_model as model
-from harness.admin import (administer, image_of, image_of_documents, image_of_rows, in_second_area, NAME, names_in, OTHERS, OWNED,
-                           renames_when_synced, SIZE, SpoolFolder, Trial)
+from harness.admin import (administer, are_invalid, image_of, image_of_documents, image_of_rows, images, in_second_area, NAME, names_in,
+                           OWNED, renames_when_synced, SIZE, SpoolFolder, Trial)
 from harness.checks import same, until
 from harness.journal import cancel, close, image, send
 from harness.programs import shell_on
@@ -76,23 +75,17 @@ class Place(SpoolFolder):
         same("the names", names_in(self.root), [NAME])
 
 
-FILES = (lambda: image_of(), lambda: image_of(1), lambda: in_second_area(image_of()), lambda: in_second_area(image_of(1)), lambda: image_of(size=8_193))
-
-
 # ---- `set`
 
 def test_only_the_given_fields_change(room):
-    for make in FILES:
-        file = make()
+    for file in images():
         for words, fields in ((ALL, ALL_FIELDS), (ALL[:2], {"uri": ALL[1]}), (("--limit", "65535"), {"limit": 65_535}), (("--interval", "0"), {"interval": 0})):
             for name in ("q", "lab"):
                 place = Place(room, file)
-                os.chmod(place.file, 0o640)
-                os.chown(place.file, *OTHERS)
+                place.give_away()
                 place.set(*words, name=name)
                 place.lists(with_fields(file, name, fields), len(file))
-                found = os.stat(place.file)
-                same("the mode and the owner", (stat.S_IMODE(found.st_mode), found.st_uid, found.st_gid), (0o640, *OTHERS))
+                place.is_given_away()
 
 
 def test_each_policy_is_set(room):
@@ -213,14 +206,11 @@ def test_a_full_file_system(room):
 
 def test_invalid_arguments(room):
     place = Place(room, image_of())
-    for words in (("queue",), ("queue", "set"), ("queue", "set", place.root), ("queue", "set", place.root, "lab"), ("queue", "drop", place.root, "lab"),
-                  ("queue", "set", place.root, "lab", "--policy", "none"), ("queue", "set", place.root, "lab", "--interval", "86401"),
-                  ("queue", "set", place.root, "lab", "--limit", "65536"), ("queue", "set", place.root, "lab", "--limit", "-1"),
-                  ("queue", "set", place.root, "lab", "--uri", ""), ("queue", "set", place.root, "lab", "--purge"),
-                  ("queue", "set", place.root, "lab", "q", "--limit", "1"), ("queue", "remove", place.root),
-                  ("queue", "remove", place.root, "lab", "--uri", "a:/"), ("look", place.root, "--purge")):
-        status, shown, errors = administer(*words)
-        same(f"the end of {words}", (status, shown, errors.startswith("error: ")), (2, "", True))
+    changed = ("queue", "set", place.root, "lab")
+    are_invalid(("queue",), ("queue", "set"), ("queue", "set", place.root), changed, ("queue", "drop", place.root, "lab"),
+                (*changed, "--policy", "none"), (*changed, "--interval", "86401"), (*changed, "--limit", "65536"), (*changed, "--limit", "-1"),
+                (*changed, "--uri", ""), (*changed, "--purge"), (*changed, "q", "--limit", "1"),
+                ("queue", "remove", place.root), ("queue", "remove", place.root, "lab", "--uri", "a:/"), ("look", place.root, "--purge"))
     same("the file is unchanged", place.content() == image_of(), True)
     same("the names", names_in(place.root), [NAME])
     same("valid arguments", administer("queue", "set", place.root, "lab", "--limit", "65535")[0], 0)

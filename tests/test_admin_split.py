@@ -16,15 +16,14 @@ them processing.
 """
 import copy
 import os
-import stat
 import tempfile
 from pathlib import Path
 
 import pytest
 
 from harness import journal, spool_model as model
-from harness.admin import (administer, image_of, image_of_documents, image_of_rows, in_second_area, LOCK, NAME, names_in, OTHERS, OWNED,
-                           renames_when_synced, SIZE, SpoolFolder, TAKEN, traced, Trial)
+from harness.admin import (administer, are_invalid, image_of, image_of_documents, image_of_rows, images, in_second_area, LOCK, NAME,
+                           names_in, OWNED, renames_when_synced, SIZE, SpoolFolder, TAKEN, traced, Trial)
 from harness.checks import same
 from harness.journal import image
 from harness.programs import shell_on
@@ -90,16 +89,14 @@ def next_number(half, queue):
 # ---- splitting
 
 def test_each_row_is_in_one_half(room):
-    for file in (image_of(), image_of(1), in_second_area(image_of()), in_second_area(image_of(1)), image_of(size=8_193)):
+    for file in images():
         for names in (("lab",), ("q",), ("q", "lab"), ("lab", "lab")):
             place = Place(room, file)
-            os.chmod(place.source.file, 0o640)
-            os.chown(place.source.file, *OTHERS)
+            place.source.give_away()
             place.split(*names)
             is_split(place, file, names)
             for half in (place.source, place.target):
-                found = os.stat(half.file)
-                same("the mode and the owner", (stat.S_IMODE(found.st_mode), found.st_uid, found.st_gid), (0o640, *OTHERS))
+                half.is_given_away()
 
 
 def test_both_are_served(room):
@@ -167,10 +164,8 @@ def test_a_running_shell_keeps_it(room):
 def test_invalid_arguments(room):
     place = Place(room, image_of())
     source, target = place.source.root, place.target.root
-    for words in (("split",), ("split", source), ("split", source, target), ("split", source, target, ""),
-                  ("join", source, target, "lab"), ("look", source, "lab"), ("grow", source, "8192", "lab")):
-        status, shown, errors = administer(*words)
-        same(f"the end of {words}", (status, shown, errors.startswith("error: ")), (2, "", True))
+    are_invalid(("split",), ("split", source), ("split", source, target), ("split", source, target, ""),
+                ("join", source, target, "lab"), ("look", source, "lab"), ("grow", source, "8192", "lab"))
     same("the file is unchanged", place.source.content() == image_of(), True)
 
 

@@ -11,6 +11,7 @@ unchanged. Otherwise the shell must have that table: in the replies to `jobs` an
 next job of each queue, and ends it by the queue's policy), in the replies to `createby` before and after a checkpoint, and, byte for byte,
 in the file after all these and the opening.
 """
+import functools
 import os
 import subprocess
 import tempfile
@@ -285,76 +286,75 @@ def rebuilt(file, chance, change, version=None):
     return file[:base] + area + file[base + half:]
 
 
-def records_moved(file, chance):
+def of_payloads(change):
+    """A change of a file that changes the payloads of an area."""
+    @functools.wraps(change)
+    def changes(file, chance):
+        return rebuilt(file, chance, lambda payloads: change(payloads, chance))
+
+    return changes
+
+
+@of_payloads
+def records_moved(payloads, chance):
     """Drops a record, repeats or moves it, or exchanges two."""
-    def change(payloads):
-        at, to, kind = chance.randrange(len(payloads)), chance.randrange(len(payloads)), chance.randrange(4)
-        if kind == 0:
-            del payloads[at]
-        elif kind == 1:
-            payloads.insert(to, payloads[at])
-        elif kind == 2:
-            payloads.insert(to, payloads.pop(at))
-        else:
-            payloads[at], payloads[to] = payloads[to], payloads[at]
-
-    return rebuilt(file, chance, change)
+    at, to, kind = chance.randrange(len(payloads)), chance.randrange(len(payloads)), chance.randrange(4)
+    if kind == 0:
+        del payloads[at]
+    elif kind == 1:
+        payloads.insert(to, payloads[at])
+    elif kind == 2:
+        payloads.insert(to, payloads.pop(at))
+    else:
+        payloads[at], payloads[to] = payloads[to], payloads[at]
 
 
-def records_cut(file, chance):
+@of_payloads
+def records_cut(payloads, chance):
     """Removes the last records."""
-    def change(payloads):
-        del payloads[chance.randrange(len(payloads)):]
-
-    return rebuilt(file, chance, change)
+    del payloads[chance.randrange(len(payloads)):]
 
 
-def field_changed(file, chance):
+@of_payloads
+def field_changed(payloads, chance):
     """Changes a number somewhere in a payload, often the one after its kind."""
-    def change(payloads):
-        at = chance.randrange(len(payloads))
-        payload = payloads[at]
-        width = chance.choice([1, 2, 4, 8])
-        if len(payload) <= width:
-            return
-        place = chance.choice([1, chance.randrange(len(payload) - width + 1), len(payload) - width])
-        before = int.from_bytes(payload[place:place + width], "big")
-        most = 256 ** width
-        number = chance.choice([0, 1, 2, 3, 4, 5, 8, before + 1, before - 1, most - 1, most // 2, chance.randrange(most)]) % most
-        payloads[at] = payload[:place] + journal.number(number, width) + payload[place + width:]
-
-    return rebuilt(file, chance, change)
+    at = chance.randrange(len(payloads))
+    payload = payloads[at]
+    width = chance.choice([1, 2, 4, 8])
+    if len(payload) <= width:
+        return
+    place = chance.choice([1, chance.randrange(len(payload) - width + 1), len(payload) - width])
+    before = int.from_bytes(payload[place:place + width], "big")
+    most = 256 ** width
+    number = chance.choice([0, 1, 2, 3, 4, 5, 8, before + 1, before - 1, most - 1, most // 2, chance.randrange(most)]) % most
+    payloads[at] = payload[:place] + journal.number(number, width) + payload[place + width:]
 
 
-def payload_resized(file, chance):
+@of_payloads
+def payload_resized(payloads, chance):
     """Adds or removes a byte of a payload, and sets the length of the record accordingly."""
-    def change(payloads):
-        at = chance.randrange(len(payloads))
-        place = chance.randrange(len(payloads[at]) + 1)
-        payload = payloads[at]
-        payloads[at] = payload[:place] + (bytes([some_byte(chance)]) + payload[place:] if chance.random() < 0.5 else payload[place + 1:])
-
-    return rebuilt(file, chance, change)
+    at = chance.randrange(len(payloads))
+    place = chance.randrange(len(payloads[at]) + 1)
+    payload = payloads[at]
+    payloads[at] = payload[:place] + (bytes([some_byte(chance)]) + payload[place:] if chance.random() < 0.5 else payload[place + 1:])
 
 
-def event_added(file, chance):
+@of_payloads
+def event_added(payloads, chance):
     """Adds an event about some job, which may or may not be accepted."""
-    def change(payloads):
-        job, moment = chance.randrange(10), chance.choice([0, 500, 1_030, 5_000, model.GREATEST_MOMENT])
-        event = chance.choice([
-            journal.start(job), journal.start(job), journal.cancel(job), journal.release(job), journal.abandon(job), journal.hold(job),
-            journal.purge(job), journal.purge(job),
-            journal.hold(job, moment), journal.clock(moment), journal.REOPEN, journal.send(job, b"more"), journal.close(job),
-            journal.close(job, None), journal.set_stop("pit", chance.randrange(2)), journal.set_accept("lab", chance.randrange(2)),
-            journal.stage(job, chance.randrange(1, 4), chance.randrange(1, 4), chance.choice([0, 1, 2, 3, 4, 5, 6, 7, 8, 255])),
-            journal.stage(job, 1, 1, chance.choice([journal.SIGNAL, journal.NO_START, journal.LOST])),
-            journal.Job(10 + job, "hall").event(), journal.Queue("attic").event(), journal.Queue("hall").event(),
-            journal.Job(10 + job, "hall", by=moment).event(), journal.Job(10 + job, "hall", by=2_500).event(),
-            journal.stage(job, chance.randrange(1, 3), 1, 0, journal.set_reasons("z"), journal.pages(1, 2 ** 32 - 1), journal.message("m")),
-        ])
-        payloads.insert(chance.choice([len(payloads), chance.randrange(len(payloads) + 1)]), event)
-
-    return rebuilt(file, chance, change)
+    job, moment = chance.randrange(10), chance.choice([0, 500, 1_030, 5_000, model.GREATEST_MOMENT])
+    event = chance.choice([
+        journal.start(job), journal.start(job), journal.cancel(job), journal.release(job), journal.abandon(job), journal.hold(job),
+        journal.purge(job), journal.purge(job),
+        journal.hold(job, moment), journal.clock(moment), journal.REOPEN, journal.send(job, b"more"), journal.close(job),
+        journal.close(job, None), journal.set_stop("pit", chance.randrange(2)), journal.set_accept("lab", chance.randrange(2)),
+        journal.stage(job, chance.randrange(1, 4), chance.randrange(1, 4), chance.choice([0, 1, 2, 3, 4, 5, 6, 7, 8, 255])),
+        journal.stage(job, 1, 1, chance.choice([journal.SIGNAL, journal.NO_START, journal.LOST])),
+        journal.Job(10 + job, "hall").event(), journal.Queue("attic").event(), journal.Queue("hall").event(),
+        journal.Job(10 + job, "hall", by=moment).event(), journal.Job(10 + job, "hall", by=2_500).event(),
+        journal.stage(job, chance.randrange(1, 3), 1, 0, journal.set_reasons("z"), journal.pages(1, 2 ** 32 - 1), journal.message("m")),
+    ])
+    payloads.insert(chance.choice([len(payloads), chance.randrange(len(payloads) + 1)]), event)
 
 
 def version_changed(file, chance):

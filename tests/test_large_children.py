@@ -18,9 +18,7 @@ TYPES = "a/0 page\n"
 
 def rows_of(place):
     """The payloads of the spool's current area, which a checkpoint wrote."""
-    name = place.at("spool", "spool.disk")
-    with open(name, "rb") as file:
-        return current_payloads(file, os.path.getsize(name))
+    return current_payloads(place.at("spool", "spool.disk"))
 
 
 # ---- at once

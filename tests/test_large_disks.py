@@ -219,7 +219,7 @@ def test_gibibyte_made(place):
     wanted = [Head(0).payload(), Queue("lab", "spoolfile:/out", TYPE).payload(), created("lab", 1)]
     with open(name, "rb") as file:
         same("the current area", current_base(file, SIZE), HALF)
-        same("its payloads", current_payloads(file, SIZE), wanted)
+    same("its payloads", current_payloads(name), wanted)
 
 
 @within(8_000)

@@ -157,8 +157,7 @@ def ask_queues(script, queues):
 def check_rows(place, queues, jobs):
     """Whether the file's current area has exactly the rows of the table."""
     wanted = [journal.Head(len(jobs), NOW).payload()] + [queue.row() for queue in queues] + [row for job in jobs for row in job.rows()]
-    with open(place.at("spool", "spool.disk"), "rb") as file:
-        found = journal.current_payloads(file, SIZE)
+    found = journal.current_payloads(place.at("spool", "spool.disk"))
     for number, (row, want) in enumerate(zip(found, wanted), 1):
         same(f"row {number} of the checkpoint", row, want)
     same("rows of the checkpoint", len(found), len(wanted))

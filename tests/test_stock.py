@@ -14,11 +14,13 @@ import re
 import shutil
 import subprocess
 import tempfile
+from pathlib import Path
 
 import pytest
 
 from harness import stock_backends, stock_chains
 from harness.checks import holds, reports_all, same
+from harness.files import write
 from harness.programs import ROOT
 from harness.stock_documents import DOCUMENTS, DRAWING, is_blank
 from harness.stock_runs import Place, Rows
@@ -105,18 +107,14 @@ class Descriptions:
         path = os.path.join(self.room, f"{source}-{name}.ppd")
         if not os.path.isfile(path):
             self.make(source, name, path)
-        if not os.path.isfile(path):
-            return None
-        with open(path) as file:
-            return file.read() + (PCLM if row.name == "rastertopclm" else "")
+        return Path(path).read_text() + (PCLM if row.name == "rastertopclm" else "") if os.path.isfile(path) else None
 
     def make(self, source, name, path):
         if source == "foomatic":
             if os.path.isfile(FOOMATIC):
                 ran = subprocess.run([FOOMATIC, "cat", f"foomatic-db-compressed-ppds:0/ppd/foomatic-ppd/{name}.ppd"], capture_output=True)
                 if ran.stdout:
-                    with open(path, "wb") as file:
-                        file.write(ran.stdout)
+                    write(path, ran.stdout)
             return
         driver = os.path.join(DRIVERS, source)
         if shutil.which("ppdc") and os.path.isfile(driver):
@@ -194,16 +192,13 @@ def package_of(path):
     return found[1] if found else None
 
 
-with open(PAGE, encoding="utf-8") as page:
-    ROWS = Rows(page.read())
+ROWS = Rows(Path(PAGE).read_text(encoding="utf-8"))
 
 
 @pytest.fixture(scope="module")
 def place():
     with tempfile.TemporaryDirectory(prefix="stock-") as room:
-        made = Place()
-        made.set_up(room, OFFICE)
-        yield made
+        yield Place(room, OFFICE)
 
 
 @pytest.fixture(scope="module")

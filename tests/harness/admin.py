@@ -1,6 +1,7 @@
 """The spools of the tests of spool_admin, their folders, and the system calls at which it is killed or fails."""
 import os
 import shutil
+import stat
 import subprocess
 import tempfile
 from concurrent.futures import ThreadPoolExecutor
@@ -33,6 +34,11 @@ EVENTS = (Q.event(), LAB.event(), of_q(1).event(), send(1, b"first"), send(1, b"
 
 def image_of(version=journal.NEWEST, size=SIZE, epoch=1):
     return image(size, [spelled(event, version) for event in EVENTS], epoch=epoch, version=version)
+
+
+def images():
+    """Spools of both versions, in either area, and one whose length is odd."""
+    return image_of(), image_of(1), in_second_area(image_of()), in_second_area(image_of(1)), image_of(size=8_193)
 
 
 def image_of_documents():
@@ -74,6 +80,15 @@ class SpoolFolder(Spool):
         if content is not None:
             self.with_file(LOCK, "")
 
+    def give_away(self):
+        """Gives the file another owner and another mode, if that is allowed."""
+        os.chmod(self.file, 0o640)
+        os.chown(self.file, *OTHERS)
+
+    def is_given_away(self):
+        found = os.stat(self.file)
+        same("the mode and the owner", (stat.S_IMODE(found.st_mode), found.st_uid, found.st_gid), (0o640, *OTHERS))
+
     def is_unchanged(self, fault, *words):
         """The arguments are refused with this error, and the file and its folder are unchanged."""
         before, names = self.content(), names_in(self.root)
@@ -89,6 +104,13 @@ def administer(*words, before=()):
     """The result of spool_admin with these arguments, its output, and the words of its faults. `before` is a command that runs it."""
     done = subprocess.run([*before, ADMIN, *words], capture_output=True, text=True, timeout=LONGEST)
     return done.returncode, done.stdout, words_of_faults(done.stderr)
+
+
+def are_invalid(*arguments):
+    """Each of these arguments is refused as invalid, with status 2."""
+    for words in arguments:
+        status, shown, errors = administer(*words)
+        same(f"the end of {words}", (status, shown, errors.startswith("error: ")), (2, "", True))
 
 
 # ---- kills, failures and cuts

@@ -13,6 +13,7 @@ A gate is open if it is A5. The payload is an event or a row of a listing. The v
 job has no start deadline there, its row has no field for one, and no event sets one or removes a job.
 """
 import io
+import os
 from dataclasses import dataclass
 
 OPEN = 0xA5
@@ -318,10 +319,12 @@ def current_base(file, size):
     return max((0, size // 2), key=epoch_at)
 
 
-def current_payloads(file, size):
-    """The payloads of that area. The file may be larger than the memory."""
-    base = current_base(file, size)
-    return payloads_between(file, base, base + size // 2)
+def current_payloads(path):
+    """The payloads of that area of the file with this path. The file may be larger than the memory."""
+    with open(path, "rb") as file:
+        size = os.path.getsize(path)
+        base = current_base(file, size)
+        return payloads_between(file, base, base + size // 2)
 
 
 def current_half(file):

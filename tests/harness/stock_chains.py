@@ -12,6 +12,7 @@ from pathlib import Path
 
 from harness.checks import check, compare, LONGEST, until
 from harness.files import read, write
+from harness.programs import SERVICE, SHELL, TOOLS, unbuilt
 from harness.service import Client
 from harness.stock_documents import boxes, OFFICE
 
@@ -32,11 +33,10 @@ class ChainSpool:
         os.makedirs(spool)
         self.socket = os.path.join(spool, "spool.sock")
         text = Path(place.office, "stock-programs").read_text()
-        text = text.replace("@libdir@/cegmandi/spool_tools", place.tools).replace("@libdir@/cegmandi", place.office)
+        text = text.replace("@libdir@/cegmandi/spool_tools", TOOLS).replace("@libdir@/cegmandi", place.office)
         programs = write(os.path.join(self.folder, "programs"), text)
-        self.program = place.service if place.serves() else place.shell
-        self.serves = place.serves()
-        self.words = [self.program, "--root", spool, "--programs", programs, "--size", "67108864"]
+        self.serves = not unbuilt("spool_service")
+        self.words = [SERVICE if self.serves else SHELL, "--root", spool, "--programs", programs, "--size", "67108864"]
         self.words += ["--types", os.path.join(place.office, "types"), "--convs", os.path.join(place.office, "convs")]
 
     def commands(self, targets, document):
@@ -174,7 +174,7 @@ def settings_of(place):
         shutil.copy(os.path.join(place.office, name), os.path.join(types, f"office.{name}"))
     # CUPS knows only the types that a file of types names.
     place.write("data/mime/more.types", "".join(f"{target}\n" for _, target, _ in conversions(place)))
-    return place.write("cups-files.conf", f"ServerRoot {place.room}\nDataDir {place.room}/data\nServerBin {os.path.dirname(place.filters)}\n")
+    return place.write("cups-files.conf", f"ServerRoot {place.room}\nDataDir {place.room}/data\nServerBin {place.binaries}\n")
 
 
 def ask_cups(place, rows):

@@ -7,7 +7,7 @@ from dataclasses import dataclass
 
 from harness.checks import LONGEST
 from harness.files import read, write
-from harness.programs import SERVICE, SHELL, TOOLS
+from harness.programs import SHELL
 
 KEEP = """#!/bin/sh
 cat > "${DEVICE_URI#keep:}"
@@ -67,25 +67,17 @@ def filter_of(cells):
 
 
 class Place:
-    """The folder of the stock programs, the programs of the spooler, and a folder to try them in."""
+    """The folders of the stock programs, and a folder to try them in."""
 
-    def __init__(self, filters="/usr/lib/cups/filter"):
-        self.filters = filters.rstrip("/")
-        self.backends = os.path.join(os.path.dirname(self.filters), "backend")
-        self.shell = SHELL
-        self.service = SERVICE
-        self.tools = TOOLS
-        self.runs = 0
+    binaries = "/usr/lib/cups"
+    filters, backends = f"{binaries}/filter", f"{binaries}/backend"
 
-    def serves(self):
-        return os.path.isfile(self.service)
-
-    def set_up(self, room, office):
-        self.room, self.office = room, office
+    def __init__(self, room, office):
+        self.room, self.office, self.runs = room, office, 0
         self.wrapper = os.path.join(room, "with-cups-env")
         shutil.copy(os.path.join(office, "with-cups-env"), self.wrapper)
         os.mkdir(os.path.join(room, "ppd"))
-        self.write("cups-env", SETTINGS.format(binaries=os.path.dirname(self.filters)))
+        self.write("cups-env", SETTINGS.format(binaries=self.binaries))
         os.chmod(self.write("keep", KEEP), 0o755)
 
     def write(self, name, text):
@@ -104,7 +96,7 @@ class Place:
         self.runs += 1
         spool = os.path.join(self.room, f"s{self.runs}")
         os.mkdir(spool)
-        words = [self.shell, "--root", spool, "--size", "33554432"]
+        words = [SHELL, "--root", spool, "--size", "33554432"]
         for kind, text in (("programs", programs), ("types", types), ("convs", convs)):
             words += ["--" + kind, self.write(f"{kind}{self.runs}", text)]
         script = f'queue stock {uri} {target} abort-job\ncreate stock {user} "A page" 1 50 "{options}"\n'.encode()
