@@ -14,6 +14,7 @@ import os
 import sys
 import tempfile
 
+from harness.files import write
 from harness.programs import SHELL
 from measures import least_served, needed
 
@@ -55,8 +56,7 @@ def script(closes):
 
 def seconds(folder, convs, closes):
     """The shortest time of three runs."""
-    with open(os.path.join(folder, "convs"), "w") as file:
-        file.write(convs)
+    write(os.path.join(folder, "convs"), convs)
     took, replies = least_served(script(closes), "--types", "types", "--convs", "convs", cwd=folder)
     if replies.count(b"ok type t/0 stages %d\n" % (CHAIN + 1)) != closes:
         sys.exit("a chain is not that of 15 filters")
@@ -66,8 +66,7 @@ def seconds(folder, convs, closes):
 def main():
     needed(SHELL)
     with tempfile.TemporaryDirectory() as folder:
-        with open(os.path.join(folder, "types"), "w") as file:
-            file.write(TYPES)
+        write(os.path.join(folder, "types"), TYPES)
         for make in (steps, shared):
             print(make.__doc__)
             least = None

@@ -19,7 +19,9 @@ import subprocess
 import sys
 import tempfile
 import time
+from pathlib import Path
 
+from harness.files import write
 from harness.people import made_users
 from harness.programs import compiled, CRATES, SERVICE
 from harness.service import Client, Folder
@@ -52,8 +54,8 @@ def turn(client):
 
 def script():
     """The text of the script, from its source."""
-    with open(os.path.join(CRATES, "spool_runtime", "src", "script.rt")) as file:
-        lines = file.read().split("const SCRIPT: &str = concat!(\n")[1].split("\n);\n")[0].splitlines()
+    source = Path(CRATES, "spool_runtime", "src", "script.rt").read_text()
+    lines = source.split("const SCRIPT: &str = concat!(\n")[1].split("\n);\n")[0].splitlines()
     return "".join(ast.literal_eval(line.strip().rstrip(",")) for line in lines)
 
 
@@ -61,9 +63,7 @@ def programs(rounds):
     user = USERS[0]
     with made_users(user), tempfile.TemporaryDirectory() as room:
         os.chmod(room, 0o711)
-        text, place = (os.path.join(room, name) for name in ("script", "place"))
-        with open(text, "w") as file:
-            file.write(script())
+        text, place = write(os.path.join(room, "script"), script()), os.path.join(room, "place")
         os.mkdir(place, 0o700)
         shutil.chown(place, user, user)
         words = [compiled("child_users.c", "-O2"), str(rounds), text, place, str(os.stat(place).st_uid), user, "/bin/true"]

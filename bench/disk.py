@@ -16,6 +16,7 @@ import struct
 import tempfile
 
 from harness.checks import timed
+from harness.files import read
 from harness.programs import SHELL
 from harness.written_spools import rows, spool
 from measures import CREATE, floor, given_room, least_served, needed, QUEUE, served, written
@@ -46,8 +47,7 @@ def record_length(payload):
 
 def journal_end(root):
     """The offset after the last record of a spool that uses only its first area."""
-    with open(os.path.join(root, "spool.disk"), "rb") as file:
-        disk = file.read()
+    disk = read(os.path.join(root, "spool.disk"))
     at = HEADER
     while disk[at : at + 1] == GATE:
         (payload,) = struct.unpack(">I", disk[at + 1 : at + 5])

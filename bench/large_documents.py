@@ -12,6 +12,7 @@ that inspects the first bytes, and with a rule that inspects all bytes. Times de
 """
 import os
 
+from harness.files import write
 from harness.programs import BENCH, SHELL
 from measures import given_room, needed
 from printing import Spooler
@@ -33,10 +34,7 @@ def programs(room):
     """The list of programs."""
     lines = ["backend nothing /bin/true"]
     for name, text in FILTERS.items():
-        path = os.path.join(room, f"filter-{name}")
-        with open(path, "w") as file:
-            file.write("#!/bin/sh\n" + text)
-        os.chmod(path, 0o755)
+        path = write(os.path.join(room, f"filter-{name}"), "#!/bin/sh\n" + text, 0o755)
         lines.append(f"filter {name} {path}")
     return "".join(line + "\n" for line in lines)
 
@@ -48,9 +46,7 @@ class Case(Spooler):
         folder = os.path.join(room, name.replace(" ", "-"))
         words = []
         for kind, text in (("types", types), ("convs", convs)):
-            words += [f"--{kind}", f"{folder}.{kind}"]
-            with open(f"{folder}.{kind}", "w") as file:
-                file.write(text)
+            words += [f"--{kind}", write(f"{folder}.{kind}", text)]
         super().__init__(folder, programs(room), *words, size=SIZE)
 
     def submit(self, job, queue, target=UNKNOWN):

@@ -9,6 +9,7 @@ import threading
 import time
 
 from harness.checks import until
+from harness.files import write
 from harness.programs import compiled, SHELL
 from harness.service import Folder, memory_of, PIECE
 from harness.written_spools import spool
@@ -153,8 +154,7 @@ def service(*words, payloads=None):
     folder = Folder()
     try:
         if payloads is not None:
-            with open(folder.at("spool", "spool.disk"), "wb") as file:
-                file.write(spool(payloads))
+            write(folder.at("spool", "spool.disk"), spool(payloads))
         folder.launch("--quiet", *words)
         until("the service", folder.serves, LONGEST)
         yield folder

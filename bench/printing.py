@@ -23,6 +23,7 @@ import statistics
 import subprocess
 import sys
 
+from harness.files import write
 from harness.programs import BENCH, compiled, SHELL
 from measures import given_room, needed, Shell
 
@@ -37,9 +38,7 @@ class Spooler(Shell):
 
     def __init__(self, folder, programs, *more, size=67_108_864):
         os.mkdir(folder)
-        listed = folder + ".programs"
-        with open(listed, "w") as file:
-            file.write(programs)
+        listed = write(folder + ".programs", programs)
         super().__init__("--root", ".", "--size", str(size), "--programs", listed, *more, cwd=folder)
 
 

@@ -12,6 +12,7 @@ import os
 import sys
 import tempfile
 
+from harness.files import write
 from measures import given_program, served
 
 MEBIBYTE = 1_048_576
@@ -38,18 +39,11 @@ def text(size):
     return (turn * (size // len(turn) + 1))[:size]
 
 
-def write(folder, name, data):
-    path = os.path.join(folder, name)
-    with open(path, "wb") as file:
-        file.write(data)
-    return path
-
-
 def run(shell, said):
     """The time of one run, with a backend that writes this text."""
     with tempfile.TemporaryDirectory() as folder:
-        tool = write(folder, "says", b"cat " + write(folder, "said", said).encode() + b" >&2\n")
-        programs = write(folder, "programs", f"backend says /bin/sh {tool}\n".encode())
+        tool = write(f"{folder}/says", f"cat {write(f'{folder}/said', said)} >&2\n")
+        programs = write(f"{folder}/programs", f"backend says /bin/sh {tool}\n")
         os.mkdir(os.path.join(folder, "spool"))
         took, replies = served(SCRIPT, "--root", os.path.join(folder, "spool"), "--programs", programs, program=shell)
     if not replies.endswith(b"ok started 1 finished 1\n"):

@@ -30,6 +30,7 @@ import threading
 import time
 
 from harness.checks import print_times, timed
+from harness.files import write
 from harness.programs import ended, SCRIPTS, SERVICE
 from harness.service import Client, Folder
 from measures import given_program, service
@@ -109,8 +110,7 @@ def write_case(folder, count, kind, ticks):
     size = 2 * (OF_QUEUES + OF_JOB * (QUEUES + count) + OF_TICK * TICKS[-1])
     files = {"script": script + "# tick\n" * ticks, "replies": replies, "children": children, "account": account, "size": f"{size}\n"}
     for ending, text in files.items():
-        with open(os.path.join(folder, f"case.{ending}"), "w", encoding="ascii") as file:
-            file.write(text)
+        write(os.path.join(folder, f"case.{ending}"), text)
 
 
 def seconds(program, count, kind, ticks):

@@ -32,6 +32,7 @@ import pytest
 from harness import stored_scripts as scripts
 from harness import programs
 from harness.checks import LONGEST, same
+from harness.files import read, write
 from harness.programs import compiled, SHELL, TESTS
 
 pytestmark = pytest.mark.needs("gcc")
@@ -301,8 +302,7 @@ def shell_counts(counting, pool):
 
 
 def stored_lines():
-    with open(STORED, encoding="utf-8") as file:
-        return file.read().splitlines()
+    return read(STORED).decode().splitlines()
 
 
 def judge(request, name, lines, differ):
@@ -310,8 +310,7 @@ def judge(request, name, lines, differ):
     stored = [line for line in stored_lines() if line.split()[0] == name]
     if request.config.getoption("--write"):
         others = [line for line in stored_lines() if line.split()[0] != name]
-        with open(STORED, "w", encoding="utf-8") as file:
-            file.write("".join(line + "\n" for line in [*others, *lines]))
+        write(STORED, "".join(line + "\n" for line in [*others, *lines]))
         stored = lines
     differ += [f"only now: {line}" for line in sorted(set(lines) - set(stored))]
     differ += [f"only stored: {line}" for line in sorted(set(stored) - set(lines))]

@@ -20,6 +20,7 @@ import unicodedata
 import pytest
 
 from harness.checks import holds, same, until
+from harness.files import read
 from harness.front import first_line, Front
 from harness.service import Client
 
@@ -193,8 +194,7 @@ def test_logs_standard_error(folder):
     folder.queue(client, "q", policy="abort-job", scheme="loud")
     job = client.submit("q")
     client.until_ended([job], "8")
-    with open(folder.at("log"), "rb") as file:
-        text = file.read().decode()
+    text = read(folder.at("log")).decode()
     is_clean("the log", text)
     for line in ("\ufffd[2J\ufffd]0;x\ufffd", "\ufffd31m red \ufffd0;x\ufffd", "one\ufffdtwo", "\ufffdtxt.exe", "\ufffd\ufffd\ufffd", "bad \ufffd\ufffd bytes"):
         holds(f"{line!r} in {text!r}", f"loud: {line}\n" in text)

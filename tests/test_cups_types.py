@@ -11,6 +11,7 @@ import subprocess
 import pytest
 
 from harness.checks import check, Difference, reports_all
+from harness.files import read
 from harness.programs import SHELL
 
 pytestmark = pytest.mark.needs("spool_shell")
@@ -64,8 +65,7 @@ def shown(text):
 @pytest.mark.skipif(not os.path.exists(FILE), reason="it needs CUPS's file of types (Debian's package cups-daemon)")
 @reports_all
 def test_all_lines_are_read_except_those_with_regex():
-    with open(FILE, "rb") as opened:
-        lines = lines_of(opened.read())
+    lines = lines_of(read(FILE))
     warned = set()
     for number, kind in warnings_of(SHELL, FILE):
         text = lines.get(number, b"")

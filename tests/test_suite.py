@@ -6,6 +6,7 @@ import subprocess
 import sys
 
 from harness.checks import same
+from harness.files import read
 from harness.programs import ROOT, TESTS
 
 # The names of fixtures. A function with one of these parameters alone is a test, or it is called.
@@ -14,8 +15,7 @@ FIXTURES = {"folder", "child_folder", "room", "memory_room", "place", "people", 
 
 def uncollected(path):
     """The functions of a file that look like tests, and that nothing runs."""
-    with open(path, encoding="utf-8") as file:
-        tree = ast.parse(file.read())
+    tree = ast.parse(read(path))
     used = {node.id for node in ast.walk(tree) if isinstance(node, ast.Name)}
     for node in tree.body:
         if isinstance(node, ast.FunctionDef) and not node.name.startswith("test_") and node.name not in used:
@@ -40,8 +40,7 @@ def test_each_script_is_a_test_or_a_plain_one():
     """CONTRIBUTING.md names the plain ones."""
     scripts = {name for name in os.listdir(TESTS) if name.endswith(".py") and not name.startswith("test_")}
     same("the scripts", scripts, {"conftest.py", *PLAIN})
-    with open(os.path.join(ROOT, "CONTRIBUTING.md"), encoding="utf-8") as file:
-        text = file.read()
+    text = read(os.path.join(ROOT, "CONTRIBUTING.md")).decode()
     same("those that CONTRIBUTING.md does not name", {name for name in PLAIN if f"{name}`" not in text}, set())
 
 
@@ -51,8 +50,7 @@ def test_each_script_that_is_named_exists():
     missing = set()
     for name in files:
         if name.endswith((".md", ".rt", ".py", ".sh", ".txt", "README")) and os.path.basename(name) not in ("CHANGES.md", "DECISIONS.md"):
-            with open(os.path.join(ROOT, name), encoding="utf-8") as file:
-                found = re.findall(r"(?<![\w/])(?:tests|bench)/[a-z_/]+\.(?:py|table|txt)\b", file.read())
+            found = re.findall(r"(?<![\w/])(?:tests|bench)/[a-z_/]+\.(?:py|table|txt)\b", read(os.path.join(ROOT, name)).decode())
             missing |= {(name, it) for it in found if not os.path.exists(os.path.join(ROOT, it))}
     same("scripts that do not exist", missing, set())
 

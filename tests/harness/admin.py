@@ -121,11 +121,7 @@ def traced(folder, words, *inject):
     strace = ["strace", "-qq", "-y", "-xx", "-s", "20", "-o", trace, "-e", "trace=" + ",".join(f"?{name}" for name in KILLED)]
     for one in inject:
         strace += ["-e", f"inject={one}"]
-    done = administer(*words, before=strace)
-    counts = {}
-    with open(trace, encoding="ascii") as file:
-        lines = [line.rstrip("\n") for line in file]
-    return done, [traces.Call(line, counts) for line in lines if traces.LINE.fullmatch(line)]
+    return administer(*words, before=strace), traces.calls_in(trace)
 
 
 class Trial:

@@ -2,6 +2,8 @@
 import os
 import re
 
+from harness.files import read, write
+from harness.journal import header, NEWEST
 from harness.programs import CRATES
 
 DATA = os.path.join(CRATES, "spool_scripts", "data")
@@ -16,7 +18,6 @@ CUTS = {b"# run\n", b"# tick\n"}
 SEND = re.compile(rb'[ \t]*("?)send\1[ \t]+("?)([0-9]+)\2[ \t]+("?)([0-9]+)\4[ \t]*')
 LEAST_SIZE = 4_096
 USUAL_SIZE = 4_194_304
-NEWEST = 2
 LONGEST_LINE = 4_096
 GREATEST_JOB = 2_147_483_647
 GREATEST_COUNT = 4_294_967_295
@@ -29,11 +30,7 @@ def lines_of(text):
 
 
 def stored_file(name, ending):
-    path = os.path.join(DATA, f"{name}.{ending}")
-    if not os.path.exists(path):
-        return None
-    with open(path, "rb") as file:
-        return file.read()
+    return read(os.path.join(DATA, f"{name}.{ending}"))
 
 
 def names():
@@ -44,11 +41,6 @@ def names():
         raise SystemExit(f"no script in {DATA}")
     made_up = {name for name in scripts if any(f"{name}.{ending}" in files for ending in MADE_UP)}
     return [name for name in scripts if name not in made_up and CUTS.isdisjoint(lines_of(stored_file(name, "script")))]
-
-
-def header(version):
-    """The first byte of an area of epoch 1 that is open."""
-    return bytes([0xA5, version]) + (1).to_bytes(8, "big") + bytes(6)
 
 
 def words_of(name, root):
@@ -63,8 +55,7 @@ def words_of(name, root):
     size = int(stored_file(name, "size") or USUAL_SIZE)
     version = int(stored_file(name, "version") or NEWEST)
     if size < LEAST_SIZE or version != NEWEST:
-        with open(os.path.join(root, "spool.disk"), "wb") as file:
-            file.write(header(version).ljust(size, b"\0"))
+        write(os.path.join(root, "spool.disk"), header(1, version=version).ljust(size, b"\0"))
     elif size != USUAL_SIZE:
         words += ["--size", str(size)]
     return words

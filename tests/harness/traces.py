@@ -5,6 +5,7 @@ Only the calls of the shell itself are included, and not those of its children.
 import os
 import re
 import subprocess
+from pathlib import Path
 
 from harness.checks import LONGEST
 
@@ -54,6 +55,12 @@ class Call:
         return f"{self.name} number {self.number} of {', '.join(map(repr, self.paths()))[:200]}"
 
 
+def calls_in(trace, is_call=LINE.fullmatch):
+    """The calls of a trace: of its lines that are calls."""
+    counts = {}
+    return [Call(line, counts) for line in Path(trace).read_text(encoding="ascii").splitlines() if is_call(line)]
+
+
 def run(words, cwd, script, trace, names, inject=None):
     """Runs a program over a script, and returns its result and its calls of these names. One may fail: `inject` is its name, its number
     among these, and its error.
@@ -63,7 +70,4 @@ def run(words, cwd, script, trace, names, inject=None):
         name, number, error = inject
         strace += ["-e", f"inject={name}:error={error}:when={number}"]
     done = subprocess.run([*strace, *words], cwd=cwd, input=script, capture_output=True, timeout=LONGEST)
-    counts = {}
-    with open(trace, encoding="ascii") as file:
-        lines = [line.rstrip("\n") for line in file]
-    return done, [Call(line, counts) for line in lines if not re.match(r"(---|\+\+\+)", line)]
+    return done, calls_in(trace, lambda line: not re.match(r"(---|\+\+\+)", line))
