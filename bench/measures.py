@@ -19,6 +19,8 @@ CREATE = b'create lab ann "A title" 1 50 ""\n'
 
 # The time in seconds until a large spool is open.
 LONGEST = 300
+# The room that a written spool has for events, in addition to the bytes of its rows again.
+ROOM = 1_048_576
 
 
 # ---- arguments
@@ -154,7 +156,9 @@ def service(*words, payloads=None):
     folder = Folder()
     try:
         if payloads is not None:
-            write(folder.at("spool", "spool.disk"), spool(payloads))
+            rows = list(payloads)
+            # The service accepts no job if less than its reserve is left, which is a part of an area.
+            write(folder.at("spool", "spool.disk"), spool(rows, sum(map(len, rows)) + ROOM))
         folder.launch("--quiet", *words)
         until("the service", folder.serves, LONGEST)
         yield folder

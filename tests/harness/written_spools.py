@@ -50,7 +50,7 @@ def timed_rows(count):
     return rows(count, lambda job: job * 7_919 % 1_000_003)
 
 
-def spool(payloads):
+def spool(payloads, room=4_096):
     """The bytes of a spool whose current area has these payloads, and room for more."""
-    half = header(1) + b"".join(map(record, payloads)) + bytes(4096)
+    half = header(1) + b"".join(map(record, payloads)) + bytes(room)
     return half + bytes(len(half))
