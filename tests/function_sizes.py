@@ -15,7 +15,8 @@ import sys
 from collections import Counter
 from pathlib import Path
 
-HERE = Path(__file__).resolve().parent.parent
+from harness.sources import HERE
+
 KEPT = re.compile(r"Rattle-(\w+?)(?:-(?:proofs|specs))?\.(.*)\.oantt")
 # What is kept of a function under its name: its cases in Lts, and its proof in these.
 CASES, PROOFS = "Lts", {"Proof", "Answers", "Invariants", "Given", "Goals", "Tie"}
