@@ -181,7 +181,7 @@ def test_another_split_waits_for_the_first(room):
 def is_whole_or_split(place, what):
     """Each job is in exactly one spool: the folder's, or the other folder's file, which may still have a name that is not served."""
     old = image_of()
-    source, target = place.names()
+    _, target = place.names()
     parts = [name for name in target if name == NAME or name.startswith(PART)]
     if place.source.content() == old:
         same(f"{what}: the other folder has no spool", NAME in target, False)

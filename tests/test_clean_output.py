@@ -49,7 +49,7 @@ def is_clean(what, text):
 
 
 def office(folder):
-    """A service with a job of a hostile client."""
+    """A service with a job of a hostile client: the front of another, and that client."""
     folder.start()
     client = Client(folder)
     folder.queue(client, "q")
@@ -57,14 +57,16 @@ def office(folder):
     same("info", client.ask(f'info q "{INFO}" "{INFO}"\n'), "ok")
     reply = client.ask(f'create q "{USER}" "{TITLE}" 1 50 "{OPTIONS}"\n')
     same("create", reply, "ok job 1")
-    return client, Front(folder)
+    front = Front(folder)
+    front.client = client
+    return front
 
 
 # ---- terminals
 
 
 def test_prints_tables(folder):
-    client, front = office(folder)
+    front = office(folder)
     text = front.says("spool", "status", environment={"COLUMNS": "200"})
     is_clean("status", text)
     holds(f"the title and the user are shown: {text!r}", CLEAN_TITLE in text and CLEAN_USER in text)
@@ -76,7 +78,7 @@ def test_prints_tables(folder):
 
 
 def test_prints_fields(folder):
-    client, front = office(folder)
+    front = office(folder)
     text = front.says("spool", "status", "1", environment={"COLUMNS": "200"})
     is_clean("a job", text)
     for line in (f"title       {CLEAN_TITLE}", f"user        {CLEAN_USER}", "options     media=\ufffd2J\ufffda4"):
@@ -87,7 +89,7 @@ def test_prints_fields(folder):
 
 
 def test_prints_forms_of_cups(folder):
-    client, front = office(folder)
+    front = office(folder)
     for words in (["lpq", "-P", "q"], ["lpq", "-a"], ["lpstat", "-o"], ["lpstat", "-t"]):
         text = front.says(*words)
         is_clean(" ".join(words), text)
@@ -95,10 +97,10 @@ def test_prints_forms_of_cups(folder):
 
 
 def test_prints_changes(folder):
-    client, front = office(folder)
+    front = office(folder)
     child = front.start("spool", "watch")
     moments = itertools.count(4_000_000_000)
-    line = first_line(child, lambda: client.ask(f"hold 1 {next(moments)}\n"))
+    line = first_line(child, lambda: front.client.ask(f"hold 1 {next(moments)}\n"))
     child.kill()
     child.communicate()
     is_clean("watch", line)
@@ -165,7 +167,7 @@ def test_prints_names_of_files(folder):
 
 
 def test_writes_json(folder):
-    client, front = office(folder)
+    front = office(folder)
     for words, job in ((["spool", "status", "--json"], lambda value: value[0]), (["spool", "status", "1", "--json"], lambda value: value["asked"])):
         text = front.says(*words)
         is_clean(" ".join(words), text)
@@ -176,7 +178,7 @@ def test_writes_json(folder):
 
 
 def test_writes_page(folder):
-    client, front = office(folder)
+    front = office(folder)
     front.says("spool", "page", folder.at("page.html"))
     text = folder.read("page.html")
     is_clean("the page", text)
@@ -201,8 +203,7 @@ def test_logs_standard_error(folder):
 
 
 def test_logs_users(folder):
-    client, front = office(folder)
-    same("hold", client.ask("hold 1 indefinite\n"), "ok")
+    same("hold", office(folder).client.ask("hold 1 indefinite\n"), "ok")
     until("the line of the job", lambda: "job 1" in folder.log())
     text = folder.log()
     is_clean("the log", text)

@@ -278,7 +278,7 @@ def check_replies(end, usual):
         holds(f"it replied {end.lines}", len(end.lines) == len(usual) and all(line.startswith("ok") for line in end.lines))
 
 
-def check_stage(end, table):
+def check_stage(table):
     """One job of two failed, and the other one was printed."""
     ill = [job for job in table.jobs.values() if job.phase in ENDED_ILL]
     well = [job for job in table.jobs.values() if job.phase == "completed"]
@@ -298,7 +298,7 @@ def check_file(place, end, commands, kept, first):
     if end.outcome == "blind":
         return
     if end.outcome == "stage":
-        check_stage(end, table)
+        check_stage(table)
         return
     begins = payloads[:len(before)] == before
     holds(f"the file has {table.jobs_reply()}, in version {table.version}", rows_and_version(table) in tables or is_round and begins)

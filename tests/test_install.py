@@ -110,7 +110,7 @@ def test_installs(script, room, prefix, words):
     check(run.returncode == 0, f"{prefix}: install.sh ends with {run.returncode}: {run.stderr}")
     there = seen(below)
     fits_manifest(below, prefix, words, before, there)
-    unit_fits(below, prefix, there)
+    unit_fits(prefix, there)
     run = ran(script, *words, prefix, below=below)
     check(run.returncode == 0 and seen(below) == there, f"{prefix}: a second install differs: {run.stderr}")
     run = ran(script, "--remove", prefix, below=below)
@@ -137,7 +137,7 @@ def fits_manifest(below, prefix, words, before, there):
     check({Path(it).name for it in there if "/share/man/" in it and there[it][0] == "file"} == pages, f"{prefix}: man pages are missing")
 
 
-def unit_fits(below, prefix, there):
+def unit_fits(prefix, there):
     """The unit and the programs file name only files that exist."""
     unit = there[f"{prefix}/lib/systemd/system/cegmandi.service"][2].decode()
     etc = "/etc/cegmandi" if prefix in ("/usr", "/usr/local") else f"{prefix}/etc/cegmandi"

@@ -54,7 +54,7 @@ def image_of_documents():
 
 def in_second_area(file, epoch=7):
     """The same spool with its areas exchanged, and an older one in the other area."""
-    first, second = journal.halves(file)
+    first, _ = journal.halves(file)
     rest = file[2 * len(first):]
     return journal.area(len(first), epoch - 1, [spelled(Q.event())]) + journal.header(epoch, version=first[1]) + first[journal.HEADER:] + rest
 
