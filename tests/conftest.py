@@ -10,10 +10,12 @@ skipped, and the summary says why.
 The folder of a test that failed is kept, and its path is printed with the failure.
 """
 import atexit
+import contextlib
 import fcntl
 import os
 import random
 import shutil
+import subprocess
 import tempfile
 
 import pytest
@@ -178,6 +180,33 @@ def folder(request):
     yield made
     made.end()
     kept_if_failed(request, made.path)
+
+
+class SmallDisk:
+    """A file system of its own in a folder, in memory, with these further options."""
+
+    def __init__(self, path, size, *options):
+        self.path, self.filler = path, os.path.join(path, "filler")
+        words = ["mount", "-t", "tmpfs", "-o", ",".join([f"size={size}", *options]), "none", path]
+        if subprocess.run(words, capture_output=True).returncode:
+            pytest.skip("it needs to mount a file system")
+
+    def fill(self):
+        """Writes a file until there is no room."""
+        with open(self.filler, "wb", buffering=0) as file:
+            for size in (65_536, 512):
+                with contextlib.suppress(OSError):
+                    while True:
+                        file.write(bytes(size))
+
+
+@pytest.fixture
+def small_disk():
+    """Mounts a file system in a folder until the end of the test. A program may still use it then."""
+    made = []
+    yield lambda *words: made.append(SmallDisk(*words)) or made[-1]
+    for disk in made:
+        subprocess.run(["umount", "--lazy", disk.path], check=True)
 
 
 @pytest.fixture

@@ -8,22 +8,17 @@ Controls must be seen to fail: the same calls without the first sync of each bat
 record opened before the first sync, and with the records of a batch opened one by one.
 """
 import random
-import re
-import signal
-import subprocess
 from contextlib import contextmanager
+from pathlib import Path
 
 import pytest
 
-from harness import power_cuts, traces
-from harness.checks import Difference, holds, same, until
+from harness import power_cuts
+from harness.checks import Difference, holds, same
 from harness.programs import SHELL
-from harness.service import Client, PIECE
+from harness.service import Client, PIECE, served_clients
 
 pytestmark = [pytest.mark.strace, pytest.mark.needs("spool_service", "spool_shell")]
-
-# The names of the calls that are traced.
-NAMES = (*power_cuts.WRITES, *power_cuts.SYNCS, "lseek", "sendto")
 
 # The files that are opened, usually and for the long tests, and the greatest number until a control is seen.
 COUNT, LONG_COUNT, CONTROL = 150, 3_000, 1_000
@@ -43,30 +38,13 @@ FUTURE = 4_000_000_000
 DOCUMENTS, PART = 40, 1_048_576
 
 
-class ServiceTracing(power_cuts.Tracing):
-    """The steps of a service that was running before: what it writes to a socket acknowledges what was done before."""
-
-    def take_call(self, call):
-        if call.name == "sendto" or (call.name == "write" and any(path.startswith("socket:") for path in call.files)):
-            self.steps.append(power_cuts.Step("reply"))
-        elif call.name != "sendto":
-            super().take_call(call)
-
-
 @contextmanager
 def traced(folder):
     """The steps of the service meanwhile, once the context has ended."""
-    tracing, out = ServiceTracing(folder.at("spool")), folder.at("calls")
-    command = ["strace", "-y", "-xx", "-qq", "-s", str(traces.SHOWN), "-o", out, "-e", "trace=" + ",".join(NAMES)]
-    with subprocess.Popen([*command, "-p", str(folder.running.pid)], stderr=subprocess.DEVNULL) as strace:
-        until("the trace", lambda: b"TracerPid:\t0\n" not in open(f"/proc/{folder.running.pid}/status", "rb").read())
-        try:
-            yield tracing
-        finally:
-            strace.send_signal(signal.SIGINT)
-    counts = {}
-    with open(out, encoding="ascii") as lines:
-        tracing.take(traces.Call(line.rstrip("\n"), counts) for line in lines if re.match(r"\w+\(.*=", line))
+    tracing = power_cuts.ServiceTracing(folder.at("spool"))
+    with folder.traced(*power_cuts.SERVICE_STRACE):
+        yield tracing
+    tracing.read(folder.at("calls"))
 
 
 def batch(job, count):
@@ -81,11 +59,7 @@ def batch(job, count):
 def held_queue(folder, size=262_144):
     """A client of a service whose queue prints nothing."""
     folder.size = size
-    folder.start()
-    client = Client(folder)
-    folder.queue(client, "q")
-    same("disable", client.ask("disable q\n"), "ok")
-    return client
+    return folder.open("q", stopped=True)
 
 
 def said_well(client, count):
@@ -94,8 +68,7 @@ def said_well(client, count):
 
 
 def image_of(folder):
-    with open(folder.at("spool", "spool.disk"), "rb") as file:
-        return file.read()
+    return Path(folder.at("spool", "spool.disk")).read_bytes()
 
 
 def by_one(folder):
@@ -114,15 +87,11 @@ def by_many(folder):
     """The same of many clients, whose batches come while the service is stopped, so that one turn serves them."""
     first = held_queue(folder)
     jobs = [first.create("q") for _ in range(CLIENTS)]
-    clients = [Client(folder) for _ in jobs]
-    for client in clients:
-        holds("a turn of its own", client.ask("cancel 999\n").startswith("error "))
-    before = image_of(folder)
+    clients, before = served_clients(folder, CLIENTS), image_of(folder)
     with traced(folder) as tracing:
-        folder.running.send_signal(signal.SIGSTOP)
-        for client, job, count in zip(clients, jobs, range(2, 2 + CLIENTS)):
-            client.say(b"".join(batch(job, count)))
-        folder.running.send_signal(signal.SIGCONT)
+        with folder.paused():
+            for client, job, count in zip(clients, jobs, range(2, 2 + CLIENTS)):
+                client.say(b"".join(batch(job, count)))
         for client, count in zip(clients, range(2, 2 + CLIENTS)):
             said_well(client, count)
     return before, tracing.steps
@@ -180,10 +149,9 @@ def test_a_batch_of_many_documents_has_parts(folder):
     jobs = [first.create("q") for _ in range(DOCUMENTS)]
     clients = [Client(folder) for _ in jobs]
     with traced(folder) as tracing:
-        folder.running.send_signal(signal.SIGSTOP)
-        for client, job in zip(clients, jobs):
-            client.say(b"send %d %d\n%s\n" % (job, PIECE, bytes(PIECE)))
-        folder.running.send_signal(signal.SIGCONT)
+        with folder.paused():
+            for client, job in zip(clients, jobs):
+                client.say(b"send %d %d\n%s\n" % (job, PIECE, bytes(PIECE)))
         for client in clients:
             same("send", client.reply(), f"ok bytes {PIECE}")
     parts = [0]

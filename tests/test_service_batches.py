@@ -3,19 +3,17 @@
 The service's calls are observed by strace, which also kills it at one of them.
 """
 import re
-import signal
-import subprocess
-from contextlib import contextmanager
 
 import pytest
 
-from harness.checks import holds, same, until
+from harness.checks import holds, same
 from harness.front import Front
-from harness.service import Client
+from harness.service import Client, served_clients
 
 pytestmark = pytest.mark.strace
 
-SYNCS = "trace=fsync,fdatasync,sendto,write"
+# The words of strace.
+SYNCS = ("-f", "-e", "trace=fsync,fdatasync,sendto,write")
 
 
 def submission(job, text=b"hello\n"):
@@ -25,46 +23,36 @@ def submission(job, text=b"hello\n"):
 
 def held_queue(folder):
     """A client of a service whose queue prints nothing yet, and the number of the next job."""
-    folder.start()
-    client = Client(folder)
-    folder.queue(client, "q")
-    same("disable", client.ask("disable q\n"), "ok")
+    client = folder.open("q", stopped=True)
     return client, client.create("q") + 1
 
 
-@contextmanager
-def traced(folder, *words):
-    """The calls of the service meanwhile, as strace writes them to the file."""
-    out = folder.at("calls")
-    command = ["strace", "-f", "-y", "-qq", "-o", out, "-e", SYNCS, *words, "-p", str(folder.running.pid)]
-    with subprocess.Popen(command, stderr=subprocess.DEVNULL) as strace:
-        until("the trace", lambda: b"TracerPid:\t0\n" not in open(f"/proc/{folder.running.pid}/status", "rb").read())
-        try:
-            yield out
-        finally:
-            strace.send_signal(signal.SIGINT)
-
-
-def calls_in(out):
+def calls_in(folder):
     """The syncs of the spool and the writes to sockets, in order: `sync` or `reply`."""
     calls = []
-    with open(out, encoding="utf-8", errors="replace") as lines:
-        for line in lines:
-            if re.search(r"f(data)?sync\(\d+<[^>]*spool\.disk", line):
-                calls.append("sync")
-            elif re.search(r"(sendto|write)\(\d+<(socket|UNIX)", line):
-                calls.append("reply")
+    for line in folder.read("calls").splitlines():
+        if re.search(r"f(data)?sync\(\d+<[^>]*spool\.disk", line):
+            calls.append("sync")
+        elif re.search(r"(sendto|write)\(\d+<(socket|UNIX)", line):
+            calls.append("reply")
     return calls
+
+
+def say_at_once(folder, clients, jobs):
+    """Each client sends a document and closes its job, and one turn serves all of them."""
+    with folder.paused():
+        for client, job in zip(clients, jobs):
+            client.say(b"send %d 6\nhello\n\nclose %d f\n" % (job, job))
 
 
 def test_one_pair_of_syncs(folder):
     """A submission that is sent at once costs two syncs, and its replies come after them."""
     client, job = held_queue(folder)
-    with traced(folder) as out:
+    with folder.traced(*SYNCS):
         client.say(submission(job))
         replies = [client.reply() for _ in range(3)]
     same("replies", replies, [f"ok job {job}", "ok bytes 6", "ok type application/octet-stream stages 1"])
-    calls = calls_in(out)
+    calls = calls_in(folder)
     same("syncs", calls[:2], ["sync", "sync"])
     holds(f"its replies: {calls}", "reply" in calls and "sync" not in calls[2:])
 
@@ -72,18 +60,12 @@ def test_one_pair_of_syncs(folder):
 def test_clients_share_a_pair_of_syncs(folder):
     """Commands of 16 clients that come at the same time cost two syncs, and no client gets a reply before these."""
     first, _ = held_queue(folder)
-    jobs = [first.create("q") for _ in range(16)]
-    clients = [Client(folder) for _ in jobs]
-    for client in clients:
-        holds("it has a place", client.ask("cancel 999\n").startswith("error "))
-    with traced(folder) as out:
-        folder.running.send_signal(signal.SIGSTOP)
-        for client, job in zip(clients, jobs):
-            client.say(b"send %d 6\nhello\n\nclose %d f\n" % (job, job))
-        folder.running.send_signal(signal.SIGCONT)
+    clients, jobs = served_clients(folder, 16), [first.create("q") for _ in range(16)]
+    with folder.traced(*SYNCS):
+        say_at_once(folder, clients, jobs)
         for client in clients:
             same("replies", [client.reply(), client.reply()], ["ok bytes 6", "ok type application/octet-stream stages 1"])
-    calls = calls_in(out)
+    calls = calls_in(folder)
     same("syncs before the first reply", calls[:2], ["sync", "sync"])
     same("the others are replies", set(calls[2:]), {"reply"})
 
@@ -94,10 +76,9 @@ def test_turns_of_a_large_submission(folder):
     held_queue(folder)
     with open(folder.at("document"), "wb") as document:
         document.write(bytes(range(256)) * 4_096)
-    with traced(folder, "-s", "4096") as out:
+    with folder.traced(*SYNCS, "-s", "4096"):
         Front(folder).says("spool", "submit", "q", folder.at("document"))
-    with open(out, encoding="utf-8", errors="replace") as lines:
-        replies = [line for line in lines if re.search(r"sendto\(\d+<(socket|UNIX)", line)]
+    replies = [line for line in folder.read("calls").splitlines() if re.search(r"sendto\(\d+<(socket|UNIX)", line)]
     pieces = "".join(replies).count("ok bytes ")
     holds(f"pieces of at most 64 KiB: {pieces}", pieces >= 16)
     holds(f"{len(replies)} turns for {pieces} pieces: {replies}", len(replies) <= pieces)
@@ -106,26 +87,25 @@ def test_turns_of_a_large_submission(folder):
 def test_separate_commands(folder):
     """Commands that wait for the reply of the one before cost two syncs each."""
     client, job = held_queue(folder)
-    with traced(folder) as out:
+    with folder.traced(*SYNCS):
         same("job", client.create("q"), job)
         client.finish(job)
-    same("calls", [call for call in calls_in(out) if call == "sync"], ["sync"] * 6)
+    same("syncs", calls_in(folder).count("sync"), 6)
 
 
 @pytest.mark.parametrize("number", [1, 2])
 def test_a_kill_at_a_sync(folder, number):
     """A service that is killed at a sync of a batch leaves none of its events or all of them, and sent no reply."""
     client, job = held_queue(folder)
-    with traced(folder, "-e", f"inject=fsync,fdatasync:signal=KILL:when={number}"):
+    with folder.traced(*SYNCS, "-e", f"inject=fsync,fdatasync:signal=KILL:when={number}"):
         client.say(submission(job))
         same("it sends nothing", client.is_closed(), True)
         folder.running.wait()
-    folder.start()
-    client = Client(folder)
+    client = folder.open()
     fields = client.fields(job)
     holds(f"none or all: {fields}", not fields or (fields["size"], fields["state"]) == ("6", "3"))
     if fields:
-        same("enable", client.ask("enable q\n"), "ok")
+        client.does("enable q")
         client.until_state(job, "9")
         same("printed", folder.printed(), "hello\n")
 
@@ -134,15 +114,9 @@ def test_a_kill_at_a_sync(folder, number):
 def test_a_call_that_fails_in_a_batch(folder, call, number):
     """If the disk fails within a turn, no client gets a reply, and none of the turn's events remains or all."""
     first, _ = held_queue(folder)
-    jobs = [first.create("q") for _ in range(8)]
-    clients = [Client(folder) for _ in jobs]
-    for client in clients:
-        holds("it has a place", client.ask("cancel 999\n").startswith("error "))
-    with traced(folder, "-e", f"trace={call}", "-e", f"inject={call}:error=EIO:when={number}"):
-        folder.running.send_signal(signal.SIGSTOP)
-        for client, job in zip(clients, jobs):
-            client.say(b"send %d 6\nhello\n\nclose %d f\n" % (job, job))
-        folder.running.send_signal(signal.SIGCONT)
+    clients, jobs = served_clients(folder, 8), [first.create("q") for _ in range(8)]
+    with folder.traced("-f", "-e", f"trace={call}", "-e", f"inject={call}:error=EIO:when={number}"):
+        say_at_once(folder, clients, jobs)
         for client in clients:
             same("it sends nothing", client.is_closed(), True)
         same("it ends", folder.running.wait(), 1)

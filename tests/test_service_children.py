@@ -9,7 +9,7 @@ from harness.checks import holds, LONGEST, same, until
 from harness.child_folder import SIDE_END
 from harness.large_run import TYPE
 from harness.programs import SHELL
-from harness.service import Client, is_there, kill_children, listings, started, undelayed, WAITS
+from harness.service import Client, is_there, listings, started, undelayed, WAITS
 
 # A backend that writes its process number and hangs, with a child of its own.
 HANGS = """#!/bin/sh
@@ -36,9 +36,7 @@ echo "ends $PRINTER" >>FOLDER/turns
 
 def test_a_job_prints_while_a_slow_one_does(folder):
     folder.backend("waits", WAITS)
-    folder.start()
-    client = Client(folder)
-    folder.queue(client, "slow", scheme="waits")
+    client = folder.open("slow", scheme="waits")
     folder.queue(client, "fast")
     usual = listings(client)
     slow = client.submit("slow", "slow\n")
@@ -55,15 +53,10 @@ def test_a_job_prints_while_a_slow_one_does(folder):
 def test_at_most_two_at_once(folder):
     """With --children 2 no third child runs, and each of eight queues gets its turn."""
     folder.backend("bounded", BOUNDED)
-    folder.start("--children", "2")
-    client = Client(folder)
     names = [f"q{number}" for number in range(8)]
-    for name in names:
-        folder.queue(client, name, scheme="bounded")
-        same("disable", client.ask(f"disable {name}\n"), "ok")
+    client = folder.open(*names, words=["--children", "2"], stopped=True, scheme="bounded")
     jobs = [client.submit(name) for _ in range(4) for name in names]
-    for name in names:
-        same("enable", client.ask(f"enable {name}\n"), "ok")
+    client.does(*(f"enable {name}" for name in names))
     client.until_ended(jobs, "9", 120)
     running, most, begun = 0, 0, []
     for line in folder.read("turns").splitlines():
@@ -83,9 +76,7 @@ def test_at_most_two_at_once(folder):
 def test_a_child_that_hangs(folder):
     """It delays neither a hundred jobs of other queues nor a client, and `end` ends it with all processes that it has started."""
     folder.backend("hangs", HANGS)
-    folder.start()
-    client = Client(folder)
-    folder.queue(client, "stuck", policy="abort-job", scheme="hangs")
+    client = folder.open("stuck", policy="abort-job", scheme="hangs")
     for number in range(4):
         folder.queue(client, f"q{number}")
     stuck, next_one = client.submit("stuck"), client.submit("stuck")
@@ -109,17 +100,15 @@ def test_a_child_that_hangs(folder):
 def test_a_child_of_a_canceled_job(folder):
     """It blocks its queue until it has ended, and is ended by `end` as well."""
     folder.backend("hangs", HANGS)
-    folder.start()
-    client = Client(folder)
-    folder.queue(client, "stuck", scheme="hangs")
+    client = folder.open("stuck", scheme="hangs")
     first, second = client.submit("stuck"), client.submit("stuck")
     client.until_state(first, "5")
     pids = started(folder, 2)
-    same("cancel", client.ask(f"cancel {first}\n"), "ok")
+    client.does(f"cancel {first}")
     same("purge while its child runs", client.ask(f"purge {first}\n"), "error 16 NotEnded")
     time.sleep(0.5)
     same("the next one waits", client.state(second)[0], "3")
-    same("end", client.ask(f"end {first}\n"), "ok")
+    client.does(f"end {first}")
     client.until_state(second, "5")
     until("all processes that it had started have ended", lambda: not any(is_there(pid) for pid in pids))
     same("the canceled one", client.state(first), "7 canceled")
@@ -131,13 +120,11 @@ def test_a_child_of_a_canceled_job(folder):
 def test_a_child_that_ignores_its_end(folder):
     """It is killed ten seconds after it was asked to end."""
     folder.backend("stays", STAYS)
-    folder.start()
-    client, other = Client(folder), Client(folder)
-    folder.queue(client, "stuck", policy="abort-job", scheme="stays")
+    client, other = folder.open("stuck", policy="abort-job", scheme="stays"), Client(folder)
     job = client.submit("stuck")
     pids, usual = started(folder, 1), listings(other)
     began = time.time()
-    same("end", client.ask(f"end {job}\n"), "ok")
+    client.does(f"end {job}")
     same("again", client.ask(f"end {job}\n"), "ok")
     undelayed("while it is to end", listings(other), usual)
     client.until_state(job, "8")
@@ -175,12 +162,10 @@ def test_a_child_with_a_side_channel(folder):
     """It is ended too, although another process starts its session."""
     with_side_channels(folder)
     folder.backend("hangs", HANGS)
-    folder.start()
-    client = Client(folder)
-    folder.queue(client, "stuck", policy="abort-job", scheme="hangs")
+    client = folder.open("stuck", policy="abort-job", scheme="hangs")
     job = client.submit("stuck")
     pids = started(folder, 2)
-    same("end", client.ask(f"end {job}\n"), "ok")
+    client.does(f"end {job}")
     client.until_state(job, "8")
     until("all processes that it had started have ended", lambda: not any(is_there(pid) for pid in pids))
 
@@ -189,8 +174,7 @@ def test_a_child_that_asks_while_it_runs(folder):
     """The side channels are served together with the clients: a child that waits for an answer does not hang."""
     with_side_channels(folder)
     folder.backend("asks", ASKS)
-    folder.start()
-    client = Client(folder)
+    client = folder.open()
     folder.queue(client, "q", "o?state=7", "abort-job", scheme="asks")
     client.until_state(client.submit("q"), "9")
 
@@ -245,9 +229,7 @@ def test_requests_as_quick_as_in_the_shell(folder):
     by_shell = took(folder)
     for name in os.listdir(folder.at("spool")):
         os.remove(folder.at("spool", name))
-    folder.start("--children", "1")
-    client = Client(folder)
-    folder.queue(client, "q", "", "abort-job", scheme="asks")
+    client = folder.open("q", words=["--children", "1"], policy="abort-job", scheme="asks")
     # A client that waits sends nothing, so that no turn of the service is due to it.
     client.connection.settimeout(300)
     same("the job of the service", client.ask(f"wait {client.submit('q')}\n").split()[3], "9")
@@ -282,9 +264,7 @@ def test_a_child_that_floods_its_side_channel(folder):
     """It delays no client: a turn serves the side channels for about a millisecond, whatever arrives."""
     with_side_channels(folder)
     folder.backend("floods", FLOODS)
-    folder.start()
-    client = Client(folder)
-    folder.queue(client, "q", "", "abort-job", scheme="floods")
+    client = folder.open("q", policy="abort-job", scheme="floods")
     usual = listings(client, 100)
     job = client.submit("q")
     client.until_state(job, "5")
@@ -302,11 +282,8 @@ def test_a_child_that_floods_its_side_channel(folder):
 def test_few_descriptors(folder):
     """If the system has few descriptors for the service, fewer children run at once, and no job loses an attempt."""
     folder.limit_descriptors(64)
-    folder.start()
-    client = Client(folder)
     names = [f"q{number:02}" for number in range(24)]
-    for name in names:
-        folder.queue(client, name, 0.3, "abort-job")
+    client = folder.open(*names, seconds=0.3, policy="abort-job")
     jobs = [client.submit(name) for _ in range(3) for name in names]
     until("all have ended", lambda: all(state[0] in "789" for state in client.states().values()), 120)
     same("jobs that were not printed", [job for job, state in client.states().items() if state[0] != "9"], [])
@@ -321,16 +298,12 @@ def test_processes_that_are_refused(folder):
     """If the system refuses processes for a moment, at most four jobs lose an attempt, and nothing is started for two seconds. At most four
     children are started in a turn.
     """
-    calls = folder.at("calls")
     refusal = ["-e", f"trace={STARTS},epoll_wait,epoll_pwait", "-e", f"inject={STARTS}:error=EAGAIN:when=1..4"]
-    folder.before += ["strace", "-qq", "-o", calls, *refusal]
-    folder.start()
-    try:
-        client = Client(folder)
-        names = [f"q{number:02}" for number in range(12)]
+    names = [f"q{number:02}" for number in range(12)]
+    with folder.under_strace(*refusal) as client:
         for name in names:
             folder.queue(client, name, policy="abort-job")
-            same("disable", client.ask(f"disable {name}\n"), "ok")
+            client.does(f"disable {name}")
         jobs = [client.submit(name, f"{name}\n") for name in names]
         client.say("".join(f"enable {name}\n" for name in names))
         same("enable", [client.reply() for _ in names], ["ok"] * len(names))
@@ -345,49 +318,26 @@ def test_processes_that_are_refused(folder):
         print(f"  the others were printed {took:.2f} s later")
         holds("not before two seconds", 1.8 < took < 40)
         folder.shut_down()
-    finally:
-        kill_children(folder.running.pid)
-    with open(calls, encoding="ascii", errors="replace") as file:
-        names = [line.partition("(")[0] for line in file]
+    names = [line.partition("(")[0] for line in folder.read("calls").splitlines()]
     turns = "".join("," if name.startswith("epoll") else "s" * (name in STARTS.split(",")) for name in names).split(",")
     same("the most starts in a turn", max(len(turn) for turn in turns), 4)
 
 
-def test_a_full_folder(folder):
+def test_a_full_folder(folder, small_disk):
     """While the folder has no room nothing is started, and no job loses an attempt. Then all are printed."""
-    root = folder.at("spool")
-    mounted = subprocess.run(["mount", "-t", "tmpfs", "-o", "size=24m", "none", root], capture_output=True, text=True)
-    if mounted.returncode:
-        pytest.skip("a file system of its own (it needs root, and may not mount one)")
-    try:
-        folder.start()
-        client = Client(folder)
-        folder.queue(client, "q", policy="abort-job")
-        folder.queue(client, "other", policy="retry-job")
-        client.until_state(client.submit("q", "before\n"), "9")
-        usual = listings(client)
-        fill(os.path.join(root, "filler"))
-        # Free space that was seen is relied on for a moment.
-        time.sleep(0.2)
-        jobs = [client.submit(name, f"{name}\n") for name in ("q", "other", "q", "other")]
-        time.sleep(10 if folder.is_long else 3)
-        same("they wait", [(client.state(job), client.fields(job)["attempts"]) for job in jobs], [("3 none", "0")] * 4)
-        undelayed("without room", listings(client), usual)
-        os.remove(os.path.join(root, "filler"))
-        client.until_ended(jobs)
-        same("each by one attempt", [client.fields(job)["attempts"] for job in jobs], ["1"] * 4)
-        same("printed", sorted(folder.printed().split()), ["before", "other", "other", "q", "q"])
-    finally:
-        folder.end()
-        subprocess.run(["umount", root], check=True)
-
-
-def fill(path):
-    """Writes a file until there is no room."""
-    with open(path, "wb", buffering=0) as file:
-        for size in (65_536, 512):
-            try:
-                while True:
-                    file.write(bytes(size))
-            except OSError:
-                pass
+    disk = small_disk(folder.at("spool"), "24m")
+    client = folder.open("q", policy="abort-job")
+    folder.queue(client, "other", policy="retry-job")
+    client.until_state(client.submit("q", "before\n"), "9")
+    usual = listings(client)
+    disk.fill()
+    # Free space that was seen is relied on for a moment.
+    time.sleep(0.2)
+    jobs = [client.submit(name, f"{name}\n") for name in ("q", "other", "q", "other")]
+    time.sleep(10 if folder.is_long else 3)
+    same("they wait", [(client.state(job), client.fields(job)["attempts"]) for job in jobs], [("3 none", "0")] * 4)
+    undelayed("without room", listings(client), usual)
+    os.remove(disk.filler)
+    client.until_ended(jobs)
+    same("each by one attempt", [client.fields(job)["attempts"] for job in jobs], ["1"] * 4)
+    same("printed", sorted(folder.printed().split()), ["before", "other", "other", "q", "q"])

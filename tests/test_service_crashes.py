@@ -5,23 +5,19 @@ import time
 
 import pytest
 
-from harness import power_cuts as cuts, traces
+from harness import power_cuts as cuts
 from harness.checks import holds, same, until
 from harness.programs import SHELL
-from harness.service import Client, kill_children, patient_client, Submitter, WAITS
+from harness.service import Client, patient_client, Submitter, WAITS
 
 # ---- kills
 
 
 def test_killed_and_started_again(folder):
-    folder.start()
-    client = Client(folder)
-    folder.queue(client, "q", 2)
+    client = folder.open("q", seconds=2)
     jobs = [client.submit("q", f"{number}\n") for number in range(3)]
     client.until_state(jobs[0], "5")
-    folder.kill()
-    folder.start()
-    client = Client(folder)
+    client = folder.reopen()
     client.until_ended(jobs)
     same("each was printed", sorted(set(folder.printed().split())), ["0", "1", "2"])
 
@@ -29,8 +25,7 @@ def test_killed_and_started_again(folder):
 def test_ends_as_its_queue_says(folder):
     """A job whose attempt is lost with the service is tried again or ends as the policy of its queue says."""
     folder.backend("waits", WAITS)
-    folder.start()
-    client = Client(folder)
+    client = folder.open()
     policies = {"abort-job": "8 attempt-lost", "retry-job": "9", "retry-current-job": "9", "stop-printer": "3 none"}
     jobs = {}
     for policy in policies:
@@ -39,8 +34,7 @@ def test_ends_as_its_queue_says(folder):
     client.until_ended(jobs.values(), "5")
     folder.kill()
     folder.write("go", "")
-    folder.start()
-    client = Client(folder)
+    client = folder.open()
     for policy, state in policies.items():
         client.until_state(jobs[policy], state)
     stopped = [line.split()[1] for line in client.listing("queues\n") if line.split()[2] == "5"]
@@ -95,51 +89,20 @@ def check_printed(folder, titles, what):
 
 # ---- power cuts
 
-# A service's calls in addition to those that tests/test_power_cuts.py knows for a shell.
-SOCKET_WRITES = ("write", "writev", "sendto", "sendmsg")
-NAMES = (*cuts.NAMES, "writev", "sendto", "sendmsg")
+def traced_service(folder, children):
+    """The steps of a service that prints by these children, does its maintenance and is shut down."""
+    folder.words, folder.size = [*children.words, "--keep", "2"], cuts.SIZE
+    folder.environment["ASAN_OPTIONS"] = "detect_leaks=0"
+    with folder.under_strace(*cuts.SERVICE_STRACE) as client:
+        converse(folder, client, Client(folder))
+        folder.shut_down()
+    tracing = cuts.ServiceTracing(folder.at("spool"))
+    tracing.read(folder.at("calls"))
+    return tracing.steps
 
 
-class Tracing(cuts.Tracing):
-    """The steps of a service: a write to a client is a reply."""
-
-    def take_call(self, call):
-        if call.name in SOCKET_WRITES and any(path.startswith(("socket:", "UNIX")) for path in call.files[:1]):
-            self.steps.append(cuts.Step("reply"))
-        else:
-            super().take_call(call)
-
-
-class ServiceRunFolder(cuts.RunFolder):
-    """A folder for a service that runs under strace, and then for the shell, which opens the files that a cut leaves."""
-
-    def __init__(self, shell, folder):
-        super().__init__(shell, folder.path)
-        self.room = folder
-
-    def traced_service(self):
-        """The steps of a service that prints, does its maintenance and is shut down."""
-        folder, trace = self.room, self.room.at("trace")
-        folder.words, folder.size = [*self.children.words, "--keep", "2"], cuts.SIZE
-        names = "trace=" + ",".join(f"?{name}" for name in NAMES)
-        folder.before += ["strace", "-y", "-xx", "-s", str(traces.SHOWN), "-o", trace, "-e", names]
-        folder.environment["ASAN_OPTIONS"] = "detect_leaks=0"
-        folder.start()
-        try:
-            converse(folder)
-            folder.shut_down()
-        finally:
-            kill_children(folder.running.pid)
-        counts, tracing = {}, Tracing(folder.at("spool"))
-        with open(trace, encoding="ascii") as file:
-            lines = [line.rstrip("\n") for line in file]
-        tracing.take([traces.Call(line, counts) for line in lines if not line.startswith(("---", "+++"))])
-        return tracing.steps
-
-
-def converse(folder):
+def converse(folder, first, second):
     """Two clients whose jobs have one filter each. At most two ended jobs are kept."""
-    first, second = Client(folder), Client(folder)
     folder.queue(first, "hall", 0, "retry-job", "s", "a/b", 1)
     folder.queue(second, "lab", 6, "retry-current-job", "s", "a/b", 1)
     jobs = []
@@ -160,8 +123,8 @@ def converse(folder):
 @pytest.mark.needs("spool_shell")
 def test_power_cuts(folder, seed):
     """Each file that a power cut may leave has the table after a prefix of the events, including all that were acknowledged."""
-    run_folder = ServiceRunFolder(SHELL, folder)
-    steps = run_folder.traced_service()
+    run_folder = cuts.RunFolder(SHELL, folder.path)
+    steps = traced_service(folder, run_folder.children)
     kinds = [step.kind for step in steps]
     print(f"  {len(steps)} steps: " + ", ".join(f"{kinds.count(kind)} {kind}" for kind in sorted(set(kinds))))
     holds("replies, starts and syncs were seen", {"reply", "start", "sync", "write"} <= set(kinds))

@@ -6,12 +6,8 @@ import pytest
 
 from harness.checks import holds, LONGEST, same, until
 from harness.large_run import TYPE
-from harness.service import Client, is_there, PRINTS, SAYS, work_of
+from harness.service import Client, ENDS, fields_of, HANGS, is_there, PRINTS, SAYS, work_of
 from harness.written_spools import rows, spool
-
-# A backend that ends as its device's URI says, and one that is canceled while it prints.
-ENDS = '#!/bin/sh\nexit "${DEVICE_URI##*/}"\n'
-HANGS = "#!/bin/sh\necho $$ >>FOLDER/pids\nexec sleep 1000\n"
 
 # A scheme without a program.
 MISSING = "missing"
@@ -38,11 +34,9 @@ def is_now(word, began):
 def test_times_of_jobs(folder):
     """A job has the time of each state that it has come to, and the first of its starts. After a restart the earlier times are unknown."""
     folder.backend("ends", ENDS)
-    folder.start()
-    client = Client(folder)
-    folder.queue(client, "q", 0, scheme="ends")
+    client = folder.open("q", scheme="ends")
     folder.queue(client, "again", 1, "retry-job", scheme="ends", interval=1)
-    same("disable", client.ask("disable q\n"), "ok")
+    client.does("disable q")
     began = time.time()
     job = client.create("q")
     known = times_of(client, job)
@@ -56,7 +50,7 @@ def test_times_of_jobs(folder):
     holds(f"it was closed later: {known}", is_now(known["closed"], closed) and known["created"] < known["closed"])
     time.sleep(1.1)
     started = time.time()
-    same("enable", client.ask("enable q\n"), "ok")
+    client.does("enable q")
     client.until_state(job, "9")
     known = times_of(client, job)
     same("the times of an ended job", list(known), TIMES)
@@ -73,12 +67,10 @@ def test_times_of_jobs(folder):
     later = times_of(client, other)
     same("the first start", (later["started"], list(later)), (first["started"], ["created", "closed", "started"]))
     canceled = client.create("q")
-    same("cancel", client.ask(f"cancel {canceled}\n"), "ok")
+    client.does(f"cancel {canceled}")
     same("a job that was canceled while it was incoming", list(times_of(client, canceled)), ["created", "ended"])
     incoming = client.create("q")
-    folder.kill()
-    folder.start()
-    client = Client(folder)
+    client = folder.reopen()
     same("after a restart", times_of(client, job), dict.fromkeys(TIMES, "unknown"))
     same("of the other", {name: word for name, word in times_of(client, other).items() if name != "ended"}, dict.fromkeys(TIMES[:3], "unknown"))
     began = time.time()
@@ -94,10 +86,7 @@ def test_times_of_jobs(folder):
 
 def test_times_while_the_disk_is_not_written(folder):
     """A question about times writes nothing."""
-    folder.start()
-    client = Client(folder)
-    folder.queue(client, "q")
-    same("disable", client.ask("disable q\n"), "ok")
+    client = folder.open("q", stopped=True)
     job = client.submit("q")
     before = folder.disk_time()
     for question in (f"job {job}\n", "list\n", "queue q\n", "incoming\n", "find t\n"):
@@ -125,12 +114,11 @@ while [ ! -e FOLDER/ends ]; do sleep 0.05; done
 def test_one_queue(folder):
     """`queue NAME` shows all fields of a queue, how many of its jobs wait and are held, and which one prints."""
     folder.backend("tells", TELLS)
-    folder.start()
-    client = Client(folder)
+    client = folder.open()
     same("none", client.ask("queue q\n"), "error queue")
     began = time.time()
     folder.queue(client, "q", "a?b=c", "retry-job", "tells", interval=30)
-    same("info", client.ask('info q "the \\"hall\\"" "Room 1"\n'), "ok")
+    client.does('info q "the \\"hall\\"" "Room 1"')
     lines = queue_fields(client, "q")
     changed = lines.pop()
     holds(f"it was changed now: {changed}", changed.startswith("changed ") and is_now(changed[8:], began))
@@ -139,15 +127,13 @@ def test_one_queue(folder):
         "accepting yes", "state 3", "stopped no", "stopping no", "reasons none", 'message ""', "waiting 0", "held 0",
     ])
     jobs = [client.submit("q") for _ in range(4)]
-    for job in jobs[2:]:
-        same("hold", client.ask(f"hold {job} indefinite\n"), "ok")
+    client.does(*(f"hold {job} indefinite" for job in jobs[2:]))
     client.until_state(jobs[0], "5")
     incoming = client.create("q")
     lines = queue_fields(client, "q")
     same("while it prints", [line for line in lines if line.split()[0] in ("state", "stopped", "stopping", "waiting", "held", "printing")],
          ["state 4", "stopped no", "stopping no", "waiting 3", "held 2", f"printing {jobs[0]}"])
-    same("reject", client.ask("reject q\n"), "ok")
-    same("disable", client.ask("disable q\n"), "ok")
+    client.does("reject q", "disable q")
     lines = queue_fields(client, "q")
     same("while it stops", [line for line in lines if line.split()[0] in ("accepting", "state", "stopped", "stopping", "printing")],
          ["accepting no", "state 4", "stopped yes", "stopping yes", f"printing {jobs[0]}"])
@@ -160,12 +146,10 @@ def test_one_queue(folder):
     same("what lasts of what its backend told", sorted(told), sorted([
         "reasons media-low", 'message ""', 'attribute auth-info-required "none"', 'attribute marker-levels "5,80"']))
     same("the incoming job", client.state(incoming)[0], "4")
-    folder.kill()
-    folder.start()
-    client = Client(folder)
+    client = folder.reopen()
     same("after a restart", queue_fields(client, "q")[-1], "changed unknown")
     began = time.time()
-    same("enable", client.ask("enable q\n"), "ok")
+    client.does("enable q")
     holds("then it changed", is_now(queue_fields(client, "q")[-1][8:], began))
     # The command of the engine stays.
     folder.queue(client, "other")
@@ -186,11 +170,9 @@ def test_what_attempts_said(folder):
     the command of the engine, and shows everything."""
     folder.two_stages(0, SAYS)
     folder.backend("prints", PRINTS)
-    folder.start()
-    client = Client(folder)
-    folder.queue(client, "q", scheme="prints", target="a/b")
+    client = folder.open("q", scheme="prints", target="a/b")
     watcher = Client(folder)
-    same("watch", watcher.ask("watch\n"), "ok")
+    watcher.does("watch")
     same("before any job", said(client), ("none", '""'))
     everything = "media-low-warning,toner-empty-error"
     for job in (1, 2):
@@ -221,10 +203,7 @@ def test_why_jobs_wait(folder):
     """`why` has one cause for each job: first those of the job, then those of its queue, then those of the service."""
     folder.backend("prints", PRINTS)
     folder.backend("fails", "#!/bin/sh\nexit 1\n")
-    folder.start("--children", "1")
-    client = Client(folder)
-    for name in ("q", "other"):
-        folder.queue(client, name, scheme="prints")
+    client = folder.open("q", "other", words=["--children", "1"], scheme="prints")
     folder.queue(client, "again", policy="retry-job", scheme="fails", interval=1000)
     same("no job", client.ask("why 99\n"), "error job")
     same("another line", client.ask("why 1 2\n"), "error syntax")
@@ -233,10 +212,9 @@ def test_why_jobs_wait(folder):
     same("the one that prints", why(client, jobs[0]), "prints")
     same("the others", [why(client, job) for job in jobs[1:]], [f"taken {jobs[0]} ahead {count}" for count in range(3)])
     same("of a full service", why(client, client.submit("other")), "children")
-    same("hold", client.ask(f"hold {jobs[1]} indefinite\n"), "ok")
-    same("hold", client.ask(f"hold {jobs[2]} {LATER}\n"), "ok")
+    client.does(f"hold {jobs[1]} indefinite", f"hold {jobs[2]} {LATER}")
     same("held", [why(client, job) for job in jobs[1:3]], ["held", f"held-until {LATER}"])
-    same("disable", client.ask("disable q\n"), "ok")
+    client.does("disable q")
     same("of a stopped queue", why(client, jobs[3]), "stopped")
     incoming = client.create("q")
     same("incoming", why(client, incoming), "arriving")
@@ -258,16 +236,8 @@ def test_why_jobs_wait(folder):
 def piece(client, words=""):
     """The jobs of a piece, and the number from which it goes on."""
     client.say(f"list{words}\n")
-    found = []
-    while True:
-        line = client.reply()
-        name, value = line.split(" ", 1)
-        if name in ("ok", "error"):
-            break
-        if name == "job":
-            found.append({})
-        found[-1][name] = value
-    words = line.split()
+    *lines, last = client.read_to("ok", "error")
+    found, words = fields_of(lines), last.split()
     same("the count", (words[0], words[1]), ("ok", str(len(found))))
     return found, int(words[3]) if len(words) == 4 and words[2] == "more" else None
 
@@ -287,21 +257,16 @@ def whole(client, words=""):
 def test_jobs_by_pieces(folder):
     """`list` shows jobs with all fields, at most 50 or as many as wanted, and from where to go on. Its keys select."""
     folder.size = 67_108_864
-    folder.start()
-    client = Client(folder)
-    for name in ("a", "b"):
-        folder.queue(client, name)
-        same("disable", client.ask(f"disable {name}\n"), "ok")
+    client = folder.open("a", "b", stopped=True)
     count = 120
     for number in range(count):
         client.say(f'create {"ab"[number % 2]} u{number % 3} "t{number}" 1 50 "x=1"\n')
         holds("create", client.reply().startswith("ok job"))
     held = list(range(10, 20))
-    for job in (30, 60):
-        same("cancel", client.ask(f"cancel {job}\n"), "ok")
+    client.does(*(f"cancel {job}" for job in (30, 60)))
     for job in held:
         client.finish(job)
-        same("hold", client.ask(f"hold {job} indefinite\n"), "ok")
+        client.does(f"hold {job} indefinite")
     jobs, more = piece(client)
     same("the first piece", ([int(job["job"]) for job in jobs], more), (list(range(1, 51)), 51))
     jobs, more = piece(client, " most 7 from 3")
@@ -318,7 +283,7 @@ def test_jobs_by_pieces(folder):
     same("past the last", piece(client, f" from {count + 1}"), ([], None))
     fields = dict(line.split(" ", 1) for line in client.listing("list from 12 most 1\n"))
     same("the fields are those of `job`", fields, client.fields(12))
-    same("purge", client.ask("purge 30\n"), "ok")
+    client.does("purge 30")
     same("without one that is purged", whole(client)[0], [job for job in range(1, count + 1) if job != 30])
     for bad in (" most 0", " most 101", " from 0", " state 2", " state 10", " queue", " queue a queue b", " most 5 most 5", " colour red", " from x"):
         same(f"list{bad}", client.ask(f"list{bad}\n"), "error syntax")
@@ -335,7 +300,7 @@ def test_pieces_of_many_jobs(folder):
         folder.launch("--quiet", "--keep", "1000000")
         until("the service", folder.serves, 120)
         client = Client(folder)
-        same("disable", client.ask("disable lab\n"), "ok")
+        client.does("disable lab")
         # After the start it examines the table once.
         until("it is idle", lambda: is_idle(folder))
         works = [work_for(folder, lambda: piece(client, f" from {count // 2}")), work_for(folder, lambda: piece(client, f" user nobody from {count // 2}"))]
@@ -369,10 +334,7 @@ def work_for(folder, what, count=40):
 
 def test_tokens_of_jobs(folder):
     """`find` names the job that has the token as the last word of its options, also after a restart, until the job is purged."""
-    folder.start("--keep", "100")
-    client = Client(folder)
-    folder.queue(client, "q")
-    same("disable", client.ask("disable q\n"), "ok")
+    client = folder.open("q", words=["--keep", "100"], stopped=True)
 
     def create(options):
         reply = client.ask(f'create q u "t" 1 50 "{options}"\n')
@@ -391,16 +353,14 @@ def test_tokens_of_jobs(folder):
         same(f"find{bad}", client.ask(f"find{bad}\n"), "error syntax")
     third = create("submission=abc")
     same("the last one that has it", client.ask("find abc\n"), f"ok job {third}")
-    folder.kill()
-    folder.start("--keep", "100")
-    client = Client(folder)
+    client = folder.reopen("--keep", "100")
     same("after a restart", [client.ask(f"find {token}\n") for token in ("abc", "abd", "hidden")], [f"ok job {third}", f"ok job {second}", "error job"])
-    same("reject", client.ask("reject q\n"), "ok")
+    client.does("reject q")
     holds("a refused job", client.ask('create q u "t" 1 50 "submission=abd"\n').startswith("error "))
     same("it leaves the one that has the token", client.ask("find abd\n"), f"ok job {second}")
-    same("cancel", client.ask(f"cancel {third}\n"), "ok")
+    client.does(f"cancel {third}")
     same("an ended job", client.ask("find abc\n"), f"ok job {third}")
-    same("purge", client.ask(f"purge {third}\n"), "ok")
+    client.does(f"purge {third}")
     same("a purged job", client.ask("find abc\n"), "error job")
     same("another one", client.ask("find abd\n"), f"ok job {second}")
 
@@ -414,10 +374,7 @@ def left_jobs(client):
 
 def test_incoming_jobs(folder):
     """`incoming` shows the incoming jobs whose client has disconnected, with the seconds since then."""
-    folder.start()
-    client, leaver, stayer = Client(folder), Client(folder), Client(folder)
-    folder.queue(client, "q")
-    same("disable", client.ask("disable q\n"), "ok")
+    client, leaver, stayer = folder.open("q", stopped=True), Client(folder), Client(folder)
     left, closed, stays, canceled = leaver.create("q"), leaver.create("q"), stayer.create("q"), leaver.create("q")
     same("none", left_jobs(client), {})
     leaver.finish(closed)
@@ -429,15 +386,13 @@ def test_incoming_jobs(folder):
     time.sleep(2.2)
     ages = left_jobs(client)
     holds(f"they grow old: {ages}", set(ages) == {left, canceled} and all(2 <= age <= time.time() - began + 1 for age in ages.values()))
-    same("cancel", client.ask(f"cancel {canceled}\n"), "ok")
+    client.does(f"cancel {canceled}")
     same("a job that has ended", list(left_jobs(client)), [left])
     data, sent = b"send %d 2\nx\n\n" % left, time.time()
     same("another client sends", client.ask(data), "ok bytes 2")
     ages = left_jobs(client)
     holds(f"it ages from its last send: {ages}", list(ages) == [left] and ages[left] <= time.time() - sent + 1)
-    folder.kill()
-    folder.start()
-    client = Client(folder)
+    client = folder.reopen()
     same("after a restart all are", sorted(left_jobs(client)), sorted([left, stays]))
     holds("close", client.ask(f"close {left} f\n").startswith("ok type "))
     same("a closed one", list(left_jobs(client)), [stays])
@@ -448,9 +403,7 @@ def test_incoming_jobs(folder):
 def test_closing_with_a_type(folder):
     """`close JOB NAME TYPE` closes a job as a document of this media type, and otherwise as `close` does."""
     folder.two_stages(0)
-    folder.start()
-    client = Client(folder)
-    folder.queue(client, "q", target="a/b")
+    client = folder.open("q", target="a/b")
     folder.queue(client, "raw")
     for queue, name, media, wanted in (
         ("q", "f.x", "a/b", "ok type a/b stages 1"), ("q", "f", "a/a", "ok type a/a stages 2"), ("q", "f.x", "a/a", "ok type a/a stages 2"),
@@ -480,14 +433,11 @@ def test_closing_with_a_type(folder):
 def test_stops(folder):
     """`stop` cancels a job and terminates its child, and nothing else."""
     folder.backend("hangs", HANGS)
-    folder.start()
-    client = Client(folder)
-    for name in ("a", "b"):
-        folder.queue(client, name, policy="retry-job", scheme="hangs")
+    client = folder.open("a", "b", policy="retry-job", scheme="hangs")
     jobs = [client.submit(name) for name in ("a", "b", "a")]
     until("two run", lambda: len(folder.read("pids").split()) == 2)
     began = time.time()
-    same("stop", client.ask(f"stop {jobs[0]}\n"), "ok")
+    client.does(f"stop {jobs[0]}")
     same("it is canceled at once", client.state(jobs[0])[0], "7")
     until("one has ended", lambda: [is_there(pid) for pid in folder.read("pids").split()[:2]].count(False) == 1)
     holds("before it would be killed", time.time() - began < 9)
@@ -497,8 +447,7 @@ def test_stops(folder):
     same("a waiting one", (client.ask(f"stop {waiting}\n"), client.state(waiting)[0]), ("ok", "7"))
     for job in (999, waiting):
         same(f"stop {job}", client.ask(f"stop {job}\n"), client.ask(f"cancel {job}\n"))
-    for job in jobs[1:]:
-        same("stop", client.ask(f"stop {job}\n"), "ok")
+    client.does(*(f"stop {job}" for job in jobs[1:]))
     until("all have ended", lambda: not any(is_there(pid) for pid in folder.read("pids").split()))
 
 
@@ -507,26 +456,21 @@ def test_stops(folder):
 def test_log_of_events(folder):
     """The log has a line for each event that matters, with the job, the queue, the user and the cause, so that it answers later what happened."""
     folder.backend("ends", ENDS)
-    folder.start()
-    client = Client(folder)
-    folder.queue(client, "q", 0, scheme="ends")
+    client = folder.open("q", scheme="ends")
     folder.queue(client, "fails", 1, "abort-job", scheme="ends")
     folder.queue(client, "late", scheme="ends")
     for command in ("disable q", "reject q", "accept q", "disable late"):
         same(command, client.ask(f"{command}\n"), "ok")
     printed = client.submit("q")
-    same("hold", client.ask(f"hold {printed} {LATER}\n"), "ok")
-    same("release", client.ask(f"release {printed}\n"), "ok")
-    same("enable", client.ask("enable q\n"), "ok")
+    client.does(f"hold {printed} {LATER}", f"release {printed}", "enable q")
     client.until_state(printed, "9")
     failed, canceled = client.submit("fails"), client.create("late")
     client.until_state(failed, "8")
-    same("cancel", client.ask(f"cancel {canceled}\n"), "ok")
+    client.does(f"cancel {canceled}")
     moment = int(time.time()) + 1_000
     late = client.create("late", by=moment)
     client.finish(late)
-    same("clock", client.ask(f"clock {moment + 1}\n"), "ok")
-    same("purge", client.ask(f"purge {canceled}\n"), "ok")
+    client.does(f"clock {moment + 1}", f"purge {canceled}")
     same("a refused one", client.ask("cancel 999\n").split()[0], "error")
     closed = f"closed ({TYPE})"
     wanted = {
@@ -565,7 +509,7 @@ class Mirror:
 
     def __init__(self, folder):
         self.client = Client(folder)
-        same("watch", self.client.ask("watch\n"), "ok")
+        self.client.does("watch")
         self.known, self.lines = {}, []
 
     def read(self):
@@ -599,8 +543,7 @@ def test_each_change_is_told(folder):
     """What a watching client is sent keeps its copy of the table the same, whatever changes the table."""
     folder.backend("ends", ENDS)
     folder.two_stages(0)
-    folder.start()
-    client, chance = Client(folder), random.Random(69)
+    client, chance = folder.open(), random.Random(69)
     mirror = Mirror(folder)
     mirror.known = table(client)
     queues = ["ok", "fails", "absent", "two", "stopped"]
@@ -609,7 +552,7 @@ def test_each_change_is_told(folder):
     folder.queue(client, "absent", policy="abort-job", scheme=MISSING)
     folder.queue(client, "two", target="a/b")
     folder.queue(client, "stopped")
-    same("disable", client.ask("disable stopped\n"), "ok")
+    client.does("disable stopped")
     jobs, moment = [], int(time.time())
     for step in range(300 if folder.is_long else 120):
         kind = chance.choice(KINDS)
@@ -643,18 +586,16 @@ def test_each_change_is_told(folder):
 def test_changes_within_a_tick(folder):
     """A stage that begins and ends in one tick, a clock that cancels two late jobs, and the end of a job of two stages are told."""
     folder.two_stages(0)
-    folder.start()
-    client = Client(folder)
-    folder.queue(client, "absent", policy="abort-job", scheme=MISSING)
+    client = folder.open("absent", policy="abort-job", scheme=MISSING)
     folder.queue(client, "two", target="a/b")
     folder.queue(client, "late")
-    same("disable", client.ask("disable late\n"), "ok")
+    client.does("disable late")
     for round_number in range(5):
         mirror = Mirror(folder)
-        same("disable", client.ask("disable absent\n"), "ok")
+        client.does("disable absent")
         jobs = [client.submit("absent") for _ in range(2)]
         mirror.read()
-        same("enable", client.ask("enable absent\n"), "ok")
+        client.does("enable absent")
         client.until_ended(jobs, "8")
         lines = mirror.read()
         for job in jobs:
@@ -674,7 +615,7 @@ def test_changes_within_a_tick(folder):
             client.finish(job)
             late.append(job)
         mirror.read()
-        same("clock", client.ask(f"clock {moment + 1}\n"), "ok")
+        client.does(f"clock {moment + 1}")
         ended = [client.state(job) for job in late]
         holds(f"both have ended: {ended}", all(state[0] in "78" for state in ended))
         lines = mirror.read()
@@ -685,11 +626,7 @@ def test_changes_within_a_tick(folder):
 
 def test_nothing_else_is_told(folder):
     """A refused command is told to nobody, and a change names only its job or queue."""
-    folder.start()
-    client = Client(folder)
-    for name in ("q", "other"):
-        folder.queue(client, name)
-        same("disable", client.ask(f"disable {name}\n"), "ok")
+    client = folder.open("q", "other", stopped=True)
     job, incoming = client.submit("q"), client.create("q")
     mirror = Mirror(folder)
     refused = [
@@ -721,26 +658,19 @@ def test_nothing_else_is_told(folder):
 def watch_from(folder, number):
     """A client that watches from a change on, the lines that it is sent at first, and the number of the last change."""
     client = Client(folder)
-    same("watch", client.ask(f"watch {number}\n"), "ok")
+    client.does(f"watch {number}")
     lines, change = until_change(client)
     return client, lines, change
 
 
 def until_change(client):
-    lines = []
-    while True:
-        line = client.reply()
-        if line.startswith("change "):
-            return lines, int(line.split()[1])
-        lines.append(line)
+    *lines, last = client.read_to("change ")
+    return lines, int(last.split()[1])
 
 
 def test_changes_by_number(folder):
     """`watch N` goes on after change N: each job and queue that has changed since, as it is now. A number that is not known is `missed`."""
-    folder.start()
-    client = Client(folder)
-    folder.queue(client, "q")
-    same("disable", client.ask("disable q\n"), "ok")
+    client = folder.open("q", stopped=True)
     watcher, lines, first = watch_from(folder, 0)
     same("a number that was never given", lines, ["missed"])
     job = client.create("q")
@@ -750,15 +680,14 @@ def test_changes_by_number(folder):
     watcher.close()
     client.finish(job)
     other = client.create("q")
-    same("reject", client.ask("reject q\n"), "ok")
-    same("hold", client.ask(f"hold {job} indefinite\n"), "ok")
+    client.does("reject q", f"hold {job} indefinite")
     watcher, lines, third = watch_from(folder, second)
     same("what has changed since", {subject(line): line for line in lines}, table(client))
     same("each once", len(lines), 3)
     watcher.close()
     watcher, lines, fourth = watch_from(folder, third)
     same("nothing more", (lines, fourth), ([], third))
-    same("release", client.ask(f"release {job}\n"), "ok")
+    client.does(f"release {job}")
     lines, fifth = until_change(watcher)
     same("it goes on", [subject(line) for line in lines], [("job", str(job))])
     same("a number to come", watch_from(folder, fifth + 1)[1], ["missed"])
@@ -768,8 +697,8 @@ def test_changes_by_number(folder):
     lines = watch_from(folder, fifth)[1]
     same("a job that has gone", lines, [f"gone job {other}"])
     plain = Client(folder)
-    same("watch", plain.ask("watch\n"), "ok")
-    same("accept", client.ask("accept q\n"), "ok")
+    plain.does("watch")
+    client.does("accept q")
     same("no numbers without one", [plain.reply().split()[0], plain.says_nothing()], ["queue", True])
     last = watch_from(folder, 0)[2]
     folder.kill()
@@ -783,9 +712,7 @@ def test_changes_by_number(folder):
 def test_changes_that_are_forgotten(folder):
     """The last 4,096 changes are known."""
     folder.size = 67_108_864
-    folder.start()
-    client = Client(folder)
-    folder.queue(client, "q")
+    client = folder.open("q")
     job = client.create("q")
     before = watch_from(folder, 0)[2]
     for begun in range(0, 4_096, 64):
@@ -794,5 +721,5 @@ def test_changes_that_are_forgotten(folder):
     watcher, lines, last = watch_from(folder, before)
     same("all are known", ([subject(line) for line in lines], last - before), ([("job", str(job))], 4_096))
     watcher.close()
-    same("hold", client.ask(f"hold {job} {LATER}\n"), "ok")
+    client.does(f"hold {job} {LATER}")
     same("one more", (watch_from(folder, before)[1], len(watch_from(folder, before + 1)[1])), (["missed"], 1))

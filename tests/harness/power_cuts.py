@@ -45,6 +45,11 @@ SYNCS = ("fsync", "fdatasync")
 STARTS = ("clone", "clone3", "vfork", "fork")
 NAMES = (*WRITES, *SYNCS, *STARTS, "lseek", "openat", "open", "rename", "renameat", "renameat2", "unlink", "unlinkat", "ftruncate")
 
+# The calls by which a service sends to its clients, how strace shows a socket, and words of strace for a service.
+SENDS = ("sendto", "sendmsg")
+SOCKET = re.compile(r"\d+<(UNIX|socket|" + "".join(rf"\\x{byte:02x}" for byte in b"socket") + ")")
+SERVICE_STRACE = ["-y", "-xx", "-s", str(traces.SHOWN), "-e", "trace=" + ",".join(f"?{name}" for name in (*NAMES, *SENDS, "writev"))]
+
 # The commands that are served, in parts, each part after an opening. Each command of the first part has its reply.
 PARTS = ["""clock 1000
 queue hall s:/0 a/b retry-job 30
@@ -123,6 +128,12 @@ class Tracing:
             if call.result >= 0:
                 self.take_call(call)
 
+    def read(self, trace):
+        """Takes the calls that strace wrote to a file."""
+        counts = {}
+        with open(trace, encoding="ascii") as lines:
+            self.take(traces.Call(line.rstrip("\n"), counts) for line in lines if re.match(r"\w+\(.*=", line))
+
     def is_disk(self, call):
         return any(os.path.basename(path) in (NAME, UNFINISHED) for path in call.files)
 
@@ -165,6 +176,16 @@ class Tracing:
             at = self.offsets.get(call.descriptor(), 0)
             self.offsets[call.descriptor()] = at + call.result
         self.steps.append(Step("write", at, data))
+
+
+class ServiceTracing(Tracing):
+    """The steps of a service: a write to a client is a reply."""
+
+    def take_call(self, call):
+        if call.name in SENDS or call.name in ("write", "writev") and SOCKET.match(call.words):
+            self.steps.append(Step("reply"))
+        else:
+            super().take_call(call)
 
 
 class RunFolder:

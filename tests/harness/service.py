@@ -1,10 +1,12 @@
 """Clients of the service, and the folder of a test with its programs and a service that runs there."""
+import contextlib
 import os
 import shutil
 import signal
 import socket
 import statistics
 import subprocess
+import sys
 import tempfile
 import time
 
@@ -25,6 +27,10 @@ cat "${6:--}" >>FOLDER/printed
 
 # A backend that waits until a file exists, and then appends the document to another.
 WAITS = '#!/bin/sh\nwhile [ ! -e FOLDER/go ]; do sleep 0.05; done\ncat "${6:--}" >>FOLDER/printed\n'
+
+# A backend that ends as its device's URI says, and one that hangs.
+ENDS = '#!/bin/sh\nexit "${DEVICE_URI##*/}"\n'
+HANGS = "#!/bin/sh\necho $$ >>FOLDER/pids\nexec sleep 1000\n"
 
 # A filter that sleeps, and passes on the document.
 FILTER = '#!/bin/sh\nsleep SECONDS\necho first >>FOLDER/stages\ncat "$6"\n'
@@ -60,26 +66,30 @@ class Client:
         self.say(text)
         return self.reply()
 
+    def does(self, *commands):
+        """Sends these commands in turn. Each must be done."""
+        for command in commands:
+            same(command, self.ask(f"{command}\n"), "ok")
+
     def listing(self, text):
         """The lines of a listing, without the last one."""
         self.say(text)
         return self.rest_of_listing()
 
     def rest_of_listing(self):
-        lines = []
-        while True:
-            line = self.reply()
-            if line.startswith(("ok", "error")):
-                return lines
-            lines.append(line)
+        return self.read_to("ok", "error")[:-1]
+
+    def read_to(self, *starts):
+        """The lines that it receives, up to one that begins so."""
+        lines = [self.reply()]
+        while not lines[-1].startswith(starts):
+            lines.append(self.reply())
+        return lines
 
     def told(self):
         """The lines that it has been sent so far: the reply to `now` comes after them."""
         self.say("now\n")
-        lines = []
-        while not (lines and lines[-1].startswith("ok now ")):
-            lines.append(self.reply())
-        return lines[:-1]
+        return self.read_to("ok now ")[:-1]
 
     def says_nothing(self, seconds=0.3):
         """Whether it receives nothing for `seconds` seconds."""
@@ -261,6 +271,20 @@ class Folder:
         self.launch(*words)
         until("the service", self.serves)
 
+    def open(self, *queues, words=(), stopped=False, **how):
+        """Starts the service with these further words, and returns a client, which adds these queues, and perhaps stops them."""
+        self.start(*words)
+        client = Client(self)
+        for name in queues:
+            self.queue(client, name, **how)
+        client.does(*(f"disable {name}" for name in queues if stopped))
+        return client
+
+    def reopen(self, *words):
+        """Kills the service, starts it again, and returns a client."""
+        self.kill()
+        return self.open(words=words)
+
     def launch(self, *words):
         with open(self.at("log"), "ab") as log:
             streams = {"stdin": subprocess.DEVNULL, "stdout": subprocess.DEVNULL, "stderr": log}
@@ -287,6 +311,34 @@ class Folder:
     def end(self):
         if self.running and self.running.poll() is None:
             self.kill()
+
+    @contextlib.contextmanager
+    def paused(self):
+        """The service is stopped meanwhile, so that one turn serves what comes."""
+        self.running.send_signal(signal.SIGSTOP)
+        yield
+        self.running.send_signal(signal.SIGCONT)
+
+    @contextlib.contextmanager
+    def traced(self, *words):
+        """The service is traced meanwhile by strace with these words, which writes its calls to the file `calls`."""
+        command = ["strace", "-y", "-qq", "-o", self.at("calls"), *words, "-p", str(self.running.pid)]
+        with subprocess.Popen(command, stderr=subprocess.DEVNULL) as strace:
+            until("the trace", lambda: b"TracerPid:\t0\n" not in open(f"/proc/{self.running.pid}/status", "rb").read())
+            try:
+                yield
+            finally:
+                strace.send_signal(signal.SIGINT)
+
+    @contextlib.contextmanager
+    def under_strace(self, *words):
+        """A client of a service that strace starts with these words, and whose calls it writes to the file `calls`."""
+        self.before += ["strace", "-qq", "-o", self.at("calls"), *words]
+        self.start()
+        try:
+            yield Client(self)
+        finally:
+            kill_children(self.running.pid)
 
     def remove(self):
         # A child of a killed service continues, and may write here meanwhile.
@@ -330,6 +382,32 @@ def kill_children(process):
                 os.kill(int(child), signal.SIGKILL)
     except OSError:
         pass
+
+
+def fields_of(lines):
+    """The fields of each job in lines of `list`."""
+    found = []
+    for line in lines:
+        name, value = line.split(" ", 1)
+        if name == "job":
+            found.append({})
+        found[-1][name] = value
+    return found
+
+
+def served_clients(folder, count):
+    """Clients that have been served, so that the next turn serves them at once."""
+    clients = [Client(folder) for _ in range(count)]
+    for client in clients:
+        holds("it has a place", client.ask("cancel 999\n").startswith("error "))
+    return clients
+
+
+def python_as(user, code, *words, groups="--clear-groups"):
+    """The words that run a Python program as a user, by the numbers of the user and of its group."""
+    uid, gid = map(str, user)
+    python = shutil.which("python3", path="/usr/bin:/bin") or sys.executable
+    return ["setpriv", "--reuid", uid, "--regid", gid, groups, python, "-ES", "-c", code, *words]
 
 
 def now_of(client):
