@@ -21,8 +21,8 @@ Calls that fail, one in each run: strace returns EIO or ENOSPC in its place, and
 - of a start: `spool: disk`, status 1 and no reply; the folder has no `spool.disk` or a complete one, and no file except the lock file if
   there was no room for its bytes; a later start serves it.
 """
+import itertools
 import os
-import re
 import shutil
 import struct
 import subprocess
@@ -30,6 +30,7 @@ import tempfile
 
 import pytest
 
+from harness import traces
 from harness.checks import Difference, holds, LONGEST, words_of_faults
 from harness.programs import SHELL
 
@@ -45,7 +46,7 @@ TYPE = "application/octet-stream"
 # The log of a run whose device has failed, and of a start with a failed call.
 DISK = [(1, "spool: disk\nspool: cause: failed\n")]
 START = [*DISK, (1, "spool: disk\nspool: cause: no room\n")]
-SHOWN = 4096  # bytes of a write or read that strace shows
+WORDS = [SHELL, "--root", ".", "--size", str(SIZE)]
 
 KINDS = {
     "open": "open openat creat",
@@ -125,52 +126,12 @@ def with_listings(before, commands):
     return [Command("jobs", listed(before)), *commands, Command("jobs", listed(before + commands))]
 
 
-class Call:
-    """A call, as strace shows it. Names are relative to the folder, which itself is `.`"""
-
-    def __init__(self, line, root, counts):
-        found = re.fullmatch(r"(?:\d+ +)?(\w+)\((.*)\) += (-?\d+|\?)(.*)", line)
-        holds(f"strace shows {line!r}, which this script cannot read", found)
-        self.call, words, result, self.rest = found.groups()
-        counts[self.call] = self.number = counts.get(self.call, 0) + 1
-        self.kind = KIND_OF[self.call]
-        self.words = words.split(", ")
-        self.result = -1 if result == "?" else int(result)
-        self.at = None
-        self.names = names_in(self.words, self.kind, root)
-        self.name = self.names[0] if self.names else None
-
-    def descriptor(self):
-        return int(self.words[0].split("<")[0])
-
-    def data(self):
-        """The bytes of a read or write, or of a long one the first."""
-        return bytes_in(self.words[1])
-
-    def __str__(self):
-        if self.kind == "reply":
-            return f"the reply {self.data()!r}"
-        place = "" if self.at is None else f", {self.result} bytes at {self.at}"
-        return f"{self.call} number {self.number}, of {self.name}{place}"
-
-
-def bytes_in(word):
-    """The bytes of a text that strace shows in hexadecimal."""
-    return bytes.fromhex("".join(re.findall(r"\\x([0-9a-f]{2})", word)))
-
-
-def names_in(words, kind, root):
-    """The names inside the folder in a call's arguments."""
-    paths = []
-    base = root
-    for word in words:
-        if "<" in word:
-            base = os.fsdecode(bytes_in(word))
-            if not word.startswith("AT_FDCWD"):
-                paths.append(base)
-        elif word.startswith('"') and kind in ("open", "rename", "remove", "look"):
-            paths = [path for path in paths if path != base]
-            paths.append(os.path.normpath(os.path.join(base, os.fsdecode(bytes_in(word)))))
+def names_in(call, root):
+    """The names inside the folder in a call's arguments. They are relative to the folder, which itself is `.`"""
+    paths = call.files
+    if call.kind in ("open", "rename", "remove", "look") and call.texts:
+        bases = itertools.cycle(call.files or [root])
+        paths = [os.path.normpath(os.path.join(base, os.fsdecode(text))) for base, text in zip(bases, call.texts)]
     return [os.path.relpath(path, root) for path in paths if path == root or path.startswith(root + os.sep)]
 
 
@@ -178,28 +139,29 @@ def place_calls(calls):
     """Adds to each read and write its offset in its file."""
     places = {}
     for call in calls:
+        call.at = None
         if call.result < 0:
             continue
         if call.kind == "open":
             places[call.result] = 0
         elif call.kind == "seek":
             places[call.descriptor()] = call.result
-        elif call.call in ("pread64", "pwrite64"):
-            call.at = int(call.words[3])
+        elif call.name in ("pread64", "pwrite64"):
+            call.at = call.last_number()
         elif call.kind in ("read", "write"):
             call.at = places.get(call.descriptor(), 0)
             places[call.descriptor()] = call.at + call.result
 
 
-def calls_of(trace, root):
-    """The calls on the folder, and the writes of replies as calls of the kind `reply`."""
-    counts = {}
-    with open(trace, encoding="ascii") as file:
-        lines = [line.rstrip("\n") for line in file]
-    calls = [Call(line, root, counts) for line in lines if not re.match(r"(\d+ +)?(---|\+\+\+)", line)]
+def on_folder(calls, root):
+    """The calls on the folder, with their kinds and files, and the writes of replies as calls of the kind `reply`."""
+    for call in calls:
+        call.kind = KIND_OF[call.name]
+        call.names = names_in(call, root)
+        call.file = call.names[0] if call.names else None
+        holds(f"{call} is a call that this script cannot follow", call.kind != "unknown" or not call.names)
     place_calls(calls)
     for call in calls:
-        holds(f"{call} is a call that this script cannot follow", call.kind != "unknown" or not call.names)
         if call.kind == "write" and call.descriptor() == 1:
             call.kind = "reply"
     return [call for call in calls if call.names or call.kind == "reply"]
@@ -209,19 +171,14 @@ class Run:
     """A run of the program over the folder, traced, and with one call failing if one is named."""
 
     def __init__(self, root, commands, failing=None, error=None):
-        words = [SHELL, "--root", ".", "--size", str(SIZE)]
-        with tempfile.TemporaryDirectory() as folder:
-            trace = os.path.join(folder, "trace")
-            names = ",".join("?" + call for call in KIND_OF)
-            strace = ["strace", "-f", "-y", "-xx", "-s", str(SHOWN), "-o", trace, "-e", f"trace={names}"]
-            if failing:
-                strace += ["-e", f"inject={failing.call}:error={error}:when={failing.number}"]
-            text = "".join(command.text for command in commands)
-            done = subprocess.run([*strace, *words], cwd=root, input=text, capture_output=True, text=True, timeout=LONGEST)
-            self.calls = calls_of(trace, root)
-        self.replies = done.stdout
-        self.ending = (done.returncode, words_of_faults(done.stderr))
-        failed = [(call.kind, call.names) for call in self.calls if "(INJECTED)" in call.rest]
+        inject = failing and (failing.name, failing.number, error)
+        text = "".join(command.text for command in commands)
+        with tempfile.NamedTemporaryFile() as trace:
+            done, calls = traces.run(WORDS, root, text.encode(), trace.name, KIND_OF, inject)
+        self.calls = on_folder(calls, root)
+        self.replies = done.stdout.decode()
+        self.ending = (done.returncode, words_of_faults(done.stderr.decode()))
+        failed = [(call.kind, call.names) for call in self.calls if call.is_injected]
         holds(f"strace let {failed} fail, not {failing}", not failing or failed == [(failing.kind, failing.names)])
 
     def answers(self, replies, endings=((0, ""),)):
@@ -234,20 +191,20 @@ class Run:
 def first_index(calls, kind, name=None):
     """The position of the first such call."""
     for index, call in enumerate(calls):
-        if call.kind == kind and name in (None, call.name):
+        if call.kind == kind and name in (None, call.file):
             return index
     raise Difference(f"no {kind} of {name or 'any file'}")
 
 
 def has_sync(calls, name):
-    return any(call.kind == "sync" and call.name == name and call.result == 0 for call in calls)
+    return any(call.kind == "sync" and call.file == name and call.result == 0 for call in calls)
 
 
 def check_lock(calls):
     """The folder and the lock's file are locked before any other name is touched, and to the end."""
     first = check_locked(calls, ".", ["."])
     second = check_locked(calls, LOCK, [".", LOCK])
-    again = [call for call in calls[second + 1 :] if (call.kind, call.name) == ("lock", LOCK)]
+    again = [call for call in calls[second + 1 :] if (call.kind, call.file) == ("lock", LOCK)]
     refused = [call for call in again if "EAGAIN" in call.rest and call.descriptor() != calls[second].descriptor()]
     holds("no second lock of its file is refused", first < second and len(again) == len(refused) == 1)
 
@@ -256,12 +213,12 @@ def check_locked(calls, name, known):
     """This name is locked before any unknown name is touched, and to the end. Returns the position of that call."""
     at = first_index(calls, "lock", name)
     lock = calls[at]
-    holds(f"{name} is not locked by {lock}", "LOCK_EX" in lock.words[1] and lock.result == 0)
+    holds(f"{name} is not locked by {lock}", "LOCK_EX" in lock.words and lock.result == 0)
     for call in calls[:at]:
         holds(f"{call} precedes the lock of {name}", set(call.names) <= set(known))
     last = max(index for index, call in enumerate(calls) if call.kind != "close")
     for call in calls[at:last]:
-        let_go = call.kind == "close" or call.kind == "lock" and "LOCK_UN" in call.words[1]
+        let_go = call.kind == "close" or call.kind == "lock" and "LOCK_UN" in call.words
         holds(f"the lock of {name} is released before the end", not let_go or call.descriptor() != lock.descriptor())
     return at
 
@@ -283,7 +240,7 @@ def check_making(calls):
     at = first_index(calls, "rename")
     rename = calls[at]
     holds(f"{rename} does not give the file its name", rename.names[-1] == FILE and rename.result == 0)
-    made = [call for call in calls[:at] if call.name == rename.name and call.kind in ("write", "sync")]
+    made = [call for call in calls[:at] if call.file == rename.file and call.kind in ("write", "sync")]
     holds("a call failed while the spool was created", all(call.result >= 0 for call in made))
     check_fill(made)
     kinds = [call.kind for call in made]
@@ -317,7 +274,7 @@ class Journal:
         """The next call, which must be of this kind."""
         holds(f"no call instead of {what}", self.calls)
         call = self.calls.pop(0)
-        fits = call.kind == kind and call.name in (FILE, None) and call.result >= 0
+        fits = call.kind == kind and call.file in (FILE, None) and call.result >= 0
         holds(f"{call} instead of {what}", fits)
         return call
 
@@ -399,9 +356,8 @@ def fresh():
 
 def check_served(root, before, others=()):
     """A start on the folder lists the jobs of these commands, or of these and the others, and takes an event."""
-    words = [SHELL, "--root", ".", "--size", str(SIZE)]
     text = f"jobs\nqueue later spoolfile:/out {TYPE} abort-job\n"
-    done = subprocess.run(words, cwd=root, input=text, capture_output=True, text=True, timeout=LONGEST)
+    done = subprocess.run(WORDS, cwd=root, input=text, capture_output=True, text=True, timeout=LONGEST)
     wanted = [listed(before) + "\nok\n", listed([*before, *others]) + "\nok\n"]
     served = done.returncode == 0 and not done.stderr and done.stdout in wanted
     holds(f"afterwards it ended with {done.returncode}, {done.stderr!r} and answered {done.stdout!r}", served)
@@ -454,13 +410,13 @@ def failing_starts(run):
     """The calls of a start that may fail, each with its error."""
     synced = first_index(run.calls, "sync", ".")
     for place, call in enumerate(run.calls[: first_index(run.calls, "reply")]):
-        if call.kind == "close" or (call.kind, call.name) == ("look", "."):
+        if call.kind == "close" or (call.kind, call.file) == ("look", "."):
             continue
         # If folders cannot be locked, the lock file decides, so the start continues.
-        if (call.kind, call.name) == ("lock", "."):
+        if (call.kind, call.file) == ("lock", "."):
             continue
         # The folder is listed for leftovers. If that fails, they remain.
-        if synced < place and (call.kind, call.name) == ("open", "."):
+        if synced < place and (call.kind, call.file) == ("open", "."):
             continue
         yield call, "EIO"
         if call.kind == "write":
