@@ -5,7 +5,6 @@ The filters and backends are small programs in sh and Python, which are written 
 """
 import os
 import resource
-import shutil
 import signal
 import subprocess
 import threading
@@ -19,12 +18,17 @@ from harness.programs import SHELL
 
 pytestmark = pytest.mark.needs("spool_shell")
 
+DONE = "9 job-completed-successfully"
+
+# A backend that keeps its document.
+KEEP = '#!/bin/sh\ncat >"$0.kept"\n'
+
 # ---- ends of children
 
 # The outcome of the job of a backend with this status, under each policy: its state and reason, and the queue's state.
 FAILED = {"abort-job": ("8 backend-failed", "3"), "retry-job": ("3 retry-later", "3"), "retry-current-job": ("3 none", "3"), "stop-printer": ("3 none", "5")}
 ANSWERED = {
-    0: ("9 job-completed-successfully", "3"),
+    0: (DONE, "3"),
     2: ("4 cups-held-for-authentication", "3"),
     3: ("4 held-by-backend", "3"),
     4: ("3 none", "5"),
@@ -61,7 +65,7 @@ def test_statuses_of_filters(folder):
         script += printed(f"q{status}", "exit:/0", "b/b", "stop-printer", number, title=str(status))
     replies = folder.run(script + b"drain 5\njobs\n")
     wanted = {number: "8 filter-failed" for number in range(2, 11)}
-    same("jobs", states(replies), {1: "9 job-completed-successfully", **wanted})
+    same("jobs", states(replies), {1: DONE, **wanted})
 
 
 def test_signals(folder):
@@ -109,7 +113,7 @@ def test_programs_that_cannot_run(folder):
     # `env` ends with 127 if it does not find the shell that a program names.
     same("round", "ok started 2 finished 9" in replies, True)
     wanted = {number: "8 backend-failed" for number in (1, 2, 3, 4, 5, 8, 9)}
-    same("jobs", states(replies), {**wanted, 6: "9 job-completed-successfully", 7: "8 filter-failed"})
+    same("jobs", states(replies), {**wanted, 6: DONE, 7: "8 filter-failed"})
     journal = folder.read("spool/spool.disk")
     for number in (1, 2, 3, 4, 7, 8, 9):
         same(f"end of {number}", stage_event(number, 1, 1, b"\x02") in journal, True)
@@ -127,10 +131,10 @@ def test_no_descriptors_left(folder):
 
     replies = folder.run(script + b"round\njobs\n", preexec_fn=limited)
     found = states(replies)
-    started = sum(state == "9 job-completed-successfully" for state in found.values())
+    started = sum(state == DONE for state in found.values())
     same("some are started, and some are not", 0 < started < 20, True)
     same("round", f"ok started {started} finished 20" in replies, True)
-    same("ends", set(found.values()), {"9 job-completed-successfully", "8 backend-failed"})
+    same("ends", set(found.values()), {DONE, "8 backend-failed"})
     same("files", folder.left(), ["spool.disk"])
 
 
@@ -150,18 +154,15 @@ def test_refused_by_the_system(folder):
     refusals = [(no_process, b"\x02", "not started: out of processes"), (no_output, b"\x03", unread), (no_errors, b"\x03", unread)]
     for number, (refusal, end, cause) in enumerate(refusals, 1):
         script += b'create lab ann "" 1 50 ""\nclose %d page.txt\nround\njobs\n' % number
-        words = ["strace", "-qq", "-o", folder.at("calls"), *refusal, *folder.words()]
-        run = subprocess.run(words, input=script, cwd=folder.path, capture_output=True, timeout=LONGEST)
-        log = f"spool: job {number} attempt 1 stage 1 says: {cause}\n".encode()
-        same("status", (run.returncode, run.stderr), (0, log))
-        same(f"job {number}", states(run.stdout.decode().splitlines())[number], "8 backend-failed")
+        status, replies, errors = folder.outcome_with(script, *refusal)
+        same("status", (status, errors), (0, f"spool: job {number} attempt 1 stage 1 says: {cause}\n"))
+        same(f"job {number}", states(replies)[number], "8 backend-failed")
         same(f"end of {number}", stage_event(number, 1, 1, end) in folder.read("spool/spool.disk"), True)
         same("files", folder.left(), ["spool.disk"])
         script = b""
     script = b'create lab ann "" 1 50 ""\nclose %d page.txt\nround\njobs\n'
     # Starting a process fails three times, and then succeeds.
-    run = subprocess.run(["strace", "-qq", "-o", folder.at("calls"), *some_processes, *folder.words()], input=script % 4, cwd=folder.path, capture_output=True, timeout=LONGEST)
-    same("a process in a moment", states(run.stdout.decode().splitlines())[4], "4 held-by-backend")
+    same("a process in a moment", states(folder.outcome_with(script % 4, *some_processes)[1])[4], "4 held-by-backend")
     same("none is refused any more", states(folder.run(script % 5))[5], "4 held-by-backend")
 
 
@@ -203,7 +204,7 @@ def test_given(folder):
     replies = folder.run(script, pass_fds=opened, env={"SECRET": "x", "LANG": "de_DE", "PATH": "/sbin", "ENV": "/nowhere"})
     for fd in opened:
         os.close(fd)
-    same("jobs", states(replies), {1: "9 job-completed-successfully"})
+    same("jobs", states(replies), {1: DONE})
     words = ["1", "ann", "First page", "2", "media=A4 collate=false"]
     same("words", folder.report("words"), [repr([*words, "spool/in-1-1-1"]), repr(words)])
     for stage in (1, 2):
@@ -233,7 +234,7 @@ def test_odd_words(folder):
         words = ("lab", quoted(text or "u"), quoted(text), "1", "50", quoted(options))
         script += ("create " + " ".join(words) + f"\nclose {number} page.txt\nround\n").encode()
     replies = folder.run(script + b"jobs\n")
-    same("jobs", states(replies), {n: "9 job-completed-successfully" for n in range(1, len(ODD) + 1)})
+    same("jobs", states(replies), {n: DONE for n in range(1, len(ODD) + 1)})
     for number, (text, report) in enumerate(zip(ODD, folder.report("words")), 1):
         options = "x=" + "".join("\\" + c if c in " '\"\\" else c for c in text)
         same("words", report, repr([str(number), text or "u", text, "1", options, f"spool/in-{number}-1-1"]))
@@ -252,7 +253,7 @@ def test_links(folder):
         os.symlink("../victim", folder.at("spool", f"{name}-1-1-1"))
     folder.write("spool/out-2-1-1", "left by a crash" * 100, 0o644)
     script = printed("lab", "exit:/0", document=b"doc") + b'create lab ann "" 1 50 ""\nclose 2 page.txt\ndrain 5\njobs\n'
-    same("jobs", states(folder.run(script)), {1: "9 job-completed-successfully", 2: "9 job-completed-successfully"})
+    same("jobs", states(folder.run(script)), {1: DONE, 2: DONE})
     same("victim", folder.read("victim"), b"keep")
     same("files", folder.left(), ["spool.disk"])
     os.mkdir(folder.at("spool", "err-3-1-1"))
@@ -274,7 +275,7 @@ def test_outputs(folder):
     replies = folder.run(script + b"drain 5\njobs\n")
     for number, size in enumerate(sizes, 1):
         fits = size <= 16777216
-        same(f"{size} bytes", states(replies)[number], "9 job-completed-successfully" if fits else "8 filter-failed")
+        same(f"{size} bytes", states(replies)[number], DONE if fits else "8 filter-failed")
         count = folder.at(f"backend-count.{number}")
         same(f"{size} bytes counted", int(folder.read(count)) if os.path.exists(count) else None, size if fits else None)
         same("lost", stage_event(number, 1, 1, b"\x03") in folder.read("spool/spool.disk"), not fits)
@@ -285,9 +286,9 @@ def test_documents(folder):
     folder.size = 67_108_864
     document = os.urandom(16777216)
     folder.program("filter", "first", '#!/bin/sh\ncat "$6"\n')
-    folder.program("backend", "keep", '#!/bin/sh\ncat >"$0.kept"\n')
+    folder.program("backend", "keep", KEEP)
     replies = folder.run(printed("q", "keep:/x", "b/b", document=document) + b"drain 5\njobs\n")
-    same("jobs", states(replies), {1: "9 job-completed-successfully"})
+    same("jobs", states(replies), {1: DONE})
     same("document", folder.read("backend-keep.kept") == document, True)
 
 
@@ -295,9 +296,9 @@ def test_files_that_a_child_removes(folder):
     """A child that removes its output file and renames its standard error file loses no output."""
     text = '#!/bin/sh\ncd "$TMPDIR"\nrm out-*\nmv err-* "$0.err"\necho kept\necho "INFO: told" >&2\n'
     folder.program("filter", "first", text)
-    folder.program("backend", "keep", '#!/bin/sh\ncat >"$0.kept"\n')
+    folder.program("backend", "keep", KEEP)
     replies = folder.run(printed("q", "keep:/x", "b/b") + b"drain 5\njobs\nqueues\n")
-    same("jobs", states(replies), {1: "9 job-completed-successfully"})
+    same("jobs", states(replies), {1: DONE})
     same("output", folder.read("backend-keep.kept"), b"kept\n")
     same("message", [line.split(" ")[9:] for line in replies if line.startswith("queue ")], [['"told"']])
     same("files", folder.left(), ["spool.disk"])
@@ -310,7 +311,7 @@ def test_standard_error(folder):
     folder.program("backend", "told", '#!/bin/sh\nprintf "INFO: half\\nPAGE: 1 3\\nSTATE: +media-low\\nATTR: marker-levels=5" >&2\nexit 3\n')
     script = printed("a", "loud:/x") + printed("b", "told:/x", number=2) + b"round\njobs\nqueues\n"
     replies = folder.run(script)
-    same("jobs", states(replies), {1: "9 job-completed-successfully", 2: "4 held-by-backend"})
+    same("jobs", states(replies), {1: DONE, 2: "4 held-by-backend"})
     same("pages", [line for line in replies if line.startswith("job 2")], ['job 2 b 4 held-by-backend "ann" 0 3 ""'])
     same("reasons", [line.split(" ")[8:] for line in replies if line.startswith("queue ")], [["toner-low", '""'], ["media-low", '"half"']])
 
@@ -326,7 +327,7 @@ def test_at_once(folder):
     script = printed("a", "meet:/x", title="y") + printed("b", "meet:/y", title="x", number=2)
     replies = folder.run(script + b"round\njobs\n")
     same("round", "ok started 2 finished 2" in replies, True)
-    same("jobs", states(replies), {1: "9 job-completed-successfully", 2: "9 job-completed-successfully"})
+    same("jobs", states(replies), {1: DONE, 2: DONE})
 
 
 SLOW = '#!/bin/sh\necho "$1 $SPOOL_ATTEMPT" >>"$0.ran"\nsleep 0.03\n'
@@ -338,22 +339,17 @@ LOST = [("abort-job", "8 attempt-lost"), ("retry-current-job", "3 none"), ("retr
 
 def test_killed(folder):
     """A shell is killed at some moment, and started again: stages that had ended do not run again."""
-    folder.program("backend", "slow", SLOW)
     within = 0
     for trial in range(KILLS):
         policy, shown = LOST[trial % len(LOST)]
-        shutil.rmtree(folder.at("spool"))
-        os.mkdir(folder.at("spool"))
+        folder.new_spool()
+        folder.program("backend", "slow", SLOW)
         ran = folder.at("backend-slow.ran")
         open(ran, "w").close()
         script = f"queue lab slow:/x a/a {policy}\n".encode() + b"".join(b'create lab ann "" 1 50 ""\nclose %d page.txt\n' % n for n in range(1, 9))
-        child = subprocess.Popen(folder.words(), cwd=folder.path, stdin=subprocess.PIPE, stdout=subprocess.PIPE, stderr=subprocess.PIPE)
-        child.stdin.write(script + b"round\njobs\n" * 8)
-        child.stdin.flush()
+        shell = folder.launch(script + b"round\njobs\n" * 8)
         time.sleep(0.02 + trial * 0.5 / KILLS)
-        child.send_signal(signal.SIGKILL)
-        replies = child.communicate()[0].decode().splitlines()
-        before = states(line for line in replies if line.endswith('""'))
+        before = states(line for line in shell.kill()[0].splitlines() if line.endswith('""'))
         ended = {number for number, state in before.items() if state[0] in "789"}
         folder.until_no_child_runs()
         attempts = {}
@@ -371,7 +367,7 @@ def test_killed(folder):
         allowed = allowed if policy == "stop-printer" else ("3",)
         same("the queue", queue_states(replies).get("lab", "3") in allowed, True)
         for number in set(attempts) - ended:
-            same(f"job {number} that was started", after[number] in (shown, "9 job-completed-successfully"), True)
+            same(f"job {number} that was started", after[number] in (shown, DONE), True)
         last = states(folder.run(b"enable lab\nclock 100\ndrain 100\njobs\n"))
         closed = {number: state for number, state in last.items() if after[number] != "4 job-incoming"}
         same("all closed jobs end", {state[0] for state in closed.values()} <= {"8", "9"}, True)
@@ -401,7 +397,7 @@ def test_sessions(folder):
     folder.side()
     script = printed("a", "ask:/o?id=MFG%3AX%3B&bidi=0&state=007&connected=1") + printed("b", "ask:/o?state=256&state=9&bidi=2&connected=0&id=x&id=", number=2)
     replies = folder.run(script + b"round\njobs\n")
-    same("jobs", states(replies), {1: "9 job-completed-successfully", 2: "9 job-completed-successfully"})
+    same("jobs", states(replies), {1: DONE, 2: DONE})
     rest = ["01010000", "06070000", "09050000", "ff050000"]
     same("answers", folder.report("1"), ["04010006" + b"MFG:X;".hex(), "0301000100", "0501000107", "0801000101", *rest])
     same("defaults", folder.report("2"), ["04010000", "0301000101", "0501000109", "0801000100", *rest])
@@ -446,20 +442,18 @@ def test_clients(folder):
     begun = time.monotonic()
     replies = folder.run(script + b"round\njobs\n")
     for number, name in enumerate(CLIENTS, 1):
-        same(f"client {name}", (states(replies)[number], set(folder.report(name))), ("9 job-completed-successfully", {"0301000101"}))
+        same(f"client {name}", (states(replies)[number], set(folder.report(name))), (DONE, {"0301000101"}))
     same("seconds", time.monotonic() - begun < 90, True)
 
 
 def test_sides_that_fail(folder):
     """A side program that fails, or cannot be run, costs its own session only."""
     for name, text in {"fails": "#!/bin/sh\nexit 1\n", "silent": "#!/bin/sh\nexit 0\n", "broken": "#!/no/such/shell\n", "absent": None}.items():
-        folder.lines = []
+        folder.new_spool()
         folder.program("backend", "exit", EXIT)
         folder.side(text or "")
         if text is None:
             os.remove(folder.at("side-program"))
-        shutil.rmtree(folder.at("spool"))
-        os.mkdir(folder.at("spool"))
         begun = time.monotonic()
         same(f"side program {name}", states(folder.run(printed("a", "exit:/5") + b"round\njobs\n")), {1: "7 canceled"})
         same("seconds", time.monotonic() - begun < 30, True)
@@ -503,35 +497,24 @@ def test_devices(folder):
 
 
 @pytest.mark.root
-def test_full_folder(folder):
+def test_full_folder(folder, small_disk):
     """If no file of a child can be written, no child is started; once there is room, the next round prints."""
-    root = folder.at(folder.root)
-    mounted = subprocess.run(["mount", "-t", "tmpfs", "-o", "size=20m", "none", root], capture_output=True)
-    if mounted.returncode:
-        pytest.skip("nothing can be mounted")
-    try:
-        folder.program("backend", "keep", '#!/bin/sh\ncat "$6" >"${DEVICE_URI#keep:}"\n')
-        document = bytes(range(256)) * 4096
-        folder.run(printed("lab", f"keep:{folder.at('kept')}", policy="retry-current-job", document=document))
-        with open(os.path.join(root, "filler"), "wb", buffering=0) as filler:
-            try:
-                while filler.write(bytes(65536)):
-                    pass
-            except OSError:
-                pass
-        begun = time.monotonic()
-        replies = folder.run(["round", "jobs"], log=["spool: job 1 attempt 1 stage 1 keep: not started: out of disk space"])
-        same("a full folder", (replies[0], states(replies)), ("ok started 0 finished 1", {1: "3 none"}))
-        seconds = time.monotonic() - begun
-        same("it is tried for a while", (seconds, 1.5 < seconds < 60), (seconds, True))
-        same("the remaining files", folder.left(), ["filler", "spool.disk"])
-        # There is room again while the start is retried.
-        threading.Timer(0.7, os.remove, [os.path.join(root, "filler")]).start()
-        replies = folder.run(["round", "jobs"])
-        same("with room", (replies[0], states(replies)), ("ok started 1 finished 1", {1: "9 job-completed-successfully"}))
-        same("the printed document", folder.read("kept") == document, True)
-    finally:
-        subprocess.run(["umount", root], check=True)
+    disk = small_disk(folder.at(folder.root), "20m")
+    folder.program("backend", "keep", '#!/bin/sh\ncat "$6" >"${DEVICE_URI#keep:}"\n')
+    document = bytes(range(256)) * 4096
+    folder.run(printed("lab", f"keep:{folder.at('kept')}", policy="retry-current-job", document=document))
+    disk.fill()
+    begun = time.monotonic()
+    replies = folder.run(b"round\njobs\n", log=["spool: job 1 attempt 1 stage 1 keep: not started: out of disk space"])
+    same("a full folder", (replies[0], states(replies)), ("ok started 0 finished 1", {1: "3 none"}))
+    seconds = time.monotonic() - begun
+    same("it is tried for a while", (seconds, 1.5 < seconds < 60), (seconds, True))
+    same("the remaining files", folder.left(), ["filler", "spool.disk"])
+    # There is room again while the start is retried.
+    threading.Timer(0.7, os.remove, [disk.filler]).start()
+    replies = folder.run(b"round\njobs\n")
+    same("with room", (replies[0], states(replies)), ("ok started 1 finished 1", {1: DONE}))
+    same("the printed document", folder.read("kept") == document, True)
 
 
 FILLS = """#!/bin/sh
@@ -543,28 +526,22 @@ exit 0
 
 
 @pytest.mark.root
-def test_no_room_at_the_end(folder):
+def test_no_room_at_the_end(folder, small_disk):
     """A filter whose output did not fit on the disk is not treated like one with empty output."""
-    root = folder.at(folder.root)
-    mounted = subprocess.run(["mount", "-t", "tmpfs", "-o", "size=20m", "none", root], capture_output=True)
-    if mounted.returncode:
-        pytest.skip("nothing can be mounted")
-    try:
-        folder.program("filter", "first", FILLS)
-        folder.program("backend", "keep", '#!/bin/sh\ncat >"$0.kept"\n')
-        folder.program("backend", "quiet", '#!/bin/sh\ncat /dev/zero >"$TMPDIR/filler" 2>/dev/null\nexit 0\n')
-        cut = "spool: job 1 attempt 1 stage 1 first: no space left in the folder, output may be truncated"
-        replies = folder.run(printed("lab", "keep:/x", "b/b") + b"drain 5\njobs\n", log=[cut])
-        same("a filter", states(replies), {1: "8 filter-failed"})
-        same("the printed document", os.path.exists(folder.at("backend-keep.kept")), False)
-        same("its end", stage_event(1, 1, 1, b"\x03") in folder.read("spool/spool.disk"), True)
-        os.remove(os.path.join(root, "filler"))
-        # A backend that wrote nothing lost nothing.
-        log = ["spool: job 2 attempt 1 stage 1 quiet: no space left in the folder when it ended"]
-        replies = folder.run(printed("next", "quiet:/x", number=2) + b"drain 5\njobs\n", log=log)
-        same("a backend", states(replies)[2], "9 job-completed-successfully")
-    finally:
-        subprocess.run(["umount", root], check=True)
+    disk = small_disk(folder.at(folder.root), "20m")
+    folder.program("filter", "first", FILLS)
+    folder.program("backend", "keep", KEEP)
+    folder.program("backend", "quiet", '#!/bin/sh\ncat /dev/zero >"$TMPDIR/filler" 2>/dev/null\nexit 0\n')
+    cut = "spool: job 1 attempt 1 stage 1 first: no space left in the folder, output may be truncated"
+    replies = folder.run(printed("lab", "keep:/x", "b/b") + b"drain 5\njobs\n", log=[cut])
+    same("a filter", states(replies), {1: "8 filter-failed"})
+    same("the printed document", os.path.exists(folder.at("backend-keep.kept")), False)
+    same("its end", stage_event(1, 1, 1, b"\x03") in folder.read("spool/spool.disk"), True)
+    os.remove(disk.filler)
+    # A backend that wrote nothing lost nothing.
+    log = ["spool: job 2 attempt 1 stage 1 quiet: no space left in the folder when it ended"]
+    replies = folder.run(printed("next", "quiet:/x", number=2) + b"drain 5\njobs\n", log=log)
+    same("a backend", states(replies)[2], DONE)
 
 
 @pytest.fixture

@@ -5,7 +5,6 @@ No child can harm the spooler, its data or another child. The log says why a chi
 import fcntl
 import os
 import resource
-import shutil
 import signal
 import socket
 import subprocess
@@ -19,6 +18,8 @@ from harness.child_folder import CHANNEL, COPIES, EXIT, LOCK, printed, PYTHON, S
 from harness.programs import SHELL
 
 pytestmark = pytest.mark.needs("spool_shell")
+
+DONE = "9 job-completed-successfully"
 
 # ---- harmful children
 
@@ -57,7 +58,7 @@ def test_printers_that_answer(folder):
     replies = folder.run(printed("lab", f"answered://127.0.0.1:{port}", "b/b") + b"drain 5\njobs\n")
     thread.join(20)
     server.close()
-    same("jobs", states(replies), {1: "9 job-completed-successfully"})
+    same("jobs", states(replies), {1: DONE})
     same("the received bytes", (len(b"".join(received)), set(b"".join(received))), (960000, {ord("x")}))
 
 
@@ -67,13 +68,11 @@ GROUP = '#!/bin/sh\nps -o sid= -p $$ | tr -d " " >"$0.$1"\necho $$ >>"$0.$1"\nki
 def test_groups(folder):
     """A signal that a child sends to its process group reaches the child and its descendants, and not the spooler."""
     for side in (False, True):
-        folder.lines = []
+        folder.new_spool()
         folder.program("filter", "first", GROUP)
         folder.program("backend", "exit", EXIT)
         if side:
             folder.side()
-        shutil.rmtree(folder.at("spool"))
-        os.mkdir(folder.at("spool"))
         replies = folder.run(printed("lab", "exit:/0", "b/b") + b"drain 5\njobs\n", start_new_session=True)
         same("jobs", states(replies), {1: "8 filter-failed"})
         session, process = folder.read("filter-first.1").split()
@@ -138,8 +137,8 @@ def test_ends_that_cannot_be_known(folder):
     words = [SHELL, "--root", folder.root]
     run = subprocess.run(words, input=b"jobs\n", cwd=folder.path, capture_output=True, timeout=LONGEST, preexec_fn=ignoring)
     same("without programs", (run.returncode, run.stdout, run.stderr), (0, b"ok 0\n", b""))
-    run = subprocess.run(["env", "--default-signal=CHLD", *folder.words()], input=script, cwd=folder.path, capture_output=True, timeout=LONGEST, preexec_fn=ignoring)
-    same("with the usual signal", states(run.stdout.decode().splitlines()), {1: "9 job-completed-successfully"})
+    replies = folder.outcome(script, "env", "--default-signal=CHLD", preexec_fn=ignoring)[1]
+    same("with the usual signal", states(replies), {1: DONE})
 
 
 @pytest.mark.strace
@@ -147,11 +146,10 @@ def test_ends_that_are_not_observed(folder):
     """If a wait does not return a child's end, nothing more is started in that run."""
     folder.program("backend", "counts", '#!/bin/sh\necho ran >>"$0.ran"\n')
     script = printed("lab", "counts:/x", policy="retry-current-job") + b"drain 20\njobs\n"
-    words = ["strace", "-qq", "-o", folder.at("calls"), "-e", "inject=wait4,waitid:error=ECHILD", *folder.words()]
-    run = subprocess.run(words, input=script, cwd=folder.path, capture_output=True, timeout=LONGEST)
+    errors = folder.outcome_with(script, "-e", "inject=wait4,waitid:error=ECHILD")[2]
     log = ["spool: job 1 attempt 1 stage 1 counts: outcome unknown"]
     log += [f"spool: job 1 attempt {n} stage 1 counts: not started: the outcome of an earlier child is unknown" for n in range(2, 6)]
-    same("log", run.stderr.decode().splitlines(), log)
+    same("log", errors.splitlines(), log)
     # No wait returned the child's end, so the child may write its line only now.
     until("its line", lambda: os.path.exists(folder.at("backend-counts.ran")))
     same("the record of runs", folder.read("backend-counts.ran"), b"ran\n")
@@ -164,7 +162,7 @@ def test_names_that_a_child_removes(folder):
     folder.program("backend", "blocks", '#!/bin/sh\nrm "$TMPDIR/spool.disk"\nmkdir "$TMPDIR/spool.disk"\n')
     script = printed("lab", "keep:/x", "b/b", document=b"doc") + printed("later", "keep:/x", number=2) + b"hold 2 indefinite\ndrain 5\njobs\n"
     replies = folder.run(script)
-    same("jobs", states(replies), {1: "9 job-completed-successfully", 2: "4 job-hold-until-specified"})
+    same("jobs", states(replies), {1: DONE, 2: "4 job-hold-until-specified"})
     same("the printed document", folder.read("backend-keep.kept"), b"doc")
     same("files", sorted(os.listdir(folder.at("spool"))), ["spool.disk", LOCK])
     found = os.stat(folder.at("spool", "spool.disk"))
@@ -200,15 +198,14 @@ def test_locks_that_exclude_nobody(folder):
     folder.write(os.path.join(folder.root, LOCK), "", 0o600)
 
     def served(*inject):
-        words = ["strace", "-qq", "-o", folder.at("calls"), *inject, *folder.words()]
-        run = subprocess.run(words, input=b"jobs\n", cwd=folder.path, capture_output=True, timeout=LONGEST)
-        return run.returncode, run.stdout, words_of_faults(run.stderr.decode())
+        status, replies, errors = folder.outcome_with(b"jobs\n", *inject)
+        return status, replies, words_of_faults(errors)
 
-    refused = (1, b"", "spool: disk\nspool: cause: owner unknown\n")
+    refused = (1, [], "spool: disk\nspool: cause: owner unknown\n")
     same("two locks at once", served("-P", lock, "-e", "inject=flock:retval=0"), refused)
     same("the folder", os.listdir(folder.at(folder.root)), [LOCK])
-    same("no lock of the file", served("-P", lock, "-e", "inject=flock:error=ENOLCK"), (1, b"", "spool: disk\nspool: cause: failed\n"))
-    same("no lock of the folder", served("-e", "inject=flock:error=EBADF:when=1"), (0, b"ok 0\n", ""))
+    same("no lock of the file", served("-P", lock, "-e", "inject=flock:error=ENOLCK"), (1, [], "spool: disk\nspool: cause: failed\n"))
+    same("no lock of the folder", served("-e", "inject=flock:error=EBADF:when=1"), (0, ["ok 0"], ""))
 
 
 @pytest.mark.root
@@ -238,17 +235,13 @@ def test_causes_of_the_disk(folder):
         ends[name] = (run.returncode, words_of_faults(run.stderr.decode()).splitlines())
     causes = {"absent": "absent", "file": "no file", "taken": "no file", "dangling": "absent"}
     same("causes", ends, {name: (1, ["spool: disk", f"spool: cause: {cause}"]) for name, cause in causes.items()})
-    root = folder.at(folder.root)
-    mounted = subprocess.run(["mount", "-t", "tmpfs", "-o", "size=64k", "none", root], capture_output=True)
-    if mounted.returncode:
-        print("causes_of_the_disk: no room and read-only are left out: it may not mount a file system (it needs root)")
-        return
-    try:
-        folder.run(b"", status=1, log=["spool: disk", "spool: cause: no room"])
-        subprocess.run(["mount", "-o", "remount,ro", root], check=True)
-        folder.run(b"", status=1, log=["spool: disk", "spool: cause: read-only"])
-    finally:
-        subprocess.run(["umount", root], check=True)
+
+
+def test_causes_of_a_mounted_disk(folder, small_disk):
+    disk = small_disk(folder.at(folder.root), "64k")
+    folder.run(b"", status=1, log=["spool: disk", "spool: cause: no room"])
+    subprocess.run(["mount", "-o", "remount,ro", disk.path], check=True)
+    folder.run(b"", status=1, log=["spool: disk", "spool: cause: read-only"])
 
 
 GOES_ON_ALONE = '#!/bin/sh\ncat "$6" >"$0.kept"\nwhile [ ! -e "$0.end" ]; do sleep 0.05; done\n'
@@ -257,21 +250,16 @@ GOES_ON_ALONE = '#!/bin/sh\ncat "$6" >"$0.kept"\nwhile [ ! -e "$0.end" ]; do sle
 def test_leftovers_of_kills(folder):
     """Files that a child of a killed program left are removed at the next start, unless the child still runs, which is logged."""
     for side in (False, True):
-        folder.lines = []
+        folder.new_spool()
         folder.program("backend", "alone", GOES_ON_ALONE)
         if side:
             folder.side()
-        shutil.rmtree(folder.at("spool"))
-        os.mkdir(folder.at("spool"))
         for name in ("backend-alone.kept", "backend-alone.end"):
             if os.path.exists(folder.at(name)):
                 os.remove(folder.at(name))
-        child = subprocess.Popen(folder.words(), cwd=folder.path, stdin=subprocess.PIPE, stdout=subprocess.PIPE, stderr=subprocess.PIPE)
-        child.stdin.write(printed("lab", "alone:/x", document=b"a secret") + b"round\n")
-        child.stdin.flush()
+        shell = folder.launch(printed("lab", "alone:/x", document=b"a secret") + b"round\n")
         until("the document", lambda: os.path.exists(folder.at("backend-alone.kept")) and folder.read("backend-alone.kept"))
-        child.send_signal(signal.SIGKILL)
-        child.communicate()
+        shell.kill()
         names = ["err-1-1-1", "in-1-1-1", "out-1-1-1", *(["side-1-1-1"] if side else []), "spool.disk"]
         same("left", folder.left(), names)
         # Names that do not belong to a child, and a link in place of a child's file.
@@ -311,7 +299,7 @@ def test_floods(folder):
     script = printed("a", "keep:/x", "b/b", title="out") + printed("b", "keep:/x", "b/b", title="errors", number=2)
     script += printed("c", "keep:/x", document=b"doc", number=3)
     replies = folder.run(script + b"drain 5\njobs\n", preexec_fn=lambda: resource.setrlimit(resource.RLIMIT_FSIZE, (lower, lower)))
-    same("jobs", states(replies), {1: "8 filter-failed", 2: "8 filter-failed", 3: "9 job-completed-successfully"})
+    same("jobs", states(replies), {1: "8 filter-failed", 2: "8 filter-failed", 3: DONE})
     same("the printed document", (folder.read("backend-keep.kept.3"), os.path.exists(folder.at("backend-keep.kept.1"))), (b"doc", False))
     same("files", folder.left(), ["spool.disk"])
 
@@ -326,7 +314,7 @@ def test_daemons(folder):
     begin = time.monotonic()
     replies = folder.run(printed("lab", "keep:/x", "b/b") + b"drain 5\njobs\n")
     same("in time", time.monotonic() - begin < 60, True)
-    same("jobs", states(replies), {1: "9 job-completed-successfully"})
+    same("jobs", states(replies), {1: DONE})
     same("the printed document", folder.read("backend-keep.kept.1"), b"here\n")
     same("files", folder.left(), ["spool.disk"])
 
@@ -335,15 +323,12 @@ def test_a_child_that_never_ends(folder):
     """The round waits for a child that never ends, after the stage of another queue has run. The next start ends its attempt."""
     folder.program("backend", "keep", KEEP)
     folder.program("backend", "never", GOES_ON_ALONE)
-    child = subprocess.Popen(folder.words(), cwd=folder.path, stdin=subprocess.PIPE, stdout=subprocess.DEVNULL, stderr=subprocess.DEVNULL)
-    child.stdin.write(printed("b", "keep:/x", document=b"doc") + printed("z", "never:/x", number=2) + b"round\n")
-    child.stdin.flush()
+    shell = folder.launch(printed("b", "keep:/x", document=b"doc") + printed("z", "never:/x", number=2) + b"round\n")
     ended = stage_event(1, 1, 1, b"\0\0")
     until("the end of the first", lambda: "spool.disk" in folder.left() and ended in folder.read("spool/spool.disk"))
-    same("it waits", child.poll(), None)
-    child.kill()
-    child.communicate()
-    same("jobs", states(folder.run(b"jobs\n")), {1: "9 job-completed-successfully", 2: "8 attempt-lost"})
+    same("it waits", shell.child.poll(), None)
+    shell.kill()
+    same("jobs", states(folder.run(b"jobs\n")), {1: DONE, 2: "8 attempt-lost"})
     folder.write("backend-never.end", "")
     folder.until_no_child_runs()
 
@@ -368,7 +353,7 @@ def test_much(folder):
     script = printed("lab", "link:/x?" + "&".join(f"name{n}=value{n:04}" for n in range(37)), "a/last", document=b"doc\n", title=title, copies=100)
     script += printed("more", "effects:/x", number=2) + b"drain 20\njobs\n"
     replies = folder.run(script)
-    same("jobs", states(replies), {1: "9 job-completed-successfully", 2: "9 job-completed-successfully"})
+    same("jobs", states(replies), {1: DONE, 2: DONE})
     same("pages", [line.split(" ")[7] for line in replies if line.startswith("job 2")], ["110"])
     same("programs", len(folder.lines), 62)
     same("a chain of 15 filters", folder.read("link.kept").decode().split(), ["doc", *[f"filter-f{n:02}" for n in range(1, 16)]])
@@ -403,7 +388,7 @@ def test_side_programs_that_read(folder):
     folder.write("ends", SIDE_END, 0o755)
     folder.side(READS_SIDE % folder.at("ends"))
     replies = folder.run(printed("lab", "ask:/o?id=MFG", document=b"doc") + b"round\njobs\n")
-    same("jobs", states(replies), {1: "9 job-completed-successfully"})
+    same("jobs", states(replies), {1: DONE})
     same("answers", folder.report("asks"), ["04010003" + b"MFG".hex()])
 
 
@@ -418,7 +403,7 @@ def test_answers_before_others_end(folder):
     folder.program("backend", "ask", ASKS_EARLY, "asks")
     folder.side()
     replies = folder.run(printed("a", "long:/x") + printed("b", "ask:/o", number=2) + b"round\njobs\n")
-    same("jobs", states(replies), {1: "9 job-completed-successfully", 2: "9 job-completed-successfully"})
+    same("jobs", states(replies), {1: DONE, 2: DONE})
     same("answers", folder.report("asks"), ["0301000101"])
 
 
@@ -437,7 +422,7 @@ def test_several_connections(folder):
     folder.program("backend", "ask", SECOND, "asks")
     folder.side()
     replies = folder.run(printed("a", "ask:/o") + b"round\njobs\n")
-    same("jobs", states(replies), {1: "9 job-completed-successfully"})
+    same("jobs", states(replies), {1: DONE})
     same("answers", (folder.report("asks"), folder.report("when")), (["0301000101", "0301000101"], ["early"]))
 
 
@@ -464,7 +449,7 @@ def test_leftovers_that_send_requests(folder):
     folder.side("#!/bin/sh\nexit 0\n")
     begun = time.monotonic()
     replies = folder.run(printed("a", "ask:/o") + b"round\njobs\n")
-    same("jobs", states(replies), {1: "9 job-completed-successfully"})
+    same("jobs", states(replies), {1: DONE})
     same("answers", folder.report("asks"), ["0301000101"])
     same("seconds", time.monotonic() - begun < 50, True)
 
@@ -475,7 +460,7 @@ def test_side_programs_that_hang(folder):
     folder.side('#!/bin/sh\ntrap "" TERM\nkill -TERM 0\nwhile :; do sleep 1; done\n')
     begun = time.monotonic()
     replies = folder.run(printed("a", "exit:/5") + printed("b", "exit:/0", number=2) + b"round\njobs\n", start_new_session=True)
-    same("jobs", states(replies), {1: "7 canceled", 2: "9 job-completed-successfully"})
+    same("jobs", states(replies), {1: "7 canceled", 2: DONE})
     same("seconds", time.monotonic() - begun < 60, True)
 
 
@@ -493,12 +478,10 @@ def test_documents_that_cannot_be_read(folder):
     folder.run(printed("lab", "exit:/0", document=b"x" * 3000))
     disk = os.path.realpath(folder.at(folder.root, "spool.disk"))
     # The opening reads the journal, and then the round reads the document.
-    reads = subprocess.run(["strace", "-qq", "-o", "/dev/stdout", "-P", disk, "-e", "trace=pread64", *folder.words()], input=b"", cwd=folder.path, capture_output=True, timeout=LONGEST)
-    count = reads.stdout.count(b"pread64(")
-    words = ["strace", "-qq", "-o", folder.at("calls"), "-P", disk, "-e", f"inject=pread64:error=EIO:when={count + 1}+", *folder.words()]
-    run = subprocess.run(words, input=b"round\njobs\nround\n", cwd=folder.path, capture_output=True, timeout=LONGEST)
-    replies = run.stdout.decode().splitlines()
-    same("the rounds", (replies[0], replies[-1], run.returncode), ("error disk", "error dead", 1))
+    folder.outcome_with(b"", "-P", disk, "-e", "trace=pread64")
+    count = folder.read("calls").count(b"pread64(")
+    status, replies, _ = folder.outcome_with(b"round\njobs\nround\n", "-P", disk, "-e", f"inject=pread64:error=EIO:when={count + 1}+")
+    same("the rounds", (replies[0], replies[-1], status), ("error disk", "error dead", 1))
     same("files", folder.left(), ["spool.disk"])
 
 

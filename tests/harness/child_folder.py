@@ -1,6 +1,8 @@
 """The folder of a test of real children, which the shell starts."""
+import contextlib
 import os
 import re
+import shutil
 import subprocess
 import tempfile
 
@@ -54,6 +56,35 @@ LOCK = "spool.lock"
 LOG_LINE = re.compile(r"spool: (job \d+ attempt \d+ stage \d+( \S+)?|filter \S+|backend \S+|side program): .")
 
 
+class Shell:
+    """A running shell, which gets commands one by one."""
+
+    def __init__(self, words, folder):
+        pipe = subprocess.PIPE
+        self.child = subprocess.Popen(words, cwd=folder, stdin=pipe, stdout=pipe, stderr=pipe)
+
+    def give(self, text):
+        self.child.stdin.write(text if isinstance(text, bytes) else text.encode())
+        self.child.stdin.flush()
+
+    def line(self):
+        """The next line of its output, or a part of it if it has ended."""
+        return self.child.stdout.readline().decode()
+
+    def kill(self):
+        """SIGKILL, as in a crash. Returns the output that was not read until then, and the error messages."""
+        self.child.kill()
+        return self.end()
+
+    def end(self):
+        self.child.wait()
+        left = self.child.stdout.read().decode(), self.child.stderr.read().decode()
+        for stream in (self.child.stdin, self.child.stdout, self.child.stderr):
+            with contextlib.suppress(BrokenPipeError):
+                stream.close()
+        return left
+
+
 class Folder:
     """The folder of a test: the files of the shell, its programs, and their reports."""
 
@@ -95,12 +126,32 @@ class Folder:
 
     def run(self, script, status=0, log=None, **how):
         """The replies to a script. Standard error must be `log`, or else have only lines about stages and programs."""
-        text = script if isinstance(script, bytes) else "".join(line + "\n" for line in script).encode()
-        run = subprocess.run(self.words(), input=text, cwd=self.path, stdout=subprocess.PIPE, stderr=subprocess.PIPE, timeout=LONGEST, **how)
-        same("status", run.returncode, status)
-        lines = words_of_faults(run.stderr.decode()).splitlines()
+        ended, replies, errors = self.outcome(script, **how)
+        same("status", ended, status)
+        lines = words_of_faults(errors).splitlines()
         same("standard error", lines, log if log is not None else [line for line in lines if LOG_LINE.match(line)])
-        return run.stdout.decode().splitlines()
+        return replies
+
+    def outcome(self, script, *before, **how):
+        """The status of a run over a script, with these words before the program's, its replies, and its standard error."""
+        run = subprocess.run([*before, *self.words()], input=script, cwd=self.path, capture_output=True, timeout=LONGEST, **how)
+        return run.returncode, run.stdout.decode().splitlines(), run.stderr.decode()
+
+    def outcome_with(self, script, *words):
+        """The same of a run under strace, with these words."""
+        return self.outcome(script, "strace", "-qq", "-o", self.at("calls"), *words)
+
+    def launch(self, script):
+        """A shell that gets a script, and runs."""
+        shell = Shell(self.words(), self.path)
+        shell.give(script)
+        return shell
+
+    def new_spool(self):
+        """Removes the spool and the names of its programs."""
+        self.lines = []
+        shutil.rmtree(self.at(self.root))
+        os.mkdir(self.at(self.root))
 
     def report(self, name):
         file = self.at("report." + name)
