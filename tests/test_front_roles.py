@@ -25,9 +25,8 @@ import threading
 import pytest
 
 from harness.checks import holds, LONGEST, same
-from harness.front import Front
-from harness.programs import compiled
-from harness.service import TYPE
+from harness.front import each_refused, Front
+from harness.service import listening, TYPE
 
 pytestmark = pytest.mark.needs("spool_service", "spool_front")
 
@@ -43,21 +42,16 @@ class Service:
     the reply to `made`: it is given once the command after it has come, so a client that waits for it in between gets none.
     """
 
-    def __init__(self, folder, replies, proof=True, made="ok user ann\n", takes=True):
-        self.folder, self.proof, self.made, self.takes = folder, proof, made, takes
+    def __init__(self, folder, replies, proof=True, made="ok user ann\n", takes=True, path=None):
+        self.proof, self.made, self.takes, self.path = proof, made, takes, path
         self.replies = {word: list(reply) if isinstance(reply, list) else reply for word, reply in replies.items()}
         self.heard, self.seen, self.faults, self.trips = [], [], [], 0
         self.parent = folder.at("proof")
         if not os.path.isdir(self.parent):
             os.mkdir(self.parent)
             os.chmod(self.parent, 0o1733)
-        self.path = None
-        if os.path.exists(folder.socket):
-            os.remove(folder.socket)
-        self.listener = socket.socket(socket.AF_UNIX)
-        self.listener.bind(folder.socket)
+        self.listener = listening(folder.socket)
         os.chmod(folder.socket, 0o666)
-        self.listener.listen(16)
         self.accepting = threading.Thread(target=self.accept, daemon=True)
         self.accepting.start()
 
@@ -151,142 +145,104 @@ class Service:
         same("folders that are left", self.left(), [])
 
 
-def started(folder, replies, patience=2, **more):
-    return Service(folder, replies, **more), Front(folder, patience)
+def served(folder, words, replies, output=None, status=0, patience=2, text=b"", mask=-1, **more):
+    """A simulated service that has ended, once it has served a command that ends with `status`, and prints this output."""
+    service, front = Service(folder, replies, **more), Front(folder, patience)
+    ended = front.run(*words.split(), text=text, umask=mask)
+    service.end()
+    service.output = (ended.stdout + ended.stderr).decode()
+    same(f"status of {words}, with the output {service.output!r}", ended.returncode, status)
+    if output is not None:
+        same(f"output of {words}", service.output, output)
+    return service
 
 
 # ---- the proof
 
+# The folder at `made`.
+OWN = (True, "0o700", ME)
+
 
 def test_proves_who_it_is(folder):
-    service, front = started(folder, {"stop 7": "ok\n"})
-    same("output", front.says("spool", "cancel", "7"), "")
+    service = served(folder, "spool cancel 7", {"stop 7": "ok\n"}, "")
     same("said", service.heard, ["i-am", "made", "stop 7"])
-    same("the folder at `made`", service.seen, [(True, "0o700", ME)])
+    same("the folder at `made`", service.seen, [OWN])
     # The service has got the command before it answers `made`.
     same("round trips", service.trips, 2)
-    service.end()
 
 
-def test_proves_with_any_mask(folder):
-    for mask in (0o000, 0o022, 0o077, 0o777):
-        service, front = started(folder, {"stop 7": "ok\n"})
-        ended = subprocess.run(front.command(["spool", "cancel", "7"]), env=front.environment, capture_output=True, umask=mask, timeout=LONGEST)
-        same(f"status with the mask {mask:o}: {ended.stderr!r}", ended.returncode, 0)
-        same(f"the folder with the mask {mask:o}", service.seen, [(True, "0o700", ME)])
-        service.end()
+@pytest.mark.parametrize("mask", [0o000, 0o022, 0o077, 0o777], ids=oct)
+def test_proves_with_any_mask(folder, mask):
+    same("the folder at `made`", served(folder, "spool cancel 7", {"stop 7": "ok\n"}, mask=mask).seen, [OWN])
 
 
 def test_proves_once_a_connection(folder):
-    service, front = started(folder, {"stop 7": "ok\n", "stop 8": None, "stop 9": "ok\n"})
-    front.fails("spool", "cancel", "7", "8", "9", status=3)
+    service = served(folder, "spool cancel 7 8 9", {"stop 7": "ok\n", "stop 8": None, "stop 9": "ok\n"}, status=3)
     same("said", service.heard, ["i-am", "made", "stop 7", "stop 8", "i-am", "made", "stop 9"])
-    service.end()
 
 
-def test_proves_by_each_name(folder):
-    listed = {"jobs": "ok 0\n", "list": OLDER, "printers": "ok 0\n"}
-    for words in (["cancel", "7"], ["lprm", "7"], ["spool", "hold", "7"], ["spool", "release", "7"], ["spool", "end", "7"], ["spool", "purge", "7"]):
-        service, front = started(folder, {word: "ok\n" for word in ("stop", "hold", "release", "end", "purge")})
-        front.says(*words)
-        same(f"said by {words}", service.heard[:2], ["i-am", "made"])
-        same(f"commands of {words}", len(service.heard), 3)
-        service.end()
-    for words in (["spool", "queue", "enable", "q"], ["spool", "queue", "add", "q", "slow:/0"]):
-        service, front = started(folder, {"enable": "ok\n", "queue": "ok\n"})
-        front.says(*words)
-        same(f"said by {words}", service.heard[:2], ["i-am", "made"])
-        service.end()
-    for words in (["spool", "status"], ["lpstat", "-o"]):
-        service, front = started(folder, listed)
-        front.says(*words)
-        same(f"said by {words}", service.heard[:2], ["i-am", "made"])
-        service.end()
+ACTS = ["cancel 7", "lprm 7", "spool hold 7", "spool release 7", "spool end 7", "spool purge 7", "spool queue enable q", "spool queue add q slow:/0"]
+
+
+@pytest.mark.parametrize("words", [*ACTS, "spool status", "lpstat -o"])
+def test_proves_by_each_name(folder, words):
+    replies = {word: "ok\n" for word in ("stop", "hold", "release", "end", "purge", "enable", "queue")}
+    service = served(folder, words, {**replies, "jobs": "ok 0\n", "list": OLDER, "printers": "ok 0\n"})
+    same("said", service.heard[:2], ["i-am", "made"])
+    same("one command", words not in ACTS or len(service.heard) == 3, True)
 
 
 def test_proves_to_show_queues(folder):
     """Queues that are shown are listed with a proof, since only operators see their messages. A queue is looked up without one."""
-    service, front = started(folder, {"printers": "ok 0\n"})
-    front.says("spool", "queues")
-    same("said", service.heard, ["i-am", "made", "printers"])
-    service.end()
-    service, front = started(folder, {"printers": OLDER, "queues": "ok 0\n"})
-    front.says("spool", "queues")
+    same("said", served(folder, "spool queues", {"printers": "ok 0\n"}).heard, ["i-am", "made", "printers"])
+    service = served(folder, "spool queues", {"printers": OLDER, "queues": "ok 0\n"})
     same("said to an older service", service.heard, ["i-am", "made", "printers", "queues"])
-    service.end()
-    service, front = started(folder, {"printers": "ok 0\n"})
-    front.run("lp", text=b"a letter")
-    same("said to find the only queue", service.heard, ["printers"])
-    service.end()
+    same("said to find the only queue", served(folder, "lp", {"printers": "ok 0\n"}, status=1, text=b"a letter").heard, ["printers"])
 
 
 # ---- services that take no proof
 
 
-def test_goes_on_with_an_older_service(folder):
-    service, front = started(folder, {"hold 7": "ok\n"}, proof=OLDER)
-    same("output", front.says("spool", "hold", "7"), "")
+@pytest.mark.parametrize("reply", [OLDER, "error proof\n", "error memory\n", "error denied\n", "ok\n", "ok proof\n", "ok 3\n"])
+def test_goes_on_if_no_proofs_are_offered(folder, reply):
+    service = served(folder, "spool hold 7", {"hold 7": "ok\n"}, "", proof=reply)
     same("said", service.heard, ["i-am", "hold 7 indefinite"])
-    service.end()
 
 
-def test_goes_on_if_no_proofs_are_offered(folder):
-    for reply in ("error proof\n", "error memory\n", "error denied\n", "ok\n", "ok proof\n", "ok 3\n"):
-        service, front = started(folder, {"hold 7": "ok\n"}, proof=reply)
-        same("output", front.says("spool", "hold", "7"), "")
-        same(f"said after {reply!r}", service.heard, ["i-am", "hold 7 indefinite"])
-        service.end()
-
-
-def test_goes_on_if_the_proof_is_not_taken(folder):
-    for reply in ("error proof\n", "error syntax\n", "ok\n", "ok user\n", "ok user \x07\n", "ok owner ann\n"):
-        service, front = started(folder, {"hold 7": "ok\n"}, made=reply, takes=False)
-        same("output", front.says("spool", "hold", "7"), "")
-        same("the folder at `made`", service.seen, [(True, "0o700", ME)])
-        service.end()
+@pytest.mark.parametrize("reply", ["error proof\n", "error syntax\n", "ok\n", "ok user\n", "ok user \x07\n", "ok owner ann\n"])
+def test_goes_on_if_the_proof_is_not_taken(folder, reply):
+    service = served(folder, "spool hold 7", {"hold 7": "ok\n"}, "", made=reply, takes=False)
+    same("the folder at `made`", service.seen, [OWN])
 
 
 def test_goes_on_to_a_busy_service(folder):
-    service, front = started(folder, {}, proof="error busy\n")
-    same("output", front.fails("spool", "cancel", "7"), "spool: cannot cancel job 7: the service is busy (try again)\n")
-    same("said", service.heard, ["i-am"])
-    service.end()
+    text = "spool: cannot cancel job 7: the service is busy (try again)\n"
+    same("said", served(folder, "spool cancel 7", {}, text, 1, proof="error busy\n").heard, ["i-am"])
 
 
 # ---- nothing is left
 
 
 def test_leaves_nothing_if_the_service_disappears(folder):
-    service, front = started(folder, {}, made=None, takes=False, patience=1)
-    front.fails("spool", "cancel", "7", status=3)
-    same("the folder at `made`", service.seen, [(True, "0o700", ME)])
-    service.end()
+    service = served(folder, "spool cancel 7", {}, status=3, patience=1, made=None, takes=False)
+    same("the folder at `made`", service.seen, [OWN])
     # The proof is taken, and the reply to the command is lost.
-    service, front = started(folder, {"stop": None}, patience=1)
-    front.fails("spool", "cancel", "7", status=3)
-    service.end()
+    served(folder, "spool cancel 7", {"stop": None}, status=3, patience=1)
 
 
 @pytest.mark.needs("gcc", "plain spool_front")
-def test_leaves_nothing_without_memory(folder):
+@pytest.mark.parametrize("takes, made", [(True, "ok user ann\n"), (False, "error proof\n")])
+def test_leaves_nothing_without_memory(folder, takes, made):
     """Each allocation is refused in turn, with a service that takes the proof and one that does not."""
-    library = compiled("count_allocations.c", "-shared", "-fPIC")
-    for takes, made in ((True, "ok user ann\n"), (False, "error proof\n")):
-        refused = 0
-        while True:
-            refused += 1
-            service, front = started(folder, {"stop 7": "ok\n"}, takes=takes, made=made)
-            counted = folder.at("counted")
-            ended = front.run("spool", "cancel", "7", environment={"LD_PRELOAD": library, "REFUSED": str(refused), "COUNTED": counted})
-            holds(f"allocation {refused}, status {ended.returncode}: {ended.stderr!r}", ended.returncode in (0, 1))
-            holds(f"allocation {refused}: {ended.stderr!r}", ended.returncode == 0 or b"memory" in ended.stderr)
-            service.end()
-            text = folder.read("counted")
-            if " refused " not in text:
-                break
-            os.remove(counted)
-        same("status with all of it", ended.returncode, 0)
-        print(f"  {refused - 1} allocations")
+    front = Front(folder, 2)
+    for refused, environment in each_refused(folder):
+        service = Service(folder, {"stop 7": "ok\n"}, takes=takes, made=made)
+        ended = front.run("spool", "cancel", "7", environment=environment)
+        service.end()
+        holds(f"allocation {refused}, status {ended.returncode}: {ended.stderr!r}", ended.returncode in (0, 1))
+        holds(f"allocation {refused}: {ended.stderr!r}", ended.returncode == 0 or b"memory" in ended.stderr)
+    same("status with all of it", ended.returncode, 0)
+    print(f"  {refused - 1} allocations")
 
 
 # ---- hostile services
@@ -304,105 +260,89 @@ def test_refuses_paths(folder):
     offers += [f"ok proof {parent}/{name}\n", f'ok proof "{parent}/{name}\n', f'ok proof "{parent}/{name}" more\n', f'ok proof"{parent}/{name}"\n']
     offers += [f'ok "{parent}/{name}"\n', f'proof "{parent}/{name}"\nok\n', f'error proof "{parent}/{name}"\n']
     for offer in offers:
-        service, front = started(folder, {"hold 7": "ok\n"}, proof=offer)
-        same("output", front.says("spool", "hold", "7"), "")
+        service = served(folder, "spool hold 7", {"hold 7": "ok\n"}, "", proof=offer)
         same(f"said after {offer!r}", service.heard, ["i-am", "hold 7 indefinite"])
         same(f"made after {offer!r}", os.listdir(parent), [])
-        service.end()
     holds("nothing is made in the working folder", not os.path.exists(name))
     # Quotes and backslashes in a path are read as in the other replies.
     odd = folder.at('a "b" \\c')
     os.mkdir(odd)
     quoted = f"{odd}/{name}".replace("\\", "\\\\").replace('"', '\\"')
-    service, front = started(folder, {"hold 7": "ok\n"}, proof=f'ok proof "{quoted}"\n')
-    service.path = f"{odd}/{name}"
-    front.says("spool", "hold", "7")
-    same("the folder at `made`", service.seen, [(True, "0o700", ME)])
-    service.end()
+    service = served(folder, "spool hold 7", {"hold 7": "ok\n"}, proof=f'ok proof "{quoted}"\n', path=f"{odd}/{name}")
+    same("the folder at `made`", service.seen, [OWN])
 
 
-def test_refuses_what_is_there(folder):
+@pytest.mark.parametrize("kind", ["folder", "file", "link", "dangling"])
+def test_refuses_what_is_there(folder, kind):
     """A folder, a file or a link of the name is not used and stays."""
-    for kind in ("folder", "file", "link", "dangling"):
-        service, front = started(folder, {"hold 7": "ok\n"})
-        path = os.path.join(folder.at("taken"), secrets.token_hex(16))
-        os.makedirs(folder.at("taken"), exist_ok=True)
-        os.makedirs(folder.at("target"), exist_ok=True)
-        if kind == "folder":
-            os.mkdir(path, 0o700)
-        elif kind == "file":
-            open(path, "w").close()
-        else:
-            os.symlink(folder.at("target") if kind == "link" else folder.at("nowhere"), path)
-        service.proof = f'ok proof "{path}"\n'
-        front.says("spool", "hold", "7")
-        same(f"said with a {kind}", service.heard, ["i-am", "hold 7 indefinite"])
-        holds(f"the {kind} stays", os.path.lexists(path))
-        holds("nothing is made at the link's end", not os.path.exists(folder.at("nowhere")))
-        service.end()
+    path = folder.at(secrets.token_hex(16))
+    os.mkdir(folder.at("target"))
+    if kind == "folder":
+        os.mkdir(path, 0o700)
+    elif kind == "file":
+        open(path, "w").close()
+    else:
+        os.symlink(folder.at("target") if kind == "link" else folder.at("nowhere"), path)
+    service = served(folder, "spool hold 7", {"hold 7": "ok\n"}, proof=f'ok proof "{path}"\n')
+    same("said", service.heard, ["i-am", "hold 7 indefinite"])
+    holds("it stays", os.path.lexists(path))
+    holds("nothing is made at the link's end", not os.path.exists(folder.at("nowhere")))
 
 
 @pytest.mark.root
 def test_refuses_the_folder_of_another_owner(folder):
     """A folder of another user may be that of another service, which would take this service for the client."""
-    service, front = started(folder, {"hold 7": "ok\n"})
     other = folder.at("other")
     os.mkdir(other)
     os.chmod(other, 0o1733)
     os.chown(other, 65534, 65534)
-    service.proof = f'ok proof "{other}/{secrets.token_hex(16)}"\n'
-    front.says("spool", "hold", "7")
+    service = served(folder, "spool hold 7", {"hold 7": "ok\n"}, proof=f'ok proof "{other}/{secrets.token_hex(16)}"\n')
     same("said", service.heard, ["i-am", "hold 7 indefinite"])
     same("made", os.listdir(other), [])
-    service.end()
 
 
 # ---- denied commands
 
 NO_JOB = "no such job (spool status lists the jobs)"
 NOT_YOURS = f"it is not yours (ask an operator, or {WHERE}"
+OPERATORS = f"only operators may change queues ({WHERE}"
 
 
-def test_explains_jobs(folder):
-    acts = {"cancel": "stop", "hold": "hold", "release": "release", "end": "end"}
-    for act, word in acts.items():
-        service, front = started(folder, {f"{word} 17": "error denied\n"})
-        same("output", front.fails("spool", act, "17"), f"spool: cannot {act} job 17: {NOT_YOURS}\n")
-        service.end()
-    for words in (["cancel", "17"], ["lprm", "17"], ["spool", "cancel", "--keep-printing", "17"]):
-        service, front = started(folder, {"stop 17": "error denied\n", "cancel 17": "error denied\n"})
-        same(f"output of {words}", front.fails(*words), f"spool: cannot cancel job 17: {NOT_YOURS}\n")
-        service.end()
+# A command, and what it cannot do.
+DENIED = {
+    "spool cancel 17": f"cancel job 17: {NOT_YOURS}",
+    "spool hold 17": f"hold job 17: {NOT_YOURS}",
+    "spool release 17": f"release job 17: {NOT_YOURS}",
+    "spool end 17": f"end job 17: {NOT_YOURS}",
+    "cancel 17": f"cancel job 17: {NOT_YOURS}",
+    "lprm 17": f"cancel job 17: {NOT_YOURS}",
+    "spool cancel --keep-printing 17": f"cancel job 17: {NOT_YOURS}",
+    "spool purge 17": f"purge job 17: only operators may purge jobs ({WHERE}",
+    "spool queue enable q": f"enable queue q: {OPERATORS}",
+    "spool queue disable q": f"disable queue q: {OPERATORS}",
+    "spool queue accept q": f"accept queue q: {OPERATORS}",
+    "spool queue reject q": f"reject queue q: {OPERATORS}",
+    "spool queue set q --info x": f"set queue q: {OPERATORS}",
+    "spool queue add q slow:/0": f"add queue q: {OPERATORS}",
+}
 
 
-def test_explains_to_unproved_clients(folder):
-    service, front = started(folder, {"stop 17": "error denied\n"}, proof="error proof\n")
-    same("output", front.fails("spool", "cancel", "17"), f"spool: cannot cancel job 17: the service does not know who you are ({WHERE}\n")
-    service.end()
-    service, front = started(folder, {"stop 17": "error denied\n"}, made="ok operator root\n")
-    same("output", front.fails("spool", "cancel", "17"), f"spool: cannot cancel job 17: the service denies it ({WHERE}\n")
-    service.end()
+@pytest.mark.parametrize("words, text", DENIED.items(), ids=DENIED)
+def test_explains_denials(folder, words, text):
+    acts = ("stop 17", "cancel 17", "hold 17", "release 17", "end 17", "purge 17", "enable", "disable", "accept", "reject", "info", "queue")
+    served(folder, words, dict.fromkeys(acts, "error denied\n"), f"spool: cannot {text}\n", 1)
+
+
+@pytest.mark.parametrize("more, text", [({"proof": "error proof\n"}, "does not know who you are"), ({"made": "ok operator root\n"}, "denies it")])
+def test_explains_to_unproved_clients(folder, more, text):
+    served(folder, "spool cancel 17", {"stop 17": "error denied\n"}, f"spool: cannot cancel job 17: the service {text} ({WHERE}\n", 1, **more)
 
 
 def test_explains_and_goes_on(folder):
     """A denied job does not keep the others from it."""
-    service, front = started(folder, {"stop 1": "ok\n", "stop 2": "error denied\n", "stop 3": "error 5 NoJob\n", "stop 4": "ok\n"})
-    output = front.fails("spool", "cancel", "1", "2", "3", "4")
-    same("output", output, f"spool: cannot cancel job 2: {NOT_YOURS}\nspool: cannot cancel job 3: {NO_JOB}\n")
-    same("said", service.heard, ["i-am", "made", "stop 1", "stop 2", "stop 3", "stop 4"])
-    service.end()
-
-
-def test_explains_what_only_operators_may(folder):
-    service, front = started(folder, {"purge 17": "error denied\n"})
-    same("output", front.fails("spool", "purge", "17"), f"spool: cannot purge job 17: only operators may purge jobs ({WHERE}\n")
-    service.end()
-    acts = {"enable": ["q"], "disable": ["q"], "accept": ["q"], "reject": ["q"], "set": ["q", "--info", "x"], "add": ["q", "slow:/0"]}
-    for act, words in acts.items():
-        service, front = started(folder, {word: "error denied\n" for word in ("enable", "disable", "accept", "reject", "info", "queue")})
-        wanted = f"spool: cannot {act} queue q: only operators may change queues ({WHERE}\n"
-        same("output", front.fails("spool", "queue", act, *words), wanted)
-        service.end()
+    replies = {"stop 1": "ok\n", "stop 2": "error denied\n", "stop 3": "error 5 NoJob\n", "stop 4": "ok\n"}
+    text = f"spool: cannot cancel job 2: {NOT_YOURS}\nspool: cannot cancel job 3: {NO_JOB}\n"
+    same("said", served(folder, "spool cancel 1 2 3 4", replies, text, 1).heard, ["i-am", "made", "stop 1", "stop 2", "stop 3", "stop 4"])
 
 
 # ---- the user of a job
@@ -410,14 +350,10 @@ def test_explains_what_only_operators_may(folder):
 CLOSED = {"send 5": "ok bytes 3\n", "close 5": "ok type a/b stages 1\n"}
 
 
-def submitted(folder, replies, *words, status=0, made="ok user ann\n", text=None, **more):
-    """Submits a file of three bytes, or a text on standard input, and returns the service and the program's output."""
-    service, front = started(folder, {**CLOSED, **replies}, made=made, **more)
+def submitted(folder, replies, words="", output=None, source=None, **more):
+    """The service, once it has served the submission of a file of three bytes, or of standard input."""
     folder.write("doc", "abc")
-    source = folder.at("doc") if text is None else "-"
-    ended = front.run("spool", "submit", "q", source, *words, text=text or b"")
-    same(f"status, with the output {ended.stderr!r}", ended.returncode, status)
-    return service, ended.stdout.decode() + ended.stderr.decode()
+    return served(folder, f"spool submit q {source or folder.at('doc')} {words}", {**CLOSED, **replies}, output, **more)
 
 
 def creates(service):
@@ -425,77 +361,55 @@ def creates(service):
 
 
 def test_owns_by_its_proved_name(folder):
-    service, output = submitted(folder, {'create "q" "ann"': "ok job 5\n"})
-    same("output", output, "request id is q-5 (1 file(s))\n")
+    service = submitted(folder, {'create "q" "ann"': "ok job 5\n"}, output="request id is q-5 (1 file(s))\n")
     same("users", creates(service), ["ann"])
     # The proof with `room`, `create`, `send`, `close` and the fields of the job.
     same("round trips", service.trips, 5)
-    service.end()
     # The environment names another user: the service's name is used. It comes with the reply to `room`, or to `create` if the length of the
     # document is not known.
-    service, output = submitted(folder, {'create "q" "bob"': "ok job 5\n", 'create "q" ': "error denied\n"}, made="ok user bob\n")
-    same("users", creates(service), ["bob"])
-    service.end()
-    service, output = submitted(folder, {'create "q" "bob"': "ok job 5\n", 'create "q" ': "error denied\n"}, made="ok user bob\n", text=b"abc")
-    same("users", creates(service), ["ann", "bob"])
-    service.end()
-    service, output = submitted(folder, {'create "q" "b o\\"b"': "ok job 5\n", 'create "q" ': "error denied\n"}, made='ok user b o"b\n')
-    service.end()
+    replies = {'create "q" "bob"': "ok job 5\n", 'create "q" ': "error denied\n"}
+    same("users", creates(submitted(folder, replies, made="ok user bob\n")), ["bob"])
+    same("users", creates(submitted(folder, replies, source="-", text=b"abc", made="ok user bob\n")), ["ann", "bob"])
+    submitted(folder, {'create "q" "b o\\"b"': "ok job 5\n", 'create "q" ': "error denied\n"}, made='ok user b o"b\n')
 
 
-def test_owns_as_before_if_not_proved(folder):
-    for more in ({"proof": OLDER}, {"proof": "error proof\n"}, {"made": "error proof\n"}, {"made": "ok operator root\n"}):
-        service, output = submitted(folder, {'create "q" "ann"': "ok job 5\n"}, **more)
-        same("users", creates(service), ["ann"])
-        service.end()
+@pytest.mark.parametrize("more", [{"proof": OLDER}, {"proof": "error proof\n"}, {"made": "error proof\n"}, {"made": "ok operator root\n"}], ids=str)
+def test_owns_as_before_if_not_proved(folder, more):
+    same("users", creates(submitted(folder, {'create "q" "ann"': "ok job 5\n"}, **more)), ["ann"])
 
 
 def test_owns_as_another_user(folder):
-    service, output = submitted(folder, {'create "q" "bob"': "error denied\n"}, "--user", "bob", status=1)
-    same("output", output, f"spool: cannot print on q: only operators may name another user ({WHERE}\n")
+    text = f"spool: cannot print on q: only operators may name another user ({WHERE}\n"
+    service = submitted(folder, {'create "q" "bob"': "error denied\n"}, "--user bob", text, status=1)
     same("users", creates(service), ["bob"])
-    service.end()
-    service, output = submitted(folder, {'create "q" "bob"': "ok job 5\n"}, "--user", "bob", made="ok operator root\n")
+    service = submitted(folder, {'create "q" "bob"': "ok job 5\n"}, "--user bob", made="ok operator root\n")
     same("users", creates(service), ["bob"])
-    service.end()
 
 
 def test_owns_nothing_that_is_denied_later(folder):
-    service, output = submitted(folder, {"create": "ok job 5\n", "send 5": "error denied\n", "cancel 5": "error denied\n"}, status=1)
-    same("output", output, f"spool: cannot print on q: the service denies the document ({WHERE}; job 5 is not printed\n")
-    service.end()
+    text = f"spool: cannot print on q: the service denies the document ({WHERE}; job 5 is not printed\n"
+    submitted(folder, {"create": "ok job 5\n", "send 5": "error denied\n", "cancel 5": "error denied\n"}, output=text, status=1)
 
 
 # ---- commands that an older service does not know
 
 
 def test_asks_to_stop(folder):
-    service, front = started(folder, {"cancel 7": "ok\n", "end 7": "ok\n"})
-    front.says("spool", "cancel", "7")
+    service = served(folder, "spool cancel 7", {"cancel 7": "ok\n", "end 7": "ok\n"})
     same("said", service.heard, ["i-am", "made", "stop 7", "cancel 7", "end 7"])
-    service.end()
     # No child runs: the job is canceled all the same.
-    service, front = started(folder, {"cancel 7": "ok\n", "end 7": "error job\n"})
-    front.says("spool", "cancel", "7")
-    service.end()
+    served(folder, "spool cancel 7", {"cancel 7": "ok\n", "end 7": "error job\n"})
     # The job is not canceled: nothing is terminated.
-    service, front = started(folder, {"cancel 7": "error 5 NoJob\n"})
-    same("output", front.fails("spool", "cancel", "7"), f"spool: cannot cancel job 7: {NO_JOB}\n")
+    service = served(folder, "spool cancel 7", {"cancel 7": "error 5 NoJob\n"}, f"spool: cannot cancel job 7: {NO_JOB}\n", 1)
     same("said", service.heard, ["i-am", "made", "stop 7", "cancel 7"])
-    service.end()
-    service, front = started(folder, {"cancel 7": "ok\n"})
-    front.says("spool", "cancel", "--keep-printing", "7")
-    same("said", service.heard, ["i-am", "made", "cancel 7"])
-    service.end()
+    same("said", served(folder, "spool cancel --keep-printing 7", {"cancel 7": "ok\n"}).heard, ["i-am", "made", "cancel 7"])
 
 
 def test_asks_for_a_type(folder):
-    service, output = submitted(folder, {"create": "ok job 5\n"}, "--type", "text/plain")
+    service = submitted(folder, {"create": "ok job 5\n"}, "--type text/plain")
     same("close", service.heard[-1], 'close 5 "doc" "text/plain"')
-    service.end()
-    service, output = submitted(folder, {"create": "ok job 5\n", "close 5": OLDER, "cancel 5": "ok\n"}, "--type", "text/plain", status=1)
-    same("output", output, "spool: cannot print on q: the service does not take the media type; job 5 was canceled\n")
-    service.end()
+    text = "spool: cannot print on q: the service does not take the media type; job 5 was canceled\n"
+    submitted(folder, {"create": "ok job 5\n", "close 5": OLDER, "cancel 5": "ok\n"}, "--type text/plain", text, status=1)
 
 
 def shown(token=""):
@@ -507,21 +421,16 @@ def shown(token=""):
 
 def test_asks_for_its_job(folder):
     """After a lost reply the job is found by its token, also if its fields are not shown."""
-    service, output = submitted(folder, {"create": [None, "ok job 6\n"], "find ": "ok job 5\n", "job 5": shown()}, proof="error proof\n")
-    same("output", output, "request id is q-5 (1 file(s))\n")
+    replies = {"create": [None, "ok job 6\n"], "find ": "ok job 5\n", "job 5": shown()}
+    service = submitted(folder, replies, output="request id is q-5 (1 file(s))\n", proof="error proof\n")
     created = next(line for line in service.heard if line.startswith("create "))
     token = created.split("submission=")[1].split('"')[0]
     said = [line for line in service.heard if line != "room"]
     same("said", said[2:5], ["i-am", f"find {token}", "job 5"])
-    service.end()
-    # There is none: the job is created again.
-    service, output = submitted(folder, {"create": [None, "ok job 5\n"], "find ": "error job\n"}, proof="error proof\n")
-    same("jobs created", len(creates(service)), 2)
-    service.end()
-    # The service does not know `find`.
-    service, output = submitted(folder, {"create": [None, "ok job 5\n"], "jobs": "ok 0\n"}, proof="error proof\n")
-    same("jobs created", len(creates(service)), 2)
-    service.end()
+    # There is none, or the service does not know `find`: the job is created again.
+    for more in ({"find ": "error job\n"}, {"jobs": "ok 0\n"}):
+        service = submitted(folder, {"create": [None, "ok job 5\n"], **more}, proof="error proof\n")
+        same("jobs created", len(creates(service)), 2)
 
 
 # ---- a running service

@@ -16,13 +16,14 @@ import os
 import random
 import string
 import struct
-import subprocess
 import tempfile
 import time
+from pathlib import Path
 
 import pytest
 
 from harness.checks import Difference
+from harness.child_folder import Shell
 from harness.programs import SHELL
 
 pytestmark = pytest.mark.needs("spool_shell")
@@ -119,19 +120,14 @@ def text_of(name, *words):
     """A command as the shell reads it."""
     if name == "queue":
         return f"queue {words[0]} spoolfile:/out {TYPE} abort-job\n"
-    if name == "create":
-        return f'create lab ann "{words[0]}" 1 50 ""\n'
-    if name == "createby":
-        return f'createby lab ann "{words[0]}" 1 50 "" {words[1]}\n'
-    if name == "clock":
-        return f"clock {words[0]}\n"
+    if name in ("create", "createby"):
+        title, *by = words
+        return " ".join([name, "lab", "ann", f'"{title}"', "1", "50", '""', *map(str, by)]) + "\n"
     if name == "send":
         return f"send {words[0]} {len(words[1])}\n{words[1]}\n"
     if name == "close":
         return f"close {words[0]} page.txt\n"
-    if name == "checkpoint":
-        return "checkpoint\n"
-    return f"{name} {words[0]}\n"
+    return " ".join([name, *map(str, words)]) + "\n"
 
 
 def next_command(table, chance):
@@ -161,23 +157,20 @@ def new_job(table, chance):
     return ("create", title) if chance.random() < 0.5 else ("createby", title, chance.randrange(120))
 
 
-class Life:
+class Life(Shell):
     """A running shell. A spool that it creates has `size` bytes."""
 
     def __init__(self, root, size=4_194_304):
-        words = [SHELL, "--root", ".", "--size", str(size)]
-        pipe = subprocess.PIPE
-        self.child = subprocess.Popen(words, cwd=root, stdin=pipe, stdout=pipe, stderr=pipe, text=True)
+        super().__init__([SHELL, "--root", ".", "--size", str(size)], root)
 
     def give(self, text):
         try:
-            self.child.stdin.write(text)
-            self.child.stdin.flush()
+            super().give(text)
         except BrokenPipeError:
             raise Difference(f"it ended and wrote {self.child.stderr.read()!r}") from None
 
     def reply(self):
-        line = self.child.stdout.readline()
+        line = self.line()
         if not line:
             raise Difference(f"it ended and wrote {self.child.stderr.read()!r}")
         return line.rstrip("\n")
@@ -189,24 +182,10 @@ class Life:
             lines.append(self.reply())
         return lines
 
-    def kill(self):
-        """SIGKILL, as in a crash. Returns the output that was not read until then: replies and error messages."""
-        self.child.kill()
-        self.child.wait()
-        left = self.child.stdout.read(), self.child.stderr.read()
-        self.child.stdout.close()
-        self.child.stderr.close()
-        try:
-            self.child.stdin.close()
-        except BrokenPipeError:
-            pass
-        return left
-
 
 def on_disk(root):
     """The version of the spool's current area, and its documents, by the numbers of their jobs."""
-    with open(os.path.join(root, "spool.disk"), "rb") as it:
-        disk = it.read()
+    disk = Path(root, "spool.disk").read_bytes()
     headers = [(HEADER.unpack_from(disk, base), base) for base in (0, len(disk) // 2)]
     _, base, version = max((epoch, base, version) for (gate, version, epoch), base in headers if gate == OPEN)
     at, documents = base + HEADER.size, {}

@@ -19,17 +19,16 @@ A kill does not lose data in the system's cache, so this shows nothing about a p
 not always repeat with its seed, and Hypothesis could not find a smaller case.
 """
 import os
+from pathlib import Path
 import random
 import signal
-import subprocess
 import threading
-import time
 
 import pytest
 
 from harness import journal
 from harness.checks import Difference, holds
-from harness.programs import SHELL
+from harness.child_folder import Shell
 
 pytestmark = pytest.mark.needs("spool_shell")
 
@@ -62,56 +61,6 @@ esac
 CREATE, START, ROW = 0x05, 0x0C, 0x42
 
 
-class Folder:
-    """The spool's folder, the programs of its children, and their output."""
-
-    def __init__(self, path):
-        self.path = path
-        os.mkdir(self.at("spool"))
-        self.write("types", "a/a txt\n")
-        self.write("convs", "a/a b/b 10 first\n")
-        for name, text in (("first", FILTER), ("slow", BACKEND)):
-            self.write(name, text.format(root=self.at("spool"), folder=self.path), 0o755)
-        self.write("programs", f"filter first {self.at('first')}\nbackend slow {self.at('slow')}\n")
-        self.write("begun", "")
-
-    def at(self, name):
-        return os.path.join(self.path, name)
-
-    def write(self, name, text, mode=0o644):
-        with open(self.at(name), "w") as file:
-            file.write(text)
-        os.chmod(self.at(name), mode)
-
-    def words(self):
-        files = [word for name in ("types", "convs", "programs") for word in (f"--{name}", self.at(name))]
-        return [SHELL, "--root", "spool", "--size", str(SIZE), *files]
-
-    def begun(self):
-        """The stages that children have begun, in order."""
-        with open(self.at("begun")) as file:
-            return [tuple(map(int, line.split())) for line in file]
-
-    def wait_for_children(self):
-        """Waits until no child of a killed life runs any more."""
-        for _ in range(1_000):
-            if not any(self.path in words for words in commands_of_others()):
-                return
-            time.sleep(0.01)
-        raise Difference("a child does not end")
-
-
-def commands_of_others():
-    """The command lines of other processes."""
-    for name in os.listdir("/proc"):
-        if name.isdigit() and int(name) != os.getpid():
-            try:
-                with open(f"/proc/{name}/cmdline") as file:
-                    yield file.read()
-            except OSError:
-                pass
-
-
 def attempts_in(content):
     """The number of attempts that a spool's file has for each job: those in its row, and the starts after it."""
     found, version = {}, journal.current_version(content)
@@ -125,13 +74,10 @@ def attempts_in(content):
     return found
 
 
-class Life:
-    """A running shell."""
+class Life(Shell):
+    """A running shell, which is killed."""
 
-    def __init__(self, folder):
-        pipe = subprocess.PIPE
-        self.child = subprocess.Popen(folder.words(), cwd=folder.path, stdin=pipe, stdout=pipe, stderr=pipe, text=True)
-        self.killer = None
+    killer = None
 
     def is_killed_after(self, seconds):
         self.killer = threading.Timer(seconds, self.child.send_signal, [signal.SIGKILL])
@@ -140,30 +86,16 @@ class Life:
     def asks(self, text):
         """The lines of the reply to a command; none if it was killed first."""
         try:
-            self.child.stdin.write(text)
-            self.child.stdin.flush()
+            self.give(text)
         except BrokenPipeError:
             return []
         lines = []
         while not lines or lines[-1].startswith(("job ", "queue ")):
-            line = self.child.stdout.readline()
+            line = self.line()
             if not line.endswith("\n"):
                 return []
             lines.append(line.rstrip("\n"))
         return lines
-
-    def end(self):
-        """Waits until it was killed, and returns its error messages."""
-        if self.killer is None:
-            self.child.kill()
-        self.child.wait()
-        complaints = self.child.stderr.read()
-        for stream in (self.child.stdin, self.child.stdout, self.child.stderr):
-            try:
-                stream.close()
-            except BrokenPipeError:
-                pass
-        return complaints
 
 
 class Story:
@@ -183,8 +115,12 @@ class Story:
         self.late = 0  # the number of jobs that were listed as canceled after a clock that was acknowledged
         self.checked = 0  # the begun stages that were checked
 
+    def begun(self):
+        """The stages that children have begun, in order."""
+        return [tuple(map(int, line.split())) for line in self.folder.read("begun").splitlines()]
+
     def sees_end(self, number):
-        self.ended.setdefault(number, len(self.folder.begun()))
+        self.ended.setdefault(number, len(self.begun()))
 
     def hears_jobs(self, lines):
         """A listing of the jobs."""
@@ -209,7 +145,7 @@ class Story:
 
     def live(self):
         """One life, from its opening to its kill."""
-        life = Life(self.folder)
+        life = Life(self.folder.words(), self.folder.path)
         try:
             if self.chance.random() < OPENING:
                 life.is_killed_after(self.chance.random() * OPENING)
@@ -219,10 +155,10 @@ class Story:
             while listed is not None and self.acts(life, listed):
                 pass
         finally:
-            complaints = life.end()
+            complaints = (life.end() if life.killer else life.kill())[1]
         if not all(line.startswith("spool: job ") for line in complaints.splitlines()):
             raise Difference(f"it wrote {complaints!r}")
-        self.folder.wait_for_children()
+        self.folder.until_no_child_runs()
         self.check_stages()
 
     def acts(self, life, listed):
@@ -299,26 +235,28 @@ class Story:
 
     def check_stages(self):
         """The stages that the children of the life have begun."""
-        begun = self.folder.begun()
+        begun = self.begun()
         if len(set(begun)) != len(begun):
             raise Difference(f"begun twice: {sorted(key for key in set(begun) if begun.count(key) > 1)}")
         for place, (number, attempt, stage) in enumerate(begun[self.checked:], self.checked):
             if place >= self.ended.get(number, place + 1):
                 raise Difference(f"job {number} had ended, and attempt {attempt} begins stage {stage}")
             seen = self.folder.at(f"seen-{number}-{attempt}-{stage}")
-            with open(seen, "rb") as file:
-                attempts = attempts_in(file.read())
+            attempts = attempts_in(Path(seen).read_bytes())
             if attempts.get(number, 0) != attempt:
                 raise Difference(f"attempt {attempt} at job {number} begins stage {stage}, and the file has {attempts.get(number, 0)} starts")
             os.remove(seen)
         self.checked = len(begun)
 
 
-def test_lives_of_one_spool(room, seed):
-    folder, chance = Folder(room), random.Random(seed)
+def test_lives_of_one_spool(child_folder, seed):
+    folder, chance = child_folder, random.Random(seed)
+    folder.size = SIZE
+    for kind, name, text in (("filter", "first", FILTER), ("backend", "slow", BACKEND)):
+        folder.program(kind, name, text.format(root=folder.at("spool"), folder=folder.path))
+    folder.write("begun", "")
     if chance.random() < 0.5:
-        with open(folder.at("spool/spool.disk"), "wb") as file:
-            file.write(journal.image(SIZE, version=1))
+        Path(folder.at("spool/spool.disk")).write_bytes(journal.image(SIZE, version=1))
     story = Story(folder, chance)
     for turn in range(LIVES):
         print(f"life {turn + 1}")

@@ -1,14 +1,16 @@
 """The front end by each of its names, a service that a test simulates, and a terminal."""
+import contextlib
+import itertools
 import os
 import pty
 import select
-import socket
 import subprocess
 import threading
 import time
 
 from harness.checks import Difference, LONGEST, same
-from harness.programs import FRONT
+from harness.programs import compiled, FRONT
+from harness.service import listening
 
 # The names under which the program is run.
 NAMES = ["spool", "lp", "lpr", "lpstat", "cancel", "lpq", "lprm", "lpoptions", "lpmove", "cupsenable", "cupsdisable", "cupsaccept", "cupsreject"]
@@ -31,25 +33,37 @@ class Front:
     def command(self, words):
         return [os.path.join(self.bin, words[0]), *words[1:]]
 
-    def run(self, *words, text=b"", environment=None):
+    def run(self, *words, text=b"", environment=None, **more):
         """Runs the program under this name with these arguments."""
         env = {**self.environment, **(environment or {})}
-        return subprocess.run(self.command(words), input=text, capture_output=True, env=env, timeout=LONGEST * 4)
+        return subprocess.run(self.command(words), input=text, capture_output=True, env=env, timeout=LONGEST * 4, **more)
 
-    def says(self, *words, status=0, text=b"", environment=None):
+    def ended(self, *words, status, **more):
+        """A run that ends with `status`."""
+        ended = self.run(*words, **more)
+        same(f"status of {words}, with the output {ended.stderr!r}", ended.returncode, status)
+        return ended
+
+    def says(self, *words, status=0, **more):
         """Its output, if it ends with `status`."""
-        ended = self.run(*words, text=text, environment=environment)
-        same(f"status of {words}, with the output {ended.stderr!r}", ended.returncode, status)
-        return ended.stdout.decode()
+        return self.ended(*words, status=status, **more).stdout.decode()
 
-    def fails(self, *words, status=1, text=b"", environment=None):
+    def fails(self, *words, status=1, **more):
         """Its standard error, if it ends with `status`."""
-        ended = self.run(*words, text=text, environment=environment)
-        same(f"status of {words}, with the output {ended.stderr!r}", ended.returncode, status)
-        return ended.stderr.decode()
+        return self.ended(*words, status=status, **more).stderr.decode()
 
     def start(self, *words, **more):
         return subprocess.Popen(self.command(words), stdin=subprocess.DEVNULL, stdout=subprocess.PIPE, stderr=subprocess.PIPE, env=self.environment, **more)
+
+    @contextlib.contextmanager
+    def watching(self, *words):
+        """A task of `spool` that runs meanwhile."""
+        child = self.start("spool", *words)
+        try:
+            yield child
+        finally:
+            child.kill()
+            child.communicate()
 
     def on_terminal(self, *words, columns=80):
         """Its output on a terminal of `columns` columns, and its status."""
@@ -88,6 +102,16 @@ def number_of(text):
     return int(words[3].rsplit("-", 1)[1])
 
 
+def each_refused(folder):
+    """The number and the variables of a run in which this allocation is refused, as long as one was refused."""
+    library, counted = compiled("count_allocations.c", "-shared", "-fPIC"), folder.at("counted")
+    for refused in itertools.count(1):
+        yield refused, {"LD_PRELOAD": library, "REFUSED": str(refused), "COUNTED": counted}
+        if " refused " not in folder.read("counted"):
+            return
+        os.remove(counted)
+
+
 class Played:
     """A service that a test simulates: for each connection a list of steps. A step is the prefix of the expected command, and the reply, or
     None if the connection is closed instead, and perhaps the seconds before the reply. After the last list no connection is served. `bytes`
@@ -104,11 +128,7 @@ class Played:
         self.fault = None
         self.token = ""
         self.path = folder.socket
-        if os.path.exists(self.path):
-            os.remove(self.path)
-        self.listener = socket.socket(socket.AF_UNIX)
-        self.listener.bind(self.path)
-        self.listener.listen(8)
+        self.listener = listening(self.path)
         self.thread = threading.Thread(target=self.serve, args=(connections,), daemon=True)
         self.thread.start()
 
