@@ -25,7 +25,7 @@ from harness.child_folder import Folder as ChildFolder
 from harness.ipp import Ipp
 from harness.large_run import adopt, Place
 from harness.people import People
-from harness.service import Client, Folder as ServiceFolder, KEEPS
+from harness.service import Folder as ServiceFolder, KEEPS
 
 try:
     import hypothesis
@@ -214,8 +214,7 @@ def ipp(folder):
     """The IPP front of a service with a queue `q` whose backend keeps each document."""
     skip_without("spool_ipp")
     folder.backend("keeps", KEEPS)
-    folder.start()
-    folder.queue(Client(folder), "q", scheme="keeps")
+    folder.open("q", scheme="keeps")
     folder.write("printers", "pages-per-minute 20\nmake-and-model Generic Printer\nresolutions 600\noutput-bins face-down\n")
     with Ipp(folder, "--default", "q", "--printers", folder.at("printers")) as front:
         yield front

@@ -287,8 +287,7 @@ def test_documents(folder):
     document = os.urandom(16777216)
     folder.program("filter", "first", '#!/bin/sh\ncat "$6"\n')
     folder.program("backend", "keep", KEEP)
-    replies = folder.run(printed("q", "keep:/x", "b/b", document=document) + b"drain 5\njobs\n")
-    same("jobs", states(replies), {1: DONE})
+    folder.prints(printed("q", "keep:/x", "b/b", document=document), {1: DONE})
     same("document", folder.read("backend-keep.kept") == document, True)
 
 
@@ -396,8 +395,7 @@ def test_sessions(folder):
     folder.program("backend", "ask", ASKS, "asks")
     folder.side()
     script = printed("a", "ask:/o?id=MFG%3AX%3B&bidi=0&state=007&connected=1") + printed("b", "ask:/o?state=256&state=9&bidi=2&connected=0&id=x&id=", number=2)
-    replies = folder.run(script + b"round\njobs\n")
-    same("jobs", states(replies), {1: DONE, 2: DONE})
+    folder.prints(script, {1: DONE, 2: DONE}, by="round")
     rest = ["01010000", "06070000", "09050000", "ff050000"]
     same("answers", folder.report("1"), ["04010006" + b"MFG:X;".hex(), "0301000100", "0501000107", "0801000101", *rest])
     same("defaults", folder.report("2"), ["04010000", "0301000101", "0501000109", "0801000100", *rest])
@@ -409,8 +407,7 @@ def test_stage_with_side(folder):
     folder.program("backend", "last", GIVEN + "report(oct(os.stat(os.environ['SPOOL_SIDE']).st_mode), 'socket')\nsys.exit(6)\n", "one", "given")
     folder.program("backend", "kill", "#!/bin/sh\nkill -KILL $$\n")
     folder.side(word="a-word")
-    replies = folder.run(printed("a", "last:/x") + printed("b", "kill:/x", number=2) + b"round\njobs\n")
-    same("jobs", states(replies), {1: "3 retry-later", 2: "8 backend-failed"})
+    folder.prints(printed("a", "last:/x") + printed("b", "kill:/x", number=2), {1: "3 retry-later", 2: "8 backend-failed"}, by="round")
     same("descriptors", folder.report("descriptors"), ["[0, 1, 2, 3, 4]", "/dev/null /dev/null"])
     same("side", "'SPOOL_SIDE=spool/side-1-1-1'" in folder.report("environment")[0], True)
     same("socket", folder.report("socket"), ["0o140600"])

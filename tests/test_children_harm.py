@@ -6,7 +6,6 @@ import fcntl
 import os
 import resource
 import signal
-import socket
 import subprocess
 import threading
 import time
@@ -15,11 +14,15 @@ import pytest
 
 from harness.checks import LONGEST, same, until, words_of_faults
 from harness.child_folder import CHANNEL, COPIES, EXIT, LOCK, printed, PYTHON, SIDE_END, stage_event, states, TYPES
+from harness.printers import Printer, take
 from harness.programs import SHELL
 
 pytestmark = pytest.mark.needs("spool_shell")
 
 DONE = "9 job-completed-successfully"
+
+# A test that runs once without a side program, and once with one.
+WITH_SIDE = pytest.mark.parametrize("has_side", [False, True])
 
 # ---- harmful children
 
@@ -41,42 +44,29 @@ def test_printers_that_answer(folder):
     """A printer's reply to its backend is not written into the job, although the backend writes it to descriptor 3."""
     folder.program("filter", "first", '#!/bin/sh\nhead -c 960000 /dev/zero | tr "\\0" x\n')
     folder.program("backend", "answered", ANSWERED_PRINTER)
-    server = socket.create_server(("127.0.0.1", 0))
-    received = []
 
-    def serve():
-        line = server.accept()[0]
-        line.settimeout(20)
-        line.sendall(b"status: ready\n")
-        while piece := line.recv(65536):
-            received.append(piece)
-        line.close()
+    def answers(connection):
+        connection.sendall(b"status: ready\n")
+        return take(connection)
 
-    thread = threading.Thread(target=serve)
-    thread.start()
-    port = server.getsockname()[1]
-    replies = folder.run(printed("lab", f"answered://127.0.0.1:{port}", "b/b") + b"drain 5\njobs\n")
-    thread.join(20)
-    server.close()
-    same("jobs", states(replies), {1: DONE})
-    same("the received bytes", (len(b"".join(received)), set(b"".join(received))), (960000, {ord("x")}))
+    printer = Printer(answers)
+    folder.prints(printed("lab", f"answered://127.0.0.1:{printer.port}", "b/b"), {1: DONE})
+    same("the received bytes", printer.all(), [b"x" * 960_000])
 
 
 GROUP = '#!/bin/sh\nps -o sid= -p $$ | tr -d " " >"$0.$1"\necho $$ >>"$0.$1"\nkill -TERM 0\nsleep 5\n'
 
 
-def test_groups(folder):
+@WITH_SIDE
+def test_groups(folder, has_side):
     """A signal that a child sends to its process group reaches the child and its descendants, and not the spooler."""
-    for side in (False, True):
-        folder.new_spool()
-        folder.program("filter", "first", GROUP)
-        folder.program("backend", "exit", EXIT)
-        if side:
-            folder.side()
-        replies = folder.run(printed("lab", "exit:/0", "b/b") + b"drain 5\njobs\n", start_new_session=True)
-        same("jobs", states(replies), {1: "8 filter-failed"})
-        session, process = folder.read("filter-first.1").split()
-        same("a session of its own", session, process)
+    folder.program("filter", "first", GROUP)
+    folder.program("backend", "exit", EXIT)
+    if has_side:
+        folder.side()
+    folder.prints(printed("lab", "exit:/0", "b/b"), {1: "8 filter-failed"}, start_new_session=True)
+    session, process = folder.read("filter-first.1").split()
+    same("a session of its own", session, process)
 
 
 LIMITED = PYTHON + """
@@ -218,70 +208,40 @@ def test_the_owner_of_the_lock_file(folder):
     same("its owner and mode", (found.st_uid, found.st_gid, oct(found.st_mode), found.st_size), (65534, 65534, "0o100600", 0))
 
 
-def test_causes_of_the_disk(folder):
-    """`spool: disk` is followed by a second line, which names its cause."""
-    ends = {}
-    for name in ("absent", "file", "taken", "dangling"):
-        root = folder.at(name)
-        if name == "file":
-            folder.write(name, "")
-        elif name != "absent":
-            os.mkdir(root)
-        if name == "taken":
-            os.mkdir(os.path.join(root, "spool.disk"))
-        if name == "dangling":
-            os.symlink("nowhere", os.path.join(root, "spool.disk"))
-        run = subprocess.run([SHELL, "--root", name], input=b"", cwd=folder.path, capture_output=True, timeout=LONGEST)
-        ends[name] = (run.returncode, words_of_faults(run.stderr.decode()).splitlines())
-    causes = {"absent": "absent", "file": "no file", "taken": "no file", "dangling": "absent"}
-    same("causes", ends, {name: (1, ["spool: disk", f"spool: cause: {cause}"]) for name, cause in causes.items()})
-
-
-def test_causes_of_a_mounted_disk(folder, small_disk):
-    disk = small_disk(folder.at(folder.root), "64k")
-    folder.run(b"", status=1, log=["spool: disk", "spool: cause: no room"])
-    subprocess.run(["mount", "-o", "remount,ro", disk.path], check=True)
-    folder.run(b"", status=1, log=["spool: disk", "spool: cause: read-only"])
-
-
 GOES_ON_ALONE = '#!/bin/sh\ncat "$6" >"$0.kept"\nwhile [ ! -e "$0.end" ]; do sleep 0.05; done\n'
 
 
-def test_leftovers_of_kills(folder):
+@WITH_SIDE
+def test_leftovers_of_kills(folder, has_side):
     """Files that a child of a killed program left are removed at the next start, unless the child still runs, which is logged."""
-    for side in (False, True):
-        folder.new_spool()
-        folder.program("backend", "alone", GOES_ON_ALONE)
-        if side:
-            folder.side()
-        for name in ("backend-alone.kept", "backend-alone.end"):
-            if os.path.exists(folder.at(name)):
-                os.remove(folder.at(name))
-        shell = folder.launch(printed("lab", "alone:/x", document=b"a secret") + b"round\n")
-        until("the document", lambda: os.path.exists(folder.at("backend-alone.kept")) and folder.read("backend-alone.kept"))
-        shell.kill()
-        names = ["err-1-1-1", "in-1-1-1", "out-1-1-1", *(["side-1-1-1"] if side else []), "spool.disk"]
-        same("left", folder.left(), names)
-        # Names that do not belong to a child, and a link in place of a child's file.
-        others = ["in-1-1", "in-1-1-1-1", "in-1-1-x", "notes", "out--1-1", "outs-1-1-1"]
-        for name in others:
-            folder.write(os.path.join("spool", name), "kept")
-        os.symlink(folder.at("types"), folder.at("spool", "out-9-1-1"))
-        log = ["spool: job 1 attempt 1 stage 1: a child of an earlier run is still running"]
-        replies = folder.run(b"jobs\n", log=log)
-        same("jobs", states(replies), {1: "8 attempt-lost"})
-        same("while it runs", folder.left(), sorted([*names, *others]))
-        folder.write("backend-alone.end", "")
-        folder.until_no_child_runs()
-        folder.run(b"jobs\n", log=[])
-        same("once it has ended", folder.left(), sorted([*others, "spool.disk"]))
-        same("the target of a link", folder.read("types"), TYPES.encode())
-        # The folder of a spool that cannot be opened is unchanged.
-        folder.write(os.path.join("spool", "in-7-1-1"), "kept")
-        with open(folder.at("spool", "spool.disk"), "r+b") as disk:
-            disk.write(b"no spool")
-        folder.run(b"jobs\n", status=1, log=["spool: not-a-spool"])
-        same("of no spool", "in-7-1-1" in folder.left(), True)
+    folder.program("backend", "alone", GOES_ON_ALONE)
+    if has_side:
+        folder.side()
+    shell = folder.launch(printed("lab", "alone:/x", document=b"a secret") + b"round\n")
+    until("the document", lambda: os.path.exists(folder.at("backend-alone.kept")) and folder.read("backend-alone.kept"))
+    shell.kill()
+    names = ["err-1-1-1", "in-1-1-1", "out-1-1-1", *(["side-1-1-1"] if has_side else []), "spool.disk"]
+    same("left", folder.left(), names)
+    # Names that do not belong to a child, and a link in place of a child's file.
+    others = ["in-1-1", "in-1-1-1-1", "in-1-1-x", "notes", "out--1-1", "outs-1-1-1"]
+    for name in others:
+        folder.write(os.path.join("spool", name), "kept")
+    os.symlink(folder.at("types"), folder.at("spool", "out-9-1-1"))
+    log = ["spool: job 1 attempt 1 stage 1: a child of an earlier run is still running"]
+    replies = folder.run(b"jobs\n", log=log)
+    same("jobs", states(replies), {1: "8 attempt-lost"})
+    same("while it runs", folder.left(), sorted([*names, *others]))
+    folder.write("backend-alone.end", "")
+    folder.until_no_child_runs()
+    folder.run(b"jobs\n", log=[])
+    same("once it has ended", folder.left(), sorted([*others, "spool.disk"]))
+    same("the target of a link", folder.read("types"), TYPES.encode())
+    # The folder of a spool that cannot be opened is unchanged.
+    folder.write(os.path.join("spool", "in-7-1-1"), "kept")
+    with open(folder.at("spool", "spool.disk"), "r+b") as disk:
+        disk.write(b"no spool")
+    folder.run(b"jobs\n", status=1, log=["spool: not-a-spool"])
+    same("of no spool", "in-7-1-1" in folder.left(), True)
 
 
 # ---- floods, and children that do not end
@@ -368,8 +328,7 @@ def test_attempts(folder):
     """Nine queues, each with a job that is tried five times."""
     folder.program("backend", "again", '#!/bin/sh\necho "$PRINTER $SPOOL_ATTEMPT" >>"$0.ran"\nexit 7\n')
     script = b"".join(printed(f"q{n}", "again:/x", policy="retry-current-job", number=n) for n in range(1, 10))
-    replies = folder.run(script + b"drain 20\njobs\n")
-    same("jobs", states(replies), {n: "8 retry-limit" for n in range(1, 10)})
+    folder.prints(script, {n: "8 retry-limit" for n in range(1, 10)}, by="drain 20")
     ran = sorted(folder.read("backend-again.ran").decode().split("\n")[:-1])
     same("attempts", ran, sorted(f"q{n} {attempt}" for n in range(1, 10) for attempt in range(1, 6)))
 
@@ -387,8 +346,7 @@ def test_side_programs_that_read(folder):
     folder.program("backend", "ask", ASKS_MUCH, "asks")
     folder.write("ends", SIDE_END, 0o755)
     folder.side(READS_SIDE % folder.at("ends"))
-    replies = folder.run(printed("lab", "ask:/o?id=MFG", document=b"doc") + b"round\njobs\n")
-    same("jobs", states(replies), {1: DONE})
+    folder.prints(printed("lab", "ask:/o?id=MFG", document=b"doc"), {1: DONE}, by="round")
     same("answers", folder.report("asks"), ["04010003" + b"MFG".hex()])
 
 
@@ -402,8 +360,7 @@ def test_answers_before_others_end(folder):
     folder.program("backend", "long", f"#!/bin/sh\nwhile [ ! -e {folder.at('report.asks')} ]; do sleep 0.05; done\n")
     folder.program("backend", "ask", ASKS_EARLY, "asks")
     folder.side()
-    replies = folder.run(printed("a", "long:/x") + printed("b", "ask:/o", number=2) + b"round\njobs\n")
-    same("jobs", states(replies), {1: DONE, 2: DONE})
+    folder.prints(printed("a", "long:/x") + printed("b", "ask:/o", number=2), {1: DONE, 2: DONE}, by="round")
     same("answers", folder.report("asks"), ["0301000101"])
 
 
@@ -421,8 +378,7 @@ def test_several_connections(folder):
     """A child that keeps idle connections open does not delay the answers to another one, and a request may arrive in pieces."""
     folder.program("backend", "ask", SECOND, "asks")
     folder.side()
-    replies = folder.run(printed("a", "ask:/o") + b"round\njobs\n")
-    same("jobs", states(replies), {1: DONE})
+    folder.prints(printed("a", "ask:/o"), {1: DONE}, by="round")
     same("answers", (folder.report("asks"), folder.report("when")), (["0301000101", "0301000101"], ["early"]))
 
 
@@ -448,8 +404,7 @@ def test_leftovers_that_send_requests(folder):
     folder.program("backend", "ask", GOES_ON, "asks")
     folder.side("#!/bin/sh\nexit 0\n")
     begun = time.monotonic()
-    replies = folder.run(printed("a", "ask:/o") + b"round\njobs\n")
-    same("jobs", states(replies), {1: DONE})
+    folder.prints(printed("a", "ask:/o"), {1: DONE}, by="round")
     same("answers", folder.report("asks"), ["0301000101"])
     same("seconds", time.monotonic() - begun < 50, True)
 

@@ -19,6 +19,7 @@ requires. Then `fast_alternation`, `a_host_that_is_cut_off` and `bricks_that_are
 with PYTEST_ADDOPTS="-k NAME".
 """
 import os
+from pathlib import Path
 import random
 import shutil
 import subprocess
@@ -123,11 +124,9 @@ class Cluster:
         self.path = volume.at("local", name)
         os.mkdir(self.path)
         os.mkdir(os.path.join(volume.hosts[0].path, name))
-        with open(self.at("backend"), "w", encoding="utf-8") as file:
-            file.write(BACKEND.replace("FOLDER", self.path))
+        Path(self.at("backend")).write_text(BACKEND.replace("FOLDER", self.path))
         os.chmod(self.at("backend"), 0o755)
-        with open(self.at("programs"), "w", encoding="utf-8") as file:
-            file.write(f"backend slow {self.at('backend')}\n")
+        Path(self.at("programs")).write_text(f"backend slow {self.at('backend')}\n")
         self.seats = [Seat(self, host) for host in volume.hosts]
         self.current = self.seats[0]
 
@@ -152,7 +151,7 @@ class Cluster:
     def make_queues(self):
         client = Client(self)
         for queue, seconds in QUEUES.items():
-            same("queue", client.ask(f"queue {queue} slow:/{seconds} {TYPE} retry-current-job 0 0\n"), "ok")
+            client.does(f"queue {queue} slow:/{seconds} {TYPE} retry-current-job 0 0")
         client.close()
 
     def printed(self):
@@ -165,6 +164,14 @@ class Cluster:
     def end(self):
         for seat in self.seats:
             seat.end()
+
+
+def serving(volume, name):
+    """A spool with its queues, which the first host serves."""
+    cluster = Cluster(volume, name)
+    cluster.open()
+    cluster.make_queues()
+    return cluster
 
 
 # ---- jobs that arrive while hosts fail
@@ -303,9 +310,7 @@ def repair(cluster, fails):
 
 def test_failovers(volume, times):
     """The spool moves from host to host, while jobs arrive and are printed."""
-    cluster = Cluster(volume, "spool")
-    cluster.open()
-    cluster.make_queues()
+    cluster = serving(volume, "spool")
     stream = JobStream(cluster)
     taken = {name: [] for name in FAILURES}
     try:
@@ -335,9 +340,7 @@ def test_fast_alternation(volume, times):
     """The hosts alternate as fast as they can: each opens the file that the other one has just written, although it had the file itself a
     moment ago. A host that reads from its cache would miss events that were acknowledged since.
     """
-    cluster = Cluster(volume, "alternation")
-    cluster.open()
-    cluster.make_queues()
+    cluster = serving(volume, "alternation")
     made, lost, seconds = [], 0, []
     for turn in range(2 * times):
         client = Client(cluster)
@@ -354,9 +357,7 @@ def test_fast_alternation(volume, times):
 
 def test_one_host_has_it(volume):
     """While one host serves, the other one is refused, and so is a second start of the first."""
-    cluster = Cluster(volume, "owned")
-    cluster.open()
-    cluster.make_queues()
+    cluster = serving(volume, "owned")
     for seat in (cluster.other(), cluster.current):
         same(f"a start on {seat.host.name}", seat.refusal(), (1, OWNED))
     same("the first one continues", Client(cluster).ask('create quick u "t" 1 50 ""\n'), "ok job 1")
@@ -377,9 +378,7 @@ def test_first_starts_on_two_hosts(volume, times):
 
 def test_no_quorum(volume):
     """Two bricks of three have failed: the event in progress gets no reply, and nothing more is acknowledged."""
-    cluster = Cluster(volume, "quorum")
-    cluster.open()
-    cluster.make_queues()
+    cluster = serving(volume, "quorum")
     client = Client(cluster)
     jobs = [client.create("quick", f"title-{number}") for number in range(5)]
     for number in range(2):
@@ -419,9 +418,7 @@ def test_a_host_that_is_cut_off(volume):
     in progress, or none, and when it is back its writes are refused: it ends, and none of its writes is in the spool.
     """
     for is_asked in (True, False):
-        cluster = Cluster(volume, f"cut-{is_asked}")
-        cluster.open()
-        cluster.make_queues()
+        cluster = serving(volume, f"cut-{is_asked}")
         cut_off(cluster, is_asked)
         cluster.end()
 
@@ -465,9 +462,7 @@ def test_bricks_that_are_restarted(volume):
     """Bricks forget locks when they are restarted. Once most of them have, the host that served cannot write any more, and the other one
     opens the spool: at no time do both acknowledge.
     """
-    cluster = Cluster(volume, "restarted")
-    cluster.open()
-    cluster.make_queues()
+    cluster = serving(volume, "restarted")
     client = Client(cluster)
     jobs = []
     for number in range(3):

@@ -1,6 +1,7 @@
 """The front end, as users and scripts run it, with a service that runs. test_front_played.py has losses and refusals of each kind."""
 import json
 import os
+from pathlib import Path
 import random
 import re
 import socket
@@ -12,21 +13,46 @@ import unicodedata
 import pytest
 
 from harness.checks import holds, LONGEST, same, until
-from harness.front import first_line, Front, number_of
-from harness.programs import compiled, TOOLS
-from harness.service import Client, Folder, patient_client, TYPE
+from harness.front import each_refused, first_line, Front, number_of
+from harness.printers import Printer, take
+from harness.programs import TOOLS
+from harness.service import Client, Folder, meanwhile, patient_client, TYPE
 
 pytestmark = pytest.mark.needs("spool_service", "spool_front")
 
 # ---- each task with a running service
 
 
-def office(folder, more=""):
-    """A service with a queue that prints at once, and its front end."""
-    folder.start()
-    client = Client(folder)
-    folder.queue(client, "q")
-    return client, Front(folder)
+@pytest.fixture
+def client(folder):
+    """A client of a service with a queue that prints at once."""
+    return folder.open("q")
+
+
+@pytest.fixture
+def front(folder, client):
+    """The front end of that service."""
+    return Front(folder)
+
+
+@pytest.fixture
+def files(folder):
+    """The variables that name the files of a service with a filter."""
+    folder.two_stages(0)
+    return {f"SPOOL_{name.upper()}": folder.at(name) for name in ("types", "convs", "programs")}
+
+
+@pytest.fixture
+def document(folder):
+    """The path of a small document."""
+    folder.write("a", "a")
+    return folder.at("a")
+
+
+@pytest.fixture
+def large(folder):
+    """A service with a large spool."""
+    folder.size = 268_435_456
 
 
 def test_submits_what_fits(folder):
@@ -34,10 +60,7 @@ def test_submits_what_fits(folder):
     have ended use the room, the service makes some, and the document is accepted.
     """
     folder.size = 4_194_304
-    folder.start()
-    client, front = Client(folder), Front(folder)
-    folder.queue(client, "q")
-    same("disable", client.ask("disable q\n"), "ok")
+    client, front = folder.open("q", stopped=True), Front(folder)
     # A checkpoint may use some bytes more than the events.
     room = int(client.ask("room\n").split()[2]) - 100
     folder.write("large", "x" * (room + 200))
@@ -48,8 +71,7 @@ def test_submits_what_fits(folder):
     job = number_of(front.says("spool", "submit", "q", folder.at("most")))
     same("its size", client.fields(job)["size"], str(room))
     holds("no more fits", "the spool has room for" in front.fails("spool", "submit", "q", folder.at("most")))
-    same("cancel", client.ask(f"cancel {job}\n"), "ok")
-    same("purge", client.ask(f"purge {job}\n"), "ok")
+    client.does(f"cancel {job}", f"purge {job}")
     folder.write("less", "x" * (room - 1_000))
     # The service makes a checkpoint for this, at most ten times as long after the last one as that one took.
     until("the room again", lambda: room - 1_000 <= int(client.ask("room\n").split()[2]))
@@ -60,8 +82,7 @@ def test_submits_what_fits(folder):
     same("no incoming job", [job for job, state in client.states().items() if state == "4 job-incoming"], [])
 
 
-def test_submits_a_file(folder):
-    client, front = office(folder)
+def test_submits_a_file(folder, client, front):
     folder.write("letter", "a letter\n")
     job = number_of(front.says("spool", "submit", "q", folder.at("letter"), "--title", "T", "--copies", "2", "--priority", "7", "-o", "media=a4 sides=two"))
     client.until_ended([job])
@@ -72,18 +93,15 @@ def test_submits_a_file(folder):
     holds(f"options {fields['options']}", "media=a4" in fields["options"] and "sides=two" in fields["options"])
 
 
-def test_submits_the_input(folder):
-    client, front = office(folder)
+def test_submits_the_input(folder, client, front):
     text = bytes(random.randrange(256) for _ in range(1000)) * 150
     job = number_of(front.says("spool", "submit", "q", "-", text=text))
     client.until_ended([job])
     same("size", client.fields(job)["size"], str(len(text)))
-    with open(folder.at("printed"), "rb") as file:
-        holds("the document is printed as it was", file.read() == text)
+    holds("the document is printed as it was", Path(folder.at("printed")).read_bytes() == text)
 
 
-def test_submits_several(folder):
-    client, front = office(folder)
+def test_submits_several(folder, client, front):
     for name in ("a", "b", "c"):
         folder.write(name, name)
     lines = front.says("spool", "submit", "q", *(folder.at(name) for name in "abc")).splitlines()
@@ -94,65 +112,54 @@ def test_submits_several(folder):
     same("jobs in all", len(client.states()), 5)
 
 
-def test_submits_nothing(folder):
-    client, front = office(folder)
+def test_submits_nothing(folder, client, front):
     folder.write("empty", "")
     job = number_of(front.says("spool", "submit", "q", folder.at("empty")))
     client.until_ended([job])
 
 
-def test_submits_held(folder):
-    client, front = office(folder)
-    folder.write("a", "a")
-    job = number_of(front.says("spool", "submit", "q", folder.at("a"), "--hold"))
+def test_submits_held(client, front, document):
+    job = number_of(front.says("spool", "submit", "q", document, "--hold"))
     same("held", client.state(job).split()[0], "4")
     front.says("spool", "release", str(job))
     client.until_ended([job])
-    job = number_of(front.says("spool", "submit", "q", folder.at("a"), "--at", str(int(time.time()) + 8)))
+    job = number_of(front.says("spool", "submit", "q", document, "--at", str(int(time.time()) + 8)))
     same("held", client.state(job).split()[0], "4")
     client.until_ended([job])
 
 
-def test_submits_by_a_moment(folder):
-    client, front = office(folder)
-    folder.write("a", "a")
+def test_submits_by_a_moment(client, front, document):
     moment = int(time.time()) + 1000
-    job = number_of(front.says("spool", "submit", "q", folder.at("a"), "--by", str(moment)))
+    job = number_of(front.says("spool", "submit", "q", document, "--by", str(moment)))
     same("by", client.fields(job)["by"], str(moment))
 
 
-def test_submits_and_waits(folder):
-    client, front = office(folder)
-    folder.write("a", "a")
-    front.says("spool", "submit", "q", folder.at("a"), "--wait")
+def test_submits_and_waits(folder, client, front, document):
+    front.says("spool", "submit", "q", document, "--wait")
     folder.queue(client, "slow", 30)
-    child = front.start("spool", "submit", "slow", folder.at("a"), "--wait")
+    child = front.start("spool", "submit", "slow", document, "--wait")
     until("a second job", lambda: len(client.states()) == 2)
     until("that it is accepted", lambda: not client.state(2).startswith("4"))
-    same("cancel", client.ask("cancel 2\n"), "ok")
+    client.does("cancel 2")
     output = child.communicate(timeout=LONGEST)[1].decode()
     same(f"status, with the output {output!r}", child.returncode, 5)
     holds(f"printed {output!r}", "job 2 was canceled" in output)
 
 
-def test_submits_without_standard_output(folder):
+def test_submits_without_standard_output(client, front, document):
     """The status shows the outcome of the job, even if its number is not known."""
-    client, front = office(folder)
-    folder.write("a", "a")
     with open("/dev/full", "w") as full:
         for words in ([], ["--wait"]):
-            ended = subprocess.run(front.command(["spool", "submit", "q", folder.at("a"), *words]), stdout=full, stderr=full, env=front.environment, timeout=LONGEST)
+            ended = subprocess.run(front.command(["spool", "submit", "q", document, *words]), stdout=full, stderr=full, env=front.environment, timeout=LONGEST)
             same("status", ended.returncode, 0)
     client.until_ended([1, 2])
 
 
-def test_submits_and_loses_the_service(folder):
+def test_submits_and_loses_the_service(folder, client, front, document):
     """A job that is accepted, and whose end cannot be waited for."""
-    client, front = office(folder)
-    folder.write("a", "a")
     folder.queue(client, "slow", 60)
     front.environment["SPOOL_PATIENCE"] = "1"
-    child = front.start("spool", "submit", "slow", folder.at("a"), "--wait")
+    child = front.start("spool", "submit", "slow", document, "--wait")
     until("that it is accepted", lambda: client.states() and not client.state(1).startswith("4"))
     folder.kill()
     output = child.communicate(timeout=LONGEST)[1].decode()
@@ -160,16 +167,14 @@ def test_submits_and_loses_the_service(folder):
     holds(f"printed {output!r}", "cannot determine the outcome of job 1: cannot connect to" in output)
 
 
-def test_submits_and_is_refused(folder):
-    client, front = office(folder)
-    folder.write("a", "a")
-    output = front.fails("spool", "submit", "none", folder.at("a"))
+def test_submits_and_is_refused(client, front, document):
+    output = front.fails("spool", "submit", "none", document)
     same("no queue", output, "spool: cannot print on none: no such queue (spool queues lists the queues)\n")
-    same("reject", client.ask("reject q\n"), "ok")
-    output = front.fails("spool", "submit", "q", folder.at("a"))
+    client.does("reject q")
+    output = front.fails("spool", "submit", "q", document)
     same("rejecting", output, "spool: cannot print on q: the queue rejects jobs (spool queue accept lets it accept them)\n")
     same("jobs", client.states(), {})
-    front.fails("spool", "submit", "q", folder.at("a"), "--copies", "0", status=2)
+    front.fails("spool", "submit", "q", document, "--copies", "0", status=2)
     front.fails("spool", "submit", status=2)
     front.fails("spool", "bogus", status=2)
     front.says("spool", "--help")
@@ -177,27 +182,22 @@ def test_submits_and_is_refused(folder):
     holds("the version", front.says("spool", "--version").startswith("spool (Cegmandi) "))
 
 
-def test_submits_a_document_that_is_too_long(folder):
-    folder.size = 100_000_000
-    client, front = office(folder)
+def test_submits_a_document_that_is_too_long(large, client, front):
     output = front.fails("spool", "submit", "q", "-", text=b"x" * 16_777_217)
     same("the error", output, "spool: cannot print on q: the document is longer than 16,777,216 bytes; job 1 was canceled\n")
     same("state", client.state(1), "7 canceled")
 
 
-def test_submits_an_unprintable_document(folder):
-    folder.two_stages(0)
-    client, front = office(folder)
-    same("queue", client.ask("queue p slow:/0 c/d retry-current-job 0 0\n"), "ok")
+def test_submits_an_unprintable_document(folder, files, client, front):
+    client.does("queue p slow:/0 c/d retry-current-job 0 0")
     folder.write("a.x", "a")
     front.fails("spool", "submit", "p", folder.at("a.x"), status=4)
     same("state", client.state(1), "8 no-filter")
 
 
 @pytest.mark.strace
-def test_submits_half_a_document(folder):
+def test_submits_half_a_document(folder, client, front):
     """A document whose second half cannot be read is a fault, and its job is canceled."""
-    client, front = office(folder)
     folder.write("doc", "x" * 300_000)
     words = front.command(["spool", "submit", "q", folder.at("doc")])
     strace = ["strace", "-qq", "-o", os.devnull, "-P", folder.at("doc"), "-e", "inject=read:error=EIO:when=2"]
@@ -206,8 +206,7 @@ def test_submits_half_a_document(folder):
     same("its job, and what is printed", (client.states(), folder.printed()), ({1: "7 canceled"}, ""))
 
 
-def test_status_and_json(folder):
-    client, front = office(folder)
+def test_status_and_json(client, front):
     job = client.create("q", r'a \"b\" \\c')
     rows = json.loads(front.says("spool", "status", "--json"))
     same("a job", (rows[0]["number"], rows[0]["queue"], rows[0]["title"]), (job, "q", 'a "b" \\c'))
@@ -222,25 +221,20 @@ def test_status_and_json(folder):
     holds("devices", "spool_shell --devices" in front.fails("spool", "devices"))
 
 
-def test_status_check(folder):
-    folder.two_stages(0)
-    client, front = office(folder)
-    front.environment |= {"SPOOL_TYPES": folder.at("types"), "SPOOL_CONVS": folder.at("convs"), "SPOOL_PROGRAMS": folder.at("programs")}
+def test_status_check(folder, files, client, front):
+    front.environment |= files
     folder.queue(client, "b", target="a/b")
     same("check", front.says("spool", "check"), f"service {folder.socket} is running\nqueue b prints a/b\nqueue q prints {TYPE}\n")
     folder.queue(client, "d", target="c/d")
-    same("disable", client.ask("disable b\n"), "ok")
-    same("reject", client.ask("reject q\n"), "ok")
+    client.does("disable b", "reject q")
     output = front.says("spool", "check", status=1).splitlines()[1:]
     same("check", output, ["queue b is stopped", "queue d cannot print: no chain of filters converts to c/d", "queue q rejects jobs"])
     missing = front.fails("spool", "check", environment={"SPOOL_CONVS": folder.at("missing")})
     same("the error", missing, f"spool: cannot read {folder.at('missing')}: No such file or directory\n")
 
 
-def test_status_check_of_programs(folder):
-    folder.two_stages(0)
-    front = office(folder)[1]
-    front.environment |= {"SPOOL_TYPES": folder.at("types"), "SPOOL_CONVS": folder.at("convs")}
+def test_status_check_of_programs(folder, files, front):
+    front.environment |= files
     folder.write("plain", "#!/bin/sh\n", 0o644)
     folder.write("empty", "", 0o755)
     folder.write("good", "#!/bin/sh\n", 0o755)
@@ -262,10 +256,9 @@ def test_status_check_of_programs(folder):
     same("the error", missing, f"spool: {folder.at('unread')} is invalid\n")
 
 
-def test_status_of_faults(folder):
+def test_status_of_faults(folder, client, front):
     """Each fault says what failed, on which file or queue, the system's reason, and what to do."""
-    client, front = office(folder)
-    same("disable", client.ask("disable q\n"), "ok")
+    client.does("disable q")
     folder.write("empty", "")
     left = folder.at("left")
     with socket.socket(socket.AF_UNIX) as server:
@@ -296,17 +289,15 @@ def test_status_of_faults(folder):
     same("no service", front.says("lpstat", "-r", environment={"SPOOL_SOCKET": nowhere}), "scheduler is not running\n")
 
 
-def test_status_of_two_services(folder):
-    client, front = office(folder)
+def test_status_of_two_services(folder, client, front, document):
     other = Folder()
     try:
         other.start()
         folder.queue(Client(other), "z")
-        folder.write("a", "a")
         sockets = ["--socket", folder.socket, "--socket", other.socket]
         names = [row["name"] for row in json.loads(front.says("spool", "queues", "--json", *sockets))]
         same("queues", names, ["q", "z"])
-        job = number_of(front.says("spool", "submit", "z", folder.at("a"), *sockets))
+        job = number_of(front.says("spool", "submit", "z", document, *sockets))
         Client(other).until_ended([job])
         same("jobs of the first", client.states(), {})
         same("status over all", len(json.loads(front.says("spool", "status", "--json", *sockets))), 1)
@@ -314,7 +305,7 @@ def test_status_of_two_services(folder):
         # A number alone does not show the job's user.
         for words in (["cancel", str(job)], ["watch"], ["queue", "add", "new", "slow:/0"]):
             holds(f"{words}", "exactly one --socket" in front.fails("spool", *words, *sockets))
-        holds("no queue", "no service has queue none" in front.fails("spool", "submit", "none", folder.at("a"), *sockets))
+        holds("no queue", "no service has queue none" in front.fails("spool", "submit", "none", document, *sockets))
         Client(other).create("z")
         same("cancel -a", front.says("cancel", "-a", *sockets), "")
         same("canceled", Client(other).state(2).split()[0], "7")
@@ -323,8 +314,7 @@ def test_status_of_two_services(folder):
         other.remove()
 
 
-def test_status_page(folder):
-    client, front = office(folder)
+def test_status_page(folder, client, front):
     client.create("q", "<script>alert(1)</script>")
     front.says("spool", "page", folder.at("page.html"))
     text = folder.read("page.html")
@@ -338,18 +328,15 @@ def test_status_page(folder):
     os.mkfifo(folder.at("page.html.new"))
     front.says("spool", "page", folder.at("page.html"))
     holds("a pipe is not opened", "</html>" in folder.read("page.html"))
-    child = front.start("spool", "page", folder.at("live.html"), "--follow")
-    until("a page", lambda: "refresh" in folder.read("live.html"))
-    client.create("q", "later")
-    until("a newer page", lambda: "later" in folder.read("live.html"))
-    child.kill()
-    child.communicate()
+    with front.watching("page", folder.at("live.html"), "--follow"):
+        until("a page", lambda: "refresh" in folder.read("live.html"))
+        client.create("q", "later")
+        until("a newer page", lambda: "later" in folder.read("live.html"))
 
 
 @pytest.mark.needs("chromium")
-def test_status_page_in_a_browser(folder):
+def test_status_page_in_a_browser(folder, client, front):
     """Debian's package chromium shows the page: its cells, and no markup of a title."""
-    client, front = office(folder)
     client.create("q", "<script>document.title='run'</script><b>bold</b>")
     front.says("spool", "page", folder.at("page.html"))
     words = ["--headless", "--no-sandbox", "--disable-gpu", f"--user-data-dir={folder.at('browser')}", "--dump-dom"]
@@ -358,55 +345,43 @@ def test_status_page_in_a_browser(folder):
     same("rows", (shown.count("<tr"), shown.count("<script")), (4, 0))
 
 
-def test_status_watch(folder):
-    client, front = office(folder)
-    child = front.start("spool", "watch")
-    line = first_line(child, lambda: client.create("q", "seen"))
+def test_status_watch(client, front):
+    with front.watching("watch") as child:
+        line = first_line(child, lambda: client.create("q", "seen"))
     holds(f"watched {line!r}", re.match(r"job \d+ q 4 .*seen", line))
-    child.kill()
-    child.communicate()
 
 
-def test_status_live(folder):
-    client, front = office(folder)
+def test_status_live(client, front):
     client.create("q", "first")
-    child = front.start("spool", "status", "--watch", "--json")
-    rows = json.loads(child.stdout.readline())
-    same("the jobs", [row["title"] for row in rows], ["first"])
-    client.create("q", "second")
-    while len(rows) < 2:
+    with front.watching("status", "--watch", "--json") as child:
         rows = json.loads(child.stdout.readline())
-    same("the jobs after another one", [row["title"] for row in rows], ["first", "second"])
-    same("cancel", client.ask("cancel 1\n"), "ok")
-    while rows[0]["state"] != "canceled":
-        rows = json.loads(child.stdout.readline())
-    same("purge", client.ask("purge 1\n"), "ok")
-    while len(rows) > 1:
-        rows = json.loads(child.stdout.readline())
-    same("the jobs after one was removed", [row["title"] for row in rows], ["second"])
-    child.kill()
-    child.communicate()
-    child = front.start("spool", "status", "--watch", "-q", "other")
-    same("a table without a job", [child.stdout.readline() for _ in range(2)][0], b"\n")
-    child.kill()
-    child.communicate()
+        same("the jobs", [row["title"] for row in rows], ["first"])
+        client.create("q", "second")
+        while len(rows) < 2:
+            rows = json.loads(child.stdout.readline())
+        same("the jobs after another one", [row["title"] for row in rows], ["first", "second"])
+        client.does("cancel 1")
+        while rows[0]["state"] != "canceled":
+            rows = json.loads(child.stdout.readline())
+        client.does("purge 1")
+        while len(rows) > 1:
+            rows = json.loads(child.stdout.readline())
+        same("the jobs after one was removed", [row["title"] for row in rows], ["second"])
+    with front.watching("status", "--watch", "-q", "other") as child:
+        same("a table without a job", [child.stdout.readline() for _ in range(2)][0], b"\n")
     holds("JOB and --watch", "--watch" in front.fails("spool", "status", "1", "--watch", status=2))
 
 
-def test_status_as_json(folder):
-    client, front = office(folder)
-    folder.write("a", "a")
-    job = json.loads(front.says("spool", "submit", "q", folder.at("a"), "--json"))
+def test_status_as_json(client, front, document):
+    job = json.loads(front.says("spool", "submit", "q", document, "--json"))
     same("an accepted job", job, {"job": 1, "queue": "q"})
-    same("a quiet one", front.says("spool", "submit", "q", folder.at("a"), "--json", "--quiet"), "")
+    same("a quiet one", front.says("spool", "submit", "q", document, "--json", "--quiet"), "")
     queue = json.loads(front.says("spool", "queue", "show", "q", "--json"))
     same("a queue", (queue["queue"], queue["accepting"]), ("q", "yes"))
     client.until_ended([1, 2])
-    child = front.start("spool", "watch", "--json")
-    row = json.loads(first_line(child, lambda: client.create("q", "seen")))
+    with front.watching("watch", "--json") as child:
+        row = json.loads(first_line(child, lambda: client.create("q", "seen")))
     same("a change", (row["job"]["title"], row["job"]["state"]), ("seen", "held"))
-    child.kill()
-    child.communicate()
 
 
 def lines_of_json(front, *words, status=0, text=b""):
@@ -416,11 +391,9 @@ def lines_of_json(front, *words, status=0, text=b""):
     return [json.loads(line) for line in output.splitlines()]
 
 
-def test_json_of_all_facts(folder):
+def test_json_of_all_facts(folder, files, client, front):
     """Each command that prints facts takes `--json`: each line is a value, whose texts are exact, and no text is lost or added."""
-    folder.two_stages(0)
-    client, front = office(folder)
-    front.environment |= {"SPOOL_TYPES": folder.at("types"), "SPOOL_CONVS": folder.at("convs"), "SPOOL_PROGRAMS": folder.at("programs")}
+    front.environment |= files
     title = "a\u202eb \u00e9"
     job = client.create("q", title)
     same("status", [[row["title"] for row in rows] for rows in lines_of_json(front, "status")], [[title]])
@@ -429,7 +402,7 @@ def test_json_of_all_facts(folder):
     same("queues", [[row["name"] for row in rows] for rows in lines_of_json(front, "queues")], [["q"]])
     same("a queue", [row["queue"] for row in lines_of_json(front, "queue", "show", "q")], ["q"])
     same("check", lines_of_json(front, "check"), [{"running": True, "service": folder.socket}, {"prints": True, "queue": "q"}])
-    same("disable", client.ask("disable q\n"), "ok")
+    client.does("disable q")
     same("check, once stopped", lines_of_json(front, "check", status=1)[1], {"prints": False, "queue": "q", "why": "is stopped"})
     for words, named in ((("status", "77"), "no such job: 77"), (("queue", "show", "none"), "no such queue: none")):
         same(f"the output of {words}", front.run("spool", *words, "--json").stdout, b"")
@@ -437,9 +410,8 @@ def test_json_of_all_facts(folder):
         holds(f"the error of {words}: {error}", named in error)
 
 
-def test_replies_as_json(folder):
+def test_replies_as_json(client, front):
     """With `--json` each reply is an object of the lines that `spool say` prints without it."""
-    client, front = office(folder)
     title = "a\u202eb"
     client.create("q", title)
     for words in (["jobs"], ["queues", "jobs"], ["job 1"]):
@@ -454,8 +426,7 @@ def test_replies_as_json(folder):
     same("the end", lines_of_json(front, "say", "--until-end", "shutdown")[0], {"last": "ok", "rows": []})
 
 
-def test_says_commands(folder):
-    client, front = office(folder)
+def test_says_commands(folder, front):
     same("a command", front.says("spool", "say", "jobs"), "ok 0\n")
     holds("an error", front.says("spool", "say", "no such", "jobs", status=1).startswith("error syntax\nok"))
     text = b'# a remark\n\ncreate q ann "t" 1 50 ""\nsend 1 7\nab\ncd\ne\njobs'
@@ -465,8 +436,7 @@ def test_says_commands(folder):
     same("no service", Front(folder, 1).run("spool", "say", "jobs").returncode, 1)
 
 
-def test_acts_on_jobs(folder):
-    client, front = office(folder)
+def test_acts_on_jobs(client, front):
     client.ask("disable q\n")
     jobs = [client.submit("q") for _ in range(4)]
     front.says("spool", "hold", str(jobs[0]))
@@ -484,57 +454,34 @@ def test_acts_on_jobs(folder):
 PAGE = 1 << 20
 
 
-class PausedPrinter:
-    """A printer on a port of the loopback address, which prints pages of 1 MiB, and one document after another. After two pages of a document it
-    pauses until `goes_on` is set.
-    """
+class PausedPrinter(Printer):
+    """A printer of pages of 1 MiB. After two pages of a document it pauses until `goes_on` is set."""
 
-    def __init__(self):
-        self.listener = socket.socket()
-        self.listener.setsockopt(socket.SOL_SOCKET, socket.SO_RCVBUF, 65_536)
-        self.listener.bind(("127.0.0.1", 0))
-        self.listener.listen(4)
-        self.port = self.listener.getsockname()[1]
+    def __init__(self, documents):
         # The pages of each document so far.
         self.pages, self.goes_on = [], threading.Event()
-        threading.Thread(target=self.serve, daemon=True).start()
+        super().__init__(self.read_pages, documents)
+        self.listener.setsockopt(socket.SOL_SOCKET, socket.SO_RCVBUF, 65_536)
 
-    def serve(self):
-        while True:
-            line, _ = self.listener.accept()
-            self.pages.append(0)
-            with line:
-                try:
-                    while self.read_page(line):
-                        self.pages[-1] += 1
-                        if self.pages[-1] == 2:
-                            self.goes_on.wait()
-                except OSError:
-                    pass
-
-    def read_page(self, line):
-        left = PAGE
-        while left:
-            data = line.recv(min(left, 65_536))
-            if not data:
-                return False
-            left -= len(data)
-        return True
+    def read_pages(self, connection):
+        self.pages.append(0)
+        while len(take(connection, PAGE)) == PAGE:
+            self.pages[-1] += 1
+            if self.pages[-1] == 2:
+                self.goes_on.wait()
 
 
 @pytest.mark.needs("spool_tools")
-def test_acts_that_stop_the_paper(folder):
+def test_acts_that_stop_the_paper(folder, large):
     """After a cancel the pages that the system has buffered come, and no others, and the next job starts, although the printer has paused. With
     --keep-printing all pages come, and the next job waits for them.
     """
     folder.lines.append(f"backend appsocket {os.path.abspath(TOOLS)} appsocket\n")
     folder.write("programs", "".join(folder.lines))
-    folder.size = 268_435_456
-    client, front = office(folder)
-    printer = PausedPrinter()
-    same("queue", client.ask(f"queue net appsocket://127.0.0.1:{printer.port}/ application/octet-stream abort-job 0 0\n"), "ok")
-    with open(folder.at("long"), "wb") as file:
-        file.write(b"x" * 12 * PAGE)
+    client, front = folder.open("q"), Front(folder)
+    printer = PausedPrinter(8)
+    client.does(f"queue net appsocket://127.0.0.1:{printer.port}/ application/octet-stream abort-job 0 0")
+    folder.write("long", b"x" * 12 * PAGE)
     folder.write("short", "x")
     for words, stops in ((["spool", "cancel"], True), (["cancel"], True), (["lprm"], True), (["spool", "cancel", "--keep-printing"], False)):
         before = len(printer.pages)
@@ -555,8 +502,7 @@ def test_acts_that_stop_the_paper(folder):
         holds(f"{words}: {pages} of 12 pages", pages <= 8 if stops else pages == 12)
 
 
-def test_acts_on_queues(folder):
-    client, front = office(folder)
+def test_acts_on_queues(client, front):
     front.says("spool", "queue", "add", "new", "slow:/0", "--media", "application/octet-stream")
     front.says("spool", "queue", "set", "new", "--info", "An info", "--location", "A room")
     front.says("spool", "queue", "reject", "new")
@@ -575,21 +521,15 @@ def test_acts_on_queues(folder):
 
 
 @pytest.mark.needs("gcc", "plain spool_front")
-def test_refuses_memory(folder):
+def test_refuses_memory(folder, client, front):
     """Each allocation of a submission is refused in turn, and its status is correct: accepted once, never, or not known. A submission that
     failed is reported as out of memory. The same applies to the arguments, and a variable that cannot be read for lack of memory is not
     treated as unset.
     """
-    library = compiled("count_allocations.c", "-shared", "-fPIC")
-    client, front = office(folder)
-    text = b"x" * 70_000
-    refused, ends = 0, {}
-    while True:
-        refused += 1
-        counted = folder.at("counted")
+    text, ends = b"x" * 70_000, {}
+    for refused, environment in each_refused(folder):
         title = f"document-{refused:06d}"
-        more = {"LD_PRELOAD": library, "REFUSED": str(refused), "COUNTED": counted}
-        ended = front.run("spool", "submit", "q", "-", "--title", title, text=text, environment=more)
+        ended = front.run("spool", "submit", "q", "-", "--title", title, text=text, environment=environment)
         output = ended.stderr.decode()
         ends.setdefault(ended.returncode, []).append(refused)
         holds(f"allocation {refused}, status {ended.returncode}: {output!r}", ended.returncode in (0, 1, 3))
@@ -598,9 +538,6 @@ def test_refuses_memory(folder):
         if ended.returncode != 3:
             same(f"closed jobs, when allocation {refused} was refused: {output!r}", len(closed), 1 if ended.returncode == 0 else 0)
         holds(f"the job's user, when allocation {refused} was refused: {closed}", all(row.split()[5] == '"ann"' for row in closed))
-        if " refused " not in folder.read("counted"):
-            break
-        os.remove(counted)
     same("status with all of it", ended.returncode, 0)
     print(f"  {refused - 1} allocations: " + ", ".join(f"status {status} for {len(which)}" for status, which in sorted(ends.items())))
 
@@ -612,13 +549,12 @@ def test_kills(folder):
     """Documents are submitted while the service is killed again and again. Each accepted document becomes one job, and none becomes two."""
     # No ended job is purged before it is checked.
     folder.words = ["--keep", "100000"]
-    client, front = office(folder)
-    client.close()
-    front.environment["SPOOL_PATIENCE"] = "60"
+    folder.open("q").close()
+    front = Front(folder, 60)
     count = 1000 if Folder.is_long else 60
-    starts, stop = [0], threading.Event()
+    starts = [0]
 
-    def killer():
+    def killer(stop):
         while not stop.is_set():
             end = time.time() + random.uniform(0.05, 0.6)
             while time.time() < end and not stop.is_set():
@@ -629,20 +565,15 @@ def test_kills(folder):
             folder.launch()
             starts[0] += 1
 
-    thread = threading.Thread(target=killer)
-    thread.start()
     statuses, index = {}, 0
     began = time.time()
-    try:
+    with meanwhile(killer):
         while starts[0] < count and time.time() - began < count * 3:
             index += 1
             title = f"document-{index:06d}"
             text = (title + "\n" + "x" * random.choice([0, 10, 70_000, 200_000])).encode()
             ended = front.run("spool", "submit", "q", "-", "--title", title, text=text)
             statuses[title] = (ended.returncode, len(text), ended.stderr.decode())
-    finally:
-        stop.set()
-        thread.join()
     client = patient_client(folder)
     jobs = {}
     for line in client.listing("jobs\n"):
@@ -667,8 +598,7 @@ def columns_of(line):
     return sum(0 if unicodedata.combining(c) else 2 if unicodedata.east_asian_width(c) in "WF" else 1 for c in line)
 
 
-def test_fits_terminals(folder):
-    client, front = office(folder)
+def test_fits_terminals(client, front, document):
     for title in ("short", "a long title " * 10, "中文" * 30, "é" * 100):
         client.create("q", title)
     for width in (40, 60, 79, 80, 100, 132, 200):
@@ -677,8 +607,7 @@ def test_fits_terminals(folder):
             same("status", status, 0)
             for line in text.splitlines():
                 holds(f"{words} at {width} columns: {line!r}", columns_of(line) <= width)
-    folder.write("a", "a")
-    text, status = front.on_terminal("spool", "submit", "q", folder.at("a"), "--wait")
+    text, status = front.on_terminal("spool", "submit", "q", document, "--wait")
     same("status", status, 0)
     holds(f"its progress is shown: {text!r}", "done" in text and "sent" not in text)
 
@@ -686,8 +615,7 @@ def test_fits_terminals(folder):
 # ---- scripts that were written for CUPS
 
 
-def test_lp_scripts(folder):
-    client, front = office(folder)
+def test_lp_scripts(folder, client, front):
     folder.write("a.txt", "a\n")
     job = number_of(front.says("lp", "-d", "q", "-n", "2", "-t", "Title", "-o", "media=a4", folder.at("a.txt")))
     client.until_ended([job])

@@ -14,6 +14,7 @@ A command that fails must print a line on standard error, and none on standard o
 of their own, which compares the table with CUPS.
 """
 import os
+from pathlib import Path
 import re
 import shutil
 import subprocess
@@ -24,7 +25,7 @@ from harness.checks import LONGEST, same
 from harness.cups import Cups
 from harness.front import Front
 from harness.programs import TESTS
-from harness.service import Client, Folder
+from harness.service import Folder
 
 TABLE = os.path.join(TESTS, "front_cups.table")
 
@@ -83,8 +84,7 @@ class System:
         self.path = path
         os.makedirs(os.path.join(path, "dir"))
         for name, text in (("doc", "hello\n"), ("doc2", "two\n"), ("empty.txt", "")):
-            with open(os.path.join(path, name), "w", encoding="utf-8") as file:
-                file.write(text)
+            Path(path, name).write_text(text)
 
     def run(self, command):
         return subprocess.run(
@@ -118,8 +118,7 @@ class Own(System):
 
     def __init__(self, folder):
         super().__init__(folder.at("documents"))
-        folder.start()
-        client = Client(folder)
+        client = folder.open()
         for name in ("office", "lab"):
             folder.queue(client, name)
         self.client, self.socket = client, folder.socket

@@ -88,21 +88,17 @@ GIVEN_UP = {
 }
 
 
-def played(folder, connections, status, output, patience=3, document=b"abc"):
+def played(folder, connections, status, output="", patience=3, document=b"abc", task=("spool", "submit", "q"), words=()):
     """Submits a document, usually of three bytes, to a simulated service."""
     service = Played(folder, connections)
-    write_bytes(folder, document)
-    ended = Front(folder, patience).run("spool", "submit", "q", folder.at("doc"))
+    folder.write("doc", document)
+    ended = Front(folder, patience).run(*task, folder.at("doc"), *words)
     service.end()
-    text = ended.stdout.decode() + ended.stderr.decode()
+    service.errors = ended.stderr.decode()
+    text = ended.stdout.decode() + service.errors
     same(f"status, with {text!r}", ended.returncode, status)
     holds(f"printed {text!r}, without {output!r}", output in text)
     return service
-
-
-def write_bytes(folder, document):
-    with open(folder.at("doc"), "wb") as file:
-        file.write(document)
 
 
 @pytest.mark.parametrize("connections, status, output", SUBMISSIONS.values(), ids=SUBMISSIONS)
@@ -172,7 +168,7 @@ def test_a_mebibyte(folder):
 
 def test_shows_progress(folder):
     """The bar on a terminal, for a service that takes half a second for a piece."""
-    write_bytes(folder, LONG)
+    folder.write("doc", LONG)
     steps = [CREATED, BOTH[0], (*BOTH[1], 0.5), *REST]
     for words, bar in ((["submit", "q", folder.at("doc")], True), (["submit", "q", folder.at("doc"), "--quiet"], False)):
         service = Played(folder, [steps])
@@ -180,10 +176,7 @@ def test_shows_progress(folder):
         service.end()
         same("status", status, 0)
         holds(f"{words}: {text!r}", ("[###################" in text and " 99 %, 128 KiB sent, " in text and "KiB/s" in text) == bar)
-    service = Played(folder, [steps])
-    ended = Front(folder, 3).run("spool", "submit", "q", folder.at("doc"))
-    service.end()
-    same("without a terminal", ended.stderr, b"")
+    same("without a terminal", played(folder, [steps], 0, document=LONG).errors, "")
 
 
 # ---- other commands, and moments
@@ -204,13 +197,8 @@ def moments_played(folder, now, words, status=0):
     asked = [("now\n", now)] if now else []
     created = "createby" if "--by" in words else "create"
     steps = [*asked, (f'{created} "q" ', "ok job 5\n"), SENT, ("hold 5 ", "ok\n"), CLOSED]
-    service = Played(folder, [steps if not status else asked])
-    front = Front(folder)
-    folder.write("doc", "abc")
-    ended = front.run("spool", "submit", "q", folder.at("doc"), *words)
-    service.end()
-    same("status", ended.returncode, status)
-    return {line.split()[0]: int(line.split()[-1]) for line in service.heard if line.startswith(("createby", "hold"))}, ended.stderr.decode()
+    service = played(folder, [steps if not status else asked], status, words=words)
+    return {line.split()[0]: int(line.split()[-1]) for line in service.heard if line.startswith(("createby", "hold"))}, service.errors
 
 
 def test_now(folder):
@@ -223,30 +211,21 @@ def test_time_of_day(folder):
     """A time of day is the next one by the time of the service, in UTC. 5000000000 is 08:53:20."""
     for told, wanted in (("08:53:21", 5000000001), ("8:53:20", 5000000000), ("08:53", 5000000000 - 20 + 86_400), ("00:00", 5000000000 + 54_400)):
         steps = [("now\n", "ok now 5000000000\n"), ('create "q" ', "ok job 5\n"), SENT, ("hold 5 ", "ok\n"), CLOSED]
-        service = Played(folder, [steps])
-        folder.write("doc", "abc")
-        Front(folder).says("lp", "-d", "q", "-H", told, folder.at("doc"))
-        service.end()
+        service = played(folder, [steps], 0, task=("lp", "-d", "q", "-H", told))
         same(told, [line for line in service.heard if line.startswith("hold")], [f"hold 5 {wanted}"])
 
 
 def test_removed_while_waiting(folder):
     """A job that was canceled and removed while the program waited for it was not completed."""
     for reply, status in (("error job\n", 5), (shown(3, "7 canceled", "a/b"), 5), (shown(3, "9 job-completed-successfully", "a/b"), 0)):
-        service = Played(folder, [[CREATED, SENT, CLOSED, ("job 5", reply)]])
-        folder.write("doc", "abc")
-        same(f"the status after {reply!r}", Front(folder).run("spool", "submit", "q", folder.at("doc"), "--wait").returncode, status)
-        service.end()
+        played(folder, [[CREATED, SENT, CLOSED, ("job 5", reply)]], status, words=["--wait"])
 
 
 def test_tokens_differ(folder, is_long):
     """No two submissions have the same token."""
     tokens, count = set(), 1_000 if is_long else 40
     for _ in range(count):
-        service = Played(folder, [[CREATED, SENT, CLOSED]])
-        folder.write("doc", "abc")
-        Front(folder).says("spool", "submit", "q", folder.at("doc"))
-        service.end()
+        service = played(folder, [[CREATED, SENT, CLOSED]], 0)
         tokens |= {line.split("submission=")[1].split('"')[0] for line in service.heard if line.startswith("create")}
     same("tokens", (len(tokens), {len(token) for token in tokens}), (count, {32}))
 

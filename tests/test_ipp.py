@@ -13,7 +13,7 @@ from harness.checks import holds, same, until
 from harness.cups import Cups
 from harness.ipp import (
     BOOLEAN, CANCEL_JOB, CREATE_JOB, Connection, GET_JOB, GET_JOBS, GET_PRINTER, INTEGER, JOB, KEYWORD, MIME, NAME, PAUSE_PRINTER,
-    PRINT_JOB, RELEASE_JOB, SEND_DOCUMENT, VALIDATE_JOB, attribute, job_of, message,
+    PRINT_JOB, RELEASE_JOB, SEND_DOCUMENT, VALIDATE_JOB, attribute, head_of, job_of, message,
 )
 from harness.service import Client, kept
 from harness.stock_documents import JPEG, pdf, postscript, TEXT
@@ -24,6 +24,8 @@ pytestmark = pytest.mark.needs("spool_ipp")
 OK, BAD, FORBIDDEN, NOT_AUTHORIZED, NOT_POSSIBLE, NOT_FOUND, FORMAT, VALUES, NO_OPERATION, VERSION, TEMPORARY = (
     0x0000, 0x0400, 0x0401, 0x0403, 0x0404, 0x0406, 0x040A, 0x040B, 0x0501, 0x0503, 0x0505,
 )
+
+LAST = attribute(BOOLEAN, "last-document", True)
 
 # The most clients that are served at once, and the most jobs that wait for their next documents.
 PLACES, MOST_WAITING = 64, 1_024
@@ -110,22 +112,27 @@ def run_at(server, command):
     return ran.returncode, said
 
 
-@pytest.mark.cups
-@pytest.mark.root
-@pytest.mark.needs("lpstat", "lpr")
-def test_shows_as_cups_does(folder, ipp):
-    """lpstat and lpq print the same over TCP and over the socket as with a CUPS that has the same queues and jobs."""
+@pytest.fixture
+def cups():
     missing = Cups.missing()
     if missing:
         pytest.skip(f"it needs {missing}")
+    with Cups() as made:
+        yield made
+
+
+@pytest.mark.cups
+@pytest.mark.root
+@pytest.mark.needs("lpstat", "lpr")
+def test_shows_as_cups_does(folder, ipp, cups):
+    """lpstat and lpq print the same over TCP and over the socket as with a CUPS that has the same queues and jobs."""
     folder.queue(Client(folder), "other", scheme="keeps")
     fill(ipp.local, "q")
-    with Cups() as cups:
-        for name in ("q", "other"):
-            cups.queue(name)
-        cups.run("lpadmin", "-d", "q")
-        fill(cups.socket, "q")
-        wanted = {command: run_at(cups.socket, command) for command in SHOWING}
+    for name in ("q", "other"):
+        cups.queue(name)
+    cups.run("lpadmin", "-d", "q")
+    fill(cups.socket, "q")
+    wanted = {command: run_at(cups.socket, command) for command in SHOWING}
     for server in (ipp.address, ipp.local):
         for command in SHOWING:
             same(f"{command} at {server}", run_at(server, command), wanted[command])
@@ -159,17 +166,13 @@ def test_commands_of_operators(folder, ipp):
 
 
 @pytest.fixture
-def far(folder, ipp):
+def far(folder, ipp, cups):
     """A CUPS of another machine that has a printer for PDF, `pdf`, by `lpadmin -m everywhere`, as its printer `far`."""
-    missing = Cups.missing()
-    if missing:
-        pytest.skip(f"it needs {missing}")
     folder.queue(Client(folder), "pdf", scheme="keeps", target="application/pdf")
-    with Cups() as cups:
-        cups.run("lpadmin", "-p", "far", "-E", "-v", ipp.uri("pdf"), "-m", "everywhere")
-        # lpadmin does not wait for the PPD. Until then CUPS sends the options as the command line has them.
-        until("the PPD of the printer", lambda: any(Path(cups.folder).rglob("far.ppd")))
-        yield cups
+    cups.run("lpadmin", "-p", "far", "-E", "-v", ipp.uri("pdf"), "-m", "everywhere")
+    # lpadmin does not wait for the PPD. Until then CUPS sends the options as the command line has them.
+    until("the PPD of the printer", lambda: any(Path(cups.folder).rglob("far.ppd")))
+    return cups
 
 
 @pytest.mark.cups
@@ -177,8 +180,7 @@ def far(folder, ipp):
 def test_cups_elsewhere(folder, far):
     """It prints documents of four types through the printer, with options."""
     for job, (name, data) in enumerate((("pdf", pdf()), ("jpg", JPEG), ("ps", postscript()), ("txt", TEXT)), 1):
-        with open(folder.at(f"page.{name}"), "wb") as file:
-            file.write(data)
+        folder.write(f"page.{name}", data)
         far.run("lp", "-d", "far", "-n", "2", "-t", name, "-o", "media=A4", "-o", "print-quality=5", folder.at(f"page.{name}"))
         until(f"a job for {name}", lambda: job in Client(folder).states())
         until(f"its end, for {name}", lambda: Client(folder).state(job).startswith("9"))
@@ -269,16 +271,14 @@ def test_documents_in_turn(folder, ipp):
     """Create-Job, and Send-Document twice."""
     job = job_of(ipp.ask(CREATE_JOB))
     number = attribute(INTEGER, "job-id", job)
-    same("another user", ipp.ask(SEND_DOCUMENT, number, attribute(BOOLEAN, "last-document", True), user="bert")[0], NOT_AUTHORIZED)
-    first = ipp.ask(SEND_DOCUMENT, number, attribute(BOOLEAN, "last-document", False), document=b"first")
-    same("first", first[0], OK)
+    same("another user", ipp.ask(SEND_DOCUMENT, number, LAST, user="bert")[0], NOT_AUTHORIZED)
+    same("first", ipp.ask(SEND_DOCUMENT, number, attribute(BOOLEAN, "last-document", False), document=b"first")[0], OK)
     time.sleep(0.3)
     same("nothing is printed", Client(folder).state(job), "4 job-incoming")
-    same("second", ipp.ask(SEND_DOCUMENT, number, attribute(BOOLEAN, "last-document", True), document=b"second")[0], OK)
+    same("second", ipp.ask(SEND_DOCUMENT, number, LAST, document=b"second")[0], OK)
     is_kept(folder, job, b"first")
     is_kept(folder, job + 1, b"second")
-    again = ipp.ask(SEND_DOCUMENT, number, attribute(BOOLEAN, "last-document", True), document=b"x")
-    same("a job with its document", again[0], NOT_POSSIBLE)
+    same("a job with its document", ipp.ask(SEND_DOCUMENT, number, LAST, document=b"x")[0], NOT_POSSIBLE)
 
 
 def test_more_waiting_jobs_than_places(folder, ipp):
@@ -287,9 +287,8 @@ def test_more_waiting_jobs_than_places(folder, ipp):
         jobs = [job_of(line.ask(message(CREATE_JOB, ipp.uri()))) for _ in range(MOST_WAITING + 1)]
     client = Client(folder)
     until("the first is canceled", lambda: client.state(jobs[0]) == "7 canceled")
-    last = attribute(BOOLEAN, "last-document", True)
     for job, status in ((jobs[0], NOT_POSSIBLE), (jobs[1], OK), (jobs[-1], OK)):
-        answer = ipp.ask(SEND_DOCUMENT, attribute(INTEGER, "job-id", job), last, document=b"x")
+        answer = ipp.ask(SEND_DOCUMENT, attribute(INTEGER, "job-id", job), LAST, document=b"x")
         same(f"a document for job {job}", answer[0], status)
 
 
@@ -327,9 +326,8 @@ def test_password_of_a_device(folder, ipp, uri, shown):
 def test_pieces_of_a_request(folder, ipp):
     """A request byte by byte has the same answer."""
     body = message(PRINT_JOB, ipp.uri()) + b"slow"
-    head = f"POST / HTTP/1.1\r\nHost: localhost\r\nContent-Type: application/ipp\r\nContent-Length: {len(body)}\r\n\r\n"
     with Connection(ipp.connect()) as line:
-        for byte in head.encode() + body:
+        for byte in head_of(len(body)) + body:
             line.say(bytes([byte]))
         same("status of HTTP", line.reply()[0], 200)
     is_kept(folder, 1, b"slow")
@@ -383,10 +381,8 @@ def test_pages(folder, ipp):
 
 def test_client_gone_within_its_document(folder, ipp):
     """Its job is canceled."""
-    body = message(PRINT_JOB, ipp.uri())
-    head = "POST / HTTP/1.1\r\nHost: localhost\r\nContent-Type: application/ipp\r\nContent-Length: 100000\r\n\r\n"
     with Connection(ipp.connect()) as line:
-        line.say(head.encode() + body + b"x" * 20_000)
+        line.say(head_of(100_000) + message(PRINT_JOB, ipp.uri()) + b"x" * 20_000)
         until("its job", lambda: Client(folder).states())
     until("canceled", lambda: Client(folder).states() == {1: "7 canceled"})
 
@@ -394,22 +390,18 @@ def test_client_gone_within_its_document(folder, ipp):
 def test_half_closed(folder, ipp):
     """A client that sends nothing more gets its answer, and one that cuts its request off gets one, too."""
     body = message(PRINT_JOB, ipp.uri()) + b"whole"
-    head = "POST / HTTP/1.1\r\nHost: localhost\r\nContent-Type: application/ipp\r\nContent-Length: %d\r\n\r\n"
-    with Connection(ipp.connect()) as line:
-        line.say((head % len(body)).encode() + body)
-        line.connection.shutdown(1)
-        same("whole", line.reply()[0], 200)
-    with Connection(ipp.connect()) as line:
-        line.say((head % (len(body) + 1)).encode() + body)
-        line.connection.shutdown(1)
-        same("cut off", line.reply()[0], 400)
+    for lacking, status in ((0, 200), (1, 400)):
+        with Connection(ipp.connect()) as line:
+            line.say(head_of(len(body) + lacking) + body)
+            line.connection.shutdown(1)
+            same(f"without {lacking} bytes", line.reply()[0], status)
     is_kept(folder, 1, b"whole")
 
 
 @pytest.mark.long
 def test_slow_clients(ipp):
     """A head that is not whole within ten seconds, and a body whose next bytes do not come within a minute, are answered."""
-    head = b"POST / HTTP/1.1\r\nHost: localhost\r\nContent-Type: application/ipp\r\nContent-Length: 1000\r\n\r\n"
+    head = head_of(1_000)
     begun = time.monotonic()
     with Connection(ipp.connect()) as slow, Connection(ipp.connect()) as body:
         body.say(head + message(PRINT_JOB, ipp.uri()))
@@ -494,6 +486,12 @@ def test_place_of_a_client_whose_request_is_unread(ipp, request):
 
 # ---- the service and the end
 
+def answers(line, wanted):
+    """The next answer has this status."""
+    status, content = line.reply()
+    same("status", (status, content[2:4]), (200, wanted))
+
+
 def test_service_restarts(folder, ipp):
     """A request that is open while the service is away is answered after it came back."""
     folder.kill()
@@ -501,8 +499,7 @@ def test_service_restarts(folder, ipp):
         line.post(message(PRINT_JOB, ipp.uri()) + b"patient")
         time.sleep(1)
         folder.start()
-        status, content = line.reply()
-        same("status", (status, content[2:4]), (200, b"\0\0"))
+        answers(line, b"\0\0")
     is_kept(folder, 1, b"patient")
 
 
@@ -519,8 +516,7 @@ def test_service_killed_within_documents(folder, ipp):
             if number % 3 == 0:
                 folder.kill()
                 folder.start()
-            status, content = line.reply()
-            same("status", (status, content[2:4]), (200, b"\0\0"))
+            answers(line, b"\0\0")
             told[number] = data[:100_000]
     until("all", lambda: sum(name.startswith("kept-") and not name.endswith(".new") for name in os.listdir(folder.path)) >= len(told))
     found = sorted(kept(folder, name[5:]) for name in os.listdir(folder.path) if name.startswith("kept-"))
@@ -535,8 +531,7 @@ def test_service_away(folder, ipp):
         with Connection(ipp.connect()) as line:
             line.connection.settimeout(60)
             line.post(message(PRINT_JOB, ipp.uri()) + b"x")
-            status, content = line.reply()
-            same("status", (status, content[2:4]), (200, b"\5\5"))
+            answers(line, b"\5\5")
     finally:
         os.kill(folder.running.pid, signal.SIGCONT)
 
@@ -544,8 +539,7 @@ def test_service_away(folder, ipp):
 def test_end(folder, ipp):
     """At its end it waits for open requests, and answers those that stay open."""
     with Connection(ipp.connect()) as line:
-        line.say(b"POST / HTTP/1.1\r\nHost: localhost\r\nContent-Type: application/ipp\r\nContent-Length: 100000\r\n\r\n")
-        line.say(message(PRINT_JOB, ipp.uri()))
+        line.say(head_of(100_000) + message(PRINT_JOB, ipp.uri()))
         until("its job", lambda: Client(folder).states())
         ipp.stop()
         same("status", line.reply()[0], 503)

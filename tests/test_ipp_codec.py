@@ -5,6 +5,7 @@ that crate cuts each of them after every octet, and changes single octets. It mu
 faults as the model. --write stores the lines of the model in `stdout` of that crate, which the gate compares.
 """
 import os
+from pathlib import Path
 import subprocess
 
 import pytest
@@ -19,8 +20,7 @@ CRATE = os.path.join(CRATES, "ipp_codec_tests")
 
 
 def contents(*path):
-    with open(os.path.join(CRATE, *path), "rb") as file:
-        return file.read()
+    return Path(CRATE, *path).read_bytes()
 
 
 COUNT, SEED = map(int, contents("args").split()[1:])
@@ -41,8 +41,7 @@ def test_the_stored_lines_are_those_of_the_model(request):
     stored = os.path.join(CRATE, "stdout")
     wanted = "".join(f"{line}\n" for line in lines(contents("stdin"), COUNT, SEED))
     if request.config.getoption("--write"):
-        with open(stored, "w") as file:
-            file.write(wanted)
+        Path(stored).write_text(wanted)
     same("the lines", contents("stdout").decode(), wanted)
 
 

@@ -17,7 +17,7 @@ from harness.ipp import (
     attribute, BOOLEAN, CANCEL_JOB, Connection, CREATE_JOB, GET_JOB, GET_JOBS, GET_PRINTER, INTEGER, Ipp, job_of, KEYWORD, message, MIME,
     NAME, PRINT_JOB, read, SEND_DOCUMENT, VALIDATE_JOB,
 )
-from harness.service import Client, kept, KEEPS, MOST_DELAY, SLACK
+from harness.service import Client, kept, KEEPS, listening, MOST_DELAY, SLACK
 
 pytestmark = pytest.mark.needs("spool_ipp")
 
@@ -112,8 +112,7 @@ def judge(found, told):
 def test_cut_between_front_and_service(folder, is_long, act):
     """The front connects again and continues: each document is acknowledged and printed once, wherever its connection to the service is cut."""
     folder.backend("keeps", KEEPS)
-    folder.start()
-    folder.queue(Client(folder), "q", scheme="keeps")
+    folder.open("q", scheme="keeps")
     front, told = Ipp(folder), {}
     front.service = folder.at("between.sock")
 
@@ -129,13 +128,6 @@ def test_cut_between_front_and_service(folder, is_long, act):
         at_rest(folder)
         judge(documents(folder), told)
         same("documents that were refused", {data for data, is_told in told.items() if not is_told}, set())
-
-
-def listening(path):
-    listener = socket.socket(socket.AF_UNIX)
-    listener.bind(path)
-    listener.listen(8)
-    return listener
 
 
 # ---- programs that are killed

@@ -8,9 +8,9 @@ print for long, or little room, of no service at all, and of a real one. Its num
 """
 import gzip
 import os
+from pathlib import Path
 import re
 import shutil
-import socket
 import subprocess
 import threading
 import time
@@ -19,7 +19,7 @@ import pytest
 
 from harness.checks import holds, LONGEST, same, until
 from harness.programs import ROOT
-from harness.service import Client, PIECE, send_document
+from harness.service import listening, PIECE, send_document
 
 OFFICE = os.path.join(ROOT, "examples", "office")
 
@@ -51,8 +51,7 @@ def test_lines_about_a_job(room):
     before = "2025-11-30T02:00:00 host "
     with gzip.open(old, "wt") as file:
         file.write(text_of(LINES, before))
-    with open(new, "w") as file:
-        file.write(text_of(LINES))
+    Path(new).write_text(text_of(LINES))
     with open(old, "rb") as file, open(f"{old}.cut", "wb") as copy:
         copy.write(file.read()[:-9])
     same("a file", run("job-log.py", "--log", new, "5"), (text_of(OF_FIVE), "", 0))
@@ -77,9 +76,9 @@ sys.exit(0 if lines else 1)
 
 def test_lines_of_the_journal(room):
     before = "2025-11-30T02:00:00+0000 host spool_service[9]: "
-    with open(os.path.join(room, "journalctl"), "w") as file:
-        file.write(JOURNALCTL.replace("LINES", repr(LINES)).replace("BEFORE", before))
-    os.chmod(file.name, 0o755)
+    program = Path(room, "journalctl")
+    program.write_text(JOURNALCTL.replace("LINES", repr(LINES)).replace("BEFORE", before))
+    program.chmod(0o755)
     env = {**os.environ, "PATH": f"{room}:{os.environ['PATH']}"}
     same("the journal", run("job-log.py", "5", env=env), (text_of(OF_FIVE, before), "", 0))
     none = "job-log: no line about it; the journal begins 2025-11-30T02:00:00+0000\n"
@@ -102,9 +101,7 @@ class Answering(threading.Thread):
     def __init__(self, path, answers):
         super().__init__(daemon=True)
         self.answers, self.asked = answers, set()
-        self.listener = socket.socket(socket.AF_UNIX)
-        self.listener.bind(path)
-        self.listener.listen()
+        self.listener = listening(path)
         self.start()
 
     def run(self):
@@ -169,8 +166,7 @@ def test_a_simulated_service(room, name):
 
 def numbers_of(path):
     """The lines for Prometheus: each has the form that it reads, and the lines of a name follow its type."""
-    with open(path) as file:
-        lines = file.read().splitlines()
+    lines = Path(path).read_text().splitlines()
     names = []
     for line in lines:
         if line.startswith("# TYPE "):
@@ -192,8 +188,7 @@ def test_no_service(room):
 def test_a_service(folder):
     folder.backend("fails", "#!/bin/sh\necho 'ERROR: the drum is worn' >&2\nexit 1\n")
     folder.size = 4_194_304
-    folder.start()
-    client = Client(folder)
+    client = folder.open()
     for name, scheme, policy in (("fails", "fails", "abort-job"), ("slow", "slow", "abort-job"), ("again", "fails", "retry-job")):
         folder.queue(client, name, 1000, policy, scheme, interval=30)
     jobs = [client.submit(name) for name in ("fails", "slow", "slow", "again")]
@@ -217,4 +212,4 @@ def test_a_service(folder):
     send_document(client, client.create("slow"), b"x" * 8 * PIECE)
     out, _, level = run("watch-spool.py", "--socket", folder.socket, "--root", root, "--free", "99")
     holds(f"the monitor says {out}", level >= 1 and "% of the journal is free" in out)
-    same("end", client.ask(f"end {jobs[1]}\n"), "ok")
+    client.does(f"end {jobs[1]}")

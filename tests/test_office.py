@@ -13,14 +13,13 @@
 The scripts run the programs in crates/NAME/out.
 """
 import os
-import socket
-import struct
+from pathlib import Path
 import subprocess
-import threading
 
 import pytest
 
 from harness.checks import compare, LONGEST, reports_all
+from harness.printers import Printer, reset_after, take
 from harness.programs import ROOT, SHELL, TOOLS
 from harness.stock_documents import TYPED
 
@@ -68,13 +67,18 @@ ok
 """
 
 
+def ran(what, words, given=b"", longest=LONGEST):
+    """The output of a program that must end with status 0 and without an error."""
+    ended = subprocess.run(words, input=given, capture_output=True, timeout=longest)
+    compare(f"the end of {what}", (ended.returncode, ended.stderr), (0, b""))
+    return ended.stdout.decode()
+
+
 def print_letter(room, name="office", *printer):
     """Prints the letter into a file, or to this printer."""
     folder = os.path.join(room, name)
     words = [os.path.join(ROOT, "examples/office/print.sh"), folder, *printer]
-    ran = subprocess.run(words, capture_output=True, timeout=LONGEST)
-    compare("the status of print.sh", (ran.returncode, ran.stderr), (0, b""))
-    compare("the replies of print.sh", ran.stdout.decode(), REPLIES)
+    compare("the replies of print.sh", ran("print.sh", words), REPLIES)
     left = sorted(os.listdir(os.path.join(folder, "spool")))
     compare("the files of the children", [name for name in left if "-" in name], [])
 
@@ -82,34 +86,26 @@ def print_letter(room, name="office", *printer):
 @reports_all
 def test_print_letter_to_file(room):
     print_letter(room)
-    with open(os.path.join(room, "office", "letter.prn"), "rb") as file:
-        compare("the printed letter", file.read(), 2 * LETTER)
+    compare("the printed letter", Path(room, "office", "letter.prn").read_bytes(), 2 * LETTER)
 
 
 @reports_all
 def test_serve_an_office(room):
     folder = os.path.join(room, "served")
-    words = [os.path.join(ROOT, "examples/office/serve.sh"), folder]
-    ran = subprocess.run(words, capture_output=True, timeout=LONGEST)
-    compare("the status of serve.sh", (ran.returncode, ran.stderr), (0, b""))
-    compare("the replies of the service", ran.stdout.decode(), SERVED)
-    with open(os.path.join(folder, "hall"), "rb") as file:
-        compare("the letter that the service printed", file.read(), 2 * LETTER)
+    compare("the replies of the service", ran("serve.sh", [os.path.join(ROOT, "examples/office/serve.sh"), folder]), SERVED)
+    compare("the letter that the service printed", Path(folder, "hall").read_bytes(), 2 * LETTER)
     # tests/with_users.py gives the children users, whose folders are in `run`.
     run = ["run"] if os.environ.get("WITH_USERS") else []
     compare("the remaining files", sorted(os.listdir(os.path.join(folder, "spool"))), [*run, "spool.disk", "spool.lock"])
 
 
 def served(room, name, programs, script):
-    """The status, the replies and the standard error of a script that is served in a fresh folder."""
+    """The replies to a script that is served in a fresh folder."""
     folder = os.path.join(room, name)
     os.mkdir(folder)
     listed = os.path.join(room, name + ".programs")
-    with open(listed, "w") as file:
-        file.write(programs)
-    words = [SHELL, "--root", folder, "--programs", listed]
-    ran = subprocess.run(words, input=script.encode(), capture_output=True, timeout=LONGEST)
-    return ran.returncode, ran.stdout.decode(), ran.stderr.decode()
+    Path(listed).write_text(programs)
+    return ran(name, [SHELL, "--root", folder, "--programs", listed], script.encode())
 
 
 @reports_all
@@ -119,13 +115,13 @@ def test_meet_each_other(room):
     script += f"queue two meet:{b}?partner={a} application/octet-stream abort-job\n"
     for job, queue in ((1, "one"), (2, "two")):
         script += f'create {queue} ann "" 1 50 ""\nsend {job} 1\nx\nclose {job} x\n'
-    status, replies, said = served(room, "meet", f"backend meet {TOOLS} meet\n", script + "round\njobs\n")
+    replies = served(room, "meet", f"backend meet {TOOLS} meet\n", script + "round\njobs\n")
     wanted = """ok started 2 finished 2
 job 1 one 9 job-completed-successfully "ann" 1 0 ""
 job 2 two 9 job-completed-successfully "ann" 1 0 ""
 ok 2
 """
-    compare("two that meet", (status, replies[-len(wanted) :], said), (0, wanted, ""))
+    compare("two that meet", replies[-len(wanted) :], wanted)
 
 
 @reports_all
@@ -134,11 +130,10 @@ def test_ask_the_device(room):
     script = f"queue lab sideask:{answer}?id=MFG%3AX%3B application/octet-stream abort-job\n"
     script += 'create lab ann "" 1 50 ""\nsend 1 1\nx\nclose 1 x\nround\njobs\n'
     programs = f"backend sideask {TOOLS} sideask\nside {TOOLS} side-end\n"
-    status, replies, said = served(room, "sideask", programs, script)
+    replies = served(room, "sideask", programs, script)
     wanted = 'ok started 1 finished 1\njob 1 lab 9 job-completed-successfully "ann" 1 0 ""\nok 1\n'
-    compare("the backend that asks", (status, replies[-len(wanted) :], said), (0, wanted, ""))
-    with open(answer, "rb") as file:
-        compare("the id of the device", file.read(), b"MFG:X;")
+    compare("the backend that asks", replies[-len(wanted) :], wanted)
+    compare("the id of the device", Path(answer).read_bytes(), b"MFG:X;")
 
 
 @reports_all
@@ -154,76 +149,42 @@ ok rounds 2
 job 1 lab 9 job-completed-successfully "ann" 0 0 "First page"
 ok 1
 """
-    compare("the first script", served(room, "first", f"backend spoolfile {TOOLS} spoolfile\n", script), (0, wanted, ""))
+    compare("the first script", served(room, "first", f"backend spoolfile {TOOLS} spoolfile\n", script), wanted)
     compare("its empty document", os.path.getsize(out), 0)
     words = [SHELL, "--programs", os.path.join(room, "first.programs"), "--devices"]
-    ran = subprocess.run(words, capture_output=True, timeout=LONGEST)
-    compare("its devices", (ran.returncode, ran.stdout), (0, b'file spoolfile "Unknown" "spoolfile"\n'))
-
-
-class Printer:
-    """A printer that listens on the loopback address, resets `resets` connections, and accepts one completely."""
-
-    def __init__(self, resets=0):
-        self.resets, self.calls = resets, 0
-        self.listener = socket.create_server(("127.0.0.1", 0))
-        self.listener.settimeout(30)
-        self.port = self.listener.getsockname()[1]
-        self.taken = []
-        self.listening = threading.Thread(target=self.take)
-        self.listening.start()
-
-    def take(self):
-        for _ in range(self.resets):
-            connection, _ = self.listener.accept()
-            self.calls += 1
-            connection.setsockopt(socket.SOL_SOCKET, socket.SO_LINGER, struct.pack("ii", 1, 0))
-            connection.recv(1)
-            connection.close()
-        connection, _ = self.listener.accept()
-        self.calls += 1
-        while piece := connection.recv(65536):
-            self.taken.append(piece)
-        connection.close()
-
-    def got(self):
-        self.listening.join()
-        self.listener.close()
-        return b"".join(self.taken)
+    compare("its devices", ran("the devices", words), 'file spoolfile "Unknown" "spoolfile"\n')
 
 
 @reports_all
 def test_print_letter_to_printer(room):
-    printer = Printer()
+    printer = Printer(take)
     print_letter(room, "network", f"127.0.0.1:{printer.port}")
-    compare("the letter that the printer received", printer.got(), 2 * LETTER)
+    compare("the letter that the printer received", printer.all(), [2 * LETTER])
 
 
 @reports_all
 def test_print_again_after_a_reset(room):
-    printer = Printer(resets=1)
+    # It resets the first connection.
+    printer = Printer(lambda connection: (reset_after(1) if printer.accepted == 1 else take)(connection), 2)
     programs = f"backend appsocket {TOOLS} appsocket\n"
     script = f"queue net appsocket://127.0.0.1:{printer.port}/ application/octet-stream retry-current-job\n"
     script += 'create net ann "Twice" 1 50 ""\nsend 1 5\npaper\nclose 1 page\ndrain 9\njobs\n'
-    status, replies, said = served(room, "reset", programs, script)
+    replies = served(room, "reset", programs, script)
     wanted = 'job 1 net 9 job-completed-successfully "ann" 5 0 "Twice"\nok 1\n'
-    compare("a job whose printer resets once", (status, replies[-len(wanted) :], said), (0, wanted, ""))
-    compare("the bytes that the printer accepted finally", printer.got(), b"paper")
-    compare("the number of connections to the printer", printer.calls, 2)
+    compare("a job whose printer resets once", replies[-len(wanted) :], wanted)
+    compare("the bytes that the printer accepted of each connection", printer.all(), [b"p", b"paper"])
 
 
 @pytest.mark.skipif(not os.path.isfile(SOCKET), reason=f"it needs {SOCKET} (Debian's package cups)")
 @reports_all
 def test_print_to_socket(room):
-    printer = Printer()
+    printer = Printer(take)
     folder = os.path.join(room, "socket")
     os.mkdir(folder)
     programs = os.path.join(room, "programs")
-    with open(programs, "w") as file:
-        file.write(f"backend socket {SOCKET}\nfilter prncount {TOOLS} prncount\n")
+    Path(programs).write_text(f"backend socket {SOCKET}\nfilter prncount {TOOLS} prncount\n")
     convs = os.path.join(room, "convs")
-    with open(convs, "w") as file:
-        file.write("application/octet-stream application/x-prn 1 prncount\n")
+    Path(convs).write_text("application/octet-stream application/x-prn 1 prncount\n")
     page = bytes(range(256)) * 200
     script = b"".join(
         [
@@ -234,11 +195,9 @@ def test_print_to_socket(room):
         ]
     )
     words = [SHELL, "--root", folder, "--convs", convs, "--programs", programs]
-    ran = subprocess.run(words, input=script, capture_output=True, timeout=LONGEST)
-    compare("the status of the run to the socket", (ran.returncode, ran.stderr), (0, b""))
-    done = b'job 1 net 9 job-completed-successfully "ann" 51200 200 "Bytes"\nok 1\n'
-    compare("the end of the job to the socket", ran.stdout[-len(done) :], done)
-    compare("the bytes that the printer received", printer.got(), page)
+    done = 'job 1 net 9 job-completed-successfully "ann" 51200 200 "Bytes"\nok 1\n'
+    compare("the end of the job to the socket", ran("the run to the socket", words, script)[-len(done) :], done)
+    compare("the bytes that the printer received", printer.all(), [page])
 
 
 @reports_all
@@ -248,9 +207,8 @@ def test_type_documents():
         script += b'create lab ann "" 1 50 ""\nsend %d %d\n%s\nclose %d %s\n' % (job, len(document), document, job, name.encode())
     example = os.path.join(ROOT, "examples/office")
     words = [SHELL, "--types", os.path.join(example, "types"), "--convs", os.path.join(example, "convs")]
-    ran = subprocess.run(words, input=script, capture_output=True, timeout=LONGEST)
-    compare("the warnings of the office's types and conversions", (ran.returncode, ran.stderr), (0, b""))
-    found = [line.split()[2] for line in ran.stdout.decode().splitlines() if line.startswith("ok type ")]
+    replies = ran("the office's types and conversions", words, script)
+    found = [line.split()[2] for line in replies.splitlines() if line.startswith("ok type ")]
     compare("the types", found, [media for _, _, media in TYPED])
 
 
@@ -260,9 +218,8 @@ def test_print_pages(room):
     folder = os.path.join(room, "pages")
     example = os.path.join(ROOT, "examples/office")
     words = [os.path.join(example, "pages.sh"), folder, os.path.join(example, "letter.txt"), "2"]
-    ran = subprocess.run(words, capture_output=True, timeout=3 * LONGEST)
-    compare("the status of pages.sh", (ran.returncode, ran.stderr), (0, b""))
-    ended = [line.split()[2:4] for line in ran.stdout.decode().splitlines() if line.startswith("job ")]
+    replies = ran("pages.sh", words, longest=3 * LONGEST)
+    ended = [line.split()[2:4] for line in replies.splitlines() if line.startswith("job ")]
     compare("the jobs of pages.sh", ended, [[kind, "9"] for kind in PAGES])
     for kind, begins in PAGES.items():
         with open(os.path.join(folder, f"page.{kind}"), "rb") as file:

@@ -8,7 +8,7 @@ import pytest
 from harness import written_spools
 from harness.checks import holds, same
 from harness.front import Front, Played
-from harness.service import Client, now_of
+from harness.service import now_of
 
 pytestmark = pytest.mark.needs("spool_service", "spool_front")
 
@@ -64,11 +64,7 @@ def page_of(front, folder, *words):
 
 def stopped(folder, *names):
     """A service with these queues, which are stopped."""
-    folder.start()
-    client = Client(folder)
-    for name in names:
-        folder.queue(client, name)
-        same("disable", client.ask(f"disable {name}\n"), "ok")
+    client = folder.open(*names, stopped=True)
     return client, Front(folder)
 
 
@@ -92,7 +88,7 @@ def test_waits(folder):
     client, front = stopped(folder, "q")
     held = client.submit("q", title="held")
     client.create("q", "other")
-    same("hold", client.ask(f"hold {held} {now_of(client) + 7_260}\n"), "ok")
+    client.does(f"hold {held} {now_of(client) + 7_260}")
     first, second = Page(page_of(front, folder)).jobs()
     same("held", first["Title"], "held it is held (2 h left)")
     same("other", second["Title"], "other its document is being sent")
@@ -150,8 +146,7 @@ def test_many_jobs(folder):
     """A page of 5,000 jobs has all of them, in order, and is five times as long as that of 1,000."""
     lengths = {}
     for count in (1_000, 5_000):
-        with open(folder.at("spool", "spool.disk"), "wb") as file:
-            file.write(written_spools.spool(written_spools.stopped_rows(count + 2)))
+        folder.write("spool/spool.disk", written_spools.spool(written_spools.stopped_rows(count + 2)))
         folder.start("--keep", "1000000")
         text = page_of(Front(folder), folder)
         same("jobs", [int(job["Job"]) for job in Page(text).jobs()], list(range(1, count + 1)))

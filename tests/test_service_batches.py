@@ -74,8 +74,7 @@ def test_clients_share_a_pair_of_syncs(folder):
 def test_turns_of_a_large_submission(folder):
     """`spool` submits a mebibyte over one connection in no more turns than it sends pieces: what the service writes to it is one turn's."""
     held_queue(folder)
-    with open(folder.at("document"), "wb") as document:
-        document.write(bytes(range(256)) * 4_096)
+    folder.write("document", bytes(range(256)) * 4_096)
     with folder.traced(*SYNCS, "-s", "4096"):
         Front(folder).says("spool", "submit", "q", folder.at("document"))
     replies = [line for line in folder.read("calls").splitlines() if re.search(r"sendto\(\d+<(socket|UNIX)", line)]

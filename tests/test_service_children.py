@@ -1,15 +1,12 @@
 """Tests of children: no child delays clients or other queues."""
 import os
-import subprocess
 import time
 
 import pytest
 
-from harness.checks import holds, LONGEST, same, until
+from harness.checks import holds, same, until
 from harness.child_folder import SIDE_END
-from harness.large_run import TYPE
-from harness.programs import SHELL
-from harness.service import Client, is_there, listings, started, undelayed, WAITS
+from harness.service import Client, is_there, listings, started, TYPE, undelayed, WAITS
 
 # A backend that writes its process number and hangs, with a child of its own.
 HANGS = """#!/bin/sh
@@ -222,13 +219,9 @@ def test_requests_as_quick_as_in_the_shell(folder):
     """Requests on the side channel, long ones and short ones, take the service little longer than the shell."""
     with_side_channels(folder)
     folder.backend("asks", ASKS_MUCH)
-    words = [*folder.before, SHELL, "--root", folder.at("spool"), "--size", str(folder.size), "--programs", folder.at("programs")]
-    script = f'queue q asks:/ {TYPE} abort-job\ncreate q ann "" 1 50 ""\nclose 1 f\ndrain 2\njobs\n'
-    ran = subprocess.run(words, input=script, capture_output=True, text=True, timeout=LONGEST)
-    holds(f"the job of the shell: {ran.stdout}", ran.returncode == 0 and "job 1 q 9 " in ran.stdout)
+    replies = folder.by_shell(f'queue q asks:/ {TYPE} abort-job\ncreate q ann "" 1 50 ""\nclose 1 f\ndrain 2\njobs\n')
+    holds(f"the job of the shell: {replies}", "job 1 q 9 " in replies)
     by_shell = took(folder)
-    for name in os.listdir(folder.at("spool")):
-        os.remove(folder.at("spool", name))
     client = folder.open("q", words=["--children", "1"], policy="abort-job", scheme="asks")
     # A client that waits sends nothing, so that no turn of the service is due to it.
     client.connection.settimeout(300)

@@ -1,6 +1,7 @@
 """Tests of clients: no client delays another one, and each uses at most the memory of its slot."""
 import contextlib
 import os
+from pathlib import Path
 import random
 import resource
 import select
@@ -12,7 +13,7 @@ import time
 import pytest
 
 from harness.checks import at_once, Difference, holds, LONGEST, same, until
-from harness.service import admitted, answer, Client, kill_children, listings, patient_client, undelayed
+from harness.service import admitted, answer, Client, listings, meanwhile, patient_client, undelayed
 
 # The number of places that a test gives the service.
 SLOTS = 64
@@ -26,9 +27,7 @@ BUSY = "error busy"
 
 
 def test_a_client_that_stalls_in_a_send(folder):
-    folder.start()
-    client, other = Client(folder), Client(folder)
-    folder.queue(client, "q")
+    client, other = folder.open("q"), Client(folder)
     job, usual = client.create("q"), listings(other)
     client.say(b"send %d 60000\n" % job + b"y" * 30_000)
     undelayed("while it stalls", listings(other), usual)
@@ -40,8 +39,7 @@ def test_a_client_that_stalls_in_a_send(folder):
 
 
 def test_a_client_that_never_reads(folder):
-    folder.start()
-    client, other = Client(folder), Client(folder)
+    client, other = folder.open(), Client(folder)
     for name in range(20):
         folder.queue(other, f"q{name}")
     client.connection.settimeout(2)
@@ -66,67 +64,52 @@ def test_a_client_that_never_reads(folder):
 
 def test_a_client_that_reads_slowly(folder):
     """It always leaves some bytes unread. The service frees the replies that it has read."""
-    folder.start()
-    client, other = Client(folder), Client(folder)
+    client, other = folder.open(), Client(folder)
     for name in range(50):
         folder.queue(other, f"q{name:02}")
     client.connection.setsockopt(socket.SOL_SOCKET, socket.SO_RCVBUF, 4_096)
-    stop = threading.Event()
 
-    def ask():
+    def ask(stop):
         try:
             while not stop.is_set():
                 client.connection.send(b"queues\n" * 100)
         except OSError:
             pass
 
-    thread = threading.Thread(target=ask)
-    thread.start()
-    time.sleep(0.5)
-    before, got, began = folder.memory(), 0, time.time()
-    while got < 20_000_000 and time.time() - began < 15:
-        got += len(client.connection.recv(20_000))
-    after, took = folder.memory(), time.time() - began
-    stop.set()
-    client.connection.shutdown(socket.SHUT_RDWR)
-    thread.join()
+    with meanwhile(ask):
+        time.sleep(0.5)
+        before, got, began = folder.memory(), 0, time.time()
+        while got < 20_000_000 and time.time() - began < 15:
+            got += len(client.connection.recv(20_000))
+        after, took = folder.memory(), time.time() - began
+        client.connection.shutdown(socket.SHUT_RDWR)
     # Under an address sanitizer freed memory is kept for a while, so the memory is only printed.
     print(f"  it took {got} bytes in {took:.1f} s; memory before {before} kB, after {after} kB")
 
 
 def test_a_flood(folder):
-    folder.start()
-    flooder, other = Client(folder), Client(folder)
-    stop, usual = threading.Event(), listings(other, 100)
+    flooder, other = folder.open(), Client(folder)
+    usual = listings(other, 100)
 
-    def flood():
+    def flood(stop):
         while not stop.is_set():
             flooder.say(b"cancel 999999\n" * 200)
             got = 0
             while got < 200:
                 got += flooder.connection.recv(65_536).count(b"\n")
 
-    thread = threading.Thread(target=flood)
-    thread.start()
-    try:
+    with meanwhile(flood):
         undelayed("during the flood", listings(other, 100), usual)
-    finally:
-        stop.set()
-        thread.join()
 
 
 @pytest.mark.strace
 def test_thirty_two_commands_in_turn(folder):
     """After 32 commands of a client the other clients are served, and then its next ones."""
-    calls = folder.at("calls")
-    folder.before += ["strace", "-qq", "-s", "1000", "-o", calls, "-e", "trace=sendto,sendmsg,write,writev"]
-    folder.start()
-    try:
-        flooder, others = Client(folder), [Client(folder), Client(folder)]
+    with folder.under_strace("-s", "1000", "-e", "trace=sendto,sendmsg,write,writev") as flooder:
+        others = [Client(folder), Client(folder)]
         for client in (flooder, *others):
             same("a reply", client.ask("queues\n"), "ok 0")
-        with open(f"/proc/{folder.running.pid}/task/{folder.running.pid}/children", encoding="ascii") as file:
-            service = int(file.read().split()[0])
+        service = int(Path(f"/proc/{folder.running.pid}/task/{folder.running.pid}/children").read_text().split()[0])
         os.kill(service, signal.SIGSTOP)
         flooder.say("cancel 999999\n" * 70)
         for other in others:
@@ -136,17 +119,12 @@ def test_thirty_two_commands_in_turn(folder):
         same("its replies", [flooder.reply() for _ in range(70)], ["error 5 NoJob"] * 70)
         same("the others'", [other.reply() for other in others], ["ok 0", "ok 0"])
         folder.shut_down()
-    finally:
-        kill_children(folder.running.pid)
-    with open(calls, encoding="ascii", errors="replace") as file:
-        sent = [(line.count("NoJob"), "ok 0" in line) for line in file if "NoJob" in line or "ok 0" in line]
+    sent = [(line.count("NoJob"), "ok 0" in line) for line in folder.read("calls").splitlines() if "NoJob" in line or "ok 0" in line]
     same("the replies in turn", sent[-5:], [(32, False), (0, True), (0, True), (32, False), (6, False)])
 
 
 def test_a_client_that_leaves_while_it_waits(folder):
-    folder.start(*PLACES)
-    client = Client(folder)
-    folder.queue(client, "q")
+    client = folder.open("q", words=PLACES)
     job = client.create("q")
     time.sleep(0.2)
     before = folder.descriptors()
@@ -161,8 +139,7 @@ def test_a_client_that_leaves_while_it_waits(folder):
 
 
 def test_an_end_of_text(folder):
-    folder.start()
-    client = Client(folder)
+    client = folder.open()
     # A line without its line feed is no command: its sender may have been killed.
     client.say("queues\nqueues\nshutdown")
     client.connection.shutdown(socket.SHUT_WR)
@@ -172,10 +149,9 @@ def test_an_end_of_text(folder):
 
 def test_a_line_cut_from_a_longer_one(folder):
     """A client that hangs up after the first bytes of `cancel 12` has not cancelled job 1."""
-    folder.start()
-    client, other = Client(folder), Client(folder)
+    client, other = folder.open(), Client(folder)
     folder.queue(other, "q")
-    same("disable", other.ask("disable q\n"), "ok")
+    other.does("disable q")
     same("the job", other.create("q"), 1)
     client.say("jobs\ncancel 1")
     client.connection.shutdown(socket.SHUT_WR)
@@ -204,11 +180,10 @@ def conversation(job):
 
 def test_cut_at_each_byte(folder):
     """A session in two pieces, with another client's command between them, gets its replies wherever it is split."""
-    folder.start()
-    client, other = Client(folder), Client(folder)
+    client, other = folder.open(), Client(folder)
     folder.queue(other, "q")
     # No job starts by itself.
-    same("disable", other.ask("disable q\n"), "ok")
+    other.does("disable q")
     cut, job = 0, 1
     while cut <= len(text_of(conversation(job))):
         said = conversation(job)
@@ -231,10 +206,7 @@ AFTER = [None, ("4", "0"), ("4", "12"), ("4", "24"), ("4", "24"), ("4", "24"), (
 
 def test_disconnected_at_each_byte(folder):
     """A client that disconnects within a command has changed nothing by it, and its acknowledged changes are in the spool."""
-    folder.start()
-    other = Client(folder)
-    folder.queue(other, "q")
-    same("disable", other.ask("disable q\n"), "ok")
+    other = folder.open("q", stopped=True)
     time.sleep(0.2)
     cut, job, before = 0, 1, folder.descriptors()
     while cut <= len(text_of(conversation(job))):
@@ -271,8 +243,7 @@ def found(client, job):
 
 
 def test_fifty_clients_at_once(folder):
-    folder.start()
-    first = Client(folder)
+    first = folder.open()
     for name in range(4):
         folder.queue(first, f"q{name}")
 
@@ -313,7 +284,7 @@ def test_waiting_clients_stay_connected(folder):
     job = clients[0].create("q")
     waiting, watching, silent = clients[20], clients[30], clients[40]
     waiting.say(f"wait {job}\n")
-    same("watch", watching.ask("watch\n"), "ok")
+    watching.does("watch")
     time.sleep(10.2)
     for client in clients:
         if client not in (waiting, watching, silent):
@@ -345,8 +316,7 @@ def test_more_clients_than_slots(folder):
 
 
 def test_clients_that_connect_and_disconnect(folder):
-    folder.start()
-    first = Client(folder)
+    first = folder.open()
     same("a reply", first.ask("queues\n"), "ok 0")
     began, before = time.time(), folder.descriptors()
     for number in range(1_000):
@@ -364,8 +334,7 @@ def test_a_thousand_connections(folder):
     """Each of a thousand clients that connect at once, and stay, is served or gets `error busy`."""
     soft, hard = resource.getrlimit(resource.RLIMIT_NOFILE)
     resource.setrlimit(resource.RLIMIT_NOFILE, (min(4_096, hard), hard))
-    folder.start(*PLACES)
-    first = Client(folder)
+    first = folder.open(words=PLACES)
     same("it serves, so it has opened all its files", first.ask("queues\n"), "ok 0")
     before = folder.descriptors() - 1
     first.close()
@@ -393,8 +362,7 @@ def test_a_thousand_connections(folder):
 def test_clients_beyond_the_descriptors(folder):
     """If the service has no descriptor for a client, it admits the client once it has one, and serves the others meanwhile."""
     folder.limit_descriptors(32)
-    folder.start()
-    first = Client(folder)
+    first = folder.open()
     others = [Client(folder) for _ in range(40)]
     for other in others:
         other.say("queues\n")
@@ -411,67 +379,53 @@ def test_clients_beyond_the_descriptors(folder):
 # ---- two hundred clients, each with different actions in turn
 
 
-def connects_and_disconnects(folder, chance):
-    Client(folder).close()
+def says_nothing(client, chance):
+    pass
 
 
-def asks_and_disconnects(folder, chance):
-    client = Client(folder)
+def asks(client, chance):
     reply = client.ask(chance.choice(["queues\n", "jobs\n", "job 1\n", "nonsense\n", "watch\n"]))
     holds("it was answered", reply != "")
-    client.close()
 
 
-def stalls(folder, chance):
-    client = Client(folder)
+def stalls(client, chance):
     client.say(b"send 1 60000\n" + b"z" * chance.randrange(60_000))
     time.sleep(chance.uniform(0, 0.5))
-    client.close()
 
 
-def never_reads(folder, chance):
-    client = Client(folder)
+def never_reads(client, chance):
     client.connection.setblocking(False)
     for _ in range(2_000):
         if not select.select([], [client.connection], [], 0.05)[1]:
             break
         client.connection.send(b"jobs\nqueues\n" * 50)
-    client.close()
 
 
-def floods(folder, chance):
-    client = Client(folder)
+def floods(client, chance):
     client.say(b"cancel 999999\n" * chance.randrange(1, 400))
     client.connection.shutdown(socket.SHUT_WR)
     while client.connection.recv(65_536):
         pass
-    client.close()
 
 
-def is_cut(folder, chance):
-    client = Client(folder)
+def is_cut(client, chance):
     text = text_of(conversation(1_000_000)).encode()
     client.say(text[: chance.randrange(len(text))])
-    client.close()
 
 
-def waits_for_ever(folder, chance):
-    client = Client(folder)
+def waits_for_ever(client, chance):
     client.say("wait 1\nwatch\n")
     time.sleep(chance.uniform(0, 0.5))
-    client.close()
 
 
-KINDS = [connects_and_disconnects, asks_and_disconnects, stalls, never_reads, floods, is_cut, waits_for_ever]
+KINDS = [says_nothing, asks, stalls, never_reads, floods, is_cut, waits_for_ever]
 
 
 def test_two_hundred_clients(folder):
     """They connect and disconnect, stall, flood, never read and are cut off, more of them than there are slots. Another client is served as
     if it were alone, and its jobs are printed.
     """
-    folder.start(*PLACES)
-    good = Client(folder)
-    folder.queue(good, "q")
+    good = folder.open("q", words=PLACES)
     # A job that waits for ever, that other clients wait for, and that no cut command may affect.
     same("the first job", good.create("q"), 1)
     time.sleep(0.2)
@@ -481,7 +435,8 @@ def test_two_hundred_clients(folder):
         chance = random.Random(seed)
         while not stop.is_set():
             try:
-                chance.choice(KINDS)(folder, chance)
+                with contextlib.closing(Client(folder)) as client:
+                    chance.choice(KINDS)(client, chance)
             except (OSError, Difference):
                 # It got `error busy`, or its connection was closed.
                 time.sleep(0.01)

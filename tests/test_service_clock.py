@@ -32,11 +32,8 @@ def start(folder):
     library = compiled("fast_clock.c", "-shared", "-fPIC")
     folder.environment = {"LD_PRELOAD": library, "CLOCK_JUMP": folder.at("jump"), "STEADY_JUMP": folder.at("steady")}
     folder.backend("away", "#!/bin/sh\nexit 6\n")
-    folder.start()
-    client = Client(folder)
-    folder.queue(client, "q")
-    folder.queue(client, "stopped")
-    same("disable", client.ask("disable stopped\n"), "ok")
+    client = folder.open("q", "stopped")
+    client.does("disable stopped")
     folder.queue(client, "away", policy="retry-job", scheme="away", interval=2)
     return client
 
@@ -58,7 +55,7 @@ def change(folder, name, seconds):
 def held(client, until_moment):
     """A job that is held until a moment."""
     job = client.create("q")
-    same("hold", client.ask(f"hold {job} {until_moment}\n"), "ok")
+    client.does(f"hold {job} {until_moment}")
     client.finish(job)
     return job
 
@@ -83,7 +80,7 @@ def keeps_time(client, now):
     takes("a hold of 4 s", 2.9, 40, began, lambda: client.state(job).startswith("9"))
     takes("a deadline of 4 s", 2.9, 40, began, lambda: client.state(late).startswith("7"))
     takes("three attempts, 2 s apart", 2.9, 40, began, lambda: int(client.fields(tried)["attempts"]) >= 3)
-    same("cancel", client.ask(f"cancel {tried}\n"), "ok")
+    client.does(f"cancel {tried}")
 
 
 # ---- the clock of the system
@@ -167,7 +164,7 @@ def test_a_clock_that_steps(folder):
 def test_a_clock_of_an_operator(folder):
     """After `clock 4102444800` the service's time goes on from there, also after a restart."""
     client = start(folder)
-    same("clock", client.ask(f"clock {FAR}\n"), "ok")
+    client.does(f"clock {FAR}")
     keeps_time(client, FAR)
     holds("the log says so", BEHIND in folder.log())
     client = again(folder, client)
@@ -185,7 +182,7 @@ def test_a_clock_of_an_operator(folder):
 def test_moments_of_users(folder):
     """The moments of `spool` and `lp` are moments of the service, also after `clock 4102444800` and a restart."""
     client = start(folder)
-    same("clock", client.ask(f"clock {FAR}\n"), "ok")
+    client.does(f"clock {FAR}")
     front = Front(folder)
     folder.write("a", "x\n")
     for _ in range(2):

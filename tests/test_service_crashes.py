@@ -1,6 +1,5 @@
 """Tests of a service that is killed, and of the files that a power cut leaves."""
 import random
-import threading
 import time
 
 import pytest
@@ -8,7 +7,7 @@ import pytest
 from harness import power_cuts as cuts
 from harness.checks import holds, same, until
 from harness.programs import SHELL
-from harness.service import Client, patient_client, Submitter, WAITS
+from harness.service import Client, meanwhile, patient_client, Submitter, WAITS
 
 # ---- kills
 
@@ -47,9 +46,8 @@ def test_killed_at_random(folder):
     wanted = 1_000 if folder.is_long else 40
     folder.start()
     folder.queue(Client(folder), "q")
-    stop = threading.Event()
 
-    def killer():
+    def killer(stop):
         while not stop.wait(random.uniform(0.02, 0.6)):
             folder.kill()
             kills[0] += 1
@@ -58,18 +56,13 @@ def test_killed_at_random(folder):
             if random.randrange(4):
                 until("the service", lambda: stop.is_set() or folder.serves())
 
-    thread = threading.Thread(target=killer)
-    thread.start()
     submitter, titles = Submitter(folder), {}
-    try:
+    with meanwhile(killer):
         while kills[0] < wanted:
             title = f"token-{len(titles):05}."
             titles[title] = submitter.submit(title)
             # On a disk whose syncs take no time jobs are accepted faster than a service prints that is killed all the time.
             until("some are printed", lambda: wanted <= kills[0] or len(titles) < 40 + folder.printed().count("\n"), 300)
-    finally:
-        stop.set()
-        thread.join()
     check_printed(folder, titles, f"{kills[0]} kills; lines lost at {submitter.lost}")
 
 

@@ -5,8 +5,7 @@ import time
 import pytest
 
 from harness.checks import holds, LONGEST, same, until
-from harness.large_run import TYPE
-from harness.service import Client, ENDS, fields_of, HANGS, is_there, PRINTS, SAYS, work_of
+from harness.service import Client, ENDS, fields_of, HANGS, is_there, PRINTS, SAYS, TYPE, work_of
 from harness.written_spools import rows, spool
 
 # A scheme without a program.
@@ -295,8 +294,7 @@ def test_pieces_of_many_jobs(folder):
     """A piece takes as much processor time whether there are 100 jobs or 100,000, with a match or without."""
     took = []
     for count in (100, 100_000):
-        with open(folder.at("spool", "spool.disk"), "wb") as file:
-            file.write(spool(rows(count + 2)))
+        folder.write("spool/spool.disk", spool(rows(count + 2)))
         folder.launch("--quiet", "--keep", "1000000")
         until("the service", folder.serves, 120)
         client = Client(folder)

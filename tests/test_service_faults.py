@@ -1,5 +1,6 @@
 """Tests of a service whose disk, memory or start is faulty, and of a folder whose files a child removes."""
 import os
+from pathlib import Path
 import random
 import re
 import resource
@@ -10,9 +11,8 @@ import time
 import pytest
 
 from harness.checks import Difference, holds, LONGEST, same, until, words_of_faults
-from harness.large_run import TYPE
 from harness.programs import compiled, path_of, ROOT
-from harness.service import Client, Folder, Gone, KEEPS, kept, kill_children, patient_client, send_document, Submitter
+from harness.service import Client, Folder, Gone, KEEPS, kept, patient_client, send_document, Submitter, TYPE
 
 # ---- the name of the spool
 
@@ -36,21 +36,19 @@ def test_names_that_are_taken_away(folder):
     and after a checkpoint, which changes the half of the journal.
     """
     folder.backend("keeps", KEEPS)
-    folder.start()
-    client, chance = Client(folder), random.Random(5)
-    folder.queue(client, "q", scheme="keeps")
+    client, chance = folder.open("q", scheme="keeps"), random.Random(5)
     disk, documents = folder.at("spool", "spool.disk"), {}
     for turn, take in enumerate((os.remove, lambda path: os.rename(path, folder.at("elsewhere")), os.remove, os.remove)):
         done = client.submit("q", f"{turn}\n")
         client.until_state(done, "9")
         job, data = client.create("q"), chance.randbytes(DOCUMENT)
         documents[job] = data
-        same("hold", client.ask(f"hold {job} indefinite\n"), "ok")
+        client.does(f"hold {job} indefinite")
         send_document(client, job, data)
         holds("close", client.ask(f"close {job} f\n").startswith("ok type"))
         # The first is taken away in the first half, and the others after checkpoints, in both halves.
         if turn:
-            same("checkpoint", client.ask("checkpoint\n"), "ok")
+            client.does("checkpoint")
         before, size = identity(disk), os.stat(disk).st_size
         take(disk)
         if turn == 3:
@@ -65,11 +63,9 @@ def test_names_that_are_taken_away(folder):
         rows = client.listing("jobs\n")
         folder.kill()
         os.remove(folder.at(f"kept-{done}"))
-        folder.start()
-        client = Client(folder)
+        client = folder.open()
         same("the jobs after a kill", client.listing("jobs\n"), rows)
-    for job in documents:
-        same("release", client.ask(f"release {job}\n"), "ok")
+    client.does(*(f"release {job}" for job in documents))
     client.until_ended(documents)
     for job, data in documents.items():
         holds(f"document {job} is printed whole", kept(folder, job) == data)
@@ -85,21 +81,14 @@ def test_a_name_is_restored_in_order(folder):
     """The copy is locked, written, synced and renamed, and the folder is synced, in this order and before the reply. So after a power cut the
     name belongs to the copy too, with everything acknowledged.
     """
-    calls = folder.at("calls")
-    folder.before += ["strace", "-qq", "-y", "-s", "16", "-o", calls, "-e", f"trace={CALLS}"]
-    folder.start()
-    try:
-        client = Client(folder)
+    with folder.under_strace("-y", "-s", "16", "-e", f"trace={CALLS}") as client:
         folder.queue(client, "q")
         job = client.create("q")
         send_document(client, job, bytes(DOCUMENT))
         os.remove(folder.at("spool", "spool.disk"))
         same("a change", client.ask("reject q\n"), "ok")
         folder.shut_down()
-    finally:
-        kill_children(folder.running.pid)
-    with open(calls, encoding="utf-8", errors="replace") as file:
-        lines = file.read().splitlines()
+    lines = folder.read("calls").splitlines()
     root = os.path.realpath(folder.at("spool"))
     begun = max(at for at, line in enumerate(lines) if line.startswith("open") and "spool.disk.new" in line and "O_EXCL" in line)
     told = next(at for at, line in enumerate(lines) if at > begun and '"ok\\n"' in line)
@@ -146,9 +135,7 @@ def change(client):
 def processing_jobs(folder):
     """A client, and two jobs whose children run: one is printed again if its attempt is lost, and one is not."""
     folder.backend("lasts", LASTS)
-    folder.start()
-    client = Client(folder)
-    folder.queue(client, "later")
+    client = folder.open("later")
     folder.queue(client, "again", policy="retry-job", scheme="lasts")
     folder.queue(client, "once", policy="abort-job", scheme="lasts")
     jobs = [client.submit(name, f"{name}\n") for name in ("again", "once")]
@@ -167,8 +154,7 @@ def test_a_device_that_fails(folder):
     fail(folder, lambda: change(client))
     same("it is disconnected", other.is_closed(), True)
     holds("it is logged", "spool: disk failed\n" in folder.log())
-    folder.start()
-    client = Client(folder)
+    client = folder.open()
     same("whether the queue rejects", client.listing("queues\n")[1].split()[1:4], ["later", "3", "accepting"])
     client.until_state(jobs[0], "9")
     same("the attempts", [client.fields(job)["attempts"] for job in jobs], ["2", "1"])
@@ -184,8 +170,7 @@ def running_groups():
     found = set()
     for name in os.listdir("/proc"):
         try:
-            with open(f"/proc/{name}/stat", encoding="ascii", errors="replace") as file:
-                state, _, group = file.read().rsplit(") ", 1)[1].split()[:3]
+            state, _, group = Path(f"/proc/{name}/stat").read_text(errors="replace").rsplit(") ", 1)[1].split()[:3]
         except (OSError, IndexError):
             continue
         found |= {int(group)} if state != "Z" else set()
@@ -200,8 +185,7 @@ def test_a_device_that_fails_under_a_supervisor(folder):
     for group in groups:
         os.killpg(group, signal.SIGKILL)
     until("their ends", lambda: not groups & running_groups())
-    folder.start()
-    client = Client(folder)
+    client = folder.open()
     client.until_state(jobs[0], "9")
     same("the lost attempt", client.state(jobs[1]), "8 attempt-lost")
     turns = folder.read("turns").split("\n")
@@ -220,13 +204,12 @@ def test_a_device_that_fails_without_a_command(folder):
     fail(folder, lambda: until("an end", lambda: "ends" in folder.read("turns")))
     same("who waits", waiter.is_closed(), True)
     until("both ends", lambda: folder.read("turns").count("ends") == 2)
-    folder.start()
-    client = Client(folder)
+    client = folder.open()
     client.until_state(jobs[0], "9")
     same("the lost attempts", (client.fields(jobs[0])["attempts"], client.state(jobs[1])), ("2", "8 attempt-lost"))
     same("printed", sorted(folder.printed().split()), ["again", "again", "once"])
     held = client.create("later")
-    same("hold", client.ask(f"hold {held} {int(time.time()) + 2}\n"), "ok")
+    client.does(f"hold {held} {int(time.time()) + 2}")
     fail(folder, lambda: None)
     folder.start()
     Client(folder).until_state(held, "4 job-incoming")
@@ -239,15 +222,12 @@ CLOSES = ["sh", "-c", 'exec "$@" <&- >&- 2>&-', "sh"]
 
 def test_closed_streams(folder):
     """A program that is started without standard streams writes neither its log nor its errors into a file of the spool."""
-    folder.start()
-    client = Client(folder)
-    folder.queue(client, "q", 1)
+    client = folder.open("q", seconds=1)
     held = client.create("q")
     folder.shut_down()
     usual = folder.before
     folder.before = [*usual, *CLOSES]
-    folder.start("--verbose")
-    client = Client(folder)
+    client = folder.open(words=["--verbose"])
     job = client.submit("q")
     client.until_state(job, "9")
     rows = client.listing("jobs\n")
@@ -260,8 +240,7 @@ def test_closed_streams(folder):
             subprocess.run([*CLOSES, program, *words], timeout=LONGEST, check=False)
     same("the lock's file", folder.read(os.path.join("spool", LOCK)), "")
     folder.before = usual
-    folder.start()
-    client = Client(folder)
+    client = folder.open()
     same("the jobs", (client.listing("jobs\n"), client.state(held)[0]), (rows, "4"))
 
 
@@ -280,8 +259,7 @@ def test_ignored_child_signals(folder):
     os.remove(folder.at("log"))
     usual = folder.before
     folder.before = [*usual, "env", "--default-signal=CHLD"]
-    folder.start()
-    client = Client(folder)
+    client = folder.open()
     states = {0: "9 job-completed-successfully", 1: "8 backend-failed", 3: "4 held-by-backend", 5: "7 canceled"}
     jobs = {}
     for status in states:
@@ -308,18 +286,14 @@ def grows(folder, most):
     """Limits the memory that the service may still take from the system to `most` bytes; None for no limit."""
     limit = resource.RLIM_INFINITY
     if most is not None:
-        with open(f"/proc/{folder.running.pid}/statm", encoding="ascii") as file:
-            limit = int(file.read().split()[0]) * resource.getpagesize() + most
+        limit = int(Path(f"/proc/{folder.running.pid}/statm").read_text().split()[0]) * resource.getpagesize() + most
     resource.prlimit(folder.running.pid, resource.RLIMIT_AS, (limit, resource.RLIM_INFINITY))
 
 
 def test_memory_for_one_reply(folder):
     """A client whose reply finds no memory gets an error or is disconnected. The others are served, and it too once there is memory again."""
     folder.size = 67_108_864
-    folder.start()
-    client, other = Client(folder), Client(folder)
-    folder.queue(client, "q")
-    same("disable", client.ask("disable q\n"), "ok")
+    client, other = folder.open("q", stopped=True), Client(folder)
     text = "".join(f'create q u "{"t" * 250}" 1 50 ""\n' for _ in range(100))
     for _ in range(MANY // 100):
         client.say(text)
@@ -327,9 +301,7 @@ def test_memory_for_one_reply(folder):
     rows = client.listing("jobs\n")
     same("rows", len(rows), MANY)
     client.close()
-    folder.kill()
-    folder.start()
-    client, other = Client(folder), Client(folder)
+    client, other = folder.reopen(), Client(folder)
     for turn in range(3):
         same("a reply", other.ask("hold 1 indefinite\n"), "ok")
         cut_off = folder.log().count("out of memory: 1 clients disconnected\n")
@@ -406,8 +378,7 @@ def counted(folder, library, refused):
 
 def allocations(room):
     """The number of allocations that were counted."""
-    with open(room.at("counted"), encoding="utf-8", errors="replace") as file:
-        return int(file.read().splitlines()[-1].split(" ", 1)[0])
+    return int(Path(room.at("counted")).read_text(errors="replace").splitlines()[-1].split(" ", 1)[0])
 
 
 class Persistent(Submitter):

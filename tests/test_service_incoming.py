@@ -23,9 +23,7 @@ def test_abandoned_jobs_are_canceled(folder):
     """An incoming job is canceled when its client has gone and nothing was sent to it for the limit, although no client says anything; not
     before; not while its client is connected; and not while another client sends.
     """
-    folder.start("--incoming", str(LIMIT))
-    client = Client(folder)
-    folder.queue(client, "q")
+    client = folder.open("q", words=["--incoming", str(LIMIT)])
     own = client.create("q")
     began = time.time()
     job, continued = left_job(folder), left_job(folder)
@@ -46,13 +44,9 @@ def test_abandoned_jobs_are_canceled(folder):
 
 def test_jobs_of_an_earlier_service(folder):
     """After a restart all incoming jobs are left, and are canceled after the limit."""
-    folder.start("--incoming", str(LIMIT))
-    client = Client(folder)
-    folder.queue(client, "q")
+    client = folder.open("q", words=["--incoming", str(LIMIT)])
     jobs = [client.create("q") for _ in range(20)]
-    folder.kill()
-    folder.start("--incoming", str(LIMIT))
-    client = Client(folder)
+    client = folder.reopen("--incoming", str(LIMIT))
     same("at first", {client.state(job) for job in jobs}, {"4 job-incoming"})
     until("they are canceled", lambda: {client.state(job) for job in jobs} == {"7 canceled"})
     folder.writes_nothing()
@@ -60,8 +54,7 @@ def test_jobs_of_an_earlier_service(folder):
 
 def test_the_moment_of_the_service(folder):
     """`now` answers with the moment of the service."""
-    folder.start()
-    client = Client(folder)
+    client = folder.open()
     for _ in range(3):
         words = client.ask("now\n").split()
         same("the words", words[:2], ["ok", "now"])
@@ -81,18 +74,16 @@ def tries(folder):
 def set_moment(folder, client):
     """Lets a hold end, so that the table has the present moment."""
     folder.queue(client, "stopped")
-    same("disable", client.ask("disable stopped\n"), "ok")
+    client.does("disable stopped")
     held = client.submit("stopped")
-    same("hold", client.ask(f"hold {held} {int(time.time()) + 1}\n"), "ok")
+    client.does(f"hold {held} {int(time.time()) + 1}")
     until("the end of the hold", lambda: client.state(held).startswith("3 "))
 
 
 def test_the_first_retry_waits(folder):
     """A service that was idle waits for the interval of a queue before it tries a job again, also for the first time."""
     folder.backend("failing", FAILING)
-    folder.start()
-    client = Client(folder)
-    folder.queue(client, "q", scheme="failing", policy="retry-job", interval=5)
+    client = folder.open("q", scheme="failing", policy="retry-job", interval=5)
     set_moment(folder, client)
     time.sleep(4)
     job = client.submit("q")
@@ -100,7 +91,7 @@ def test_the_first_retry_waits(folder):
     first, second = tries(folder)
     print(f"  the second try came {second - first:.1f} s after the first")
     holds("it waited for the interval", 4 <= second - first)
-    same("cancel", client.ask(f"cancel {job}\n"), "ok")
+    client.does(f"cancel {job}")
     folder.writes_nothing()
 
 
@@ -108,9 +99,8 @@ def test_a_retry_after_a_failed_start(folder):
     """The same if the backend's program cannot be started."""
     folder.backend("failing", "no program\n")
     folder.write("backend-failing", "", 0o644)
-    folder.start()
-    client = Client(folder)
-    same("queue", client.ask("queue q failing:/ application/octet-stream retry-job 5 2\n"), "ok")
+    client = folder.open()
+    client.does("queue q failing:/ application/octet-stream retry-job 5 2")
     set_moment(folder, client)
     time.sleep(4)
     began = time.time()

@@ -7,7 +7,7 @@ import pytest
 
 from harness.checks import holds, LONGEST, same, until
 from harness.programs import compiled
-from harness.service import checkpoints, Client, WAITS
+from harness.service import checkpoints, Client, ENDS, WAITS
 
 pytestmark = pytest.mark.needs("gcc")
 
@@ -40,9 +40,7 @@ def test_a_full_journal_is_emptied(folder):
     """
     watched(folder, SLOW_SYNCS=folder.at("slow"))
     folder.size = 16_384
-    folder.start("--room", "5")
-    client = Client(folder)
-    folder.queue(client, "q")
+    client = folder.open("q", words=["--room", "5"])
 
     def fill(made):
         """Writes events until this many checkpoints have been made. If the disk is slow, the journal may be full before the next one is due."""
@@ -69,11 +67,9 @@ def test_a_full_journal_is_emptied(folder):
 def test_a_set_clock_is_noticed(folder):
     """If the system's clock is set forward while the service has nothing to do, it notices within a minute."""
     watched(folder, FASTER=str(FASTER), CLOCK_JUMP=folder.at("jump"))
-    folder.start()
-    client = Client(folder)
-    folder.queue(client, "q")
+    client = folder.open("q")
     job = client.create("q")
-    same("hold", client.ask(f"hold {job} {int(time.time()) + HOUR}\n"), "ok")
+    client.does(f"hold {job} {int(time.time()) + HOUR}")
     client.finish(job)
     client.close()
     time.sleep(2)
@@ -84,13 +80,11 @@ def test_a_set_clock_is_noticed(folder):
 def test_a_shutdown_waits_a_minute(folder):
     """A service that must end waits a minute for a child, and then ends. The job has lost its attempt."""
     watched(folder, FASTER=str(FASTER))
-    folder.start()
-    client = Client(folder)
-    folder.queue(client, "q", 30, "abort-job")
+    client = folder.open("q", seconds=30, policy="abort-job")
     job = client.submit("q")
     client.until_state(job, "5")
     began = time.time()
-    same("shutdown", client.ask("shutdown\n"), "ok")
+    client.does("shutdown")
     same("status", folder.running.wait(LONGEST), 0)
     waited = (time.time() - began) * FASTER
     print(f"  it ended after {waited:.0f} s of its time")
@@ -115,9 +109,7 @@ def test_polls_of_a_child(folder):
     count = 30
     watched(folder, WATCHED_CALLS=folder.at("calls"))
     folder.backend("short", "#!/bin/sh\nexec sleep 0.03\n")
-    folder.start()
-    client = Client(folder)
-    folder.queue(client, "q", scheme="short")
+    client = folder.open("q", scheme="short")
     polled, napped = [], []
     for _ in range(count):
         job = client.create("q")
@@ -142,14 +134,9 @@ def test_queues_have_turns(folder):
     folder.backend("fast", '#!/bin/sh\ncat "${6:--}" >>FOLDER/printed\n')
     for most in (1, 2):
         folder.write("printed", "")
-        folder.start("--children", str(most))
-        client = Client(folder)
         names = ["a", "b", "c", "d", "e"]
-        if most == 1:
-            for name in names:
-                folder.queue(client, name, scheme="fast")
-        for name in names:
-            same("disable", client.ask(f"disable {name}\n"), "ok")
+        client = folder.open(*(names if most == 1 else []), words=["--children", str(most)], scheme="fast")
+        client.does(*(f"disable {name}" for name in names))
         jobs = [client.submit(name, f"{name}\n") for _ in range(4) for name in names]
         client.say("".join(f"enable {name}\n" for name in names))
         same("enable", [client.reply() for _ in names], ["ok"] * len(names))
@@ -187,11 +174,7 @@ def test_descriptors_for_a_start(folder):
     moment. The next second is another attempt, also without a client.
     """
     folder.backend("counts", WAITS.replace("while", 'echo "$1" >>FOLDER/started\nwhile', 1))
-    folder.start()
-    client = Client(folder)
-    for name in ("a", "b"):
-        folder.queue(client, name, scheme="counts", policy="abort-job")
-        same("disable", client.ask(f"disable {name}\n"), "ok")
+    client = folder.open("a", "b", stopped=True, scheme="counts", policy="abort-job")
     for free, wanted in ((SPARE + START - 1, 0), (SPARE + START, 1)):
         folder.write("started", "")
         jobs = [client.submit(name) for name in ("a", "b")]
@@ -206,15 +189,14 @@ def test_descriptors_for_a_start(folder):
         client.until_ended(jobs)
         os.remove(folder.at("go"))
         same("their attempts", {client.fields(job)["attempts"] for job in jobs}, {"1"})
-        for name in ("a", "b"):
-            same("disable", client.ask(f"disable {name}\n"), "ok")
+        client.does(*(f"disable {name}" for name in ("a", "b")))
     folder.write("started", "")
     jobs = [client.submit(name) for name in ("a", "b")]
-    same("enable", client.ask("enable a\n"), "ok")
+    client.does("enable a")
     until("the first", lambda: len(folder.read("started").split()) == 1)
     time.sleep(0.1)
     leave_free(folder, SPARE + START - 1)
-    same("enable", client.ask("enable b\n"), "ok")
+    client.does("enable b")
     time.sleep(0.3)
     same("the starts after 0.1 s", len(folder.read("started").split()), 1)
     leave_free(folder, None)
@@ -225,16 +207,12 @@ def test_descriptors_for_a_start(folder):
 def test_descriptors_are_tested_once(folder):
     """The starts of a tick share a test of the descriptors, for four starts and some for clients."""
     watched(folder, WATCHED_CALLS=folder.at("calls"))
-    folder.backend("ends", "#!/bin/sh\nexit 0\n")
-    folder.start()
-    client = Client(folder)
+    folder.backend("ends", ENDS)
     names = [f"q{number}" for number in range(MOST_STARTS)]
-    for name in names:
-        folder.queue(client, name, scheme="ends")
+    client = folder.open(*names, scheme="ends")
     found = []
     for _ in range(5):
-        for name in names:
-            same("disable", client.ask(f"disable {name}\n"), "ok")
+        client.does(*(f"disable {name}" for name in names))
         jobs = [client.submit(name) for name in names]
         before = calls(folder)[2]
         client.say("".join(f"enable {name}\n" for name in names))

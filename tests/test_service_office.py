@@ -8,20 +8,17 @@ from dataclasses import dataclass
 import pytest
 
 from harness.checks import at_once, Difference, holds, LONGEST, same, until
-from harness.large_run import TYPE
 from harness.programs import ADMIN, compiled, is_sanitized
-from harness.service import checkpoints, Client, moment_of, now_of, patient_client, WAITS
+from harness.service import checkpoints, Client, moment_of, now_of, patient_client, TYPE, WAITS
 
 # ---- the clock and the maintenance
 
 
 def test_the_clock_is_announced_only_if_needed(folder):
-    folder.start()
-    client = Client(folder)
-    folder.queue(client, "q")
+    client = folder.open("q")
     moment = int(time.time()) + 3
     job = client.create("q")
-    same("hold", client.ask(f"hold {job} {moment}\n"), "ok")
+    client.does(f"hold {job} {moment}")
     client.finish(job)
     client.until_state(job, "9")
     late = time.time() - moment
@@ -33,12 +30,10 @@ def test_the_clock_is_announced_only_if_needed(folder):
 
 def test_a_deadline_that_passes(folder):
     """A waiting job is canceled after its start deadline, and one that was in time is printed."""
-    folder.start()
-    client = Client(folder)
-    folder.queue(client, "q")
+    client = folder.open("q")
     moment = int(time.time()) + 4
     late, in_time = client.create("q", by=moment), client.create("q", by=moment)
-    same("hold", client.ask(f"hold {late} indefinite\n"), "ok")
+    client.does(f"hold {late} indefinite")
     client.finish(late)
     client.finish(in_time)
     client.until_state(in_time, "9")
@@ -53,23 +48,20 @@ def test_a_clock_that_moves_back(folder):
     """If the system's clock is earlier than the spool's time, this goes on by the steady clock, and nothing is written until it is due."""
     library = compiled("fast_clock.c", "-shared", "-fPIC")
     folder.environment = {"LD_PRELOAD": library, "FAST_CLOCK": f"{time.time()} {DAWN} 1"}
-    folder.start()
-    client = Client(folder)
-    folder.queue(client, "q")
+    client = folder.open("q")
     job = client.create("q")
-    same("hold", client.ask(f"hold {job} {DAWN + 2}\n"), "ok")
+    client.does(f"hold {job} {DAWN + 2}")
     client.finish(job)
     client.until_state(job, "9")
     known = moment_of(client)
     holds(f"the log has the time: {known}", DAWN + 2 <= known <= DAWN + 60)
     folder.kill()
     folder.environment["FAST_CLOCK"] = f"{time.time()} {DAWN - 100_000} 1"
-    folder.start()
-    client = Client(folder)
+    client = folder.open()
     client.until_state(client.submit("q"), "9")
     held, began, now = client.create("q"), time.monotonic(), now_of(client)
     holds(f"the time goes on: {known}, then {now}", known <= now <= known + 60)
-    same("hold", client.ask(f"hold {held} {now + 12}\n"), "ok")
+    client.does(f"hold {held} {now + 12}")
     client.finish(held)
     folder.writes_nothing()
     same("it is still held", client.state(held)[0], "4")
@@ -83,9 +75,7 @@ def test_a_clock_that_moves_back(folder):
 def test_a_job_is_tried_again(folder):
     """A job whose printer is away is tried again after its queue's interval, without a command."""
     folder.backend("away", '#!/bin/sh\n[ -e FOLDER/there ] || exit 6\ncat "$6" >>FOLDER/printed\n')
-    folder.start()
-    client = Client(folder)
-    folder.queue(client, "q", policy="retry-job", scheme="away", interval=1)
+    client = folder.open("q", policy="retry-job", scheme="away", interval=1)
     job = client.submit("q")
     until("some attempts", lambda: int(client.fields(job)["attempts"]) >= 2)
     folder.write("there", "")
@@ -94,9 +84,7 @@ def test_a_job_is_tried_again(folder):
 
 
 def test_old_jobs_are_purged(folder):
-    folder.start("--keep", "5")
-    client = Client(folder)
-    folder.queue(client, "q")
+    client = folder.open("q", words=["--keep", "5"])
     jobs = [client.submit("q", f"{number}\n") for number in range(20)]
     until("the last ones", lambda: sorted(client.states()) == jobs[-5:])
     same("all were printed", len(folder.printed().split()), 20)
@@ -106,13 +94,11 @@ def test_old_jobs_are_purged(folder):
 def test_a_job_whose_child_runs_is_not_purged(folder):
     """The service purges a canceled job only when its child has ended, and the other jobs meanwhile."""
     folder.backend("waits", WAITS)
-    folder.start("--keep", "0")
-    client = Client(folder)
-    folder.queue(client, "slow", scheme="waits")
+    client = folder.open("slow", words=["--keep", "0"], scheme="waits")
     folder.queue(client, "q")
     job = client.submit("slow")
     client.until_state(job, "5")
-    same("cancel", client.ask(f"cancel {job}\n"), "ok")
+    client.does(f"cancel {job}")
     others = [client.submit("q") for _ in range(3)]
     until("the others are purged", lambda: list(client.states()) == [job])
     same("its child runs", (client.state(job), folder.printed()), ("7 canceled", "x\n" * len(others)))
@@ -124,9 +110,7 @@ def test_a_job_whose_child_runs_is_not_purged(folder):
 def test_a_small_spool_makes_room(folder):
     """Jobs are printed on a spool whose journal fills again and again: the service makes room."""
     folder.size = 16_384
-    folder.start("--keep", "5")
-    client = Client(folder)
-    folder.queue(client, "q")
+    client = folder.open("q", words=["--keep", "5"])
     full, count, began = [0], 600 if folder.is_long else 100, time.time()
 
     def ask(text):
@@ -154,7 +138,7 @@ def holds_until_checkpoint(folder, client, job):
     """The number of events that are written until the next checkpoint."""
     before = checkpoints(folder)
     for count in range(1, 10_000):
-        same("hold", client.ask(f"hold {job} {LATER + count}\n"), "ok")
+        client.does(f"hold {job} {LATER + count}")
         if before < checkpoints(folder):
             return count
     raise Difference("no checkpoint is written")
@@ -163,21 +147,15 @@ def holds_until_checkpoint(folder, client, job):
 def test_room_after_a_restart(folder):
     """Records of an earlier life also count against the share of the journal that must be free."""
     folder.size = 16_384
-    folder.start()
-    client = Client(folder)
-    folder.queue(client, "q")
+    client = folder.open("q")
     job = client.create("q")
     holds_until_checkpoint(folder, client, job)
     count, before = holds_until_checkpoint(folder, client, job), checkpoints(folder)
-    for number in range(count * 6 // 10):
-        same("hold", client.ask(f"hold {job} {LATER + number}\n"), "ok")
+    client.does(*(f"hold {job} {LATER + number}" for number in range(count * 6 // 10)))
     same("no checkpoint yet", checkpoints(folder), before)
     client.close()
-    folder.kill()
-    folder.start()
-    client = Client(folder)
-    for number in range(count * 6 // 10):
-        same("hold", client.ask(f"hold {job} {LATER + number}\n"), "ok")
+    client = folder.reopen()
+    client.does(*(f"hold {job} {LATER + number}" for number in range(count * 6 // 10)))
     until("a checkpoint", lambda: before < checkpoints(folder))
     print(f"  {count} events between two checkpoints; after a restart {checkpoints(folder) - before} more")
 
@@ -187,9 +165,7 @@ def test_one_checkpoint_after_a_start(folder):
     events do not cause one either.
     """
     folder.size = 1_048_576
-    folder.start()
-    client = Client(folder)
-    folder.queue(client, "q")
+    client = folder.open("q")
     job = client.create("q")
     # Four fifths of an area. An eighth of it is the reserve.
     for sent in range(1, 8):
@@ -203,8 +179,7 @@ def test_one_checkpoint_after_a_start(folder):
         time.sleep(2.5)
         same("then none", (checkpoints(folder), folder.disk_time()), (before + 1, written))
         client = Client(folder)
-        for number in range(10):
-            same("hold", client.ask(f"hold {job} {LATER + number}\n"), "ok")
+        client.does(*(f"hold {job} {LATER + number}" for number in range(10)))
         time.sleep(0.5)
         same("nor after some events", checkpoints(folder), before + 1)
 
@@ -213,8 +188,7 @@ def test_the_share_that_must_be_free(folder):
     """With --room 80 a checkpoint is made when a fifth of the journal is used, and with --room 10 when nine tenths are."""
     folder.size, counts = 65_536, []
     for percent in (80, 10):
-        folder.start("--room", str(percent))
-        client = Client(folder)
+        client = folder.open(words=["--room", str(percent)])
         if percent == 80:
             folder.queue(client, "q")
             job = client.create("q")
@@ -232,10 +206,7 @@ def test_a_spool_that_stays_full(folder):
     is logged, and nothing is lost. In a larger file there is room again.
     """
     folder.size = 16_384
-    folder.start()
-    client = Client(folder)
-    folder.queue(client, "q")
-    same("disable", client.ask("disable q\n"), "ok")
+    client = folder.open("q", stopped=True)
 
     def add(prefix, length):
         """Adds queues until none fits. Their commands come together, so no checkpoint is made between them."""
@@ -252,10 +223,9 @@ def test_a_spool_that_stays_full(folder):
     same("rows", [row.split()[1] for row in rows], sorted([*names, "q"]))
     folder.kill()
     subprocess.run([ADMIN, "grow", folder.at("spool"), "65536"], check=True, timeout=LONGEST)
-    folder.start()
-    client = Client(folder)
+    client = folder.open()
     same("the queues in the larger file", client.listing("queues\n"), rows)
-    same("enable", client.ask("enable q\n"), "ok")
+    client.does("enable q")
     client.until_state(client.submit("q"), "9")
 
 
@@ -267,8 +237,7 @@ def test_thousands_of_jobs(folder):
     # On a spool of the default size: the service must make room in it meanwhile.
     count, parts, folder.size = 10_000 if folder.is_long else 400, 10, 4_194_304
     folder.words = ["--keep", "50", "--quiet"]
-    folder.start()
-    client = Client(folder)
+    client = folder.open()
     for name in range(4):
         folder.queue(client, f"q{name}", 0, scheme="slow")
     before, found = None, []
@@ -329,7 +298,8 @@ class Day:
         self.folder, self.faster = folder, faster
         self.began = time.time()
         folder.environment = {"LD_PRELOAD": library, "FAST_CLOCK": f"{self.began} {DAWN} {faster}"}
-        self.client = None
+        folder.words = ["--keep", "100000"]
+        self.client = folder.open(*QUEUES, seconds="p", policy="retry-job", scheme="printer", interval=300)
 
     def second_of(self, real):
         """The second of the day at a moment of the system."""
@@ -338,24 +308,16 @@ class Day:
     def wait_until(self, second):
         time.sleep(max(0, self.began + second / self.faster - time.time()))
 
-    def open(self):
-        self.folder.start("--keep", "100000")
-        self.client = Client(self.folder)
-
     def print_letter(self, letter):
         letter.job = self.client.create(letter.queue, letter.title, by=None if letter.by is None else DAWN + letter.by)
         if letter.held is not None:
             moment = "indefinite" if letter.held == DAY else DAWN + letter.held
-            same("hold", self.client.ask(f"hold {letter.job} {moment}\n"), "ok")
+            self.client.does(f"hold {letter.job} {moment}")
         self.client.finish(letter.job, f"{letter.title}\n")
-
-    def ask(self, command):
-        same(command, self.client.ask(f"{command}\n"), "ok")
 
     def kill(self):
         """The service is killed, and started again."""
-        self.folder.kill()
-        self.open()
+        self.client = self.folder.reopen()
 
 
 def letters(count, chance):
@@ -383,14 +345,11 @@ def test_a_day_of_an_office(folder):
     """
     folder.backend("printer", PRINTER)
     day = Day(folder, 144 if folder.is_long else 1_440, compiled("fast_clock.c", "-shared", "-fPIC"))
-    day.open()
-    for name in QUEUES:
-        folder.queue(day.client, name, "p", "retry-job", scheme="printer", interval=300)
     made = letters(1_000 if folder.is_long else 100, random.Random(7))
     plan = [(letter.made, lambda letter=letter: day.print_letter(letter)) for letter in made]
     plan += [(3 * HOUR, day.kill), (15 * HOUR, day.kill)]
     plan += [(9 * HOUR, lambda: folder.write("lab.off", "")), (11 * HOUR, lambda: os.remove(folder.at("lab.off")))]
-    plan += [(12 * HOUR, lambda: day.ask("disable hall")), (13 * HOUR, lambda: day.ask("enable hall"))]
+    plan += [(12 * HOUR, lambda: day.client.does("disable hall")), (13 * HOUR, lambda: day.client.does("enable hall"))]
     for second, step in sorted(plan, key=lambda row: row[0]):
         day.wait_until(second)
         step()

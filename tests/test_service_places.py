@@ -58,9 +58,7 @@ def crowd(folder, job, count, words):
 
 def test_crowds_lock_nobody_out(folder):
     """Clients that wait, watch, or send an empty line every five seconds, more of them than there are places, lock out no other client."""
-    folder.start()
-    first = Client(folder)
-    folder.queue(first, "q")
+    first = folder.open("q")
     job = first.create("q")
     others = crowd(folder, job, 400, ["wait {}\n", "watch\n", "\n", "\n", "\n"])
     said = [time.time()]
@@ -82,12 +80,10 @@ def test_crowds_lock_nobody_out(folder):
 
 def test_empty_lines_are_no_sign_of_life(folder):
     """A client that sends empty lines alone is replaced after ten seconds. One that asks, sends a document or reads stays."""
-    folder.start("--clients", "12")
-    asks, sends, reads = Client(folder), Client(folder), Client(folder)
-    folder.queue(asks, "q")
+    asks, sends, reads = folder.open("q", words=["--clients", "12"]), Client(folder), Client(folder)
     job = sends.create("q")
     sends.say(f"send {job} 1000\n")
-    same("watch", reads.ask("watch\n"), "ok")
+    reads.does("watch")
     empty = [Client(folder) for _ in range(9)]
     end, sent = time.time() + 10.5, 0
     while time.time() < end:
@@ -113,9 +109,7 @@ def test_empty_lines_are_no_sign_of_life(folder):
 
 def test_listeners_leave_a_quarter(folder):
     """Three quarters of the places are for clients that wait or watch. Another one gets `error busy` and stays."""
-    folder.start("--clients", "40")
-    client = Client(folder)
-    folder.queue(client, "q")
+    client = folder.open("q", words=["--clients", "40"])
     job = client.create("q")
     waiting = [Client(folder) for _ in range(15)]
     for other in waiting:
@@ -135,7 +129,7 @@ def test_listeners_leave_a_quarter(folder):
     until("a place is free", lambda: late.ask("watch\n") == "ok")
     same("no more", client.ask("watch\n"), BUSY)
     # The end of the job ends fourteen waits, so their places are free.
-    same("cancel", client.ask(f"cancel {job}\n"), "ok")
+    client.does(f"cancel {job}")
     for other in waiting[:3] + waiting[4:]:
         same("the end", other.reply().split()[:2], ["job", str(job)])
     same("a wait that is over at once", len(client.listing(f"wait {job}\n")), 1)

@@ -3,15 +3,12 @@ import contextlib
 import os
 import random
 import re
-import subprocess
 import time
 
 import pytest
 
-from harness.checks import Difference, holds, LONGEST, same, until
-from harness.large_run import TYPE
-from harness.programs import SHELL
-from harness.service import Client, is_there, KEEPS, kept, send_piece, started
+from harness.checks import Difference, holds, same, until
+from harness.service import Client, is_there, KEEPS, kept, send_piece, started, TYPE
 
 def test_large_documents(folder):
     """Two documents above 1 MiB, sent in turn by two clients, are printed whole: by a backend, and by a filter and a backend."""
@@ -102,16 +99,10 @@ def test_children_as_in_the_shell(folder):
     folder.two_stages(0, TELLS_FIRST)
     folder.backend("tells", TELLS_LAST)
     lines, jobs = ends_script()
-    words = [*folder.before, SHELL, "--root", folder.at("spool"), "--size", str(folder.size), *folder.words, "--programs", folder.at("programs")]
-    script = "".join(lines) + "drain 20\njobs\nqueues\n"
-    ran = subprocess.run(words, input=script, capture_output=True, text=True, timeout=LONGEST)
-    same("the shell", ran.returncode, 0)
+    replies = folder.by_shell("".join(lines) + "drain 20\njobs\nqueues\n")
     by_shell = results(folder)
-    rows = [line for line in ran.stdout.splitlines() if line.startswith(("job ", "queue "))]
-    for name in os.listdir(folder.at("spool")):
-        os.remove(folder.at("spool", name))
-    folder.start()
-    client = Client(folder)
+    rows = [line for line in replies.splitlines() if line.startswith(("job ", "queue "))]
+    client = folder.open()
     for line in lines:
         holds(line, client.ask(line).startswith("ok"))
     found = []
@@ -144,16 +135,13 @@ cat "${6:--}" >>FOLDER/printed
 def test_one_of_several_children_is_ended(folder):
     """`end` of one child sends the others no signal, and they print."""
     folder.backend("records", RECORDS_END)
-    folder.start()
-    client = Client(folder)
     names = ["a", "b", "c"]
-    for name in names:
-        folder.queue(client, name, policy="abort-job", scheme="records")
+    client = folder.open(*names, policy="abort-job", scheme="records")
     for ended in (1, 0, 2):
         jobs = [client.submit(name, f"{name}\n") for name in names]
         client.until_ended(jobs, "5")
         until("their processes", lambda: len(folder.read("pids").split()) == 3)
-        same("end", client.ask(f"end {jobs[ended]}\n"), "ok")
+        client.does(f"end {jobs[ended]}")
         client.until_state(jobs[ended], "8")
         others = [job for job in jobs if job != jobs[ended]]
         same("the others run", [client.state(job)[0] for job in others], ["5", "5"])
@@ -176,13 +164,11 @@ while :; do sleep 0.1; done
 def test_a_group_whose_child_has_ended(folder):
     """After the child has ended, no further signal is sent to its process group: a process that it has left is not killed."""
     folder.backend("leaves", LEAVES)
-    folder.start()
-    client = Client(folder)
-    folder.queue(client, "q", policy="abort-job", scheme="leaves")
+    client = folder.open("q", policy="abort-job", scheme="leaves")
     job = client.submit("q")
     client.until_state(job, "5")
     left = started(folder, 1)
-    same("end", client.ask(f"end {job}\n"), "ok")
+    client.does(f"end {job}")
     client.until_state(job, "8")
     same("an end of a child that has ended", client.ask(f"end {job}\n"), "error job")
     # Turns of the service after the time when a child that has not ended is killed.

@@ -4,6 +4,7 @@ They need root: they add three users and a group to the system, and remove them 
 """
 import collections
 import os
+from pathlib import Path
 import random
 import re
 import shutil
@@ -20,6 +21,14 @@ from harness.people import CHALLENGE, challenge, does, FAILED, make, NAMELESS, N
 from harness.service import Client
 
 pytestmark = [pytest.mark.root, pytest.mark.needs("useradd", "setpriv")]
+
+@pytest.fixture
+def client(folder, people):
+    """A client of a service that offers proofs. Its tests leave no folder of a challenge."""
+    people.start(folder)
+    yield Client(folder)
+    holds("no folder is left", people.is_clean())
+
 
 # ---- proofs
 
@@ -39,16 +48,14 @@ def test_folders_prove_their_owners(folder, people):
     mode = os.stat(people.proofs)
     same("the folder of proofs", (stat.S_IMODE(mode.st_mode), mode.st_uid), (0o1733, 0))
     holds("no challenge is logged", not re.search("[0-9a-f]{32}", folder.log()))
-    same("shutdown", client.ask("shutdown\n"), "ok")
+    client.does("shutdown")
     same("status", folder.running.wait(LONGEST), 0)
     holds("the folder of proofs is removed", not os.path.exists(people.proofs))
 
 
-def test_nothing_else_proves_a_user(folder, people):
+def test_nothing_else_proves_a_user(people, client):
     """A link, a file, a folder with another mode, and a folder that is not empty prove nothing."""
-    people.start(folder)
     first, second, _ = people.users
-    client = Client(folder)
     own = os.path.join(people.home(second), "own")
     make(second, own)
     for link in (own, people.proofs, "/", "."):
@@ -74,14 +81,12 @@ def test_nothing_else_proves_a_user(folder, people):
     os.rmdir(path)
     same("no folder", (challenge(client) is not None, client.ask("made\n")), (True, FAILED))
     same("then a good one", prove(client, first), f"ok user {first.name}")
-    holds("no folder is left", people.is_clean())
 
 
-def test_folders_of_others_cannot_be_moved_in(folder, people):
+def test_folders_of_others_cannot_be_moved_in(folder, people, client):
     """A user cannot move a folder of another user to the name of a challenge, neither from elsewhere nor from the folder of proofs."""
-    people.start(folder)
     attacker, victim, _ = people.users
-    bad, good = Client(folder), Client(folder)
+    bad, good = client, Client(folder)
     # A folder of the victim in a folder of the attacker.
     home = people.home(attacker)
     bait = os.path.join(home, "bait")
@@ -102,14 +107,11 @@ def test_folders_of_others_cannot_be_moved_in(folder, people):
     make(attacker, own)
     holds("a folder of one's own is moved in", does(attacker, "mv", "-T", own, path))
     same("it proves its owner", bad.ask("made\n"), f"ok user {attacker.name}")
-    holds("no folder is left", people.is_clean())
 
 
-def test_mounted_folders_prove_nothing(folder, people):
+def test_mounted_folders_prove_nothing(people, client):
     """A file system that is mounted at a challenge may report any owner. It proves nothing, and neither does the folder below it."""
-    people.start(folder)
     attacker, victim, _ = people.users
-    client = Client(folder)
     path = challenge(client)
     make(attacker, path)
     mounted = ["mount", "-t", "tmpfs", "-o", f"mode=700,uid={victim.uid}", "none", path]
@@ -127,11 +129,10 @@ def test_mounted_folders_prove_nothing(folder, people):
 
 # ---- challenges
 
-def test_challenges_are_used_once(folder, people):
+def test_challenges_are_used_once(folder, people, client):
     """A challenge is valid for one `made` of the client that asked for it, until this client asks for another one."""
-    people.start(folder)
     user = people.users[0]
-    client, other = Client(folder), Client(folder)
+    other = Client(folder)
     same("made without a challenge", client.ask("made\n"), FAILED)
     path = challenge(client)
     make(user, path)
@@ -154,7 +155,6 @@ def test_challenges_are_used_once(folder, people):
     holds("the folder of the first one is removed", not os.path.lexists(old))
     make(user, new)
     same("the second of two challenges", client.ask("made\n"), f"ok user {user.name}")
-    holds("no folder is left", people.is_clean())
 
 
 def test_names_cannot_be_guessed(folder, people):
@@ -198,11 +198,10 @@ def test_challenges_end_with_the_service(folder, people):
     same("then a good one", prove(client, user), f"ok user {user.name}")
 
 
-def test_one_name_has_one_owner(folder, people):
+def test_one_name_has_one_owner(folder, people, client):
     """If two users make the folder of one challenge, the first is proved. Two clients can prove to be the same user."""
-    people.start(folder)
     first, second, _ = people.users
-    client, other = Client(folder), Client(folder)
+    other = Client(folder)
     for _ in range(20):
         path = challenge(client)
         made, gate = [], threading.Barrier(2)
@@ -217,7 +216,6 @@ def test_one_name_has_one_owner(folder, people):
         same("made", client.ask("made\n"), f"ok user {made[0].name}")
     same("a user", prove(client, first), f"ok user {first.name}")
     same("the same user again", prove(other, first), f"ok user {first.name}")
-    holds("no folder is left", people.is_clean())
 
 
 def test_many_prove_themselves_at_once(folder, people):
@@ -259,10 +257,8 @@ def admitted(folder):
 
 # ---- users and operators
 
-def test_unknown_users_prove_nothing(folder, people):
+def test_unknown_users_prove_nothing(people, client):
     """A user without a line in passwd(5), and the user who represents unknown users, prove nothing."""
-    people.start(folder)
-    client = Client(folder)
     for uid in (NAMELESS, NOBODY):
         for _ in range(3):
             same(f"user {uid}", prove(client, User(str(uid), uid, uid)), FAILED)
@@ -320,8 +316,7 @@ def test_answers_of_the_system_are_checked(folder, people):
     program = people.at("getent")
 
     def answer(text):
-        with open(program, "w", encoding="utf-8") as file:
-            file.write(GETENT.replace("PLACE", people.place).replace("ANSWER", text))
+        Path(program).write_text(GETENT.replace("PLACE", people.place).replace("ANSWER", text))
         os.chmod(program, 0o755)
 
     def runs():
@@ -348,8 +343,7 @@ def test_answers_of_the_system_are_checked(folder, people):
     answer("echo root:x:0:0:root:/root:/bin/sh; exit 1")
     root = User("root", 0, 0)
     same("an answer with an error", (prove(client, root), runs()), (FAILED, 4))
-    with open(people.at("environ"), "rb") as file:
-        same("the environment", file.read(), b"")
+    same("the environment", Path(people.at("environ")).read_bytes(), b"")
     holds("no folder is left", people.is_clean())
 
 
@@ -377,8 +371,7 @@ def test_folders_of_others_are_not_taken(folder, people):
         same(f"{name}: unchanged", os.lstat(path).st_mode, before)
         holds(f"{name}: no socket is left", not os.path.lexists(folder.socket))
     same("its contents", os.listdir(wrong), ["kept"])
-    folder.start(*STRICT, "--proofs", people.at("absent", "proofs"))
-    client = Client(folder)
+    client = folder.open(words=[*STRICT, "--proofs", people.at("absent", "proofs")])
     same("no proofs are offered", (client.ask("i-am\n"), client.ask("made\n")), (FAILED, FAILED))
     holds("it is logged", f"no proofs are offered: cannot make {people.at('absent', 'proofs')}\n" in folder.log())
     folder.kill()

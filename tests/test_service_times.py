@@ -1,14 +1,13 @@
 """Tests of when the service acts, and of how much it works: next to a C program that does only the same."""
 import random
 import subprocess
-import threading
 import time
 
 import pytest
 
 from harness.checks import holds, LONGEST, same, until
 from harness.programs import compiled
-from harness.service import Client, work_of
+from harness.service import Client, meanwhile, work_of
 
 pytestmark = [pytest.mark.alone, pytest.mark.needs("gcc")]
 
@@ -37,13 +36,11 @@ def test_processor_time(folder):
     watches and one waits, takes less than that program.
     """
     program = poll_child(folder)
-    folder.start()
-    client, watcher, waiter = Client(folder), Client(folder), Client(folder)
-    folder.queue(client, "q", 30)
+    client, watcher, waiter = folder.open("q", seconds=30), Client(folder), Client(folder)
     folder.queue(client, "held")
     held = client.create("held")
-    same("hold", client.ask(f"hold {held} 4000000000\n"), "ok")
-    same("watch", watcher.ask("watch\n"), "ok")
+    client.does(f"hold {held} 4000000000")
+    watcher.does("watch")
     waiter.say(f"wait {held}\n")
     with subprocess.Popen([program, "sleep", "120"], stdout=subprocess.DEVNULL) as poller:
         try:
@@ -72,27 +69,21 @@ def test_ends_are_seen(folder):
     """
     program, chance = poll_child(folder), random.Random(3)
     folder.backend("timed", TIMED)
-    folder.start()
-    client = Client(folder)
-    folder.queue(client, "q", scheme="timed")
+    client = folder.open("q", scheme="timed")
     naps = [f"{chance.uniform(0.6, 1):.3f}" for _ in range(11)]
     seen, ours = [], []
 
-    def poll():
+    def poll(_stop):
         for at, nap in enumerate(naps):
             ran = subprocess.run([program, folder.at("backend-timed"), f"c{at}", "u", nap], capture_output=True, text=True, timeout=LONGEST)
             seen.append(float(ran.stdout.split()[0]))
 
-    thread = threading.Thread(target=poll)
-    thread.start()
-    try:
+    with meanwhile(poll):
         for nap in naps:
             job = client.submit("q", title=nap)
             same("its row", client.ask(f"wait {job}\n").split()[3], "9")
             ours.append(time.time() - float(folder.read(f"ended-{job}")))
             same("the end of the rows", client.reply(), "ok 1")
-    finally:
-        thread.join()
     theirs = [moment - float(folder.read(f"ended-c{at}")) for at, moment in enumerate(seen)]
     print(f"  {len(naps)} children of 0.6 to 1 s: {1_000 * sum(ours) / len(ours):.1f} ms, the C program {1_000 * sum(theirs) / len(theirs):.1f} ms")
     holds("ends are seen about as soon", sum(ours) <= MOST_DELAY * sum(theirs))
@@ -103,13 +94,10 @@ def test_processor_time_of_short_children(folder):
     """While a child runs that lasts some milliseconds, the service sleeps between its checks, as the C program does."""
     program, count = poll_child(folder), 40
     folder.backend("short", "#!/bin/sh\nexec sleep 0.05\n")
-    folder.start()
-    client = Client(folder)
-    folder.queue(client, "q", scheme="short")
-    same("disable", client.ask("disable q\n"), "ok")
+    client = folder.open("q", stopped=True, scheme="short")
     jobs = [client.submit("q") for _ in range(count)]
     before = work_of(folder.running.pid)
-    same("enable", client.ask("enable q\n"), "ok")
+    client.does("enable q")
     client.say(f"wait {jobs[-1]}\n")
     same("the last one", client.reply().split()[:4], ["job", str(jobs[-1]), "q", "9"])
     ours, theirs = (work_of(folder.running.pid) - before) / 1e6, 0
@@ -124,17 +112,15 @@ def test_holds_that_end(folder):
     """A job that is held after its `close`, until a moment, starts at that moment, while no client is connected: also if it was held
     indefinitely before, and if its hold was for longer.
     """
-    folder.start()
-    client = Client(folder)
+    client = folder.open()
     moment, jobs = int(time.time()) + 9, []
     for name, earlier in (("plain", None), ("indefinite", "indefinite"), ("longer", 4_000_000_000), ("shorter", int(time.time()) + 2)):
         folder.queue(client, name)
-        same("disable", client.ask(f"disable {name}\n"), "ok")
+        client.does(f"disable {name}")
         job = client.submit(name, f"{name}\n")
         if earlier:
-            same("hold", client.ask(f"hold {job} {earlier}\n"), "ok")
-        same("hold", client.ask(f"hold {job} {moment}\n"), "ok")
-        same("enable", client.ask(f"enable {name}\n"), "ok")
+            client.does(f"hold {job} {earlier}")
+        client.does(f"hold {job} {moment}", f"enable {name}")
         jobs.append(job)
     same("they are held", sorted(set(client.states().values())), ["4 job-hold-until-specified"])
     client.close()

@@ -9,8 +9,7 @@ import time
 import pytest
 
 from harness.checks import holds, LONGEST, same, until, words_of_faults
-from harness.large_run import TYPE
-from harness.service import BEFORE, Client, HANGS, listings, python_as, undelayed, WAITS
+from harness.service import BEFORE, Client, HANGS, listening, listings, python_as, TYPE, undelayed, WAITS
 
 # ---- its own commands
 
@@ -319,14 +318,6 @@ def test_shutdown_with_an_end(folder):
 # ---- its socket
 
 
-def test_sockets_that_cannot_be_made(folder):
-    """The service ends with `spool: socket`, and has changed nothing."""
-    for socket_path in (folder.at("absent", "it.sock"), folder.at("x" * 120)):
-        folder.launch("--listen", socket_path)
-        same("its end", (folder.running.wait(LONGEST), folder.log().splitlines()[-1]), (1, "spool: socket"))
-        os.remove(folder.at("log"))
-
-
 def test_names_that_belong_to_others(folder):
     """The service takes no name of a file, a folder or a link, and no socket that another program serves. It says so, and changes nothing."""
     folder.write("file", "text")
@@ -342,9 +333,7 @@ def test_names_that_belong_to_others(folder):
         same("the file", file.read(), "text")
     same("the link", os.readlink(folder.at("link")), folder.at("file"))
     same("no socket is left", os.path.lexists(folder.at("spool", "spool.sock")), False)
-    with socket.socket(socket.AF_UNIX) as other:
-        other.bind(folder.at("other.sock"))
-        other.listen(1)
+    with listening(folder.at("other.sock")):
         folder.launch("--listen", folder.at("other.sock"))
         text = f"spool: cannot listen on {folder.at('other.sock')}: another program serves this socket\nspool: socket\n"
         same("the end at a socket that is served", (folder.running.wait(LONGEST), folder.log()), (1, text))

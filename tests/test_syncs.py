@@ -23,6 +23,7 @@ Calls that fail, one in each run: strace returns EIO or ENOSPC in its place, and
 """
 import itertools
 import os
+from pathlib import Path
 import shutil
 import struct
 import subprocess
@@ -319,8 +320,7 @@ def check_commands(calls, commands, gate):
 def check_file(root, records):
     """The file is a spool with these records, and zeros."""
     header = OPEN + b"\x02" + struct.pack(">Q", 1) + bytes(6)
-    with open(os.path.join(root, FILE), "rb") as file:
-        disk = file.read()
+    disk = Path(root, FILE).read_bytes()
     holds("the file has other bytes than were written", disk == (header + records).ljust(SIZE, b"\0"))
     holds(f"the folder has {os.listdir(root)}", sorted(os.listdir(root)) == [FILE, LOCK])
 

@@ -12,6 +12,7 @@
    chain before the next one prints, and a filter that fails leaves the verdict to the policy of the queue.
 """
 import os
+from pathlib import Path
 import re
 import shutil
 import signal
@@ -63,8 +64,7 @@ class Chain:
 
     def read(self, name):
         try:
-            with open(self.at(name)) as file:
-                return file.read()
+            return Path(self.at(name)).read_text()
         except FileNotFoundError:
             return None
 
@@ -93,9 +93,8 @@ class Chain:
 
 
 @pytest.fixture
-def chain(room):
-    """Makes a chain, by its name."""
-    return lambda name="chain": Chain(os.path.join(room, name))
+def it(room):
+    return Chain(os.path.join(room, "chain"))
 
 
 def through(*words):
@@ -121,8 +120,7 @@ def noted(it, name):
 
 @pytest.mark.parametrize("words, given, text", [(JOB, b"given", "given"), ([*JOB, "/proc/self/comm"], b"", "cat\n")], ids=["input", "file"])
 @reports_all
-def test_what_each_program_gets(chain, words, given, text):
-    it = chain()
+def test_what_each_program_gets(it, words, given, text):
     for name in ("one", "two", "three"):
         it.filter(name, NOTING)
     it.backend("socket", NOTING)
@@ -137,31 +135,27 @@ def test_what_each_program_gets(chain, words, given, text):
         compare(f"the words of {name}", noted(it, name), (f"[{name}]{five}{sixth}", "socket://printer/x?a=1 hall 2\n"))
 
 
-def test_descriptors(chain):
-    it = chain()
+def test_descriptors(it):
     it.filter("one", "#!/bin/sh\nreadlink /proc/$$/fd/3 /proc/$$/fd/4\nls /proc/$$/fd | sort -n | tail -n 1\n")
     it.backend("last", "#!/bin/sh\ncat\nreadlink /proc/$$/fd/3 /proc/$$/fd/4\n[ -e /proc/$$/fd/5 ] || echo no more\n")
     # A shell has a copy of its script's descriptor at 10.
     same("descriptors 3 and 4", it.run()[::2], (b"/dev/null\n/dev/null\n10\n/dev/null\n/dev/null\nno more\n", 0))
 
 
-def test_a_backend_alone(chain):
-    it = chain()
+def test_a_backend_alone(it):
     it.backend("other", NOTING, "word")
     status = it.run(["1", "u", "t", "1", "o", "/proc/self/comm"])[2]
     same("its words", (noted(it, "other")[0], status), ("[other][word][1][u][t][1][o][/proc/self/comm]", 0))
 
 
-def test_scripts_without_an_interpreter(chain):
-    it = chain()
+def test_scripts_without_an_interpreter(it):
     it.filter("plain", "tr a-z A-Z\n", "a-word")
     it.backend("bare", "cat\n")
     wanted = (b"SOME TEXT", "DEBUG: plain ended with status 0\nDEBUG: bare ended with status 0\n", 0)
     same("scripts without #!", it.run(given=b"some text"), wanted)
 
 
-def test_odd_arguments(chain):
-    it = chain()
+def test_odd_arguments(it):
     it.filter("one", NOTING)
     it.backend("socket", NOTING)
     words = ["1", "", "a 'b' \"c\" $d;e\n-f", "1", "=x -n --"]
@@ -169,15 +163,13 @@ def test_odd_arguments(chain):
     same("its words", noted(it, "socket")[0], "[socket]" + "".join(f"[{word}]" for word in words))
 
 
-def test_programs_run_at_once(chain):
-    it = chain()
+def test_programs_run_at_once(it):
     it.filter("first", f"#!/bin/sh\necho begun\nuntil [ -e {it.path}/taken ]; do sleep 0.05; done\necho ended\n")
     it.backend("taker", f"#!/bin/sh\nread -r line\ntouch {it.path}/taken\ncat\n")
     same("a filter and the backend run at the same time", it.run()[::2], (b"ended\n", 0))
 
 
-def test_a_gibibyte_is_not_kept(chain):
-    it = chain()
+def test_a_gibibyte_is_not_kept(it):
     it.filter("first", "#!/bin/sh\nulimit -f 0\nhead -c 1073741824 /dev/zero\n")
     it.filter("next", "#!/bin/sh\nulimit -f 0\nexec cat\n")
     it.backend("counter", "#!/bin/sh\nwc -c\n")
@@ -203,9 +195,9 @@ def line(name, end, is_error):
 @pytest.mark.parametrize("first", ["0", "1", "6", "255", "SIGKILL"])
 @pytest.mark.parametrize("second", ["0", "4", "SIGTERM"])
 @reports_all
-def test_ends(chain, first, second):
+def test_ends(room, first, second):
     for backend in ("0", "1", "2", "4", "6", "7", "255", "SIGKILL"):
-        it = chain(backend)
+        it = Chain(os.path.join(room, backend))
         it.filter("first", exits(first))
         it.filter("second", exits(second))
         it.backend("last", exits(backend))
@@ -228,8 +220,7 @@ EARLY = {
 
 
 @pytest.mark.parametrize("filters, backend, out, errors, status", EARLY.values(), ids=EARLY)
-def test_early_ends(chain, filters, backend, out, errors, status):
-    it = chain()
+def test_early_ends(it, filters, backend, out, errors, status):
     for name, text in zip(("first", "next"), filters):
         it.filter(name, f"#!/bin/sh\n{text}\n")
     it.backend("last", f"#!/bin/sh\n{backend}\n")
@@ -247,8 +238,7 @@ NO_CHAIN = {
 
 
 @reports_all
-def test_files_that_are_no_chain(chain):
-    it = chain()
+def test_files_that_are_no_chain(it):
     program = it.write("program", f"#!/bin/sh\ntouch {it.path}/ran\n", 0o755)
     wanted = (b"", "ERROR: no chain of programs\n", 4)
     for name, text in NO_CHAIN.items():
@@ -268,9 +258,8 @@ def test_files_that_are_no_chain(chain):
 
 @pytest.mark.parametrize("kind", ["missing", "not executable", "a folder"])
 @pytest.mark.parametrize("bad", ["first", "second", "last"])
-def test_a_program_that_cannot_be_started(chain, bad, kind):
+def test_a_program_that_cannot_be_started(it, bad, kind):
     """None is, or the programs before it are killed."""
-    it = chain()
     marks = f"{RAN}exec cat\n"
     it.filter("first", marks)
     it.filter("second", marks)
@@ -284,9 +273,8 @@ def test_a_program_that_cannot_be_started(chain, bad, kind):
     same("what was started", [name for name in os.listdir(it.path) if name.endswith(".ran")], [])
 
 
-def test_too_few_descriptors(chain):
+def test_too_few_descriptors(it):
     """The first program is killed, if it still runs."""
-    it = chain()
     for number in range(20):
         it.filter(f"f{number}", f"#!/bin/sh\necho $$ > {it.path}/pid{number}\nexec sleep 1000\n")
     it.backend("last", f"#!/bin/sh\ntouch {it.path}/ran\n")
@@ -305,8 +293,7 @@ def in_session(leader):
     found = []
     for name in filter(str.isdigit, os.listdir("/proc")):
         try:
-            with open(f"/proc/{name}/stat") as file:
-                fields = file.read().rpartition(")")[2].split()
+            fields = Path(f"/proc/{name}/stat").read_text().rpartition(")")[2].split()
         except OSError:
             continue
         if int(fields[3]) == leader and fields[0] != "Z":
@@ -326,9 +313,8 @@ def wrapper(room):
 @pytest.mark.parametrize("last, lasts", [(f"{RAN}exec cat > /dev/null", False),
                                          (RAN.replace("touch", "trap '' TERM\ntouch") + "cat > /dev/null\nsleep 1\ntouch \"$0.ended\"", True)],
                          ids=["obeys", "ignores"])
-def test_a_signal_ends_all(chain, wrapper, last, lasts):
+def test_a_signal_ends_all(it, wrapper, last, lasts):
     """The backend obeys the signal, or ignores it until its input ends."""
-    it = chain()
     it.filter("first", f"{RAN}exec sleep 1000\n")
     it.filter("second", f"{RAN}exec cat\n")
     it.backend("last", f"{last}\n")
@@ -344,8 +330,7 @@ def test_a_signal_ends_all(chain, wrapper, last, lasts):
     same("its end", (out, errors.decode(), child.returncode), (b"", wanted, 1))
 
 
-def test_a_kill_ends_all(chain, wrapper):
-    it = chain()
+def test_a_kill_ends_all(it, wrapper):
     for add, name in ((it.filter, "first"), (it.backend, "last")):
         add(name, "#!/bin/sh\ntrap '' TERM\ntouch \"$0.ran\"\nsleep 1000\n")
     child = it.start(tool=(wrapper,))
@@ -366,8 +351,7 @@ NETWORK = {"takes all": (take, 0, "ended with status 0", ""),
 
 
 @pytest.mark.parametrize("serve, status, end, text", NETWORK.values(), ids=NETWORK)
-def test_a_network_printer(chain, serve, status, end, text):
-    it = chain()
+def test_a_network_printer(it, serve, status, end, text):
     it.filter("first", f"#!/bin/sh\nexec head -c {50_000_000 if status else MANY} /dev/zero\n")
     it.lines.append(f"backend appsocket {TOOLS} appsocket")
     printer = Printer(serve)
@@ -378,8 +362,7 @@ def test_a_network_printer(chain, serve, status, end, text):
     same("the bytes", [len(got) for got in printer.all()], [100_000 if status else MANY])
 
 
-def test_a_printer_that_cannot_be_reached(chain):
-    it = chain()
+def test_a_printer_that_cannot_be_reached(it):
     it.filter("first", "#!/bin/sh\nexec yes\n")
     it.lines.append(f"backend appsocket {TOOLS} appsocket")
     with socket.create_server(("127.0.0.1", 0)) as free:
@@ -421,12 +404,11 @@ FORMATS = {
 @pytest.mark.cups
 @pytest.mark.skipif(not os.path.exists(DRIVERS), reason="it needs the drivers of CUPS (Debian's package cups)")
 @pytest.mark.parametrize("name", FORMATS)
-def test_rasters(chain, is_long, name):
+def test_rasters(it, is_long, name):
     program, model, size, mark = FORMATS[name]
     pages = 200 if is_long else 20 // SHARE
     if is_long and name == "PWG":
         size = (*size[:2], 8, 18, *size[4:])
-    it = chain()
     it.filter("rasters", RASTERS.replace("WORDS", str((pages, *size))).replace("DPI", str(DPI)))
     it.lines.append(f"filter {program} {FILTERS}/{program}")
     backend = "socket" if name == "labels" and os.path.exists(BACKEND) else "appsocket"
@@ -502,7 +484,7 @@ def test_a_canceled_job_ends_its_chain(served):
     same("its number", first, 1)
     until("both run", lambda: served.read("times").count("begin") == 2)
     began = time.monotonic()
-    same("stop", client.ask(f"stop {first}\n"), "ok")
+    client.does(f"stop {first}")
     client.until_state(second, "9")
     same("the canceled job", client.state(first), "7 canceled")
     # After ten seconds it would have been killed.

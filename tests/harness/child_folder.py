@@ -1,12 +1,14 @@
 """The folder of a test of real children, which the shell starts."""
 import contextlib
 import os
+from pathlib import Path
 import re
 import shutil
 import subprocess
 import tempfile
 
 from harness.checks import LONGEST, same, until, words_of_faults
+from harness.large_run import pieces_of
 from harness.programs import SHELL
 
 TYPES = "a/a txt\n"
@@ -101,13 +103,11 @@ class Folder:
         return os.path.join(self.path, *names)
 
     def write(self, name, text, mode=0o644):
-        with open(self.at(name), "w") as file:
-            file.write(text)
+        Path(self.at(name)).write_text(text)
         os.chmod(self.at(name), mode)
 
     def read(self, name):
-        with open(self.at(name), "rb") as file:
-            return file.read()
+        return Path(self.at(name)).read_bytes()
 
     def program(self, kind, name, text, word="", file=None):
         """Writes a program, and adds it to the programs file."""
@@ -130,6 +130,12 @@ class Folder:
         same("status", ended, status)
         lines = words_of_faults(errors).splitlines()
         same("standard error", lines, log if log is not None else [line for line in lines if LOG_LINE.match(line)])
+        return replies
+
+    def prints(self, script, wanted, by="drain 5", **how):
+        """The replies to a script that prints. Then its jobs are in these states."""
+        replies = self.run(script + f"{by}\njobs\n".encode(), **how)
+        same("jobs", states(replies), wanted)
         return replies
 
     def outcome(self, script, *before, **how):
@@ -157,8 +163,7 @@ class Folder:
         file = self.at("report." + name)
         if not os.path.exists(file):
             return []
-        with open(file) as opened:
-            return opened.read().splitlines()
+        return Path(file).read_text().splitlines()
 
     def until_no_child_runs(self):
         """Waits until no process runs in the folder any more: the child of a killed shell continues."""
@@ -180,10 +185,6 @@ def printed(queue, uri, target="a/a", policy="abort-job", number=1, document=b""
     head = f"queue {queue} {uri} {target} {policy}\ncreate {queue} {user} {title} {copies} 50 {options}\n"
     pieces = b"".join(f"send {number} {len(piece)}\n".encode() + piece + b"\n" for piece in pieces_of(document))
     return head.encode() + pieces + f"close {number} page.txt\n".encode()
-
-
-def pieces_of(document):
-    return [document[at : at + 65536] for at in range(0, len(document), 65536)]
 
 
 def states(replies):

@@ -8,6 +8,7 @@ A host is a mount of the volume, by a client process of its own, as on two machi
 that is not on the volume: the printers.
 """
 import os
+from pathlib import Path
 import shutil
 import signal
 import subprocess
@@ -65,8 +66,7 @@ def processes(*words):
     found = []
     for name in filter(str.isdigit, os.listdir("/proc")):
         try:
-            with open(f"/proc/{name}/cmdline", "rb") as file:
-                line = file.read().decode(errors="replace").split("\0")
+            line = Path(f"/proc/{name}/cmdline").read_bytes().decode(errors="replace").split("\0")
         except OSError:
             continue
         if set(words) <= set(line):
@@ -194,9 +194,3 @@ class Volume:
         for host in self.hosts:
             subprocess.run(["umount", "-l", host.path], capture_output=True)
         shutil.rmtree(self.path, ignore_errors=True)
-
-
-def seconds_until(is_so, began, longest=60):
-    """The time from a moment until the condition is true."""
-    until("it", is_so, longest)
-    return time.monotonic() - began

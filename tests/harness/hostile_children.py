@@ -7,8 +7,8 @@ import os
 import socket
 import time
 
-from harness.checks import Difference, same, until
-from harness.service import Client
+from harness.checks import Difference, until
+from harness.service import Client, is_there
 
 HEAD = """#!/usr/bin/python3 -ES
 import ctypes, fcntl, glob, mmap, os, resource, signal, socket, subprocess, sys, time
@@ -36,6 +36,17 @@ def stay():
     os.wait()
     return False
 
+def wait_for(name):
+    while not os.path.exists(f"{HERE}/reports/{name}"):
+        time.sleep(0.01)
+
+def leave():
+    # Leaves a process that does nothing.
+    if stay():
+        report("left", os.getpid())
+        time.sleep(600)
+    wait_for("left")
+
 report("begun")
 """
 
@@ -59,8 +70,7 @@ if stay():
             os.fork()
         except OSError:
             pass
-while not os.path.exists(HERE + "/reports/left"):
-    time.sleep(0.01)
+wait_for("left")
 time.sleep(0.5)
 """
 
@@ -78,14 +88,6 @@ class Case:
 def reported(name):
     """It reported success."""
     return lambda world: world.report(name).strip()
-
-
-def is_there(pid):
-    try:
-        with open(f"/proc/{pid}/stat") as file:
-            return file.read().rsplit(") ", 1)[1][0] not in "ZX"
-    except OSError:
-        return False
 
 
 def lives(world):
@@ -108,16 +110,14 @@ def service_harmed(world):
     """The service has ended, or does not answer."""
     if world.folder.running.poll() is not None:
         return f"the service ended with {world.folder.running.returncode}"
-    connection = socket.socket(socket.AF_UNIX)
-    connection.settimeout(15)
     try:
-        connection.connect(world.folder.socket)
-        connection.sendall(b"now\n")
-        return "" if connection.recv(100) else "the service closed the connection"
+        with socket.socket(socket.AF_UNIX) as connection:
+            connection.settimeout(15)
+            connection.connect(world.folder.socket)
+            connection.sendall(b"now\n")
+            return "" if connection.recv(100) else "the service closed the connection"
     except OSError as error:
         return f"the service does not answer: {error!r}"
-    finally:
-        connection.close()
 
 
 def next_job_fails(world):
@@ -193,7 +193,7 @@ def end_it(world):
     """`end` ends its job and all its processes."""
     client = Client(world.folder)
     until("its report", lambda: world.report("left"))
-    same("end", client.ask(f"end {world.job}\n"), "ok")
+    client.does(f"end {world.job}")
     try:
         client.until_state(world.job, "8", 40)
     except Difference:
@@ -269,14 +269,11 @@ if stay():
     report("left", os.getpid())
     os.close(1), os.close(2)
     time.sleep(600)
-while not os.path.exists(HERE + "/reports/left"):
-    time.sleep(0.01)
+wait_for("left")
 """, lives),
     Case("leaves such a process when it is ended", """
 signal.signal(signal.SIGTERM, signal.SIG_IGN)
-if stay():
-    report("left", os.getpid())
-    time.sleep(600)
+leave()
 time.sleep(60)
 """, end_it, ends=False),
     Case("stops its session", """
@@ -324,11 +321,7 @@ attempt("files", many)
     Case("closes its descriptors and unlocks its output", """
 fcntl.flock(1, fcntl.LOCK_UN)
 os.closerange(0, 100)
-if stay():
-    report("left", os.getpid())
-    time.sleep(600)
-while not os.path.exists(HERE + "/reports/left"):
-    time.sleep(0.01)
+leave()
 """, lambda world: lives(world) or next_job_fails(world)),
     Case("makes links in its folder", """
 os.chdir(TMP)
@@ -390,8 +383,7 @@ if stay():
                 os.kill(pid, signal.SIGKILL)
             except OSError:
                 pass
-while not os.path.exists(HERE + "/reports/left"):
-    time.sleep(0.01)
+wait_for("left")
 time.sleep(0.1)
 """, lambda world: lives(world) or next_job_fails(world)),
     Case("traces what is to end it", """
@@ -415,33 +407,22 @@ if stay():
         for pid in others:
             if trace(ATTACH, pid, None, None) == 0:
                 report("traced", pid)
-while not os.path.exists(HERE + "/reports/armed"):
-    time.sleep(0.01)
+wait_for("armed")
 time.sleep(0.1)
 """, lambda world: world.report("traced") or lives(world) or next_job_fails(world)),
     Case("kills the shell that waits for it", """
-if stay():
-    report("left", os.getpid())
-    time.sleep(600)
-while not os.path.exists(HERE + "/reports/left"):
-    time.sleep(0.01)
+leave()
 os.kill(os.getppid(), signal.SIGKILL)
 time.sleep(0.3)
 """, lambda world: service_harmed(world) or lives(world) or next_job_fails(world)),
     Case("stops the shell that waits for it", """
 shell = os.getppid()
-if stay():
-    report("left", os.getpid())
-    time.sleep(600)
+leave()
 os.kill(shell, signal.SIGSTOP)
 """, end_it, ends=False),
     Case("takes memory and files from the shell that waits for it", """
 shell = os.getppid()
-if stay():
-    report("left", os.getpid())
-    time.sleep(600)
-while not os.path.exists(HERE + "/reports/left"):
-    time.sleep(0.01)
+leave()
 for limit in (resource.RLIMIT_NOFILE, resource.RLIMIT_AS):
     attempt("limited", lambda: resource.prlimit(shell, limit, (1, 1)))
 """, lambda world: lives(world) or next_job_fails(world)),

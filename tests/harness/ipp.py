@@ -96,6 +96,11 @@ class Ipp:
             return line.ask(message(operation, self.uri(), *attributes, **more) + document, path)
 
 
+def head_of(length, path="/"):
+    """The head of a request of HTTP whose body has this length."""
+    return f"POST {path} HTTP/1.1\r\nHost: localhost\r\nContent-Type: application/ipp\r\nContent-Length: {length}\r\n\r\n".encode()
+
+
 class Connection:
     """A connection of a client, as requests and replies of HTTP."""
 
@@ -113,8 +118,7 @@ class Connection:
         self.connection.sendall(data)
 
     def post(self, body, path="/"):
-        head = f"POST {path} HTTP/1.1\r\nHost: localhost\r\nContent-Type: application/ipp\r\nContent-Length: {len(body)}\r\n\r\n"
-        self.say(head.encode() + body)
+        self.say(head_of(len(body), path) + body)
 
     def more(self):
         piece = self.connection.recv(65_536)

@@ -7,6 +7,7 @@ starts a program as the program's own, so a small shell starts each program and 
 import ctypes
 import itertools
 import os
+from pathlib import Path
 import shutil
 import signal
 import subprocess
@@ -89,8 +90,7 @@ def run(words, folder, pieces=(), limit=None, longest=LONGEST):
         ["/bin/sh", "-c", START, "sh", most, started, *words], cwd=folder, stdin=pipe, stdout=pipe, stderr=pipe, bufsize=0
     )
     same("the start of a program", starter.wait(), 0)
-    with open(started) as file:
-        number = int(file.read())
+    number = int(Path(started).read_text())
     too_long = threading.Timer(longest, os.kill, (number, signal.SIGKILL))
     too_long.start()
     output, errors = [], []
@@ -161,12 +161,10 @@ class Place:
         return os.path.join(self.folder, *names)
 
     def write(self, name, data):
-        with open(self.at(name), "wb") as file:
-            file.write(data)
+        Path(self.at(name)).write_bytes(data)
 
     def read(self, name):
-        with open(self.at(name), "rb") as file:
-            return file.read()
+        return Path(self.at(name)).read_bytes()
 
 
     def fresh_spool(self):

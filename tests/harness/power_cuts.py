@@ -20,6 +20,7 @@ import re
 import shutil
 import subprocess
 from dataclasses import dataclass
+from pathlib import Path
 
 from harness import journal, real_children, spool_model as model, traces
 from harness.checks import Difference, LONGEST
@@ -204,8 +205,7 @@ class RunFolder:
         root = os.path.join(self.folder, "r")
         os.mkdir(root)
         if first:
-            with open(os.path.join(root, NAME), "wb") as file:
-                file.write(first)
+            Path(root, NAME).write_bytes(first)
         tracing = Tracing(root)
         for part in PARTS:
             script = part.replace("DOCUMENT", "0123456789" * 60).encode()
@@ -375,11 +375,9 @@ def leave(moment, root, chance):
     for job, attempt, stage in moment.started:
         if chance.random() < 0.2:
             path = os.path.join(root, f"{chance.choice(['in', 'out', 'err'])}-{job}-{attempt}-{stage}")
-            with open(path, "wb") as file:
-                file.write(bytes(chance.randrange(256) for _ in range(chance.randrange(40))))
+            Path(path).write_bytes(bytes(chance.randrange(256) for _ in range(chance.randrange(40))))
     if name:
-        with open(os.path.join(root, name), "wb") as file:
-            file.write(left_by(moment, chance))
+        Path(root, name).write_bytes(left_by(moment, chance))
 
 
 # ---- the results of opening it
@@ -394,8 +392,7 @@ def check(run_folder, moment, chance, is_printed):
     if errors or not fitting:
         wanted = " or ".join(str([OF_VERSION[table.version], *table.jobs_reply()]) for table in moment.tables)
         raise Difference(f"it lists {lines} {errors}, not {wanted}")
-    with open(os.path.join(root, NAME), "rb") as file:
-        payloads, _ = journal.current(file.read())
+    payloads, _ = journal.current(Path(root, NAME).read_bytes())
     if payloads not in [table.listing() for table in fitting]:
         raise Difference("a checkpoint lists other rows")
     if is_printed:

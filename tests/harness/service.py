@@ -1,6 +1,7 @@
 """Clients of the service, and the folder of a test with its programs and a service that runs there."""
 import contextlib
 import os
+from pathlib import Path
 import shutil
 import signal
 import socket
@@ -8,10 +9,11 @@ import statistics
 import subprocess
 import sys
 import tempfile
+import threading
 import time
 
 from harness.checks import Difference, holds, LONGEST, same, timed, until
-from harness.programs import SERVICE
+from harness.programs import SERVICE, SHELL
 
 # Words before the program's own arguments, such as `setarch`.
 BEFORE = os.environ.get("SERVICE_BEFORE", "").split()
@@ -182,6 +184,16 @@ def admitted(folder):
     return clients[-1]
 
 
+def listening(path):
+    """A socket that listens at a path, whatever socket was left there."""
+    if os.path.exists(path):
+        os.remove(path)
+    listener = socket.socket(socket.AF_UNIX)
+    listener.bind(path)
+    listener.listen(16)
+    return listener
+
+
 def patient_client(folder, longest=LONGEST):
     """A client of a service that may still be starting."""
     end = time.time() + longest
@@ -220,16 +232,15 @@ class Folder:
         return os.path.join(self.path, *names)
 
     def write(self, name, text, mode=0o644):
-        with open(self.at(name), "w") as file:
-            file.write(text.replace("FOLDER", self.path))
+        """Writes bytes, or a text in which FOLDER is the path of this folder."""
+        Path(self.at(name)).write_bytes(text if isinstance(text, bytes) else text.replace("FOLDER", self.path).encode())
         os.chmod(self.at(name), mode)
 
     def read(self, name):
         """The contents of a file, which may not exist."""
         if not os.path.exists(self.at(name)):
             return ""
-        with open(self.at(name)) as file:
-            return file.read()
+        return Path(self.at(name)).read_text()
 
     def printed(self):
         return self.read("printed")
@@ -263,6 +274,15 @@ class Folder:
         files = ["--root", self.at("spool"), "--size", str(self.size)]
         files += [] if "--programs" in more else ["--programs", self.at("programs")]
         return [*self.before, self.service, *files, *more]
+
+    def by_shell(self, script):
+        """What the shell replies to a script, with the same programs. Then its spool is removed."""
+        words = [SHELL if word == self.service else word for word in self.command()]
+        ran = subprocess.run(words, input=script, capture_output=True, text=True, timeout=LONGEST)
+        same("the shell", ran.returncode, 0)
+        for name in os.listdir(self.at("spool")):
+            os.remove(self.at("spool", name))
+        return ran.stdout
 
     def limit_descriptors(self, most):
         self.before += ["sh", "-c", f'ulimit -n {most}; exec "$@"', "sh"]
@@ -358,8 +378,7 @@ class Folder:
 
     def work(self):
         """Its processor time in milliseconds, without that of children."""
-        with open(f"/proc/{self.running.pid}/stat") as file:
-            fields = file.read().rsplit(") ", 1)[1].split()
+        fields = Path(f"/proc/{self.running.pid}/stat").read_text().rsplit(") ", 1)[1].split()
         return (int(fields[11]) + int(fields[12])) * 1000 / os.sysconf("SC_CLK_TCK")
 
     def disk_time(self):
@@ -458,8 +477,7 @@ KEEPS = '#!/bin/sh\ncat "${6:--}" >FOLDER/kept-$1.new\nmv FOLDER/kept-$1.new FOL
 
 
 def kept(folder, job):
-    with open(folder.at(f"kept-{job}"), "rb") as file:
-        return file.read()
+    return Path(folder.at(f"kept-{job}")).read_bytes()
 
 
 def send_piece(client, job, data, sent):
@@ -497,8 +515,7 @@ def started(folder, count):
 def is_there(pid):
     """Whether a process runs. A process that has ended and that no parent has waited for does not."""
     try:
-        with open(f"/proc/{pid}/stat") as file:
-            return file.read().rsplit(") ", 1)[1][0] != "Z"
+        return Path(f"/proc/{pid}/stat").read_text().rsplit(") ", 1)[1][0] != "Z"
     except OSError:
         return False
 
@@ -520,8 +537,20 @@ def memory_of(process, field="VmRSS"):
 
 def work_of(process):
     """The processor time of a process, in nanoseconds."""
-    with open(f"/proc/{process}/schedstat", encoding="ascii") as file:
-        return int(file.read().split()[0])
+    return int(Path(f"/proc/{process}/schedstat").read_text().split()[0])
+
+
+@contextlib.contextmanager
+def meanwhile(act):
+    """Runs `act(stop)` in a thread meanwhile. At the end the event `stop` is set."""
+    stop = threading.Event()
+    thread = threading.Thread(target=act, args=(stop,))
+    thread.start()
+    try:
+        yield
+    finally:
+        stop.set()
+        thread.join()
 
 
 class Gone(Exception):
