@@ -63,9 +63,7 @@ def test_statuses_of_filters(folder):
     script = b""
     for number, status in enumerate(STATUSES, 1):
         script += printed(f"q{status}", "exit:/0", "b/b", "stop-printer", number, title=str(status))
-    replies = folder.run(script + b"drain 5\njobs\n")
-    wanted = {number: "8 filter-failed" for number in range(2, 11)}
-    same("jobs", states(replies), {1: DONE, **wanted})
+    folder.prints(script, {1: DONE, **{number: "8 filter-failed" for number in range(2, 11)}})
 
 
 def test_signals(folder):
@@ -73,7 +71,7 @@ def test_signals(folder):
     folder.program("filter", "first", "#!/bin/sh\nkill -SEGV $$\n")
     folder.program("backend", "kill", '#!/bin/sh\nkill "${DEVICE_URI##*/}" $$\n')
     script = printed("a", "kill:/-KILL") + printed("b", "kill:/-TERM", policy="stop-printer", number=2) + printed("c", "kill:/-KILL", "b/b", number=3)
-    same("jobs", states(folder.run(script + b"drain 5\njobs\n")), {1: "8 backend-failed", 2: "3 none", 3: "8 filter-failed"})
+    folder.prints(script, {1: "8 backend-failed", 2: "3 none", 3: "8 filter-failed"})
     journal = folder.read("spool/spool.disk")
     for number in (1, 2, 3):
         same(f"signal of {number}", stage_event(number, 1, 1, b"\x01") in journal, True)
@@ -324,9 +322,8 @@ def test_at_once(folder):
     """The children of a round run at the same time."""
     folder.program("backend", "meet", MEETS)
     script = printed("a", "meet:/x", title="y") + printed("b", "meet:/y", title="x", number=2)
-    replies = folder.run(script + b"round\njobs\n")
+    replies = folder.prints(script, {1: DONE, 2: DONE}, by="round")
     same("round", "ok started 2 finished 2" in replies, True)
-    same("jobs", states(replies), {1: DONE, 2: DONE})
 
 
 SLOW = '#!/bin/sh\necho "$1 $SPOOL_ATTEMPT" >>"$0.ran"\nsleep 0.03\n'

@@ -1,18 +1,7 @@
 """How the front end proves its user, and explains denials.
 
-In all tests but real_* the service is simulated: it offers proofs, declines them, is an older one, denies commands or disappears, and
-examines the folder at the moment of `made`.
-
-| Test | Tests |
-|---|---|
-| proves_* | the folder, its owner and its mode, and how many round trips the proof takes |
-| goes_on_* | a service that takes no proof, or not this one: the command is done all the same |
-| leaves_* | no folder is left, whatever fails: the service, an allocation |
-| refuses_* | paths that a hostile service names |
-| explains_* | denied commands |
-| owns_* | the user of a job |
-| asks_* | commands that an older service does not know, and their substitutes |
-| real_* | a running service, with users of the system (as root) |
+In all tests but the last one the service is simulated: it offers proofs, declines them, is an older one, denies commands or disappears, and
+examines the folder at the moment of `made`. No folder is left, whatever happens.
 """
 import json
 import os
@@ -308,7 +297,7 @@ NOT_YOURS = f"it is not yours (ask an operator, or {WHERE}"
 OPERATORS = f"only operators may change queues ({WHERE}"
 
 
-# A command, and what it cannot do.
+# A command, and the act that is denied.
 DENIED = {
     "spool cancel 17": f"cancel job 17: {NOT_YOURS}",
     "spool hold 17": f"hold job 17: {NOT_YOURS}",

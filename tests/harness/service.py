@@ -276,7 +276,7 @@ class Folder:
         return [*self.before, self.service, *files, *more]
 
     def by_shell(self, script):
-        """What the shell replies to a script, with the same programs. Then its spool is removed."""
+        """The replies of the shell to a script, with the same programs. Then its spool is removed."""
         words = [SHELL if word == self.service else word for word in self.command()]
         ran = subprocess.run(words, input=script, capture_output=True, text=True, timeout=LONGEST)
         same("the shell", ran.returncode, 0)
@@ -334,7 +334,7 @@ class Folder:
 
     @contextlib.contextmanager
     def paused(self):
-        """The service is stopped meanwhile, so that one turn serves what comes."""
+        """The service is stopped meanwhile, so that one turn serves all commands."""
         self.running.send_signal(signal.SIGSTOP)
         yield
         self.running.send_signal(signal.SIGCONT)
