@@ -183,12 +183,11 @@ def folder(request):
 
 
 class SmallDisk:
-    """A file system of its own in a folder, in memory, with these further options."""
+    """A file system of its own in a folder, in memory."""
 
-    def __init__(self, path, size, *options):
+    def __init__(self, path, size):
         self.path, self.filler = path, os.path.join(path, "filler")
-        words = ["mount", "-t", "tmpfs", "-o", ",".join([f"size={size}", *options]), "none", path]
-        if subprocess.run(words, capture_output=True).returncode:
+        if subprocess.run(["mount", "-t", "tmpfs", "-o", f"size={size}", "none", path], capture_output=True).returncode:
             pytest.skip("it needs to mount a file system")
 
     def fill(self):

@@ -19,7 +19,6 @@ requires. Then `fast_alternation`, `a_host_that_is_cut_off` and `bricks_that_are
 with PYTEST_ADDOPTS="-k NAME".
 """
 import os
-from pathlib import Path
 import random
 import shutil
 import subprocess
@@ -27,6 +26,7 @@ import sys
 import tempfile
 import threading
 import time
+from pathlib import Path
 
 import pytest
 

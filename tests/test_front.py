@@ -1,7 +1,6 @@
 """The front end, as users and scripts run it, with a service that runs. test_front_played.py has losses and refusals of each kind."""
 import json
 import os
-from pathlib import Path
 import random
 import re
 import socket
@@ -9,6 +8,7 @@ import subprocess
 import threading
 import time
 import unicodedata
+from pathlib import Path
 
 import pytest
 

@@ -14,10 +14,10 @@ A command that fails must print a line on standard error, and none on standard o
 of their own, which compares the table with CUPS.
 """
 import os
-from pathlib import Path
 import re
 import shutil
 import subprocess
+from pathlib import Path
 
 import pytest
 

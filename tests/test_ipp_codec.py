@@ -5,8 +5,8 @@ that crate cuts each of them after every octet, and changes single octets. It mu
 faults as the model. --write stores the lines of the model in `stdout` of that crate, which the gate compares.
 """
 import os
-from pathlib import Path
 import subprocess
+from pathlib import Path
 
 import pytest
 

@@ -19,10 +19,10 @@ A kill does not lose data in the system's cache, so this shows nothing about a p
 not always repeat with its seed, and Hypothesis could not find a smaller case.
 """
 import os
-from pathlib import Path
 import random
 import signal
 import threading
+from pathlib import Path
 
 import pytest
 

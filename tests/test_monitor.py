@@ -8,12 +8,12 @@ print for long, or little room, of no service at all, and of a real one. Its num
 """
 import gzip
 import os
-from pathlib import Path
 import re
 import shutil
 import subprocess
 import threading
 import time
+from pathlib import Path
 
 import pytest
 

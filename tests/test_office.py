@@ -13,8 +13,8 @@
 The scripts run the programs in crates/NAME/out.
 """
 import os
-from pathlib import Path
 import subprocess
+from pathlib import Path
 
 import pytest
 

@@ -1,7 +1,6 @@
 """Tests of clients: no client delays another one, and each uses at most the memory of its slot."""
 import contextlib
 import os
-from pathlib import Path
 import random
 import resource
 import select
@@ -9,6 +8,7 @@ import signal
 import socket
 import threading
 import time
+from pathlib import Path
 
 import pytest
 

@@ -1,12 +1,12 @@
 """Tests of a service whose disk, memory or start is faulty, and of a folder whose files a child removes."""
 import os
-from pathlib import Path
 import random
 import re
 import resource
 import signal
 import subprocess
 import time
+from pathlib import Path
 
 import pytest
 

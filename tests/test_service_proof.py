@@ -4,7 +4,6 @@ They need root: they add three users and a group to the system, and remove them 
 """
 import collections
 import os
-from pathlib import Path
 import random
 import re
 import shutil
@@ -12,6 +11,7 @@ import stat
 import subprocess
 import threading
 import time
+from pathlib import Path
 
 import pytest
 

@@ -23,11 +23,11 @@ Calls that fail, one in each run: strace returns EIO or ENOSPC in its place, and
 """
 import itertools
 import os
-from pathlib import Path
 import shutil
 import struct
 import subprocess
 import tempfile
+from pathlib import Path
 
 import pytest
 

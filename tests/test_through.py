@@ -12,13 +12,13 @@
    chain before the next one prints, and a filter that fails leaves the verdict to the policy of the queue.
 """
 import os
-from pathlib import Path
 import re
 import shutil
 import signal
 import socket
 import subprocess
 import time
+from pathlib import Path
 
 import pytest
 

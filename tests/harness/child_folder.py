@@ -1,11 +1,11 @@
 """The folder of a test of real children, which the shell starts."""
 import contextlib
 import os
-from pathlib import Path
 import re
 import shutil
 import subprocess
 import tempfile
+from pathlib import Path
 
 from harness.checks import LONGEST, same, until, words_of_faults
 from harness.large_run import pieces_of

@@ -8,12 +8,12 @@ A host is a mount of the volume, by a client process of its own, as on two machi
 that is not on the volume: the printers.
 """
 import os
-from pathlib import Path
 import shutil
 import signal
 import subprocess
 import tempfile
 import time
+from pathlib import Path
 
 from harness.checks import Difference, LONGEST, until
 

@@ -7,12 +7,12 @@ starts a program as the program's own, so a small shell starts each program and 
 import ctypes
 import itertools
 import os
-from pathlib import Path
 import shutil
 import signal
 import subprocess
 import tempfile
 import threading
+from pathlib import Path
 
 import pytest
 

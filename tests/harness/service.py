@@ -1,7 +1,6 @@
 """Clients of the service, and the folder of a test with its programs and a service that runs there."""
 import contextlib
 import os
-from pathlib import Path
 import shutil
 import signal
 import socket
@@ -11,6 +10,7 @@ import sys
 import tempfile
 import threading
 import time
+from pathlib import Path
 
 from harness.checks import Difference, holds, LONGEST, same, timed, until
 from harness.programs import SERVICE, SHELL
