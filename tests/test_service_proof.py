@@ -10,17 +10,17 @@ import shutil
 import stat
 import subprocess
 import threading
-import time
 from pathlib import Path
 
 import pytest
 
-from harness.checks import at_once, Difference, holds, LONGEST, same, timed, until
+from harness.checks import at_once, holds, LONGEST, same, timed, until
 from harness.failover_volume import run
-from harness.people import CHALLENGE, challenge, does, FAILED, make, NAMELESS, NOBODY, prove, STRICT, User
-from harness.service import Client
+from harness.people import challenge, does, FAILED, make, NAMELESS, NOBODY, prove, STRICT, User
+from harness.service import admitted, Client
 
 pytestmark = [pytest.mark.root, pytest.mark.needs("useradd", "setpriv")]
+
 
 @pytest.fixture
 def client(folder, people):
@@ -228,31 +228,14 @@ def test_many_prove_themselves_at_once(folder, people):
 
     def one(number):
         user, word = people.users[number % 3], words[number % 3]
-        client, path = admitted(folder)
-        make(user, path)
+        client = admitted(folder)
+        make(user, challenge(client))
         same("made", client.ask("made\n"), f"ok {word} {user.name}")
         client.close()
 
     at_once([lambda number=number: one(number) for number in range(100)])
     holds("no folder is left", people.is_clean())
     until("the descriptors", lambda: watcher.ask("queues\n") == "ok 0" and folder.descriptors() == before)
-
-
-def admitted(folder):
-    """A client with a challenge. A service without a free place rejects the others, which try again."""
-    end = time.time() + LONGEST
-    while time.time() < end:
-        try:
-            client = Client(folder)
-            reply = client.ask("i-am\n")
-        except (Difference, OSError):
-            continue
-        found = CHALLENGE.fullmatch(reply)
-        if found:
-            return client, found[1]
-        same("i-am", reply, "error busy")
-        client.close()
-    raise Difference("no slot is free")
 
 
 # ---- users and operators

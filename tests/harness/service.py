@@ -180,7 +180,13 @@ def answer(client):
 def admitted(folder):
     """A client that has a place, once one is free, of a service without queues."""
     clients = []
-    until("a place is free", lambda: clients.append(Client(folder)) or answer(clients[-1]) == "ok 0")
+
+    def has_place():
+        with contextlib.suppress(Difference, OSError):
+            clients.append(Client(folder))
+            return answer(clients[-1]) == "ok 0"
+
+    until("a place is free", has_place)
     return clients[-1]
 
 
