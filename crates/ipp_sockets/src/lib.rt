@@ -12,19 +12,25 @@
 //! # Promises
 //!
 //! - *WrittenOnce*: the bytes that wait are the appended bytes without the written ones, in their order ([`Outgoing::push`]:
-//!   `ok`, `err`; [`Outgoing::advance`]).
+//!   `ok`, `err`; [`Outgoing::advance`]). An exchange removes only the first of them ([`Link::pump`]: `stands`).
 //! - *AnsweredOnce*: the text of a command follows the texts of the commands before it, and each command is answered, is lost, or waits
-//!   still: once, in the order in which they were sent ([`Link::ask`]: `sent`; [`Link::pump`]: `once`; [`Link::lose`]). Its reply is the one
-//!   that the service gave to it (*InOrder* of `service_client`).
+//!   still: once, in the order in which they were sent ([`Link::ask`]: `sent`; [`Link::pump`]: `once`; [`Link::lose`]: `lost`). Its reply is
+//!   the one that the service gave to it (*InOrder* of `service_client`).
+//! - *Whole*: a command is sent exactly if there is a connection with room for it that has the text of each command before it
+//!   ([`Link::ask`]: `answer`; otherwise `none`: nothing changes). If memory runs out after a command was noted, its connection takes no other
+//!   command and is given up at the next exchange ([`Link::ask`]: `err`; [`Link::pump`]: `broken`).
+//! - *Anew*: after a connection is lost, no command, no text and no part of a reply is left, so that the next one begins without them
+//!   ([`Link::lose`]: `given_up`; [`Link::pump`]: `lost`; [`Link::connected`]). A connection with nothing to exchange is not lost
+//!   ([`Link::pump`]: `quiet`), and one that stands loses no command (`stands`).
 //!
 //! # Not proved
 //!
-//! - The behavior of the system's connections. No contract speaks of a socket.
+//! - The behavior of the system's connections. No contract speaks of a socket, so a connection with something to exchange may be lost at any
+//!   time.
 //!
 //! # Errors
 //!
-//! Out of memory, or a connection that is lost. A command whose text does not fit into memory is never sent in part: the connection is given up
-//! at the next exchange.
+//! Out of memory, or a connection that is lost. A command whose text does not fit into memory is never sent in part.
 #![tactic(auto)]
 
 mod link;

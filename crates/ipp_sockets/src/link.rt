@@ -1,7 +1,7 @@
 //! The connection to the service, with commands that wait for their replies.
-ghost use Rattle.std.specs.Prelude.{◌≡◌, ◌↔◌, ◌⊎◌, ◌++◌, ◌∷◌, [], is_some, map, true, false, IfOk, IsTrue, OnErr};
-ghost use Rattle.service_client.specs.Pipelines.{Ends, HasRoom, standing};
-ghost use Rattle.ipp_sockets.specs.UnwrittenBytes.{unwritten};
+ghost use Rattle.std.specs.Prelude.{◌≡◌, ◌↔◌, ◌++◌, ◌∷◌, [], is_some, length, map, true, false, IfOk, IsTrue, OnErr};
+ghost use Rattle.service_client.specs.Pipelines.{Ends, standing};
+ghost use Rattle.ipp_sockets.specs.UnwrittenBytes.{IsRest, unwritten};
 
 use crate::outgoing::Outgoing;
 use crate::sockets::Stream;
@@ -28,17 +28,17 @@ pub struct Link<S: Stream> {
     readable: bool,
     // Whether a command waits for a reply whose text could not be sent, because memory ran out.
     broken: bool,
-    // Commands wait only on a connection.
+    // Commands wait only on a connection, and a reply is never begun on one and continued on another.
     ghost idle: { is_some stream ≡ false → (standing pipeline).tags ≡ [] },
+    ghost unbegun: { is_some stream ≡ false → (standing pipeline).rest ≡ [] },
 }
 
 impl<S: Stream> Link<S> {
-    ghost use Rattle.ipp_sockets.specs.LinkStates.{AreOnce, IsAsked, unsent, waiting};
+    ghost use Rattle.ipp_sockets.specs.LinkStates.{AreOnce, CanAsk, IsAsked, IsGivenUp, IsNew, IsNotAsked, IsQuiet, IsSame, Stands, waiting};
 
     /// No connection.
     pub fn new(alloc: Global) -> Link<S>
-        ensures waiting { waiting result ≡ [] }
-        ensures unsent { unsent result ≡ [] }
+        ensures { IsGivenUp result }
     {
         Link {
             alloc,
@@ -74,9 +74,7 @@ impl<S: Stream> Link<S> {
     /// Takes a new connection, if there is none.
     pub fn connected(&mut self, stream: S)
         requires { is_some self.old.stream ≡ false }
-        ensures stream { is_some self.new.stream ≡ true }
-        ensures waiting { waiting self.new ≡ [] }
-        ensures unsent { unsent self.new ≡ [] }
+        ensures { IsNew stream self.new }
     {
         self.stream = Some(stream);
         self.output.clear();
@@ -84,14 +82,22 @@ impl<S: Stream> Link<S> {
         self.broken = false;
     }
 
-    /// Sends a command. Returns whether there is a connection with room for it. After an error the connection may be given up at the next
+    // Returns whether there is a connection with room for a command of this length. One that lacks the text of a command takes no other one.
+    fn can_ask(&self, length: usize) -> bool
+        ensures { IsTrue result ↔ CanAsk self.now length }
+    {
+        self.stream.is_some() && !self.broken && self.pipeline.has_room(length)
+    }
+
+    /// Sends a command. Returns whether there is a connection that takes it. After an error the connection may be given up at the next
     /// exchange.
     pub fn ask(&mut self, tag: Tag, text: &[u8]) -> Result<bool, AllocError>
+        ensures answer { IfOk result (λ sent. IsTrue sent ↔ CanAsk self.old (length text.now)) }
         ensures sent { IfOk result (λ sent. sent ≡ true → IsAsked tag text.now self.old self.new) }
         ensures none { IfOk result (λ sent. sent ≡ false → self.new ≡ self.old) }
-        ensures err { OnErr result ((self.new.broken ≡ true) ⊎ (waiting self.new ≡ waiting self.old)) }
+        ensures err { OnErr result (IsNotAsked tag self.old self.new) }
     {
-        if self.stream.is_none() || !self.pipeline.has_room(text.len()) {
+        if !self.can_ask(text.len()) {
             return Ok(false);
         }
         self.pipeline.ask(tag, text.len())?;
@@ -107,6 +113,10 @@ impl<S: Stream> Link<S> {
         ensures once { AreOnce (waiting self.old) answers.old.items answers.new.items result.items (waiting self.new) }
         // A connection that lacks the text of a command is given up.
         ensures broken { self.old.broken ≡ true → is_some self.new.stream ≡ false }
+        ensures stands { is_some self.new.stream ≡ true → (Stands self.old self.new) × (result.items ≡ []) }
+        ensures lost { is_some self.new.stream ≡ false → IsGivenUp self.new }
+        // A connection with nothing to exchange is not lost.
+        ensures quiet { IsQuiet self.old → (IsSame self.old self.new) × (answers.new.items ≡ answers.old.items) × (result.items ≡ []) }
     {
         if self.stands(answers) {
             VecDeque::new(self.alloc)
@@ -118,12 +128,16 @@ impl<S: Stream> Link<S> {
     // Reads and writes. Returns whether the connection is still open.
     fn stands(&mut self, answers: &mut Vec<Answered<Tag>>) -> bool
         ensures ends { Ends (standing self.old.pipeline) answers.old.items answers.new.items (standing self.new.pipeline) }
-        ensures broken { self.old.broken ≡ true → result ≡ false }
+        ensures stands { result ≡ true → Stands self.old self.new }
+        ensures quiet { IsQuiet self.old → (IsSame self.old self.new) × (answers.new.items ≡ answers.old.items) × (result ≡ true) }
     {
         let Some(stream) = &mut self.stream else {
             return false;
         };
-        if self.broken || !write_out(stream, &mut self.output) {
+        if self.broken {
+            return false;
+        }
+        if !self.output.is_empty() && !write_out(stream, &mut self.output) {
             return false;
         }
         if !self.readable {
@@ -136,18 +150,20 @@ impl<S: Stream> Link<S> {
     /// Gives up the connection. Returns the commands without a reply.
     pub fn lose(&mut self) -> VecDeque<Asked<Tag>>
         ensures lost { map (λ asked. asked.tag) result.items ≡ waiting self.old }
-        ensures waiting { waiting self.new ≡ [] }
-        ensures unsent { unsent self.new ≡ [] }
-        ensures stream { is_some self.new.stream ≡ false }
+        ensures given_up { IsGivenUp self.new }
     {
         self.stream = None;
         self.output.clear();
+        self.readable = false;
+        self.broken = false;
         self.pipeline.lose()
     }
 }
 
 // Writes until the connection takes no more bytes. Returns whether it is still open.
-fn write_out<S: Stream>(stream: &mut S, output: &mut Outgoing) -> bool {
+fn write_out<S: Stream>(stream: &mut S, output: &mut Outgoing) -> bool
+    ensures { IsRest (unwritten output.old) (unwritten output.new) }
+{
     for _ in 0..u32::MAX {
         if output.is_empty() {
             return true;
