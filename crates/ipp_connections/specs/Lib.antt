@@ -1,1 +1,3 @@
 pub mod ConnectionBytes
+pub mod ConnectionSteps
+pub mod HeadParts

@@ -1,13 +1,16 @@
 //! One connection to a client, as requests and their bodies.
-ghost use Rattle.std.specs.Prelude.{◌≡◌, ◌≤◌, ◌<◌, ◌↔◌, [], drop, length, min, take, IfOk, IsTrue, OnErr, OnOk};
+ghost use Rattle.std.specs.Prelude.{◌≡◌, ◌≤◌, ◌<◌, ◌↔◌, ◌==◌, ◌++◌, [], drop, length, map, min, not, take, true, false, IfOk, IsTrue, OnErr, OnOk};
+ghost use Rattle.http1.specs.Server.{IsReadWithin};
+ghost use Rattle.ipp_connections.specs.HeadParts.{IsOwn, is_head_method, piece};
 
+use crate::heads::{field, fields_of, given, has_length, host_text, is_local, piece_of, text_of};
 use http_requests::{HttpStatus, RequestHead, Route, route_of};
-use http1::{BodySize, Event, Header, Limits, Server, WriteError};
-use httparse::spans::{EMPTY_HEADER_SPAN, HeaderSpan, Span};
+use http1::{BodySize, Event, Limits, Progress, Server};
+use httparse::spans::{EMPTY_HEADER_SPAN, HeaderSpan, RequestSpans, Span};
 use ipp_access::Place;
 use ipp_sockets::Outgoing;
 use std::alloc::{AllocError, Global};
-use std::{mem, str};
+use std::mem;
 
 // No more of a body is read while so many of its bytes wait. It is the length of the longest message.
 const MOST_BODY: usize = 65_536;
@@ -72,9 +75,12 @@ pub struct Http {
 
 impl Http {
     ghost use Rattle.ipp_connections.specs.ConnectionBytes.{HasRoom, IsBounded, answers_of, body_of, most_received, most_waiting};
+    ghost use Rattle.ipp_connections.specs.ConnectionSteps.{Appends, IsPartFor, IsUnanswered, Pulls, after_cut, after_read, answered, first_state, is_closed, skipped, skipped_count, state_of, wanted, with_content, with_head};
 
     /// A connection before its first request.
-    pub fn new(alloc: Global) -> Http {
+    pub fn new(alloc: Global) -> Http
+        ensures { state_of result ≡ first_state }
+    {
         Http {
             server: Server::new(Limits::default()),
             input: Vec::new(alloc),
@@ -87,12 +93,17 @@ impl Http {
     }
 
     /// Returns whether no answer is possible any more.
-    pub fn is_closed(&self) -> bool {
+    #[tactic(auto, using(crate::proofs::Closings::closed_is))]
+    pub fn is_closed(&self) -> bool
+        ensures { result ≡ is_closed (state_of self.now) }
+    {
         self.server.is_closed()
     }
 
     /// Returns whether the body of the request has ended.
-    pub fn has_ended(&self) -> bool {
+    pub fn has_ended(&self) -> bool
+        ensures { result ≡ (state_of self.now).ended }
+    {
         self.ended
     }
 
@@ -105,7 +116,9 @@ impl Http {
     }
 
     /// Returns whether bytes wait to be read as requests.
-    pub fn has_input(&self) -> bool {
+    pub fn has_input(&self) -> bool
+        ensures { result ≡ not (length (state_of self.now).input == 0) }
+    {
         !self.input.is_empty()
     }
 
@@ -128,7 +141,9 @@ impl Http {
     }
 
     /// Returns whether an answer waits to be written.
-    pub fn has_output(&self) -> bool {
+    pub fn has_output(&self) -> bool
+        ensures { result ≡ not (length (answers_of self.now) == 0) }
+    {
         !self.output.is_empty()
     }
 
@@ -142,61 +157,91 @@ impl Http {
     /// Notes that so many bytes of answers are written.
     pub fn note_written(&mut self, count: usize)
         requires { count ≤ length (answers_of self.old) }
-        ensures { answers_of self.new ≡ drop count (answers_of self.old) }
+        ensures { state_of self.new ≡ record (state_of self.old) { answers = drop count (answers_of self.old) } }
     {
         self.output.advance(count);
     }
 
     /// Drops the answers that wait.
     pub fn drop_output(&mut self)
-        ensures { answers_of self.new ≡ [] }
+        ensures { state_of self.new ≡ record (state_of self.old) { answers = [] } }
     {
         self.output.clear();
     }
 
-    /// Takes bytes that have come.
+    /// Takes bytes that have come. An error takes none.
     pub fn receive(&mut self, bytes: &[u8]) -> Result<(), AllocError>
         requires room { HasRoom self.old }
         requires piece { length bytes.now ≤ most_received }
+        ensures ok { OnOk result (state_of self.new ≡ record (state_of self.old) { input = (state_of self.old).input ++ bytes.now }) }
+        ensures err { OnErr result (state_of self.new ≡ state_of self.old) }
         ensures bounded { IsBounded self.new }
     {
         self.input.extend_from_slice(bytes)
     }
 
     /// Drops the bytes that wait, and returns their number.
-    pub fn skip(&mut self) -> usize {
+    pub fn skip(&mut self) -> usize
+        ensures value { result ≡ skipped_count (state_of self.old) }
+        ensures after { state_of self.new ≡ skipped (state_of self.old) }
+    {
         let count = self.body.len();
         self.body.clear();
-        if !self.server.is_closed() {
+        if !self.is_closed() {
             return count;
         }
         let more = self.input.len();
         self.input.clear();
-        count.saturating_add(more)
+        count + more
     }
 
     /// Reads the next part of the input. `names` are the names of this machine.
+    ///
+    /// # Errors
+    ///
+    /// Out of memory: the connection cannot go on.
     pub fn pull(
         &mut self,
         alloc: Global,
         names: &[Vec<u8>],
         place: Place,
     ) -> Result<Came, AllocError>
+        // While a whole message waits, nothing more is read.
+        ensures full { 65536 ≤ length (body_of self.old) → IfOk result (λ part. (part ≡ Came.Nothing) × (state_of self.new ≡ state_of self.old)) }
+        ensures read { length (body_of self.old) < 65536 → IfOk result (λ part. Pulls (map (λ name. name.items) names.now) place (state_of self.old) part (state_of self.new)) }
         ensures bounded { IsBounded self.new }
+        ensures err { OnErr result (answers_of self.new ≡ answers_of self.old) }
     {
         if self.body.len() >= MOST_BODY {
             return Ok(Came::Nothing);
         }
         let mut headers = [EMPTY_HEADER_SPAN; MOST_HEADERS];
-        let read = match self.server.read(self.input.as_slice(), &mut headers) {
-            Ok(read) => read,
-            Err(error) => return Ok(Came::Fault(error.status())),
-        };
+        match self.server.read(self.input.as_slice(), &mut headers) {
+            Ok(read) => self.take(alloc, names, place, read, &headers),
+            Err(error) => Ok(Came::Fault(error.status())),
+        }
+    }
+
+    // Takes the event that was read. Its bytes leave the input.
+    fn take(
+        &mut self,
+        alloc: Global,
+        names: &[Vec<u8>],
+        place: Place,
+        read: Progress<RequestSpans>,
+        headers: &[HeaderSpan],
+    ) -> Result<Came, AllocError>
+        requires room { length (body_of self.old) < 65536 }
+        requires consumed { read.consumed ≤ length (state_of self.old).input }
+        requires within { IsReadWithin (state_of self.old).input headers.now read }
+        ensures part { IfOk result (IsPartFor (map (λ name. name.items) names.now) place (state_of self.old).input headers.now read.event) }
+        ensures after { OnOk result (state_of self.new ≡ after_read (state_of self.old) read) }
+        ensures err { OnErr result (answers_of self.new ≡ answers_of self.old) }
+    {
         let came = match read.event {
             Event::Head(head) => {
                 self.begin(head.method);
-                let count = head.headers.min(MOST_HEADERS);
-                let fields = &headers[..count];
+                let fields = &headers[..head.headers];
                 Came::Head(self.asked(alloc, names, place, (head.method, head.path), fields)?)
             }
             Event::Data(span) => {
@@ -210,19 +255,21 @@ impl Http {
             }
             _ => Came::Nothing,
         };
-        let count = read.consumed.min(self.input.len());
-        self.input.drain(..count);
+        self.input.drain(..read.consumed);
         Ok(came)
     }
 
     // Begins a request with this method.
-    fn begin(&mut self, method: Span) {
+    fn begin(&mut self, method: Span)
+        ensures { state_of self.new ≡ record (state_of self.old) { is_head = is_head_method (piece (state_of self.old).input method); ended = false; has_document = false; body = [] } }
+    {
         self.is_head = piece_of(self.input.as_slice(), method) == b"HEAD".as_slice();
         self.ended = false;
         self.has_document = false;
         self.body.clear();
     }
 
+    // Returns the request of a head.
     fn asked(
         &self,
         alloc: Global,
@@ -230,29 +277,49 @@ impl Http {
         place: Place,
         line: (Span, Span),
         fields: &[HeaderSpan],
-    ) -> Result<Asked, AllocError> {
-        let is_local = !matches!(place, Place::Network);
+    ) -> Result<Asked, AllocError>
+        ensures { IfOk result (λ asked. asked.route ≡ Ok Route.Operation → IsOwn (map (λ name. name.items) names.now) place (state_of self.now).input fields.now) }
+    {
         let input = self.input.as_slice();
-        let host = field(input, fields, b"host");
-        let target = text_of(piece_of(input, line.1));
-        let head = RequestHead {
-            method: piece_of(input, line.0),
-            target,
-            host,
-            content_type: text_of(field(input, fields, b"content-type")),
-            has_body: has_length(input, fields),
-            is_coded: self.server.has_codings(),
-            is_local,
-        };
         Ok(Asked {
-            route: route_of(names, head),
-            target: String::from_str(alloc, target)?,
-            host: host_text(alloc, host, is_local)?,
+            route: self.route(names, place, line, fields),
+            target: String::from_str(alloc, text_of(piece_of(input, line.1)))?,
+            host: host_text(alloc, field(input, fields, b"host"), is_local(place))?,
         })
     }
 
-    /// Asks the client for the body, if it waits for that.
-    pub fn want_body(&mut self) -> Result<(), AllocError> {
+    // Returns the route of a head. A message of IPP is read only if it is meant for this machine.
+    fn route(
+        &self,
+        names: &[Vec<u8>],
+        place: Place,
+        line: (Span, Span),
+        fields: &[HeaderSpan],
+    ) -> Result<Route, HttpStatus>
+        ensures { result ≡ Ok Route.Operation → IsOwn (map (λ name. name.items) names.now) place (state_of self.now).input fields.now }
+    {
+        let input = self.input.as_slice();
+        let local = is_local(place);
+        let host = field(input, fields, b"host");
+        let media = field(input, fields, b"content-type");
+        let words = text_of(media);
+        let head = RequestHead {
+            method: piece_of(input, line.0),
+            target: text_of(piece_of(input, line.1)),
+            host,
+            content_type: words,
+            has_body: has_length(input, fields),
+            is_coded: self.server.has_codings(),
+            is_local: local,
+        };
+        route_of(names, head)
+    }
+
+    /// Asks the client for the body, if it waits for that. An error asks for nothing.
+    pub fn want_body(&mut self) -> Result<(), AllocError>
+        ensures ok { OnOk result (state_of self.new ≡ wanted (state_of self.old)) }
+        ensures err { OnErr result (IsUnanswered (state_of self.old) (state_of self.new)) }
+    {
         if self.server.expects_continue() && !self.ended {
             let mut text = Vec::new(*self.input.allocator());
             given(
@@ -265,13 +332,28 @@ impl Http {
     }
 
     /// Notes that the client sends nothing more, or that it is not waited for. A request that is not whole can be answered then.
-    pub fn cut(&mut self) {
+    pub fn cut(&mut self)
+        ensures { state_of self.new ≡ after_cut (state_of self.old) }
+    {
         let _ = self.server.read_eof(self.input.as_slice());
     }
 
     /// Answers the request. An error appends nothing.
     pub fn answer(&mut self, answer: Answer<'_>) -> Result<(), AllocError>
-        ensures err { OnErr result (answers_of self.new ≡ answers_of self.old) }
+        ensures ok { OnOk result (state_of self.new ≡ answered (state_of self.old) answer.entry) }
+        ensures err { OnErr result (IsUnanswered (state_of self.old) (state_of self.new)) }
+    {
+        let mut text = Vec::new(*self.input.allocator());
+        self.write_head(&mut text, answer)?;
+        self.write_content(&mut text, answer.content)?;
+        given(self.server.write_end(&mut text, &[]))?;
+        self.output.push(text.as_slice())
+    }
+
+    // Appends the head of an answer to a text.
+    fn write_head(&mut self, text: &mut Vec<u8>, answer: Answer<'_>) -> Result<(), AllocError>
+        ensures ok { OnOk result (Appends text.old.items (with_head (state_of self.old).server answer.entry) text.new.items (state_of self.new).server) }
+        ensures kept { IsUnanswered (state_of self.old) (state_of self.new) }
     {
         let fields = fields_of(answer.media);
         let size = BodySize::Known(answer.content.len() as u64);
@@ -281,23 +363,28 @@ impl Http {
         } else {
             &fields[1..]
         };
-        let mut text = Vec::new(*self.input.allocator());
         given(
             self.server
-                .write_response(&mut text, answer.status, phrase, headers, size),
-        )?;
-        if !self.is_head && !answer.content.is_empty() {
-            given(self.server.write_data(&mut text, answer.content))?;
+                .write_response(text, answer.status, phrase, headers, size),
+        )
+    }
+
+    // Appends the content of an answer to a text. The answer to HEAD has none.
+    fn write_content(&mut self, text: &mut Vec<u8>, content: &[u8]) -> Result<(), AllocError>
+        ensures ok { OnOk result (Appends text.old.items (with_content (state_of self.old).is_head (state_of self.old).server content.now) text.new.items (state_of self.new).server) }
+        ensures kept { IsUnanswered (state_of self.old) (state_of self.new) }
+    {
+        if self.is_head || content.is_empty() {
+            return Ok(());
         }
-        given(self.server.write_end(&mut text, &[]))?;
-        self.output.push(text.as_slice())
+        given(self.server.write_data(text, content))
     }
 
     /// Takes up to this many bytes from the beginning of the body. An error takes nothing.
     pub fn take_body(&mut self, alloc: Global, most: usize) -> Result<Vec<u8>, AllocError>
         ensures taken { IfOk result (λ taken. taken.items ≡ take (min (length (body_of self.old)) most) (body_of self.old)) }
-        ensures rest { OnOk result (body_of self.new ≡ drop (min (length (body_of self.old)) most) (body_of self.old)) }
-        ensures err { OnErr result (body_of self.new ≡ body_of self.old) }
+        ensures rest { OnOk result (state_of self.new ≡ record (state_of self.old) { body = drop (min (length (body_of self.old)) most) (body_of self.old) }) }
+        ensures err { OnErr result (state_of self.new ≡ state_of self.old) }
     {
         let count = self.body.len();
         if count <= most {
@@ -311,81 +398,10 @@ impl Http {
 
     /// Drops up to this many bytes from the beginning of the body, those of the message. A document follows.
     pub fn drop_body(&mut self, count: usize)
-        ensures { body_of self.new ≡ drop (min (length (body_of self.old)) count) (body_of self.old) }
+        ensures { state_of self.new ≡ record (state_of self.old) { body = drop (min (length (body_of self.old)) count) (body_of self.old); has_document = true } }
     {
         let count = self.body.len().min(count);
         self.body.drain(..count);
         self.has_document = true;
-    }
-}
-
-// Returns the fields of an answer. The first closes the connection.
-fn fields_of(media: &str) -> [Header<'_>; 4] {
-    [
-        Header {
-            name: b"Connection",
-            value: b"close",
-        },
-        Header {
-            name: b"Content-Type",
-            value: media.as_bytes(),
-        },
-        Header {
-            name: b"Cache-Control",
-            value: b"no-cache",
-        },
-        Header {
-            name: b"Content-Security-Policy",
-            value: b"default-src 'none'; style-src 'unsafe-inline'",
-        },
-    ]
-}
-
-// Without memory an answer is not written. The other refusals of the library do not come, since the answers are whole.
-fn given(outcome: Result<(), WriteError>) -> Result<(), AllocError> {
-    match outcome {
-        Ok(()) => Ok(()),
-        Err(_) => Err(AllocError),
-    }
-}
-
-fn text_of(bytes: &[u8]) -> &str {
-    match str::from_utf8(bytes) {
-        Ok(text) => text,
-        Err(_) => "",
-    }
-}
-
-// Returns the value of the first field with this name.
-fn field<'a>(input: &'a [u8], fields: &[HeaderSpan], name: &[u8]) -> &'a [u8] {
-    for field in fields {
-        if piece_of(input, field.name).eq_ignore_ascii_case(name) {
-            return piece_of(input, field.value);
-        }
-    }
-    b""
-}
-
-// Returns whether a request states the length of its body or sends it in chunks.
-fn has_length(input: &[u8], fields: &[HeaderSpan]) -> bool {
-    !field(input, fields, b"content-length").is_empty()
-        || !field(input, fields, b"transfer-encoding").is_empty()
-}
-
-// Returns the bytes of a span.
-fn piece_of(input: &[u8], span: Span) -> &[u8]
-    ensures { length result.now ≤ length input.now }
-{
-    match input.get(span.start..span.end) {
-        Some(piece) => piece,
-        None => b"",
-    }
-}
-
-// Over a socket of the file system clients name a port that does not exist.
-fn host_text(alloc: Global, host: &[u8], is_local: bool) -> Result<String, AllocError> {
-    match str::from_utf8(host) {
-        Ok(host) if !is_local && !host.is_empty() => String::from_str(alloc, host),
-        _ => String::from_str(alloc, "localhost"),
     }
 }

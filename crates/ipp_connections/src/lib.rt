@@ -5,15 +5,27 @@
 //!
 //! # Promises
 //!
+//! `State` is what is known of a connection: its server of the library http1, the bytes that wait, and its flags. Each call that changes a
+//! connection states the whole state after it.
+//!
 //! - *Bounded*: a connection holds less than 80 KiB that wait to be read as requests, and less than 144 KiB of a body, whatever comes
 //!   ([`Http::receive`], [`Http::pull`]: `bounded`). No more is received while 64 KiB of a message wait, or 48 KiB of a document
 //!   ([`Http::has_room`]).
-//! - [`Http::take_body`] and [`Http::drop_body`] take the bytes of a body in their order, each once.
-//! - [`Http::answer`]: without memory no part of an answer is appended (`err`).
+//! - *ReadOnce*: bytes that come are appended to the input ([`Http::receive`]: `ok`), and leave it as the server reads them, by RFC 9112: a
+//!   head begins a request, and the data of its body is appended to the body ([`Http::pull`]: `read`). What is no request is reported with its
+//!   status, and while 64 KiB of a body wait, nothing is read (`full`). [`Http::skip`] drops the body, and all input after the last answer.
+//! - *OnlyOwnHosts*: a message of IPP is read only if its request names this machine or came over its own socket, and has the type of IPP
+//!   ([`Http::pull`]: `read`).
+//! - [`Http::take_body`] and [`Http::drop_body`] take the bytes of a body in their order, each once. A document follows only the dropped
+//!   message.
+//! - *ExactAnswers*: an answer has the status, the fields and the content that are given, is the last to be written, and ends the connection if
+//!   that is asked ([`Http::answer`]: `ok`). The answer to HEAD has no content. Without memory no part of an answer is appended (`err`).
+//!   [`Http::want_body`] asks a client for its body only if it waits for that.
 //!
 //! # Not proved
 //!
-//! - Which bytes an answer has, and how many: they are those of the jobs and printers that it lists.
+//! - How many bytes an answer has: as many as the jobs and printers that it lists.
+//! - The target and the host of a request, from which its page and its URIs are made.
 //!
 //! # Errors
 //!
@@ -21,5 +33,6 @@
 #![tactic(auto)]
 
 mod connection;
+mod heads;
 
 pub use connection::{Answer, Asked, Came, Http};
