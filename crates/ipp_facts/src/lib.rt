@@ -8,13 +8,14 @@
 //! - [`error_in`], [`is_done`]: exactly the error of a last line, and whether it is a success.
 //! - [`shown_in`], [`job_facts`]: the facts are those of the rows (`some`). A job has none only if its reason is none that an answer has
 //!   (`none`).
-//! - [`printer_facts`]: the name, the marks and the counts are those of the rows, and so is the device's URI, without the name and the password
-//!   in it. [`queue_target`], [`is_accepting`]: exactly those of the rows.
+//! - [`printer_facts`]: the name, the marks, the counts and the time are those of the rows, and so is the device's URI, without the name and
+//!   the password in it (`some`, `none`). The formats are the type of the queue and those of which a chain of filters makes it (`formats`).
+//!   [`queue_target`], [`is_accepting`]: exactly those of the rows.
 //!
 //! # Not proved
 //!
-//! - The texts, the reasons, the formats and the time of a queue, and which jobs a listing has. `tests/test_ipp.py` compares the answers of
-//!   the program with the queues and jobs of the service.
+//! - The texts and the reasons of a queue, and which jobs a listing has. `tests/test_ipp.py` compares the answers of the program with the
+//!   queues and jobs of the service.
 //!
 //! # Errors
 //!

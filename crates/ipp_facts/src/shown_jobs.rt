@@ -99,7 +99,8 @@ fn stamp(moment: Option<Moment>) -> Option<Timestamp>
     }
 }
 
-fn timestamp_at(seconds: u64) -> Option<Timestamp>
+/// Returns a time, unless it is of the year 10,000 or later.
+pub fn timestamp_at(seconds: u64) -> Option<Timestamp>
     ensures { seconds_of result ≡ in_time seconds }
 {
     Timestamp::of_seconds(seconds)

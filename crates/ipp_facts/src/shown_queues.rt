@@ -2,12 +2,12 @@
 ghost use Rattle.std.specs.Prelude.{◌≡◌, codes, IfOk, IfSome, Some, is_some};
 ghost use Rattle.spool_types.specs.Values.{is_queue_name, media_in, text_in};
 ghost use Rattle.front_texts.specs.ReplyFields.{is_word};
-ghost use Rattle.ipp_facts.specs.QueueReports.{IsReportOf, names_a_queue, value_of};
+ghost use Rattle.ipp_facts.specs.QueueReports.{IsReportOf, formats_for, formats_of, has_type, names_a_queue, value_of};
 
+use crate::shown_jobs::timestamp_at;
 use crate::shown_uris::without_user;
 use crate::words::{message_in, note_in, number_of, value_of};
 use command_lines::job_number;
-use ipp_answers::Timestamp;
 use mime_costs::Convs;
 use printer_answers::{PrinterFacts, formats_to};
 use spool_types::{MediaType, QueueName, Reason, Reasons, Uri};
@@ -41,6 +41,8 @@ pub fn printer_facts(
 ) -> Result<Option<PrinterFacts>, AllocError>
     ensures some { IfOk result (λ facts. IfSome facts (IsReportOf rows.now)) }
     ensures none { IfOk result (λ facts. is_some facts ≡ names_a_queue rows.now) }
+    // The formats are the type of the queue and those of which a chain of filters makes it.
+    ensures formats { IfOk result (λ facts. IfSome facts (λ facts. facts.formats.items ≡ formats_for convs.now types.now (media_in (value_of rows.now (codes "type"))))) }
 {
     let Some(target) = queue_target(alloc, rows)? else {
         return Ok(None);
@@ -61,7 +63,8 @@ fn facts_with(
     formats: Vec<MediaType>,
 ) -> Result<PrinterFacts, AllocError>
     requires { text_in is_queue_name (value_of rows.now (codes "queue")) ≡ Some name }
-    ensures { IfOk result (IsReportOf rows.now) }
+    ensures report { IfOk result (IsReportOf rows.now) }
+    ensures formats { IfOk result (λ facts. facts.formats.items ≡ formats.items) }
 {
     let uri = without_user(alloc, value_of(rows, b"uri"))?;
     Ok(PrinterFacts {
@@ -75,7 +78,7 @@ fn facts_with(
         waiting: number_of(rows, b"waiting", MOST_JOBS) as u32,
         reasons: reasons_in(alloc, value_of(rows, b"reasons"))?,
         message: message_in(alloc, value_of(rows, b"message"))?,
-        changed: Timestamp::of_seconds(number_of(rows, b"changed", MOST_SECONDS)),
+        changed: timestamp_at(number_of(rows, b"changed", MOST_SECONDS)),
         formats,
     })
 }
@@ -86,15 +89,22 @@ fn formats_of(
     convs: &Convs,
     types: &[MediaType],
     target: &MediaType,
-) -> Result<Vec<MediaType>, AllocError> {
+) -> Result<Vec<MediaType>, AllocError>
+    ensures { IfOk result (λ formats. formats.items ≡ formats_of convs.now types.now target.now) }
+{
     let mut formats = formats_to(alloc, convs, types, target)?;
-    if !formats
-        .iter()
-        .any(|media| media.as_str() == target.as_str())
-    {
+    if !has_type(formats.as_slice(), target) {
         formats.push(target.clone()?)?;
     }
     Ok(formats)
+}
+
+fn has_type(formats: &[MediaType], target: &MediaType) -> bool
+    ensures { result ≡ has_type formats.now target.now }
+{
+    formats
+        .iter()
+        .any(|media| media.as_str() == target.as_str())
 }
 
 fn reasons_in(alloc: Global, word: &[u8]) -> Result<Reasons, AllocError> {
