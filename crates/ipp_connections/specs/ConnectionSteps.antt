@@ -1,4 +1,4 @@
--- The state of a connection, and what each call makes of it. RFC 9112 is the library's: `ServerReads` of http1 says how a request is read.
+-- The state of a connection before and after each call. `ServerReads` of the library http1 says how a request is read (RFC 9112).
 use Rattle.std.specs.Prelude.{◌≡◌, ℕ, ◌+◌, Bool, true, false, not, ◌||◌, ◌&&◌, ◌==◌, cond, List, [], ◌++◌, codes, drop, length, take, Ok}
 use Rattle.http1.specs.Conn.{after_data, data_text, finish_text}
 use Rattle.http1.specs.Fields.{Header}
@@ -25,7 +25,7 @@ use Rattle.ipp_connections.specs.declared.connection.Came.{Came}
 use Rattle.ipp_connections.specs.declared.connection.Came.TheVariants as came
 use Rattle.ipp_connections.specs.declared.connection.Http.{Http}
 
--- What is known of a connection.
+-- The state of a connection.
 pub record State : Type 0 where
   pub server : Server
   -- The bytes that wait to be read as requests.
@@ -73,7 +73,7 @@ skipped s = record s { input = cond (is_closed s) [] s.input; body = [] }
 abbrev pub skipped_count : State → ℕ
 skipped_count s = length s.body + cond (is_closed s) (length s.input) 0
 
--- What an event makes of a connection. The body of a request begins empty, and grows by its data.
+-- The state after an event. The body of a request begins empty, and grows by its data.
 abbrev pub after_event : State → Event RequestSpans → State
 after_event s (events.Head head) = record s { is_head = is_head_method (piece s.input head.method); ended = false; has_document = false; body = [] }
 after_event s (events.Data span) = record s { body = s.body ++ piece s.input span }

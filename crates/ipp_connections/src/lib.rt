@@ -5,15 +5,16 @@
 //!
 //! # Promises
 //!
-//! `State` is what is known of a connection: its server of the library http1, the bytes that wait, and its flags. Each call that changes a
+//! `State` is the state of a connection: its server of the library http1, the bytes that wait, and its flags. Each call that changes a
 //! connection states the whole state after it.
 //!
 //! - *Bounded*: a connection holds less than 80 KiB that wait to be read as requests, and less than 144 KiB of a body, whatever comes
 //!   ([`Http::receive`], [`Http::pull`]: `bounded`). No more is received while 64 KiB of a message wait, or 48 KiB of a document
 //!   ([`Http::has_room`]).
 //! - *ReadOnce*: bytes that come are appended to the input ([`Http::receive`]: `ok`), and leave it as the server reads them, by RFC 9112: a
-//!   head begins a request, and the data of its body is appended to the body ([`Http::pull`]: `read`). What is no request is reported with its
-//!   status, and while 64 KiB of a body wait, nothing is read (`full`). [`Http::skip`] drops the body, and all input after the last answer.
+//!   head begins a request, and the data of its body is appended to the body ([`Http::pull`]: `read`). Input that is no request is reported
+//!   with its status, and while 64 KiB of a body wait, nothing is read (`full`). [`Http::skip`] drops the body, and all input after the last
+//!   answer.
 //! - *OnlyOwnHosts*: a message of IPP is read only if its request names this machine or came over its own socket, and has the type of IPP
 //!   ([`Http::pull`]: `read`).
 //! - [`Http::take_body`] and [`Http::drop_body`] take the bytes of a body in their order, each once. A document follows only the dropped

@@ -17,6 +17,8 @@
 //!   one, after nothing more happens to it or while the service is away (`LostJobs::forget_ended`): replies and losses remove none, and leave
 //!   all but the first one as they are (`kept` of `Shared::lost_heard` and `Shared::lost_lost`).
 //! - *OnceForAll*: each command that waits for its reply is answered, is lost or waits still: once and in order (`Shared::exchange`: `once`).
+//!   A connection that is kept loses none (`stands`), and of one that is given up nothing is left (`lost`). It is given up if the service has
+//!   not answered for 30 seconds, or if the text of a command is missing (`away`, `broken`).
 //!
 //! # Not proved
 //!

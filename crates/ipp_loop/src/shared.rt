@@ -1,9 +1,9 @@
 //! The state that all clients share: the service, and the jobs that wait for their next request.
-ghost use Rattle.std.specs.Prelude.{◌≡◌, ◌≤◌, [], ◌∷◌, ◌++◌, is_some, false, true, OnOk};
+ghost use Rattle.std.specs.Prelude.{◌≡◌, ◌≤◌, [], ◌∷◌, ◌++◌, is_some, false, true, IfNone, IfSome, OnOk};
 ghost use Rattle.ipp_submission.specs.JobParts.{given_up};
 ghost use Rattle.ipp_printing.specs.PrintingJobs.{submission_of};
 ghost use Rattle.ipp_loop.specs.SharedStates.{KeepsLost, is_away, parked_count, submissions};
-ghost use Rattle.ipp_sockets.specs.LinkStates.{AreOnce, waiting};
+ghost use Rattle.ipp_sockets.specs.LinkStates.{AreOnce, IsGivenUp, IsNew, Stands, waiting};
 ghost use Rattle.ipp_tasks.specs.ParkedJobs.{most_parked};
 
 use crate::lost::LostJobs;
@@ -47,7 +47,7 @@ pub struct Shared<S: Stream> {
 
 impl<S: Stream> Shared<S> {
     pub fn new(alloc: Global, world: World, millis: u64) -> Shared<S>
-        ensures waiting { waiting result.link ≡ [] }
+        ensures link { IsGivenUp result.link }
         ensures parked { parked_count result ≡ 0 }
     {
         Shared {
@@ -80,7 +80,8 @@ impl<S: Stream> Shared<S> {
     /// Takes a new connection to the service, if the attempt has made one. There is none yet.
     pub fn connected(&mut self, stream: Option<S>)
         requires { is_some self.old.link.stream ≡ false }
-        ensures { is_some self.new.link.stream ≡ is_some stream }
+        ensures some { IfSome stream (λ stream. IsNew stream self.new.link) }
+        ensures none { IfNone stream (self.new.link ≡ self.old.link) }
     {
         self.tried = self.millis;
         if let Some(stream) = stream {
@@ -90,9 +91,13 @@ impl<S: Stream> Shared<S> {
     }
 
     /// Exchanges what can be exchanged with the service now. Returns the commands that were lost.
-    #[tactic(auto, using(crate::proofs::Losses::all_lost))]
     pub fn exchange(&mut self, answers: &mut Vec<Answered<Tag>>) -> VecDeque<Asked<Tag>>
         ensures once { AreOnce (waiting self.old.link) answers.old.items answers.new.items result.items (waiting self.new.link) }
+        // A service that has not answered for too long is given up, and so is a connection that lacks the text of a command.
+        ensures away { is_away self.old ≡ true → is_some self.new.link.stream ≡ false }
+        ensures broken { self.old.link.broken ≡ true → is_some self.new.link.stream ≡ false }
+        ensures stands { is_some self.new.link.stream ≡ true → (Stands self.old.link self.new.link) × (result.items ≡ []) }
+        ensures lost { is_some self.new.link.stream ≡ false → IsGivenUp self.new.link }
     {
         if self.link.is_connected() && self.is_away() {
             return self.link.lose();

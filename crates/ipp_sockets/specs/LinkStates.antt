@@ -69,7 +69,7 @@ pub record IsNew {S : Type 0} (stream : S) (link : Link S) : Type 0 where
   pub clear : IsClear link
   pub readable : link.readable ≡ true
 
--- The connection stands: the first of the unwritten bytes are written, and all bytes that have come are read.
+-- The connection is kept: the first of the unwritten bytes are written, and all bytes that have come are read.
 pub record Stands {S : Type 0} (old new : Link S) : Type 0 where
   pub was_connected : is_some old.stream ≡ true
   pub was_whole : old.broken ≡ false

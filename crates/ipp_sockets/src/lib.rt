@@ -19,9 +19,9 @@
 //! - *Whole*: a command is sent exactly if there is a connection with room for it that has the text of each command before it
 //!   ([`Link::ask`]: `answer`; otherwise `none`: nothing changes). If memory runs out after a command was noted, its connection takes no other
 //!   command and is given up at the next exchange ([`Link::ask`]: `err`; [`Link::pump`]: `broken`).
-//! - *Anew*: after a connection is lost, no command, no text and no part of a reply is left, so that the next one begins without them
+//! - *NothingLeft*: after a connection is lost, no command, no text and no part of a reply is left, so that the next one begins without them
 //!   ([`Link::lose`]: `given_up`; [`Link::pump`]: `lost`; [`Link::connected`]). A connection with nothing to exchange is not lost
-//!   ([`Link::pump`]: `quiet`), and one that stands loses no command (`stands`).
+//!   ([`Link::pump`]: `quiet`), and one that is kept loses no command (`stands`).
 //!
 //! # Not proved
 //!
