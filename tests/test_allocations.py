@@ -68,8 +68,9 @@ BUDGET = 30
 # changed.
 REFUSED = re.compile(r'^error: (?:AllocError|AllocFailed \{ \.\. \}|(?:\w+\()*Memory\)*|OutOfMemory|".*")$', re.M)
 
-# Tests that compare the end of a run, with out of memory as one more possible answer: their own assertion fails then.
-BY_ANSWER = {"driven_until_it_is_full", "write_that_fails_leaves_any_bytes"}
+# Tests that compare the end of a run, with out of memory as one more possible answer, and one that compares changes, which are forgotten if
+# memory runs out for a name: their own assertion fails then.
+BY_ANSWER = {"changes_are_told", "driven_until_it_is_full", "write_that_fails_leaves_any_bytes"}
 
 
 def is_right(name, status, text):

@@ -3,7 +3,7 @@
 use crate::runs::finds;
 use crate::spelled::{CLOSE, CREATE, QUEUE, event, events, listing};
 use crate::spools::{Device, OPENING, closed, made, open};
-use spool_core::{Spool, replay};
+use spool_core::{ApplyFault, Spool, replay};
 use spool_disk::MemDisk;
 use std::alloc::Global;
 use std::test::*;
@@ -14,8 +14,10 @@ const BATCH: [&str; 3] = [QUEUE, CREATE, CLOSE];
 // Stages the events up to the first that is not accepted, and settles. Returns whether all were accepted and settled.
 fn settles(alloc: Global, spool: &mut Spool<Device>) -> Result<bool, Fail> {
     for text in BATCH {
-        if spool.stage(event(alloc, text)?).is_err() {
-            return Ok(false);
+        match spool.stage(event(alloc, text)?) {
+            Ok(_) => {}
+            Err(ApplyFault::Memory) => return Err(Fail::from("memory")),
+            Err(_) => return Ok(false),
         }
     }
     Ok(spool.settle() == Ok(()))
