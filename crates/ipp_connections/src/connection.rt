@@ -206,7 +206,7 @@ impl Http {
         names: &[Vec<u8>],
         place: Place,
     ) -> Result<Came, AllocError>
-        // While a whole message waits, nothing more is read.
+        // While 64 KiB of a body wait, nothing more is read.
         ensures full { 65536 ≤ length (body_of self.old) → IfOk result (λ part. (part ≡ Came.Nothing) × (state_of self.new ≡ state_of self.old)) }
         ensures read { length (body_of self.old) < 65536 → IfOk result (λ part. Pulls (map (λ name. name.items) names.now) place (state_of self.old) part (state_of self.new)) }
         ensures bounded { IsBounded self.new }

@@ -131,7 +131,8 @@
 //! - **Waits.** The wait of a turn is at most the time until the next check of the children, by how long the last child ran, and until
 //!   maintenance has something to do; and at most a second while the journal is full, an end was requested, or a client could not be
 //!   accepted (`wait` of `Service::pause`, `loop_wait`; `lasted` of `Service::note_times`). A minute after it was requested, an end is
-//!   reached (`IsEndedBy`), and before that only when no job is processing and no child runs (`quiet` of `Service::is_over`, `IsQuiet`). A fault of the device ends the service in the turn that met it (`alive` of `Service::turn`).
+//!   reached (`IsEndedBy`), and before that only when no job is processing and no child runs (`quiet` of `Service::is_over`, `IsQuiet`). A
+//!   fault of the device ends the service in the turn that met it (`alive` of `Service::turn`).
 //! - **Progress.** After the turns each remaining client was sent all that its connection takes: nothing is unread, or its connection is
 //!   marked as taking nothing now (`given` of `Clients::serve`, `IsGiven`). Unless the turn reports that there is more to do at once,
 //!   nothing can be done for the client now: it waits for a job's end, its connection is marked as having nothing to read now, or it left
@@ -178,7 +179,8 @@
 //! - **Children to end.** A child that must end is noted by its process group, once (`group` of `Endings::ask`, `with_ending`). It is sent
 //!   SIGTERM, and SIGKILL no sooner than 10 s later (`signal_of`). The children still noted are those noted before whose job still runs a
 //!   child in that group (`kept` of `Endings::act`, `is_current`). If [`Signals`] reports the signals that it sends, they were sent their
-//!   due signals, and nothing else was sent (`sent`, `due`). Each turn of the clients ends so (`ended` of `Service::serve_clients`).
+//!   due signals, and nothing else was sent (`sent`, `due`). After the turns of all clients this holds for the children that must still end
+//!   (`ended` of `Service::serve_clients`).
 //! - **Starts.** A tick may start as many children as there are queues with a processing job whose child does not run or, unless the
 //!   service must end, with a next job (`tick` of `Shared::tick`, `limits_of`).
 //! - **Marks.** After a command or a tick that did something maintenance checks again, and after one whose event did not fit it makes a
