@@ -18,19 +18,24 @@ each piece. The front makes three events of a job with a short document, and so 
 turns.
 
 The script prints medians of several runs, and the ratios of the front to CUPS. Times depend on the machine and its disk, so only the ratios
-are of interest. The client is one process, whose own time is in all rates alike. No test checks them. The script prints the load of the
-machine before and after: on a busy machine the figures mean little. It takes about half an hour. With PART only these parts are run.
+are of interest. The requests of the first three parts are sent by ipp_load.c, one process that waits for all connections, so that the time of
+the client hardly counts. No test checks the rates. The script prints the load of the machine before and after: on a busy machine the figures
+mean little. It takes about half an hour. With PART only these parts are run.
 """
 import contextlib
 import functools
+import os
 import statistics
+import subprocess
+import tempfile
 import time
 from collections import namedtuple
 
 from harness import ipp
 from harness.checks import at_once, same, timed
 from harness.cups import Cups
-from harness.programs import IPP, SERVICE
+from harness.files import write
+from harness.programs import compiled, IPP, SERVICE
 from harness.service import memory_of, PIECE
 from ipp_client import Connection, JOB_NUMBER
 from measures import given_program, needed
@@ -38,10 +43,10 @@ from service import medians, print_rates, run_parts, RunningService, share_of, T
 
 CONNECTIONS = (1, 8, 32)
 # The length of a document in KiB, and the number of documents in a run.
-DOCUMENTS = {1: 192, 8: 192, 64: 192, 4_096: 32}
+DOCUMENTS = {1: 960, 8: 960, 64: 480, 4_096: 32}
 QUEUE = "q0"
 SPOOL = 1_073_741_824
-ANSWERS = 192
+ANSWERS = 1_920
 LISTED = {500: 24, 10_000: 4}
 FILLING = 8
 # The clients that send slowly, the length of a document, and the bytes of it that are sent, in pieces with a pause between them.
@@ -103,38 +108,51 @@ def rate(server, connections, count, act):
     return share_of(connections, count) * connections / timed(lambda: at_once([share] * connections))
 
 
+def sent_rate(server, requests, connections, count):
+    """How often per second a server answers these requests on this many connections, `count` times in all."""
+    each = share_of(connections, count)
+    with tempfile.TemporaryDirectory() as room:
+        files = [write(os.path.join(room, str(number)), request) for number, request in enumerate(requests)]
+        words = [load_program(), server.socket, str(connections), str(each), *files]
+        seconds = float(subprocess.run(words, check=True, stdout=subprocess.PIPE).stdout)
+    return each * connections / seconds
+
+
+@functools.lru_cache(maxsize=None)
+def load_program():
+    return compiled("ipp_load.c")
+
+
 # ---- documents
 
 
-def accepted(server, submit, length, count, connections):
-    """Documents per second that a server accepts."""
+def answered(server, requests, count, connections):
+    """How often per second a server answers these requests."""
     with server() as started:
-        return rate(started, connections, count, lambda connection: submit(connection, QUEUE, b"x" * length))
+        return sent_rate(started, requests, connections, count)
 
 
-def documents(name, submit):
+def documents(name, requests_of):
     for kibibytes, count in DOCUMENTS.items():
-        ways = {key: functools.partial(accepted, server, submit, kibibytes * 1_024, count) for key, server in servers().items()}
+        requests = requests_of(QUEUE, b"x" * (kibibytes * 1_024))
+        ways = {key: functools.partial(answered, server, requests, count) for key, server in servers().items()}
         print_rates(f"documents of {kibibytes} KiB by {name} per second, by connections", CONNECTIONS, medians(ways, CONNECTIONS))
 
 
 def print_job():
-    documents("Print-Job", Connection.submit)
+    documents("Print-Job", Connection.print_job)
 
 
 def create_job():
-    documents("Create-Job and Send-Document", Connection.submit_by_two)
+    documents("Create-Job and Send-Document", Connection.create_job)
 
 
 # ---- answers
 
 
 def printer():
-    def answered(server, connections):
-        with server() as started:
-            return rate(started, connections, ANSWERS, ask_for_printer)
-
-    ways = {name: functools.partial(answered, server) for name, server in servers("the front", "CUPS, no syncs").items()}
+    requests = Connection.get_printer(QUEUE)
+    ways = {name: functools.partial(answered, server, requests, ANSWERS) for name, server in servers("the front", "CUPS, no syncs").items()}
     print_rates("answers to Get-Printer-Attributes per second, by connections", CONNECTIONS, medians(ways, CONNECTIONS))
 
 

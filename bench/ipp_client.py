@@ -62,8 +62,17 @@ class Connection(ipp.Connection):
         """Creates a job by one request, which the server has accepted when it replies."""
         self.exchange(PRINT_JOB, queue, TITLE, FORMAT, document=document)
 
-    def submit_by_two(self, queue, document):
-        """Creates a job by two requests, as the program lp does."""
-        job = ipp.job_of(ipp.read(self.exchange(CREATE_JOB, queue, TITLE)))
-        last = attribute(ipp.INTEGER, "job-id", job) + FORMAT + attribute(ipp.BOOLEAN, "last-document", 1)
-        self.exchange(SEND_DOCUMENT, queue, last, document=document)
+    @classmethod
+    def print_job(cls, queue, document):
+        """The request of `submit`."""
+        return [cls.request(PRINT_JOB, queue, TITLE, FORMAT, length=len(document)) + document]
+
+    @classmethod
+    def create_job(cls, queue, document):
+        """The two requests of the program lp for a job, whose number is 0 in the second request."""
+        last = attribute(ipp.INTEGER, "job-id", 0) + FORMAT + attribute(ipp.BOOLEAN, "last-document", 1)
+        return [cls.request(CREATE_JOB, queue, TITLE, length=0), cls.request(SEND_DOCUMENT, queue, last, length=len(document)) + document]
+
+    @classmethod
+    def get_printer(cls, queue):
+        return [cls.request(ipp.GET_PRINTER, queue, length=0)]
