@@ -231,12 +231,12 @@ size_owns z job size count last again new h =
 
 sent_owns : (z : Service) (job size count : ℕ) (last : Bool) (tries : ℕ) (piece : List ℕ) (s : JobFate) → IsAlone z.fate job →
     Owns z (after_send job size count last tries (sent_reply piece s))
-sent_owns z job size count last tries piece NotOwn h = tt
+sent_owns z job size count last tries piece NotOwn h = by_test (Owns z) last _ _ (λ _. h) (λ _. tt)
 sent_owns z job size count last tries piece (Arrives bytes) h = size_owns z job size count last false (length (bytes ++ piece)) h
-sent_owns z job size count last tries piece Stopped h = tt
-sent_owns z job size count last tries piece StoppedGone h = tt
-sent_owns z job size count last tries piece Stands h = tt
-sent_owns z job size count last tries piece StandsGone h = tt
+sent_owns z job size count last tries piece Stopped h = by_test (Owns z) last _ _ (λ _. h) (λ _. tt)
+sent_owns z job size count last tries piece StoppedGone h = by_test (Owns z) last _ _ (λ _. h) (λ _. tt)
+sent_owns z job size count last tries piece Stands h = by_test (Owns z) last _ _ (λ _. h) (λ _. tt)
+sent_owns z job size count last tries piece StandsGone h = by_test (Owns z) last _ _ (λ _. h) (λ _. tt)
 
 measure_owns : (z : Service) (job size count : ℕ) (last prints : Bool) (s : JobFate) → z.fate job ≡ s → IsAlone z.fate job →
     Owns z (after_measure job size count last (shown_reply prints s))
@@ -290,7 +290,7 @@ close_owns z piece job size tries again StandsGone h = alone_changed z.fate job 
 -- The last piece and a close. The reply states whether the job was closed.
 last_owns : (z : Service) (job size count tries : ℕ) (piece : List ℕ) (s : JobFate) → z.fate job ≡ s → IsAlone z.fate job →
     Owns (with_last z job (size + count) piece) (after_send job size count true tries (last_reply z.prints (size + count) piece s))
-last_owns z job size count tries piece NotOwn is h = tt
+last_owns z job size count tries piece NotOwn is h = alone_changed z.fate job job _ (last_still (size + count) piece) h
 last_owns z job size count tries piece (Arrives bytes) is h = by_size (length (bytes ++ piece) == size + count) refl
   where
     change : JobFate → JobFate
@@ -303,14 +303,14 @@ last_owns z job size count tries piece (Arrives bytes) is h = by_size (length (b
         Owns (with_last z job (size + count) piece) (after_send job size count true tries (cond b (Closed z.prints) (Sent (length (bytes ++ piece)))))
     by_size true test =
         let stands : changed z.fate job change job ≡ Stands =
-          ap (λ (b : Bool). cond b (change (z.fate job)) (z.fate job)) (eq-eqb job job refl) ∙ ap change is
-          ∙ ap (λ (b : Bool). cond b Stands (Arrives (bytes ++ piece))) test in
+        ap (λ (b : Bool). cond b (change (z.fate job)) (z.fate job)) (eq-eqb job job refl) ∙ ap change is
+        ∙ ap (λ (b : Bool). cond b Stands (Arrives (bytes ++ piece))) test in
         accepted_owns (with_last z job (size + count) piece) job z.prints (none_left (changed z.fate job change) job alone (subst IsStill (sym stands) tt))
     by_size false test = size_owns (with_last z job (size + count) piece) job size count true false (length (bytes ++ piece)) alone
-last_owns z job size count tries piece Stopped is h = tt
-last_owns z job size count tries piece StoppedGone is h = tt
-last_owns z job size count tries piece Stands is h = tt
-last_owns z job size count tries piece StandsGone is h = tt
+last_owns z job size count tries piece Stopped is h = alone_changed z.fate job job _ (last_still (size + count) piece) h
+last_owns z job size count tries piece StoppedGone is h = alone_changed z.fate job job _ (last_still (size + count) piece) h
+last_owns z job size count tries piece Stands is h = alone_changed z.fate job job _ (last_still (size + count) piece) h
+last_owns z job size count tries piece StandsGone is h = alone_changed z.fate job job _ (last_still (size + count) piece) h
 
 check_owns : (z : Service) (job size : ℕ) (prints : Bool) (s : JobFate) → z.fate job ≡ s → IsAlone z.fate job → Owns z (after_check job size (shown_reply prints s))
 check_owns z job size prints NotOwn is h = tt

@@ -4,6 +4,7 @@ use Rattle.std.proofs.lemmas.List.{drop-drop, length-take, take-append-drop, tak
 use Rattle.std.proofs.lemmas.Bool.{cases_lt, eqb-true}
 use Rattle.front_submission.specs.declared.step.Step.{Step}
 use Rattle.front_submission.specs.declared.step.Step.TheVariants.{Creating, Finding, Clearing, Reading, Sending, Measuring, Holding, Closing, Checking, Canceling, Ended}
+use Rattle.front_submission.specs.declared.step.Cause.TheVariants.{Declined}
 use Rattle.front_submission.specs.declared.step.End.{End}
 use Rattle.front_submission.specs.declared.step.End.TheVariants.{Accepted, Unprintable, Refused, Unknown}
 use Rattle.front_submission.specs.declared.reply.Own.{Own}
@@ -537,19 +538,44 @@ module _ (document piece : List ℕ) (rest : List (List ℕ)) (z : Service) wher
   opens_appended job bytes more sent is o =
       changed_own (Opens (sent ++ more)) z.fate job (grown more) (subst (λ (s : JobFate). Opens (sent ++ more) (grown more s)) (sym is) (ap (λ (b : List ℕ). b ++ more) o))
 
+  -- It is unknown whether a part of a piece was sent.
+  part_unheard : (job size count : ℕ) (last : Bool) (part : Part) (s : JobFate) → z.fate job ≡ s → (sent : List ℕ) → z.closes ≡ [] → Opens sent s →
+      IsSending document sent size (last_bytes count piece) count last rest →
+      Keeps document piece rest (with_bytes z job (part_of part (last_bytes count piece))) (Measuring job size count last)
+  part_unheard job size count last part s is sent none o g =
+      let bytes = last_bytes count piece in (
+        sent,
+        (
+          inl (
+            none,
+            changed_own (OpensEither sent bytes) z.fate job (grown (part_of part bytes))
+                (grown_part sent bytes part (z.fate job) (subst (Opens sent) (sym is) o)),
+          ),
+          g,
+        ),
+      )
+
+  -- The job is no longer incoming.
+  refused_keeps : (job size count : ℕ) (last : Bool) (part : Part) (s : JobFate) → z.fate job ≡ s → (sent : List ℕ) → z.closes ≡ [] → Opens sent s →
+      IsSending document sent size (last_bytes count piece) count last rest →
+      Keeps document piece rest (with_bytes z job (part_of part (last_bytes count piece))) (cond last (Measuring job size count last) (Canceling job Declined))
+  refused_keeps job size count last part s is sent none o g =
+      by_test (Keeps document piece rest (with_bytes z job (part_of part (last_bytes count piece)))) last _ _
+      (λ _. part_unheard job size count last part s is sent none o g) (λ _. none)
+
   -- A part of a piece is sent.
   part_keeps : (job size count : ℕ) (last : Bool) (tries : ℕ) (part : Part) (s : JobFate) → z.fate job ≡ s → (sent : List ℕ) → z.closes ≡ [] → Opens sent s →
       IsSending document sent size (last_bytes count piece) count last rest →
       Keeps document piece rest (with_bytes z job (part_of part (last_bytes count piece)))
       (after_send job size count last tries (sent_reply (part_of part (last_bytes count piece)) s))
-  part_keeps job size count last tries part NotOwn is sent none o g = none
+  part_keeps job size count last tries part NotOwn is sent none o g = refused_keeps job size count last part NotOwn is sent none o g
   part_keeps job size count last tries part (Arrives bytes) is sent none o g =
       part_sent_keeps document piece rest (with_bytes z job (part_of part (last_bytes count piece))) job size count (length (bytes ++ part_of part (last_bytes count piece))) last false
       part sent none (opens_appended job bytes (part_of part (last_bytes count piece)) sent is o) g (ap (λ (b : List ℕ). length (b ++ part_of part (last_bytes count piece))) o)
-  part_keeps job size count last tries part Stopped is sent none o g = none
-  part_keeps job size count last tries part StoppedGone is sent none o g = none
-  part_keeps job size count last tries part Stands is sent none o g = none
-  part_keeps job size count last tries part StandsGone is sent none o g = none
+  part_keeps job size count last tries part Stopped is sent none o g = refused_keeps job size count last part Stopped is sent none o g
+  part_keeps job size count last tries part StoppedGone is sent none o g = refused_keeps job size count last part StoppedGone is sent none o g
+  part_keeps job size count last tries part Stands is sent none o g = refused_keeps job size count last part Stands is sent none o g
+  part_keeps job size count last tries part StandsGone is sent none o g = refused_keeps job size count last part StandsGone is sent none o g
 
   -- ## The last piece, and a close
 
@@ -590,8 +616,8 @@ module _ (document piece : List ℕ) (rest : List (List ℕ)) (z : Service) wher
       inl (last_leaves job size count NotOwn is none refl, subst (OpensEither sent (last_bytes count piece)) (sym (last_fate job size count NotOwn is)) tt)
   last_unheard job size count (Arrives bytes) is sent none o g =
       let stands : (with_last z job (size + count) (last_bytes count piece)).fate job ≡ Stands =
-        last_fate job size count (Arrives bytes) is
-        ∙ ap (λ (b : Bool). cond b Stands (Arrives (bytes ++ last_bytes count piece))) (has_size size count bytes sent o g) in
+      last_fate job size count (Arrives bytes) is
+      ∙ ap (λ (b : Bool). cond b Stands (Arrives (bytes ++ last_bytes count piece))) (has_size size count bytes sent o g) in
       inr (refl, last_closes job size count bytes sent is none o g, subst IsClosed (sym stands) tt)
   last_unheard job size count Stopped is sent none o g =
       inl (last_leaves job size count Stopped is none refl, subst (OpensEither sent (last_bytes count piece)) (sym (last_fate job size count Stopped is)) tt)
@@ -604,7 +630,7 @@ module _ (document piece : List ℕ) (rest : List (List ℕ)) (z : Service) wher
       IsSending document sent size (last_bytes count piece) count true rest →
       Keeps document piece rest (with_last z job (size + count) (last_bytes count piece))
       (after_send job size count true tries (last_reply z.prints (size + count) (last_bytes count piece) s))
-  last_keeps job size count tries NotOwn is sent none o g = last_leaves job size count NotOwn is none refl
+  last_keeps job size count tries NotOwn is sent none o g = (sent, (last_unheard job size count NotOwn is sent none o g, g))
   last_keeps job size count tries (Arrives bytes) is sent none o g =
       let new : Service = with_last z job (size + count) (last_bytes count piece) in
       subst
@@ -612,8 +638,8 @@ module _ (document piece : List ℕ) (rest : List (List ℕ)) (z : Service) wher
       (after_send job size count true tries (cond b (Closed z.prints) (Sent (length (bytes ++ last_bytes count piece))))))
       (sym (has_size size count bytes sent o g))
       (accepted_keeps document piece rest new job z.prints refl (last_closes job size count bytes sent is none o g))
-  last_keeps job size count tries Stopped is sent none o g = last_leaves job size count Stopped is none refl
-  last_keeps job size count tries StoppedGone is sent none o g = last_leaves job size count StoppedGone is none refl
+  last_keeps job size count tries Stopped is sent none o g = (sent, (last_unheard job size count Stopped is sent none o g, g))
+  last_keeps job size count tries StoppedGone is sent none o g = (sent, (last_unheard job size count StoppedGone is sent none o g, g))
   last_keeps job size count tries Stands is sent none o g = absurd o
   last_keeps job size count tries StandsGone is sent none o g = absurd o
 
@@ -643,24 +669,13 @@ module _ (document piece : List ℕ) (rest : List (List ℕ)) where
   heard_keeps z (Canceling job cause) h = canceled_keeps document piece rest (with_fate z (changed z.fate job stopped)) job cause (z.fate job) h
   heard_keeps z (Ended end) h = h
 
-  -- It is unknown whether a part of a piece was sent.
-  part_unheard : (z : Service) (job size count : ℕ) (last : Bool) (part : Part) →
-      ((sent : List ℕ) × ((z.closes ≡ []) × Opens sent (z.fate job) × IsSending document sent size (last_bytes count piece) count last rest)) →
-      Keeps document piece rest (with_bytes z job (part_of part (last_bytes count piece))) (Measuring job size count last)
-  part_unheard z job size count last part h =
-      let bytes = last_bytes count piece in
-      (
-        h.0,
-        (inl (h.1.0, changed_own (OpensEither h.0 bytes) z.fate job (grown (part_of part bytes)) (grown_part h.0 bytes part (z.fate job) h.1.1)), h.1.2),
-      )
-
   -- The request is executed, and its reply is lost.
   lost_keeps : (z : Service) (step : Step) → Keeps document piece rest z step → Keeps document piece rest (served z piece (request step)) (lost step)
   lost_keeps z (Creating tries) h = h
   lost_keeps z Finding h = h
   lost_keeps z (Clearing job) h = h
   lost_keeps z (Reading job size) h = h
-  lost_keeps z (Sending job size count false tries) h = part_unheard z job size count false Both h
+  lost_keeps z (Sending job size count false tries) h = part_unheard document piece rest z job size count false Both (z.fate job) refl h.0 h.1.0 h.1.1 h.1.2
   lost_keeps z (Sending job size count true tries) h = (h.0, (last_unheard document piece rest z job size count (z.fate job) refl h.0 h.1.0 h.1.1 h.1.2, h.1.2))
   lost_keeps z (Measuring job size count last) h = h
   lost_keeps z (Holding job size tries) h = h
@@ -690,7 +705,7 @@ module _ (document piece : List ℕ) (rest : List (List ℕ)) where
   lost_part_keeps z part Finding h = h
   lost_part_keeps z part (Clearing job) h = h
   lost_part_keeps z part (Reading job size) h = h
-  lost_part_keeps z part (Sending job size count last tries) h = part_unheard z job size count last part h
+  lost_part_keeps z part (Sending job size count last tries) h = part_unheard document piece rest z job size count last part (z.fate job) refl h.0 h.1.0 h.1.1 h.1.2
   lost_part_keeps z part (Measuring job size count last) h = h
   lost_part_keeps z part (Holding job size tries) h = h
   lost_part_keeps z part (Closing job size tries again) h = inl h

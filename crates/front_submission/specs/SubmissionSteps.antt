@@ -112,12 +112,13 @@ sent_first job size piece last new =
 abbrev pub sent_all : ℕ → ℕ → Bool → Bool → Step
 sent_all job new last again = cond last (Closing job new most_tries again) (Reading job new)
 
--- After `send`, which a close follows at once if the piece is the last one. The job's size must be the number of bytes sent.
+-- After `send`, which a close follows at once if the piece is the last one. The job's size must be the number of bytes sent. A job that is no
+-- longer incoming may have been closed with the last piece by commands of a lost connection, so its state is queried.
 abbrev pub after_send : ℕ → ℕ → ℕ → Bool → ℕ → Reply → Step
 after_send job size piece last tries (Closed printable) = cond last (accepted job printable) (Measuring job size piece last)
 after_send job size piece last tries (Sent new) = cond (new == size + piece) (sent_all job new last false) (sent_first job size piece last new)
 after_send job size piece last tries Later = again_or tries (Sending job size piece last) (Canceling job Declined)
-after_send job size piece last tries NotIncoming = Canceling job Declined
+after_send job size piece last tries NotIncoming = cond last (Measuring job size piece last) (Canceling job Declined)
 after_send job size piece last tries Denied = Canceling job Declined
 after_send job size piece last tries reply = Measuring job size piece last
 

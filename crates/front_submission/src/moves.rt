@@ -190,7 +190,9 @@ impl Step {
             Step::Reading { job, .. }
             | Step::Sending { job, .. }
             | Step::Measuring {
-                job, last: false, ..
+                job,
+                last: false,
+                ..
             }
             | Step::Holding { job, .. }
             | Step::Closing {
@@ -204,7 +206,9 @@ impl Step {
                 ..
             }
             | Step::Measuring {
-                job, last: true, ..
+                job,
+                last: true,
+                ..
             }
             | Step::Checking { job, .. } => unknown(job),
             Step::Canceling { job, cause } => refused(Some(job), cause, false),
@@ -332,7 +336,8 @@ fn sent(job: u32, size: u64, piece: u32, last: bool, tries: u8, reply: Reply) ->
             last,
             tries: tries - 1,
         },
-        Reply::Later | Reply::NotIncoming | Reply::Denied => turned_down(job),
+        Reply::NotIncoming if !last => turned_down(job),
+        Reply::Later | Reply::Denied => turned_down(job),
         _ => Step::Measuring {
             job,
             size,
