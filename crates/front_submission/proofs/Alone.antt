@@ -303,8 +303,8 @@ last_owns z job size count tries piece (Arrives bytes) is h = by_size (length (b
         Owns (with_last z job (size + count) piece) (after_send job size count true tries (cond b (Closed z.prints) (Sent (length (bytes ++ piece)))))
     by_size true test =
         let stands : changed z.fate job change job ≡ Stands =
-          ap (λ (b : Bool). cond b (change (z.fate job)) (z.fate job)) (eq-eqb job job refl) ∙ ap change is
-          ∙ ap (λ (b : Bool). cond b Stands (Arrives (bytes ++ piece))) test in
+        ap (λ (b : Bool). cond b (change (z.fate job)) (z.fate job)) (eq-eqb job job refl) ∙ ap change is
+        ∙ ap (λ (b : Bool). cond b Stands (Arrives (bytes ++ piece))) test in
         accepted_owns (with_last z job (size + count) piece) job z.prints (none_left (changed z.fate job change) job alone (subst IsStill (sym stands) tt))
     by_size false test = size_owns (with_last z job (size + count) piece) job size count true false (length (bytes ++ piece)) alone
 last_owns z job size count tries piece Stopped is h = tt

@@ -548,8 +548,7 @@ module _ (document piece : List ℕ) (rest : List (List ℕ)) (z : Service) wher
       ((sent : List ℕ) × ((z.closes ≡ []) × Opens sent (z.fate job) × IsSending document sent size (last_bytes count piece) count last rest)) →
       Keeps document piece rest (with_bytes z job (part_of part (last_bytes count piece))) (Measuring job size count last)
   bytes_unheard job size count last part h =
-      let bytes = last_bytes count piece in
-      (
+      let bytes = last_bytes count piece in (
         h.0,
         (inl (h.1.0, changed_own (OpensEither h.0 bytes) z.fate job (grown (part_of part bytes)) (grown_part h.0 bytes part (z.fate job) h.1.1)), h.1.2),
       )
@@ -565,7 +564,7 @@ module _ (document piece : List ℕ) (rest : List (List ℕ)) (z : Service) wher
       let more = last_bytes count piece in
       let new = bytes ++ part_of part more in
       let fits : length (sent ++ part_of part more) ≡ size + count =
-        sym (ap (λ (b : List ℕ). length (b ++ part_of part more)) o) ∙ eqb-true (length new) (size + count) test in
+      sym (ap (λ (b : List ℕ). length (b ++ part_of part more)) o) ∙ eqb-true (length new) (size + count) test in
       ap (λ (s : JobFate). with_close_at (size + count) (grown (part_of part more) s) z.closes) is
       ∙ ap (λ (b : Bool). cond b (z.closes ++ new ∷ []) z.closes) test
       ∙ ap (λ (c : List (List ℕ)). c ++ new ∷ []) none
@@ -619,7 +618,7 @@ module _ (document piece : List ℕ) (rest : List (List ℕ)) (z : Service) wher
           inl (
             last_stays job size count part bytes is none test,
             subst (OpensEither sent (last_bytes count piece)) (sym (last_fate_at job size count part bytes false is test))
-            (part, ap (λ (b : List ℕ). b ++ part_of part (last_bytes count piece)) o),
+                (part, ap (λ (b : List ℕ). b ++ part_of part (last_bytes count piece)) o),
           )
   last_unheard job size count part Stopped is sent none o g =
       inl (last_leaves job size count part Stopped is none refl, subst (OpensEither sent (last_bytes count piece)) (sym (last_fate job size count part Stopped is)) tt)
