@@ -31,6 +31,7 @@
 //! | ended and never closed | refused |
 //! | no such job, or a refusal | unknown: the job may have been closed, printed and purged |
 //!
+//! The state is queried also if the last piece is refused because the job is no longer incoming: commands of a lost connection may have closed it.
 //! If no service is reachable in this state, the end is unknown too. A job that must be held is held before it is closed, so no `closeat` follows
 //! its last piece.
 //!
