@@ -1,5 +1,5 @@
--- A service that executes each request completely or not at all, as one submission observes it: the effect of a request, and its reply.
-use Rattle.std.specs.Prelude.{ℕ, zero, suc, ◌-◌, Bool, cond, ◌==◌, List, [], ◌∷◌, ◌++◌, drop, length, take, None, Some}
+-- A service that executes each command completely or not at all, as one submission observes it: the effect of a request, and its reply.
+use Rattle.std.specs.Prelude.{ℕ, zero, suc, ◌+◌, ◌-◌, Bool, true, false, cond, ◌==◌, List, [], ◌∷◌, ◌++◌, drop, length, take, None, Some}
 use Rattle.front_submission.specs.SubmissionSteps.{most_sent}
 use Rattle.front_submission.specs.declared.step.Request.{Request}
 use Rattle.front_submission.specs.declared.step.Request.TheVariants.{Create, Find, Read, Send, Show, Hold, Close, Cancel, Nothing}
@@ -45,6 +45,11 @@ abbrev pub closed : JobFate → JobFate
 closed (Arrives bytes) = Stands
 closed fate = fate
 
+-- A close on the condition that the document has this size.
+abbrev pub closed_at : ℕ → JobFate → JobFate
+closed_at size (Arrives bytes) = cond (length bytes == size) Stands (Arrives bytes)
+closed_at size fate = fate
+
 abbrev pub stopped : JobFate → JobFate
 stopped (Arrives bytes) = Stopped
 stopped fate = fate
@@ -59,6 +64,10 @@ abbrev pub with_close : JobFate → List (List ℕ) → List (List ℕ)
 with_close (Arrives bytes) closes = closes ++ bytes ∷ []
 with_close fate closes = closes
 
+abbrev pub with_close_at : ℕ → JobFate → List (List ℕ) → List (List ℕ)
+with_close_at size (Arrives bytes) closes = cond (length bytes == size) (closes ++ bytes ∷ []) closes
+with_close_at size fate closes = closes
+
 abbrev pub with_fate : Service → (ℕ → JobFate) → Service
 with_fate z fate = record { fate = fate; given = z.given; closes = z.closes; prints = z.prints }
 
@@ -66,11 +75,24 @@ with_fate z fate = record { fate = fate; given = z.given; closes = z.closes; pri
 abbrev pub last_bytes : ℕ → List ℕ → List ℕ
 last_bytes count piece = drop (length piece - count) piece
 
+abbrev pub with_bytes : Service → ℕ → List ℕ → Service
+with_bytes z job bytes = with_fate z (changed z.fate job (grown bytes))
+
+-- The bytes are appended, and then the job is closed if it has this size.
+abbrev pub with_last : Service → ℕ → ℕ → List ℕ → Service
+with_last z job size bytes = record {
+  fate = changed z.fate job (λ fate. closed_at size (grown bytes fate));
+  given = z.given;
+  closes = with_close_at size (grown bytes (z.fate job)) z.closes;
+  prints = z.prints;
+}
+
 -- `piece` is the piece that was read last.
 abbrev pub served : Service → List ℕ → Request → Service
 served z piece Create =
     record { fate = changed z.fate z.given (λ fate. Arrives []); given = suc z.given; closes = z.closes; prints = z.prints }
-served z piece (Send job size count) = with_fate z (changed z.fate job (grown (last_bytes count piece)))
+served z piece (Send job size count false) = with_bytes z job (last_bytes count piece)
+served z piece (Send job size count true) = with_last z job (size + count) (last_bytes count piece)
 served z piece (Close job) =
     record { fate = changed z.fate job closed; given = z.given; closes = with_close (z.fate job) z.closes; prints = z.prints }
 served z piece (Cancel job) = with_fate z (changed z.fate job stopped)
@@ -80,18 +102,21 @@ served z piece (Show job) = z
 served z piece (Hold job) = z
 served z piece Nothing = z
 
--- The two commands of a `send`. The second one has no bytes if the first one has all.
+-- A part of the commands of a `send`: one of the two that have bytes, or both without the close. The second one has no bytes if the first
+-- one has all. A close without both has no effect, because the size differs.
 pub data Part : Type 0 where
   First : Part
   Second : Part
+  Both : Part
 
 abbrev pub part_of : Part → List ℕ → List ℕ
 part_of First bytes = take most_sent bytes
 part_of Second bytes = drop most_sent bytes
+part_of Both bytes = bytes
 
--- Only this command of a `send` is executed. Other requests have one command.
+-- Only this part of a `send` is executed. Other requests have one command.
 abbrev pub served_part : Service → Part → List ℕ → Request → Service
-served_part z part piece (Send job size count) = with_fate z (changed z.fate job (grown (part_of part (last_bytes count piece))))
+served_part z part piece (Send job size count last) = with_bytes z job (part_of part (last_bytes count piece))
 served_part z part piece Create = z
 served_part z part piece Find = z
 served_part z part piece (Read size) = z
@@ -121,6 +146,11 @@ abbrev pub sent_reply : List ℕ → JobFate → Reply
 sent_reply piece (Arrives bytes) = Sent (length (bytes ++ piece))
 sent_reply piece fate = NotIncoming
 
+-- One reply for the commands that have bytes and the close: that of the close if the job was closed, otherwise that of the others.
+abbrev pub last_reply : Bool → ℕ → List ℕ → JobFate → Reply
+last_reply prints size piece (Arrives bytes) = cond (length (bytes ++ piece) == size) (Closed prints) (Sent (length (bytes ++ piece)))
+last_reply prints size piece fate = NotIncoming
+
 abbrev pub shown_reply : Bool → JobFate → Reply
 shown_reply prints NotOwn = Gone
 shown_reply prints (Arrives bytes) = Job (Arriving (length bytes))
@@ -145,16 +175,17 @@ abbrev pub reply_to : Service → List ℕ → Request → Reply
 reply_to z piece Create = Created z.given
 reply_to z piece Find = Jobs (found (arriving z.fate z.given))
 reply_to z piece (Read size) = Unclear
-reply_to z piece (Send job size count) = sent_reply (last_bytes count piece) (z.fate job)
+reply_to z piece (Send job size count false) = sent_reply (last_bytes count piece) (z.fate job)
+reply_to z piece (Send job size count true) = last_reply z.prints (size + count) (last_bytes count piece) (z.fate job)
 reply_to z piece (Show job) = shown_reply z.prints (z.fate job)
 reply_to z piece (Hold job) = held_reply (z.fate job)
 reply_to z piece (Close job) = closed_reply z.prints (z.fate job)
 reply_to z piece (Cancel job) = canceled_reply (z.fate job)
 reply_to z piece Nothing = Unclear
 
--- The reply to one command of a `send`, if the other one was not executed.
+-- The reply to a part of a `send`, if the rest was not executed.
 abbrev pub reply_to_part : Service → Part → List ℕ → Request → Reply
-reply_to_part z part piece (Send job size count) = sent_reply (part_of part (last_bytes count piece)) (z.fate job)
+reply_to_part z part piece (Send job size count last) = sent_reply (part_of part (last_bytes count piece)) (z.fate job)
 reply_to_part z part piece Create = Unclear
 reply_to_part z part piece Find = Unclear
 reply_to_part z part piece (Read size) = Unclear

@@ -1,5 +1,5 @@
 -- Whole runs: a document, a submission, a service, and everything that may happen to them.
-use Rattle.std.specs.Prelude.{ℕ, ◌<◌, ◌≤◌, Bool, List, [], ◌∷◌, ◌++◌, length}
+use Rattle.std.specs.Prelude.{ℕ, ◌<◌, ◌≤◌, Bool, true, false, ◌&&◌, List, [], ◌∷◌, ◌++◌, length}
 use Rattle.front_submission.specs.declared.step.Step.{Step}
 use Rattle.front_submission.specs.declared.step.Step.TheVariants.{Creating, Reading}
 use Rattle.front_submission.specs.declared.reply.Reply.TheVariants.{Later, Denied, Unclear}
@@ -20,7 +20,7 @@ pub data Event : Type 0 where
   Served : Event
   ServedUnheard : Event
   ServedUnclear : Event
-  -- Only one command of a `send` is executed, and the reply is received, lost or unclear.
+  -- Only a part of a `send` is executed, and the reply is received, lost or unclear.
   PartServed : Part → Event
   PartServedUnheard : Part → Event
   PartServedUnclear : Part → Event
@@ -29,8 +29,8 @@ pub data Event : Type 0 where
   LeftUnclear : Event
   PutOff : Event
   TurnedDown : Event
-  -- The next piece is read, or cannot be read.
-  Reads : Event
+  -- The next piece is read, or cannot be read. With the last piece its end may be read at once.
+  Reads : Bool → Event
   CannotRead : Event
   -- No service was reachable for too long.
   GivesUp : Event
@@ -50,12 +50,22 @@ done w step = with_step w (served w.service w.piece (request w.step)) step
 abbrev pub partly_done : SubmissionRun → Part → Step → SubmissionRun
 partly_done w part step = with_step w (served_part w.service part w.piece (request w.step)) step
 
--- The next piece is read if it is needed. After the last piece follows one of 0 bytes.
-abbrev pub read_at : SubmissionRun → Step → List (List ℕ) → SubmissionRun
-read_at w (Reading job size) [] = record { service = w.service; step = supplied (Reading job size) 0 w.holds; piece = []; rest = []; holds = w.holds }
-read_at w (Reading job size) (piece ∷ rest) =
-    record { service = w.service; step = supplied (Reading job size) (length piece) w.holds; piece = piece; rest = rest; holds = w.holds }
-read_at w step rest = record { service = w.service; step = step; piece = w.piece; rest = rest; holds = w.holds }
+abbrev pub is_none : List (List ℕ) → Bool
+is_none [] = true
+is_none (piece ∷ rest) = false
+
+-- The next piece is read if it is needed, and with the last one its end if `end` says so. After the last piece follows one of 0 bytes.
+abbrev pub read_at : SubmissionRun → Bool → Step → List (List ℕ) → SubmissionRun
+read_at w end (Reading job size) [] =
+    record { service = w.service; step = supplied (Reading job size) 0 end w.holds; piece = []; rest = []; holds = w.holds }
+read_at w end (Reading job size) (piece ∷ rest) = record {
+  service = w.service;
+  step = supplied (Reading job size) (length piece) (end && is_none rest) w.holds;
+  piece = piece;
+  rest = rest;
+  holds = w.holds;
+}
+read_at w end step rest = record { service = w.service; step = step; piece = w.piece; rest = rest; holds = w.holds }
 
 abbrev pub happens : SubmissionRun → Event → SubmissionRun
 happens w Served = done w (heard w.step (reply_to w.service w.piece (request w.step)))
@@ -68,7 +78,7 @@ happens w Lost = undone w (lost w.step)
 happens w LeftUnclear = undone w (heard w.step Unclear)
 happens w PutOff = undone w (heard w.step Later)
 happens w TurnedDown = undone w (heard w.step Denied)
-happens w Reads = read_at w w.step w.rest
+happens w (Reads end) = read_at w end w.step w.rest
 happens w CannotRead = undone w (unread w.step)
 happens w GivesUp = undone w (deserted w.step)
 happens w (Meanwhile other) = with_step w (after_other w.service other) w.step

@@ -1,5 +1,5 @@
 -- The requests and transitions of a submission: a row for each step, and for each step and reply.
-use Rattle.std.specs.Prelude.{ℕ, ◌+◌, ◌-◌, min, Bool, true, false, cond, ◌==◌, Option, None, Some}
+use Rattle.std.specs.Prelude.{ℕ, ◌+◌, ◌-◌, min, Bool, true, false, cond, not, ◌&&◌, ◌==◌, Option, None, Some}
 use Rattle.front_submission.specs.declared.step.Step.{Step}
 use Rattle.front_submission.specs.declared.step.Step.TheVariants.{Creating, Finding, Clearing, Reading, Sending, Measuring, Holding, Closing, Checking, Canceling, Ended}
 use Rattle.front_submission.specs.declared.step.Request.{Request}
@@ -61,8 +61,8 @@ request (Creating tries) = Create
 request Finding = Find
 request (Clearing job) = Cancel job
 request (Reading job size) = Read size
-request (Sending job size piece tries) = Send job size piece
-request (Measuring job size piece) = Show job
+request (Sending job size piece last tries) = Send job size piece last
+request (Measuring job size piece last) = Show job
 request (Holding job size tries) = Hold job
 request (Closing job size tries again) = Close job
 request (Checking job size) = Show job
@@ -104,34 +104,43 @@ after_find Denied = without_job Declined
 after_find reply = Finding
 
 -- Only the first command of a piece was executed, so its other bytes are sent next. Any other size is wrong.
-abbrev pub sent_first : ℕ → ℕ → ℕ → ℕ → Step
-sent_first job size piece new = cond (new == size + first_of piece) (Sending job new (piece - first_of piece) most_tries) (Canceling job OtherSize)
+abbrev pub sent_first : ℕ → ℕ → ℕ → Bool → ℕ → Step
+sent_first job size piece last new =
+    cond (new == size + first_of piece) (Sending job new (piece - first_of piece) last most_tries) (Canceling job OtherSize)
 
--- After `send`. The job's size must be the number of bytes sent.
-abbrev pub after_send : ℕ → ℕ → ℕ → ℕ → Reply → Step
-after_send job size piece tries (Sent new) = cond (new == size + piece) (Reading job new) (sent_first job size piece new)
-after_send job size piece tries Later = again_or tries (Sending job size piece) (Canceling job Declined)
-after_send job size piece tries NotIncoming = Canceling job Declined
-after_send job size piece tries Denied = Canceling job Declined
-after_send job size piece tries reply = Measuring job size piece
+-- The whole piece was sent. The job is not closed yet, so it is closed after the last piece. `again` states whether a close was sent before.
+abbrev pub sent_all : ℕ → ℕ → Bool → Bool → Step
+sent_all job new last again = cond last (Closing job new most_tries again) (Reading job new)
 
--- The piece was not sent, or it was sent, or its first command was executed.
-abbrev pub measured : ℕ → ℕ → ℕ → ℕ → Step
-measured job size piece new =
-    cond (new == size) (Sending job size piece most_tries)
-    (cond (new == size + piece) (Reading job new)
-    (sent_first job size piece new))
+-- After `send`, which a close follows at once if the piece is the last one. The job's size must be the number of bytes sent.
+abbrev pub after_send : ℕ → ℕ → ℕ → Bool → ℕ → Reply → Step
+after_send job size piece last tries (Closed printable) = cond last (accepted job printable) (Measuring job size piece last)
+after_send job size piece last tries (Sent new) = cond (new == size + piece) (sent_all job new last false) (sent_first job size piece last new)
+after_send job size piece last tries Later = again_or tries (Sending job size piece last) (Canceling job Declined)
+after_send job size piece last tries NotIncoming = Canceling job Declined
+after_send job size piece last tries Denied = Canceling job Declined
+after_send job size piece last tries reply = Measuring job size piece last
 
--- After `job`, if the reply to a `send` was lost.
-abbrev pub after_measure : ℕ → ℕ → ℕ → Reply → Step
-after_measure job size piece (Job (Arriving new)) = measured job size piece new
-after_measure job size piece (Job WasClosed) = unknown job
-after_measure job size piece (Job NoFilters) = unknown job
-after_measure job size piece (Job NeverClosed) = let_go job EndedEarly
-after_measure job size piece Gone = let_go job EndedEarly
-after_measure job size piece NotIncoming = Canceling job Declined
-after_measure job size piece Denied = Canceling job Declined
-after_measure job size piece reply = Measuring job size piece
+-- The piece was not sent, or it was sent, or its first command was executed. The job was not closed.
+abbrev pub measured : ℕ → ℕ → ℕ → Bool → ℕ → Step
+measured job size piece last new =
+    cond (new == size) (Sending job size piece last most_tries)
+    (cond (new == size + piece) (sent_all job new last true)
+    (sent_first job size piece last new))
+
+abbrev pub shown_sent : ℕ → ℕ → ℕ → Bool → Shown → Step
+shown_sent job size piece last (Arriving new) = measured job size piece last new
+shown_sent job size piece last WasClosed = cond last (accepted job true) (unknown job)
+shown_sent job size piece last NoFilters = cond last (accepted job false) (unknown job)
+shown_sent job size piece last NeverClosed = let_go job EndedEarly
+
+-- After `job`, if the reply to a `send` was lost. After the last piece the job may have been closed.
+abbrev pub after_measure : ℕ → ℕ → ℕ → Bool → Reply → Step
+after_measure job size piece last (Job shown) = shown_sent job size piece last shown
+after_measure job size piece last Gone = cond last (unknown job) (let_go job EndedEarly)
+after_measure job size piece last NotIncoming = cond last (unknown job) (Canceling job Declined)
+after_measure job size piece last Denied = cond last (unknown job) (Canceling job Declined)
+after_measure job size piece last reply = Measuring job size piece last
 
 -- After `hold`, which may be repeated.
 abbrev pub after_hold : ℕ → ℕ → ℕ → Reply → Step
@@ -175,8 +184,8 @@ heard (Creating tries) reply = after_create tries reply
 heard Finding reply = after_find reply
 heard (Clearing job) reply = Finding
 heard (Reading job size) reply = Reading job size
-heard (Sending job size piece tries) reply = after_send job size piece tries reply
-heard (Measuring job size piece) reply = after_measure job size piece reply
+heard (Sending job size piece last tries) reply = after_send job size piece last tries reply
+heard (Measuring job size piece last) reply = after_measure job size piece last reply
 heard (Holding job size tries) reply = after_hold job size tries reply
 heard (Closing job size tries again) reply = after_close job size tries again reply
 heard (Checking job size) reply = after_check job size reply
@@ -191,8 +200,8 @@ lost (Creating tries) = Finding
 lost Finding = Finding
 lost (Clearing job) = Finding
 lost (Reading job size) = Reading job size
-lost (Sending job size piece tries) = Measuring job size piece
-lost (Measuring job size piece) = Measuring job size piece
+lost (Sending job size piece last tries) = Measuring job size piece last
+lost (Measuring job size piece last) = Measuring job size piece last
 lost (Holding job size tries) = Holding job size tries
 lost (Closing job size tries again) = Checking job size
 lost (Checking job size) = Checking job size
@@ -203,10 +212,10 @@ lost (Ended end) = Ended end
 abbrev pub at_end : ℕ → ℕ → Bool → Step
 at_end job size holds = cond holds (Holding job size most_tries) (Closing job size most_tries false)
 
--- The next piece was read. A piece of 0 bytes is the end.
-abbrev pub supplied : Step → ℕ → Bool → Step
-supplied (Reading job size) piece holds = cond (piece == 0) (at_end job size holds) (Sending job size piece most_tries)
-supplied step piece holds = step
+-- The next piece was read. A piece of 0 bytes is the end. The job is closed with the last piece, but not if it must be held before.
+abbrev pub supplied : Step → ℕ → Bool → Bool → Step
+supplied (Reading job size) piece last holds = cond (piece == 0) (at_end job size holds) (Sending job size piece (last && not holds) most_tries)
+supplied step piece last holds = step
 
 -- The document cannot be read.
 abbrev pub unread : Step → Step
@@ -223,8 +232,8 @@ deserted (Creating tries) = without_job Deserted
 deserted Finding = without_job Deserted
 deserted (Clearing job) = without_job Deserted
 deserted (Reading job size) = let_go job Deserted
-deserted (Sending job size piece tries) = let_go job Deserted
-deserted (Measuring job size piece) = let_go job Deserted
+deserted (Sending job size piece last tries) = let_go job Deserted
+deserted (Measuring job size piece last) = deserted_closing job last
 deserted (Holding job size tries) = let_go job Deserted
 deserted (Closing job size tries again) = deserted_closing job again
 deserted (Checking job size) = unknown job

@@ -1,6 +1,6 @@
 //! The requests and transitions of a submission.
 ghost use Rattle.std.specs.Prelude.{◌≡◌, ◌+◌, Some, None, false, IsTrue, ◌↔◌};
-ghost use Rattle.front_submission.specs.SubmissionSteps.{most_tries, status, first_of, sent_first, refused, unknown, accepted, request, heard, lost, supplied, unread, deserted, own_found, after_create, after_find, after_send, measured, after_measure, after_hold, after_close, shown_closed, after_check, after_cancel};
+ghost use Rattle.front_submission.specs.SubmissionSteps.{most_tries, status, first_of, sent_first, sent_all, refused, unknown, accepted, request, heard, lost, supplied, unread, deserted, own_found, after_create, after_find, after_send, measured, shown_sent, after_measure, after_hold, after_close, shown_closed, after_check, after_cancel};
 
 use crate::reply::{Found, Own, Reply, Shown};
 use crate::step::{Cause, End, Request, Step};
@@ -65,8 +65,14 @@ impl Step {
                 job,
                 size,
                 piece,
+                last,
                 ..
-            } => Request::Send { job, size, piece },
+            } => Request::Send {
+                job,
+                size,
+                piece,
+                last,
+            },
             Step::Measuring { job, .. } | Step::Checking { job, .. } => Request::Show { job },
             Step::Holding { job, .. } => Request::Hold { job },
             Step::Closing { job, .. } => Request::Close { job },
@@ -86,9 +92,15 @@ impl Step {
                 job,
                 size,
                 piece,
+                last,
                 tries,
-            } => sent(job, size, piece, tries, reply),
-            Step::Measuring { job, size, piece } => measured(job, size, piece, reply),
+            } => sent(job, size, piece, last, tries, reply),
+            Step::Measuring {
+                job,
+                size,
+                piece,
+                last,
+            } => measured(job, size, piece, last, reply),
             Step::Holding { job, size, tries } => held(job, size, tries, reply),
             Step::Closing {
                 job,
@@ -112,17 +124,23 @@ impl Step {
                 job,
                 size,
                 piece,
+                last,
                 ..
-            } => Step::Measuring { job, size, piece },
+            } => Step::Measuring {
+                job,
+                size,
+                piece,
+                last,
+            },
             Step::Closing { job, size, .. } => Step::Checking { job, size },
             _ => self,
         }
     }
 
-    /// Returns the step after the next piece of the document, which has `piece` bytes. A piece of 0 bytes is the document's end. `holds`
-    /// states whether the job must be held.
-    pub fn supplied(self, piece: u32, holds: bool) -> Step
-        ensures { result ≡ supplied self piece holds }
+    /// Returns the step after the next piece of the document, which has `piece` bytes. A piece of 0 bytes is the document's end. `last` states
+    /// whether the document ends with this piece, and `holds` whether the job must be held.
+    pub fn supplied(self, piece: u32, last: bool, holds: bool) -> Step
+        ensures { result ≡ supplied self piece last holds }
     {
         let Step::Reading { job, size } = self else {
             return self;
@@ -133,6 +151,7 @@ impl Step {
                 job,
                 size,
                 piece,
+                last: last && !holds,
                 tries,
             };
         }
@@ -170,7 +189,9 @@ impl Step {
             }
             Step::Reading { job, .. }
             | Step::Sending { job, .. }
-            | Step::Measuring { job, .. }
+            | Step::Measuring {
+                job, last: false, ..
+            }
             | Step::Holding { job, .. }
             | Step::Closing {
                 job,
@@ -181,6 +202,9 @@ impl Step {
                 job,
                 again: true,
                 ..
+            }
+            | Step::Measuring {
+                job, last: true, ..
             }
             | Step::Checking { job, .. } => unknown(job),
             Step::Canceling { job, cause } => refused(Some(job), cause, false),
@@ -261,8 +285,8 @@ fn first_of(piece: u32) -> u32
 }
 
 // Returns the step if only the first command of a piece was executed, or the size is wrong.
-fn sent_first(job: u32, size: u64, piece: u32, new: u64) -> Step
-    ensures { result ≡ sent_first job size piece new }
+fn sent_first(job: u32, size: u64, piece: u32, last: bool, new: u64) -> Step
+    ensures { result ≡ sent_first job size piece last new }
 {
     let first = first_of(piece);
     if !is_behind(new, size, first) {
@@ -272,64 +296,98 @@ fn sent_first(job: u32, size: u64, piece: u32, new: u64) -> Step
         job,
         size: new,
         piece: piece - first,
+        last,
         tries: MOST_TRIES,
     }
 }
 
+// Returns the step after a whole piece was sent. If it was the last one, the job is not closed yet, and `again` states whether a close was
+// sent before.
+fn sent_all(job: u32, new: u64, last: bool, again: bool) -> Step
+    ensures { result ≡ sent_all job new last again }
+{
+    if !last {
+        return Step::Reading { job, size: new };
+    }
+    Step::Closing {
+        job,
+        size: new,
+        tries: MOST_TRIES,
+        again,
+    }
+}
+
 // Returns the step after a reply to `send`.
-fn sent(job: u32, size: u64, piece: u32, tries: u8, reply: Reply) -> Step
-    ensures { result ≡ after_send job size piece tries reply }
+fn sent(job: u32, size: u64, piece: u32, last: bool, tries: u8, reply: Reply) -> Step
+    ensures { result ≡ after_send job size piece last tries reply }
 {
     match reply {
-        Reply::Sent { size: new } if is_behind(new, size, piece) => Step::Reading {
-            job,
-            size: new,
-        },
-        Reply::Sent { size: new } => sent_first(job, size, piece, new),
+        Reply::Closed { printable } if last => accepted(job, printable),
+        Reply::Sent { size: new } if is_behind(new, size, piece) => sent_all(job, new, last, false),
+        Reply::Sent { size: new } => sent_first(job, size, piece, last, new),
         Reply::Later if tries != 0 => Step::Sending {
             job,
             size,
             piece,
+            last,
             tries: tries - 1,
         },
         Reply::Later | Reply::NotIncoming | Reply::Denied => turned_down(job),
-        _ => Step::Measuring { job, size, piece },
+        _ => Step::Measuring {
+            job,
+            size,
+            piece,
+            last,
+        },
     }
 }
 
 // Returns the step after the state of a job was queried, if a piece may have been sent.
-fn measured(job: u32, size: u64, piece: u32, reply: Reply) -> Step
-    ensures { result ≡ after_measure job size piece reply }
+fn measured(job: u32, size: u64, piece: u32, last: bool, reply: Reply) -> Step
+    ensures { result ≡ after_measure job size piece last reply }
 {
     match reply {
-        Reply::Job {
-            shown: Shown::Arriving { size: new },
-        } => measured_at(job, size, piece, new),
-        Reply::Job {
-            shown: Shown::NeverClosed,
-        }
-        | Reply::Gone => refused(Some(job), Cause::EndedEarly, false),
-        Reply::Job { .. } => unknown(job),
+        Reply::Job { shown } => shown_sent(job, size, piece, last, shown),
+        Reply::Gone | Reply::NotIncoming | Reply::Denied if last => unknown(job),
+        Reply::Gone => refused(Some(job), Cause::EndedEarly, false),
         Reply::NotIncoming | Reply::Denied => turned_down(job),
-        _ => Step::Measuring { job, size, piece },
+        _ => Step::Measuring {
+            job,
+            size,
+            piece,
+            last,
+        },
     }
 }
 
-fn measured_at(job: u32, size: u64, piece: u32, new: u64) -> Step
-    ensures { result ≡ measured job size piece new }
+fn shown_sent(job: u32, size: u64, piece: u32, last: bool, shown: Shown) -> Step
+    ensures { result ≡ shown_sent job size piece last shown }
+{
+    match shown {
+        Shown::Arriving { size: new } => measured_at(job, size, piece, last, new),
+        Shown::WasClosed if last => accepted(job, true),
+        Shown::NoFilters if last => accepted(job, false),
+        Shown::WasClosed | Shown::NoFilters => unknown(job),
+        Shown::NeverClosed => refused(Some(job), Cause::EndedEarly, false),
+    }
+}
+
+fn measured_at(job: u32, size: u64, piece: u32, last: bool, new: u64) -> Step
+    ensures { result ≡ measured job size piece last new }
 {
     if new == size {
         return Step::Sending {
             job,
             size,
             piece,
+            last,
             tries: MOST_TRIES,
         };
     }
     if is_behind(new, size, piece) {
-        return Step::Reading { job, size: new };
+        return sent_all(job, new, last, true);
     }
-    sent_first(job, size, piece, new)
+    sent_first(job, size, piece, last, new)
 }
 
 // Returns the step after a reply to `hold`.

@@ -9,8 +9,13 @@ pub enum Request {
     Find,
     /// Read the next piece of the document, from this offset on.
     Read { size: u64 },
-    /// Send `send`, with the piece that begins at this offset.
-    Send { job: u32, size: u64, piece: u32 },
+    /// Send `send`, with the piece that begins at this offset. `last` states that `closeat` follows at once, with the size after the piece.
+    Send {
+        job: u32,
+        size: u64,
+        piece: u32,
+        last: bool,
+    },
     /// Send `job`.
     Show { job: u32 },
     /// Send `hold`, so that the job is held once it is closed.
@@ -80,18 +85,20 @@ pub enum Step {
         job: u32,
         size: u64,
     },
-    /// A piece is sent.
+    /// A piece is sent. `last` states that it is the document's last one, and that the job is closed with it.
     Sending {
         job: u32,
         size: u64,
         piece: u32,
+        last: bool,
         tries: u8,
     },
-    /// The reply to a `send` was lost.
+    /// The reply to a `send` was lost. If the piece was the last one, the job may have been closed.
     Measuring {
         job: u32,
         size: u64,
         piece: u32,
+        last: bool,
     },
     /// The whole document was sent, and its job must be held.
     Holding {

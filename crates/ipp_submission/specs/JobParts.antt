@@ -1,5 +1,5 @@
 -- The documents of an IPP job, each submitted as a job of the service: a row for each stage and step.
-use Rattle.std.specs.Prelude.{ℕ, suc, Bool, true, false, cond, ◌&&◌, ltb, List, [], ◌∷◌, ◌++◌, length, get_or, set}
+use Rattle.std.specs.Prelude.{ℕ, suc, Bool, true, false, cond, ◌&&◌, not, ◌==◌, ltb, List, [], ◌∷◌, ◌++◌, length, get_or, set}
 use Rattle.std.specs.List.{list_all}
 use Rattle.front_submission.specs.declared.step.Step.{Step}
 use Rattle.front_submission.specs.declared.step.Step.TheVariants.{Creating, Reading, Ended}
@@ -65,7 +65,7 @@ next_part p = cond (ltb (suc p.at) (length p.parts)) (suc p.at) 0
 
 -- The document of this part has ended, so that its job is closed.
 abbrev pub closing_at : Progress → ℕ → Progress
-closing_at p i = record { parts = set p.parts i (supplied (part_at p i) 0 p.holds); at = i; stage = stages.Closing; holds = p.holds }
+closing_at p i = record { parts = set p.parts i (supplied (part_at p i) 0 false p.holds); at = i; stage = stages.Closing; holds = p.holds }
 
 -- The job of this part is canceled.
 abbrev pub undoing_at : Progress → ℕ → Progress
@@ -105,7 +105,16 @@ is_ready p = is_taking p.stage && is_reading (current p)
 
 -- A piece of the document in progress has come.
 abbrev pub supplied_in : Progress → ℕ → Progress
-supplied_in p count = with_current p (supplied (current p) count p.holds)
+supplied_in p count = with_current p (supplied (current p) count false p.holds)
+
+-- The job can be closed with the last piece: it has one document and is not held.
+abbrev pub closes_with_last : Progress → Bool
+closes_with_last p = (length p.parts == 1) && not p.holds
+
+-- The last piece of the only document has come, and its end with it.
+abbrev pub supplied_last_in : Progress → ℕ → Progress
+supplied_last_in p count =
+    record { parts = set p.parts p.at (supplied (current p) count true p.holds); at = p.at; stage = stages.Closing; holds = p.holds }
 
 -- The next document begins.
 abbrev pub with_document : Progress → Progress

@@ -5,11 +5,11 @@ use Rattle.front_submission.specs.declared.step.Step.{Step}
 use Rattle.front_submission.specs.declared.reply.Reply.TheVariants.{Later, Denied, Unclear}
 use Rattle.front_submission.specs.SubmissionSteps.{request, heard, lost, supplied, deserted}
 use Rattle.front_submission.specs.Service.{Other, Part, reply_to, reply_to_part}
-use Rattle.front_submission.specs.SubmissionRuns.{SubmissionRun, Event, ArePieces, happens, joined, start}
+use Rattle.front_submission.specs.SubmissionRuns.{SubmissionRun, Event, ArePieces, happens, is_none, joined, start}
 use Rattle.front_submission.specs.SubmissionRuns as runs
 use Rattle.ipp_submission.specs.declared.stage.Move.{Move}
 use Rattle.ipp_submission.specs.declared.stage.Move.TheVariants.{Stay, CloseNext, UndoNext, UndoThis}
-use Rattle.ipp_submission.specs.JobParts.{Progress, begun, current, follow, is_ready, is_taking, move_after, next_part, undoing, with_current, with_document, finished}
+use Rattle.ipp_submission.specs.JobParts.{Progress, begun, closes_with_last, current, follow, is_ready, is_taking, move_after, next_part, supplied_last_in, undoing, with_current, with_document, finished}
 
 pub record JobRun : Type 0 where
   pub progress : Progress
@@ -25,7 +25,7 @@ pub data JobEvent : Type 0 where
   Served : JobEvent
   ServedUnheard : JobEvent
   ServedUnclear : JobEvent
-  -- Only one command of its `send` is executed.
+  -- Only a part of its `send` is executed.
   PartServed : Part → JobEvent
   PartServedUnheard : Part → JobEvent
   PartServedUnclear : Part → JobEvent
@@ -40,6 +40,8 @@ pub data JobEvent : Type 0 where
   Meanwhile : ℕ → Other → JobEvent
   -- The next piece of a document has come.
   Piece : JobEvent
+  -- The last piece of the only document has come, and its end with it.
+  LastPiece : JobEvent
   -- The client begins another document, for a service with this next number and filters.
   Begins : List (List ℕ) → ℕ → Bool → JobEvent
   -- The client ends its last document.
@@ -61,7 +63,7 @@ with_event w i event = set w.submissions i (happens (submission_at w i) event)
 
 abbrev pub follow_run : JobRun → Move → List SubmissionRun
 follow_run w Stay = w.submissions
-follow_run w CloseNext = cond (ltb (suc w.progress.at) (length w.progress.parts)) (with_event w (suc w.progress.at) runs.Reads) w.submissions
+follow_run w CloseNext = cond (ltb (suc w.progress.at) (length w.progress.parts)) (with_event w (suc w.progress.at) (runs.Reads false)) w.submissions
 follow_run w UndoNext = with_event w (next_part w.progress) runs.CannotRead
 follow_run w UndoThis = with_event w w.progress.at runs.CannotRead
 
@@ -88,11 +90,23 @@ with_submissions w submissions = record { progress = w.progress; documents = w.d
 abbrev pub piece_at : JobRun → List (List ℕ) → JobRun
 piece_at w [] = w
 piece_at w (piece ∷ rest) =
-    cond (is_ready w.progress) (cond (length piece == 0) w (stepped w runs.Reads (supplied (current w.progress) (length piece) w.progress.holds))) w
+    cond (is_ready w.progress)
+    (cond (length piece == 0) w (stepped w (runs.Reads false) (supplied (current w.progress) (length piece) false w.progress.holds))) w
 
-abbrev pub is_none : List (List ℕ) → Bool
-is_none [] = true
-is_none (piece ∷ rest) = false
+abbrev pub with_last : JobRun → List ℕ → JobRun
+with_last w piece = record {
+  progress = supplied_last_in w.progress (length piece);
+  documents = w.documents;
+  submissions = with_event w w.progress.at (runs.Reads true);
+  whole = true;
+}
+
+-- The last piece is taken with the end if the submission is ready for it, and its job can be closed with it.
+abbrev pub last_piece_at : JobRun → List (List ℕ) → JobRun
+last_piece_at w [] = w
+last_piece_at w (piece ∷ []) =
+    cond (is_ready w.progress) (cond (closes_with_last w.progress) (cond (length piece == 0) w (with_last w piece)) w) w
+last_piece_at w (piece ∷ (next ∷ rest)) = w
 
 -- Each document is whole.
 abbrev pub all_read : JobRun → Bool
@@ -108,7 +122,7 @@ begins w pieces given prints =
     }
 
 abbrev pub ends : JobRun → JobRun
-ends w = record { progress = finished w.progress; documents = w.documents; submissions = with_event w 0 runs.Reads; whole = true }
+ends w = record { progress = finished w.progress; documents = w.documents; submissions = with_event w 0 (runs.Reads false); whole = true }
 
 abbrev pub undone : JobRun → JobRun
 undone w = record { progress = undoing w.progress; documents = w.documents; submissions = w.submissions; whole = w.whole }
@@ -128,6 +142,7 @@ job_happens w TurnedDown = told w runs.TurnedDown (heard (current w.progress) De
 job_happens w Deserted = told w runs.GivesUp (deserted (current w.progress))
 job_happens w (Meanwhile part other) = with_submissions w (with_event w part (runs.Meanwhile other))
 job_happens w Piece = piece_at w (now w).rest
+job_happens w LastPiece = last_piece_at w (now w).rest
 job_happens w (Begins pieces given prints) = cond (is_ready w.progress) (begins w pieces given prints) w
 job_happens w Ends = cond (is_ready w.progress) (cond (all_read w) (ends w) w) w
 job_happens w GivesUp = cond (is_taking w.progress.stage) (moved_run (undone w)) w

@@ -1,7 +1,7 @@
 //! The laws about every run of a submission. The functions do nothing: their clauses are the laws.
-ghost use Rattle.std.specs.Prelude.{◌≡◌, ◌==◌, ◌∷◌, ℕ, Bool, true, false, List, length};
+ghost use Rattle.std.specs.Prelude.{◌≡◌, ◌==◌, [], ◌∷◌, ℕ, Bool, true, false, List, length};
 ghost use Rattle.front_submission.specs.Service.{reply_to};
-ghost use Rattle.ipp_submission.specs.JobParts.{all_accepted, deserted_in, finished, given_up, heard_in, is_ready, lost_in, next_request, supplied_in, with_document};
+ghost use Rattle.ipp_submission.specs.JobParts.{all_accepted, closes_with_last, deserted_in, finished, given_up, heard_in, is_ready, lost_in, next_request, supplied_in, supplied_last_in, with_document};
 ghost use Rattle.ipp_submission.specs.JobRuns.{ClosedAtMostOnce, Each, IsAccepted, IsUnclosed, IsWhole, JobEvent, JobRun, Pairs, all_read, job_end, job_happens, now};
 
 use front_submission::acts_once;
@@ -36,6 +36,8 @@ pub fn runs_follow_calls()
     ensures deserted { (w : JobRun) → (job_happens w JobEvent.Deserted).progress ≡ deserted_in w.progress }
     ensures supplied { (w : JobRun) (piece : List ℕ) (rest : List (List ℕ)) → (now w).rest ≡ piece ∷ rest → (length piece == 0) ≡ false →
         is_ready w.progress ≡ true → (job_happens w JobEvent.Piece).progress ≡ supplied_in w.progress (length piece) }
+    ensures supplied_last { (w : JobRun) (piece : List ℕ) → (now w).rest ≡ piece ∷ [] → (length piece == 0) ≡ false → is_ready w.progress ≡ true →
+        closes_with_last w.progress ≡ true → (job_happens w JobEvent.LastPiece).progress ≡ supplied_last_in w.progress (length piece) }
     ensures begun { (w : JobRun) (pieces : List (List ℕ)) (given : ℕ) (prints : Bool) → is_ready w.progress ≡ true →
         (job_happens w (JobEvent.Begins pieces given prints)).progress ≡ with_document w.progress }
     ensures ended { (w : JobRun) → is_ready w.progress ≡ true → all_read w ≡ true → (job_happens w JobEvent.Ends).progress ≡ finished w.progress }

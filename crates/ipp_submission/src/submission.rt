@@ -1,6 +1,6 @@
 //! The submission of an IPP job.
 ghost use Rattle.std.specs.Prelude.{◌≡◌, ◌<◌, ◌≢◌, IfOk, OnErr, OnOk, true, length};
-ghost use Rattle.ipp_submission.specs.JobParts.{all_accepted, all_closed, begun, closing_at, current, deserted_in, finished, follow, given_up, heard_in, is_accepted, is_closed, is_ended, is_ready, is_reading, lost_in, move_after, moved, next_part, next_request, part_at, supplied_in, undoing_at, with_current, with_document};
+ghost use Rattle.ipp_submission.specs.JobParts.{all_accepted, all_closed, begun, closes_with_last, closing_at, current, deserted_in, finished, follow, given_up, heard_in, is_accepted, is_closed, is_ended, is_ready, is_reading, lost_in, move_after, moved, next_part, next_request, part_at, supplied_in, supplied_last_in, undoing_at, with_current, with_document};
 
 use crate::stage::{Move, Stage};
 use front_submission::{End, Reply, Request, Step};
@@ -113,7 +113,27 @@ impl Submission {
         ensures { self.new ≡ supplied_in self.old count }
     {
         let at = self.at;
-        self.parts[at] = self.parts[at].supplied(count, self.holds);
+        self.parts[at] = self.parts[at].supplied(count, false, self.holds);
+    }
+
+    /// Returns whether the job can be closed with the last piece of its document: it has one document and is not held.
+    pub fn closes_with_last(&self) -> bool
+        ensures { result ≡ closes_with_last self.now }
+    {
+        self.parts.len() == 1 && !self.holds
+    }
+
+    /// Notes that the last piece of the only document has come, which has `count` bytes, and its end with it: the job is closed with it. This
+    /// is [`Submission::supplied`] and [`Submission::finish`] in one.
+    pub fn supplied_last(&mut self, count: u32)
+        requires some { count ≢ 0 }
+        requires ready { is_ready self.old ≡ true }
+        requires closes { closes_with_last self.old ≡ true }
+        ensures { self.new ≡ supplied_last_in self.old count }
+    {
+        let at = self.at;
+        self.stage = Stage::Closing;
+        self.parts[at] = self.parts[at].supplied(count, true, self.holds);
     }
 
     /// Begins the next document. An error changes nothing.
@@ -211,7 +231,7 @@ impl Submission {
     {
         self.at = part;
         self.stage = Stage::Closing;
-        self.parts[part] = self.parts[part].supplied(0, self.holds);
+        self.parts[part] = self.parts[part].supplied(0, false, self.holds);
     }
 
     fn undo_at(&mut self, part: usize)
