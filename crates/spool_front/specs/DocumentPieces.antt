@@ -1,18 +1,12 @@
 -- The pieces of a document.
-use Rattle.std.specs.Prelude.{ℕ, Bool, List, Option, drop, take}
+use Rattle.std.specs.Prelude.{ℕ, Bool, List, Option}
 use Rattle.std.specs.Io.KnownBytes.{prepend_known}
+use Rattle.spool_front.specs.PieceBounds.{ahead_in, piece_in}
 use Rattle.spool_front.specs.declared.document.Document.{Document}
-
--- The greatest length of a piece.
-abbrev pub most_piece : ℕ
-most_piece = 131071
-
-abbrev pub ahead_in : ℕ → List ℕ → List ℕ
-ahead_in filled buffer = drop most_piece (take filled buffer)
 
 -- The piece that was read last.
 abbrev pub piece_of : {S : Type 0} → Document S → List ℕ
-piece_of document = take most_piece (take document.filled document.buffer.items)
+piece_of document = piece_in document.filled document.buffer.items
 
 -- The byte that was read after the piece, if there was one.
 abbrev pub ahead_of : {S : Type 0} → Document S → List ℕ

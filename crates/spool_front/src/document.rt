@@ -1,7 +1,7 @@
 //! A document that is sent in pieces.
 ghost use Rattle.std.specs.Prelude.{◌≡◌, ◌≢◌, ◌<◌, ◌≤◌, IfOk, OnOk, [], false, length, take, true};
-ghost use Rattle.std.specs.Io.KnownBytes.{Consumes, IsAtEnd};
-ghost use Rattle.spool_front.specs.DocumentPieces.{ahead_in};
+ghost use Rattle.std.specs.Io.KnownBytes.{Consumes, IsAtEnd, prepend_known};
+ghost use Rattle.spool_front.specs.PieceBounds.{ahead_in, piece_in};
 
 use std::alloc::{AllocError, Global};
 use std::io;
@@ -63,12 +63,25 @@ impl<S: Read + Drop> Document<S> {
         ensures more { OnOk result (is_last self.new ≡ false → ahead_of self.new ≢ []) }
         ensures long { OnOk result (is_last self.new ≡ false → length (piece_of self.new) ≡ 131071) }
     {
-        let kept = keep_ahead(&mut self.buffer, self.filled);
-        let count = fill(&mut self.source, &mut self.buffer[kept..])?;
-        self.filled = kept + count;
+        self.filled = read_on(&mut self.source, &mut self.buffer, self.filled)?;
         self.ended = self.filled <= PIECE;
         Ok(self.filled.min(PIECE) as u32)
     }
+}
+
+// Reads the next piece into the buffer, and the byte after it. Returns the number of bytes in the buffer.
+fn read_on<S: Read>(source: &mut S, buffer: &mut [u8], filled: usize) -> io::Result<usize>
+    requires room { length buffer.old ≡ 131072 }
+    requires in_buffer { filled ≤ 131072 }
+    ensures room { length buffer.new ≡ 131072 }
+    ensures bound { IfOk result (λ read. read ≤ 131072) }
+    ensures bytes { IfOk result (λ read. Consumes (prepend_known (ahead_in filled buffer.old) (S.remaining source.old))
+        (prepend_known (ahead_in read buffer.new) (S.remaining source.new)) (piece_in read buffer.new)) }
+    ensures end { IfOk result (λ read. read < 131072 → IsAtEnd (S.remaining source.new)) }
+{
+    let kept = keep_ahead(buffer, filled);
+    let count = fill(source, &mut buffer[kept..])?;
+    Ok(kept + count)
 }
 
 // Moves the byte after a piece to the front, if it was read. Returns the number of bytes moved.
