@@ -190,7 +190,9 @@ impl Step {
             Step::Reading { job, .. }
             | Step::Sending { job, .. }
             | Step::Measuring {
-                job, last: false, ..
+                job,
+                last: false,
+                ..
             }
             | Step::Holding { job, .. }
             | Step::Closing {
@@ -204,7 +206,9 @@ impl Step {
                 ..
             }
             | Step::Measuring {
-                job, last: true, ..
+                job,
+                last: true,
+                ..
             }
             | Step::Checking { job, .. } => unknown(job),
             Step::Canceling { job, cause } => refused(Some(job), cause, false),

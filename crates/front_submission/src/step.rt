@@ -8,7 +8,9 @@ pub enum Request {
     /// Search for incoming jobs that have the token.
     Find,
     /// Read the next piece of the document, from this offset on.
-    Read { size: u64 },
+    Read {
+        size: u64,
+    },
     /// Send `send`, with the piece that begins at this offset. `last` states that `closeat` follows at once, with the size after the piece.
     Send {
         job: u32,
@@ -17,13 +19,21 @@ pub enum Request {
         last: bool,
     },
     /// Send `job`.
-    Show { job: u32 },
+    Show {
+        job: u32,
+    },
     /// Send `hold`, so that the job is held once it is closed.
-    Hold { job: u32 },
+    Hold {
+        job: u32,
+    },
     /// Send `close`.
-    Close { job: u32 },
+    Close {
+        job: u32,
+    },
     /// Send `cancel`.
-    Cancel { job: u32 },
+    Cancel {
+        job: u32,
+    },
     /// Do nothing: the submission has ended.
     Nothing,
 }

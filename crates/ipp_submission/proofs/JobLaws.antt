@@ -8,9 +8,7 @@ use Rattle.front_submission.specs.declared.step.Step.{Step}
 use Rattle.front_submission.specs.declared.step.Step.TheVariants.{Creating, Ended}
 use Rattle.front_submission.specs.declared.reply.Reply.TheVariants.{Later, Denied, Unclear}
 use Rattle.front_submission.specs.SubmissionSteps.{most_tries, status, request, heard, lost, supplied, unread, deserted}
-use Rattle.front_submission.specs.declared.step.Request.{Request}
-use Rattle.front_submission.specs.declared.step.Request.TheVariants as requests
-use Rattle.front_submission.specs.Service.{Service, Other, Makes, Cancels, Purges, Part, after_other, reply_to, reply_to_part, served_part}
+use Rattle.front_submission.specs.Service.{Service, Other, Makes, Cancels, Purges, Part, Neither, after_other, reply_to, reply_to_part}
 use Rattle.front_submission.specs.SubmissionRuns.{SubmissionRun, Event, ArePieces, end_of, happens, is_none, joined, read_at, run, start}
 use Rattle.front_submission.specs.SubmissionRuns as runs
 use Rattle.ipp_submission.specs.declared.stage.Stage.{Stage}
@@ -20,7 +18,7 @@ use Rattle.ipp_submission.specs.declared.stage.Move.TheVariants.{Stay, CloseNext
 use Rattle.ipp_submission.specs.JobParts.{all_accepted, closes_with_last, closing_at, current, part_at, is_accepted, is_closed, is_ended, is_reading, is_ready, is_taking, move_after, next_part}
 use Rattle.ipp_submission.specs.JobRuns.{JobEvent, JobRun, Each, IsAccepted, IsUnclosed, IsWhole, Pairs, ClosedAtMostOnce, Served, ServedUnheard, ServedUnclear, PartServed, PartServedUnheard, PartServedUnclear, Lost, LeftUnclear, PutOff, TurnedDown, Deserted, Meanwhile, Piece, LastPiece, Begins, Ends, GivesUp, all_read, begins, job_end, job_happens, job_run, job_start, last_piece_at, moved_run, moving, now, piece_at, stepped, submission_at, told, undone, with_event, with_last, with_submissions}
 use Rattle.ipp_submission.proofs.PairLaws.{all_append, all_get, all_map, all_set, pairs_append, pairs_change, pairs_get, pairs_map, pairs_map_all, pairs_set}
-use Rattle.ipp_submission.proofs.StepLaws.{IsEarlyStep, accepted_end, early_deserted, early_heard, early_lost, early_supplied, early_unread, read_end, read_keeps, read_last, read_step, read_whole, unclosed_served}
+use Rattle.ipp_submission.proofs.StepLaws.{IsEarlyStep, accepted_end, early_deserted, early_heard, early_lost, early_supplied, early_unread, read_end, read_keeps, read_last, read_step, read_whole, unclosed_part, unclosed_served}
 
 -- ## Statements about one part
 
@@ -56,13 +54,13 @@ holds_keep : (w : SubmissionRun) (event : Event) → (happens w event).holds ≡
 holds_keep w runs.Served = refl
 holds_keep w runs.ServedUnheard = refl
 holds_keep w runs.ServedUnclear = refl
-holds_keep w (runs.PartServed command) = refl
-holds_keep w (runs.PartServedUnheard command) = refl
-holds_keep w (runs.PartServedUnclear command) = refl
+holds_keep w (runs.PartServed part closes) = refl
+holds_keep w (runs.PartServedUnheard part closes) = refl
+holds_keep w (runs.PartServedUnclear part closes) = refl
 holds_keep w runs.Lost = refl
 holds_keep w runs.LeftUnclear = refl
-holds_keep w runs.PutOff = refl
-holds_keep w runs.TurnedDown = refl
+holds_keep w (runs.PutOff closes) = refl
+holds_keep w (runs.TurnedDown closes) = refl
 holds_keep w (runs.Reads end) = (read_keeps w end w.step w.rest).holds
 holds_keep w runs.CannotRead = refl
 holds_keep w runs.GivesUp = refl
@@ -72,13 +70,13 @@ whole_keeps : (w : SubmissionRun) (event : Event) → IsWhole w → IsWhole (hap
 whole_keeps w runs.Served h = h
 whole_keeps w runs.ServedUnheard h = h
 whole_keeps w runs.ServedUnclear h = h
-whole_keeps w (runs.PartServed command) h = h
-whole_keeps w (runs.PartServedUnheard command) h = h
-whole_keeps w (runs.PartServedUnclear command) h = h
+whole_keeps w (runs.PartServed part closes) h = h
+whole_keeps w (runs.PartServedUnheard part closes) h = h
+whole_keeps w (runs.PartServedUnclear part closes) h = h
 whole_keeps w runs.Lost h = h
 whole_keeps w runs.LeftUnclear h = h
-whole_keeps w runs.PutOff h = h
-whole_keeps w runs.TurnedDown h = h
+whole_keeps w (runs.PutOff closes) h = h
+whole_keeps w (runs.TurnedDown closes) h = h
 whole_keeps w (runs.Reads end) h = (read_keeps w end w.step w.rest).whole h
 whole_keeps w runs.CannotRead h = h
 whole_keeps w runs.GivesUp h = h
@@ -371,20 +369,8 @@ undone_good w good = record {
 served_early : (v : SubmissionRun) (step : Step) → IsEarlyStep step → IsEarly v → IsEarly (runs.done v step)
 served_early v step early e = (early, unclosed_served v.service v.piece v.step e.0 e.1)
 
--- A part of a `send` closes no job.
-unclosed_part : (z : Service) (command : Part) (piece : List ℕ) (request : Request) → (served_part z command piece request).closes ≡ z.closes
-unclosed_part z command piece (requests.Send job size count last) = refl
-unclosed_part z command piece requests.Create = refl
-unclosed_part z command piece requests.Find = refl
-unclosed_part z command piece (requests.Read size) = refl
-unclosed_part z command piece (requests.Show job) = refl
-unclosed_part z command piece (requests.Hold job) = refl
-unclosed_part z command piece (requests.Close job) = refl
-unclosed_part z command piece (requests.Cancel job) = refl
-unclosed_part z command piece requests.Nothing = refl
-
-partly_early : (v : SubmissionRun) (command : Part) (step : Step) → IsEarlyStep step → IsEarly v → IsEarly (runs.partly_done v command step)
-partly_early v command step early e = (early, unclosed_part v.service command v.piece (request v.step) ∙ e.1)
+partly_early : (v : SubmissionRun) (part : Part) (closes : Bool) (step : Step) → IsEarlyStep step → IsEarly v → IsEarly (runs.partly_done v part closes step)
+partly_early v part closes step early e = (early, unclosed_part v.service part closes v.piece v.step e.0 e.1)
 
 step_of : (w : JobRun) → IsGood w → (now w).step ≡ current w.progress
 step_of w good = (agree_at w w.progress.at good).0
@@ -398,23 +384,25 @@ job_good w ServedUnheard good =
 job_good w ServedUnclear good =
     told_good w runs.ServedUnclear _ good (ap (λ (s : Step). heard s Unclear) (step_of w good))
     (λ e. served_early (now w) _ (early_heard (now w).step Unclear e.0) e)
-job_good w (PartServed command) good =
-    told_good w (runs.PartServed command) _ good
-    (ap (λ (s : Step). heard s (reply_to_part (now w).service command (now w).piece (request s))) (step_of w good))
-    (λ e. partly_early (now w) command _ (early_heard (now w).step _ e.0) e)
-job_good w (PartServedUnheard command) good =
-    told_good w (runs.PartServedUnheard command) _ good (ap (λ (s : Step). lost s) (step_of w good))
-    (λ e. partly_early (now w) command _ (early_lost (now w).step e.0) e)
-job_good w (PartServedUnclear command) good =
-    told_good w (runs.PartServedUnclear command) _ good (ap (λ (s : Step). heard s Unclear) (step_of w good))
-    (λ e. partly_early (now w) command _ (early_heard (now w).step Unclear e.0) e)
+job_good w (PartServed part closes) good =
+    told_good w (runs.PartServed part closes) _ good
+    (ap (λ (s : Step). heard s (reply_to_part (now w).service part closes (now w).piece (request s))) (step_of w good))
+    (λ e. partly_early (now w) part closes _ (early_heard (now w).step _ e.0) e)
+job_good w (PartServedUnheard part closes) good =
+    told_good w (runs.PartServedUnheard part closes) _ good (ap (λ (s : Step). lost s) (step_of w good))
+    (λ e. partly_early (now w) part closes _ (early_lost (now w).step e.0) e)
+job_good w (PartServedUnclear part closes) good =
+    told_good w (runs.PartServedUnclear part closes) _ good (ap (λ (s : Step). heard s Unclear) (step_of w good))
+    (λ e. partly_early (now w) part closes _ (early_heard (now w).step Unclear e.0) e)
 job_good w Lost good = told_good w runs.Lost _ good (ap (λ (s : Step). lost s) (step_of w good)) (λ e. (early_lost (now w).step e.0, e.1))
 job_good w LeftUnclear good =
     told_good w runs.LeftUnclear _ good (ap (λ (s : Step). heard s Unclear) (step_of w good)) (λ e. (early_heard (now w).step Unclear e.0, e.1))
-job_good w PutOff good =
-    told_good w runs.PutOff _ good (ap (λ (s : Step). heard s Later) (step_of w good)) (λ e. (early_heard (now w).step Later e.0, e.1))
-job_good w TurnedDown good =
-    told_good w runs.TurnedDown _ good (ap (λ (s : Step). heard s Denied) (step_of w good)) (λ e. (early_heard (now w).step Denied e.0, e.1))
+job_good w (PutOff closes) good =
+    told_good w (runs.PutOff closes) _ good (ap (λ (s : Step). heard s Later) (step_of w good))
+    (λ e. partly_early (now w) Neither closes _ (early_heard (now w).step Later e.0) e)
+job_good w (TurnedDown closes) good =
+    told_good w (runs.TurnedDown closes) _ good (ap (λ (s : Step). heard s Denied) (step_of w good))
+    (λ e. partly_early (now w) Neither closes _ (early_heard (now w).step Denied e.0) e)
 job_good w Deserted good =
     told_good w runs.GivesUp _ good (ap (λ (s : Step). deserted s) (step_of w good)) (λ e. (early_deserted (now w).step e.0, e.1))
 job_good w (Meanwhile part other) good = meanwhile_good w part other good

@@ -9,7 +9,7 @@ use Rattle.front_submission.specs.declared.reply.Shown.TheVariants.{Arriving, Wa
 use Rattle.front_submission.specs.declared.reply.Reply.{Reply}
 use Rattle.front_submission.specs.declared.reply.Reply.TheVariants.{Created, Sent, Closed, Done, Jobs, Job, Gone, Later, NotIncoming, Denied, Unclear}
 use Rattle.front_submission.specs.SubmissionSteps.{request, heard, lost, supplied, unread, deserted, after_create, after_find, after_send, after_measure, after_cancel, one_of, sent_all, sent_first, first_of}
-use Rattle.front_submission.specs.Service.{Service, served}
+use Rattle.front_submission.specs.Service.{Service, Part, served, served_part}
 use Rattle.front_submission.specs.SubmissionRuns.{SubmissionRun, read_at}
 use Rattle.front_submission.specs.declared.step.Request.TheVariants.{Send}
 use Rattle.ipp_submission.specs.JobParts.{is_accepted, is_reading}
@@ -201,6 +201,22 @@ unclosed_served z piece (Closing job size tries again) h k = absurd h
 unclosed_served z piece (Checking job size) h k = absurd h
 unclosed_served z piece (Canceling job cause) h k = k
 unclosed_served z piece (Ended end) h k = k
+
+-- Nor do some commands of it.
+pub unclosed_part : (z : Service) (part : Part) (closes : Bool) (piece : List ℕ) (s : Step) → IsEarlyStep s → z.closes ≡ [] →
+    (served_part z part closes piece (request s)).closes ≡ []
+unclosed_part z part closes piece (Creating tries) h k = k
+unclosed_part z part closes piece Finding h k = k
+unclosed_part z part closes piece (Clearing job) h k = k
+unclosed_part z part closes piece (Reading job size) h k = k
+unclosed_part z part closes piece (Sending job size count last tries) h k =
+    subst (λ (b : Bool). (served_part z part closes piece (Send job size count b)).closes ≡ []) (sym h) k
+unclosed_part z part closes piece (Measuring job size count last) h k = k
+unclosed_part z part closes piece (Holding job size tries) h k = absurd h
+unclosed_part z part closes piece (Closing job size tries again) h k = absurd h
+unclosed_part z part closes piece (Checking job size) h k = absurd h
+unclosed_part z part closes piece (Canceling job cause) h k = k
+unclosed_part z part closes piece (Ended end) h k = k
 
 -- ## Reading
 

@@ -9,9 +9,12 @@
 //! |---|---|
 //! | Create-Job | [`Submission::new`] |
 //! | Send-Document | [`Submission::next_document`], but not for the first; [`Submission::supplied`] for each piece; [`Submission::finish`] after the last |
+//! | the last piece, if [`Submission::closes_with_last`] | [`Submission::supplied_last`], and no [`Submission::finish`] |
 //! | Print-Job | as Create-Job and the last Send-Document |
 //! | Close-Job | [`Submission::finish`] |
 //! | Cancel-Job, a lost connection, a time-out | [`Submission::give_up`] |
+//!
+//! The job of the only document is closed together with its last piece (`closeat`), if it need not be held and its end is known with the piece.
 //!
 //! [`Submission`] is a state machine without a socket or a document. Its caller does what [`Submission::request`] returns, for the part that
 //! it names, and reports the reply ([`Submission::heard`]), its loss ([`Submission::lost`]) or that no service was reachable for too long
@@ -28,11 +31,12 @@
 //! - [`submits_once`] holds for every sequence of events. *Once*: no two jobs of a document are ever closed (`once`). *Accepted*: if
 //!   [`Submission::is_accepted`], exactly one job of each document was closed, with its bytes, and filters convert it (`accepted`). *All*: no
 //!   job is closed before the client has sent the end of its last document (`unclosed`), and then each document is whole (`whole`).
-//! - [`runs_follow_calls`]: in these runs each event changes the submission as a call of [`Submission`] does.
+//! - [`runs_follow_calls`]: in these runs each event changes the submission as a call of [`Submission`] does. The last piece of the only document,
+//!   with its end, is an event of its own (`supplied_last`).
 //!
 //! # Not proved
 //!
-//! - That the service executes each request completely or not at all, as in `front_submission`, and that a token belongs to one part.
+//! - That the service executes each command completely or not at all, as in `front_submission`, and that a token belongs to one part.
 //! - That a caller follows the decisions.
 //!
 //! # Errors
