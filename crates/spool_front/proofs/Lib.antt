@@ -1,3 +1,4 @@
 pub mod Behind
+pub mod Pieces
 pub mod Shares
 pub mod MirrorLaws

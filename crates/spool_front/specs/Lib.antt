@@ -9,6 +9,7 @@ pub mod JobDrafts
 pub mod TaskFaults
 pub mod FoundJobs
 pub mod StatusPages
+pub mod PieceBounds
 pub mod DocumentPieces
 pub mod QueueChoice
 pub mod Submissions

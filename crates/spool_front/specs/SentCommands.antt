@@ -1,11 +1,13 @@
 -- The commands that are sent to a service.
-use Rattle.std.specs.Prelude.{ℕ, Bool, ◌||◌, nat_lt, ◌==◌, List, [], ◌++◌, cond, codes, String, string_bytes, Option, None, Some, unwrap_or}
+use Rattle.std.specs.Prelude.{ℕ, Bool, ◌||◌, nat_lt, ◌==◌, List, [], ◌∷◌, ◌++◌, cond, codes, String, string_bytes, Option, None, Some, unwrap_or}
 use Rattle.std.specs.Global.{Global}
 use Rattle.std.specs.Fmt.{decimal}
 use Rattle.command_lines.specs.Replies.{quoted}
 use Rattle.front_proof.specs.ProofReplies.{user_of}
 use Rattle.front_proof.specs.Standings.{Standing}
+use Rattle.front_submission.specs.Service.{First, Second, part_of}
 use Rattle.front_words.specs.declared.asked.NewQueue.{NewQueue}
+use Rattle.service_client.specs.DocumentSends.{send_text}
 use Rattle.spool_front.specs.declared.commands.Draft.{Draft}
 use Rattle.spool_front.specs.declared.commands.Until.{Until}
 use Rattle.spool_front.specs.declared.commands.Until.TheVariants.{Released, Reached}
@@ -47,6 +49,25 @@ media_word (Some media) = text_word (string_bytes media)
 
 abbrev pub close_line : ℕ → Draft → List ℕ
 close_line job d = codes "close " ++ decimal job ++ text_word (string_bytes d.name) ++ media_word d.media ++ codes "\n"
+
+-- The job is closed only if its document has this size.
+abbrev pub closeat_line : ℕ → ℕ → Draft → List ℕ
+closeat_line job size d =
+    codes "closeat " ++ decimal job ++ codes " " ++ decimal size ++ text_word (string_bytes d.name) ++ media_word d.media ++ codes "\n"
+
+-- A long piece is sent by two commands.
+abbrev pub second_text : ℕ → List ℕ → List (List ℕ)
+second_text job [] = []
+second_text job (b ∷ bs) = send_text job (b ∷ bs) ∷ []
+
+-- After the last piece the job is closed, if it then has this size.
+abbrev pub close_text : Draft → ℕ → Option ℕ → List (List ℕ)
+close_text d job None = []
+close_text d job (Some size) = closeat_line job size d ∷ []
+
+-- The commands that are sent together for a piece.
+abbrev pub piece_texts : Draft → ℕ → List ℕ → Option ℕ → List (List ℕ)
+piece_texts d job piece end = send_text job (part_of First piece) ∷ (second_text job (part_of Second piece) ++ close_text d job end)
 
 abbrev pub find_line : List ℕ → List ℕ
 find_line token = codes "find " ++ token ++ codes "\n"

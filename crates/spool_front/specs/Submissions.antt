@@ -1,5 +1,5 @@
 -- The steps of a submission.
-use Rattle.std.specs.Prelude.{◌≡◌, ℕ, ◌+◌, ◌⊎◌, Bool, true, false, ◌&&◌, ◌==◌, cond, is_some, min, List, codes, String, string_bytes, Option, None, Some}
+use Rattle.std.specs.Prelude.{◌≡◌, ℕ, ◌+◌, ◌⊎◌, Bool, true, false, ◌&&◌, ◌==◌, cond, is_some, min, List, [], ◌∷◌, ⊤, codes, String, string_bytes, Option, None, Some}
 use Rattle.std.specs.Global.{Global}
 use Rattle.command_lines.specs.CommandGrammar.{is_word}
 use Rattle.front_submission.specs.SubmissionSteps.{deserted, heard, lost, supplied, unread}
@@ -11,11 +11,13 @@ use Rattle.front_submission.specs.declared.step.Cause.TheVariants.{Declined, Oth
 use Rattle.front_submission.specs.declared.step.End.{End}
 use Rattle.front_submission.specs.declared.step.End.TheVariants.{Accepted, Unprintable}
 use Rattle.front_submission.specs.declared.step.Step.{Step}
-use Rattle.front_submission.specs.declared.step.Step.TheVariants.{Holding, Closing, Checking, Ended}
+use Rattle.front_submission.specs.declared.step.Step.TheVariants.{Sending, Measuring, Holding, Closing, Checking, Ended}
 use Rattle.front_texts.specs.declared.states.JobState.{JobState}
 use Rattle.front_texts.specs.declared.states.JobState.TheVariants.{Canceled, Aborted, Completed}
 use Rattle.refusal_sentences.specs.RefusalSentences.{sentence_of}
+use Rattle.service_replies.specs.ServiceReplies.{reply_in}
 use Rattle.spool_front.specs.FoundJobs.{with_job}
+use Rattle.spool_front.specs.declared.client.Answer.{Answer}
 use Rattle.spool_front.specs.declared.commands.Draft.{Draft}
 use Rattle.spool_front.specs.declared.printing.Told.{Told}
 use Rattle.spool_front.specs.declared.printing.Told.TheVariants.{Nothing, Json, Text}
@@ -67,14 +69,26 @@ is_refusal reply = false
 abbrev pub joined_reply : Reply → Reply → Reply
 joined_reply first second = cond (is_refusal second) first second
 
+-- The last refusal, after a reply.
+abbrev pub noted : Answer → Option (String Global) → Option (String Global)
+noted answer refusal = cond (is_refusal (reply_in (string_bytes answer.last))) (Some answer.last) refusal
+
+-- The reply to a piece from those to its commands, one or two, and the last refusal.
+abbrev pub IsHeard : List Answer → Option (String Global) → Reply → Option (String Global) → Type 0
+IsHeard [] old reply new = ⊤
+IsHeard (only ∷ []) old reply new = (reply ≡ reply_in (string_bytes only.last)) × (new ≡ noted only old)
+IsHeard (first ∷ second ∷ []) old reply new =
+    (reply ≡ joined_reply (reply_in (string_bytes first.last)) (reply_in (string_bytes second.last))) × (new ≡ noted second (noted first old))
+IsHeard (first ∷ second ∷ third ∷ others) old reply new = ⊤
+
 -- The step after a request: its reply was received, it was lost, or the submission was given up.
 abbrev pub IsAnswered : Step → Step → Type 0
 IsAnswered step next =
     ((reply : Reply) × (next ≡ heard step reply)) ⊎ ((next ≡ lost step) ⊎ ((next ≡ deserted step) ⊎ (next ≡ deserted (lost step))))
 
--- The step after the next piece, which has this length or cannot be read.
-abbrev pub IsSupplied : Step → ℕ → Bool → Step → Type 0
-IsSupplied step count holds next = (next ≡ supplied step count holds) ⊎ (next ≡ unread step)
+-- The step after the next piece, which has this length or cannot be read. `last` says whether the document ends with it.
+abbrev pub IsSupplied : Step → ℕ → Bool → Bool → Step → Type 0
+IsSupplied step count last holds next = (next ≡ supplied step count last holds) ⊎ (next ≡ unread step)
 
 -- The found jobs, with this job if it has the token.
 abbrev pub IsLooked : ℕ → Found → Found → Type 0
@@ -86,8 +100,10 @@ was_closed (Accepted job) = true
 was_closed (Unprintable job) = true
 was_closed end = false
 
--- Nothing of the document is left to send.
+-- Nothing of the document is left to read, for the job may have been closed or is closed next.
 abbrev pub is_behind : Step → Bool
+is_behind (Sending job size piece last tries) = last
+is_behind (Measuring job size piece last) = last
 is_behind (Holding job size tries) = true
 is_behind (Closing job size tries again) = true
 is_behind (Checking job size) = true

@@ -223,6 +223,42 @@ impl<'a> Client<'a> {
         }
     }
 
+    /// Sends commands together and returns their replies, in the same order. After a fault the connection is closed.
+    pub fn exchange_all(&mut self, texts: &[Vec<u8>]) -> Result<Vec<Answer>, ConnectionFault>
+        ensures over { IfErr result (λ _. self.new.connection ≡ None) }
+        ensures kept { self.new ≡ record self.old { connection = self.new.connection } }
+    {
+        let answers = self.all(texts);
+        if answers.is_err() {
+            self.connection = None;
+        }
+        answers
+    }
+
+    // Over a new connection the client proves who it is before the second command.
+    fn all(&mut self, texts: &[Vec<u8>]) -> Result<Vec<Answer>, ConnectionFault>
+        ensures { self.new ≡ record self.old { connection = self.new.connection } }
+    {
+        if self.must_prove() {
+            return self.one_by_one(texts);
+        }
+        let alloc = self.rt.alloc();
+        match &mut self.connection {
+            Some(connection) => connection.exchange_all(alloc, texts),
+            None => Err(ConnectionFault::Lost),
+        }
+    }
+
+    fn one_by_one(&mut self, texts: &[Vec<u8>]) -> Result<Vec<Answer>, ConnectionFault>
+        ensures { self.new ≡ record self.old { connection = self.new.connection } }
+    {
+        let mut answers = Vec::new(self.rt.alloc());
+        for text in texts {
+            answers.push(self.send_and_read(text)?)?;
+        }
+        Ok(answers)
+    }
+
     // Returns whether the client has not proved who it is over this connection.
     fn must_prove(&self) -> bool
         ensures { result ≡ (self.now.proves && is_none (caller_of self.now.connection)) }

@@ -3,7 +3,7 @@ ghost use Rattle.std.specs.Prelude.{◌≡◌, ◌++◌, IfOk, OnOk};
 ghost use Rattle.std.specs.List.{list_any};
 ghost use Rattle.std.specs.Option.{option_map};
 ghost use Rattle.front_proof.specs.Standings.{standing_of};
-ghost use Rattle.spool_front.specs.SentCommands.{close_line, create_line, create_word, find_line, hold_line, identified_user, info_line, is_control, job_line, job_user, list_line, media_word, moment_word, name_line, names, queue_line, ranks, text_word};
+ghost use Rattle.spool_front.specs.SentCommands.{close_line, closeat_line, create_line, create_word, find_line, hold_line, identified_user, info_line, is_control, job_line, job_user, list_line, media_word, moment_word, name_line, names, queue_line, ranks, text_word};
 
 use command_lines::push_quoted;
 use front_proof::Caller;
@@ -134,6 +134,23 @@ pub fn close_line(alloc: Global, job: u32, draft: &Draft) -> Result<Vec<u8>, All
 {
     let mut line = Vec::new(alloc);
     write!(line, "close {job}").map_err(|_| AllocError)?;
+    push_text(&mut line, draft.name.as_str())?;
+    push_media(&mut line, &draft.media)?;
+    line.extend_from_slice(b"\n")?;
+    Ok(line)
+}
+
+/// Returns `closeat`, which closes a job only if its document has `size` bytes.
+pub fn closeat_line(
+    alloc: Global,
+    job: u32,
+    size: u64,
+    draft: &Draft,
+) -> Result<Vec<u8>, AllocError>
+    ensures { IfOk result (λ line. line.items ≡ closeat_line job size draft.now) }
+{
+    let mut line = Vec::new(alloc);
+    write!(line, "closeat {job} {size}").map_err(|_| AllocError)?;
     push_text(&mut line, draft.name.as_str())?;
     push_media(&mut line, &draft.media)?;
     line.extend_from_slice(b"\n")?;

@@ -1,12 +1,12 @@
 //! A connection to a service over its socket.
-ghost use Rattle.std.specs.Prelude.{◌≡◌, ◌≤◌, IfOk, Some, length, option_copied, string_bytes};
+ghost use Rattle.std.specs.Prelude.{◌≡◌, ◌≤◌, [], IfOk, OnOk, Some, length, option_copied, string_bytes};
 ghost use Rattle.std.specs.IoError.{error_kind};
 ghost use Rattle.spool_front.specs.TaskFaults.{lost_by};
 
 use crate::client::Answer;
 use front_proof::Caller;
 pub use service_client::ConnectionFault;
-use service_client::{Reply, Session};
+use service_client::{Answered, Reply, Session};
 use std::alloc::Global;
 use std::fs;
 use std::io::{self, ErrorKind, Read, Write};
@@ -39,6 +39,8 @@ fn owner_of(rt: &HostRuntime, socket: &str) -> Option<u32> {
 pub struct Socket {
     stream: UnixStream,
     buffer: Vec<u8>,
+    // The bytes to be sent before the next ones are received.
+    unsent: Vec<u8>,
 }
 
 impl service_client::Connection for Socket {
@@ -48,17 +50,33 @@ impl service_client::Connection for Socket {
 
     ghost came = { λ _. None };
 
+    // Commands that are sent together leave in one write, before their replies are waited for.
     fn send(&mut self, text: &[u8]) -> Result<(), ConnectionFault> {
-        match self.stream.write_all(text) {
-            Ok(()) => Ok(()),
-            Err(error) => Err(lost_by(error)),
-        }
+        self.unsent.extend_from_slice(text)?;
+        Ok(())
     }
 
     fn receive(&mut self, piece: &mut Vec<u8>) -> Result<(), ConnectionFault> {
+        write_unsent(&mut self.stream, &mut self.unsent)?;
         let count = read_some(&mut self.stream, &mut self.buffer)?;
         piece.extend_from_slice(&self.buffer[..count])?;
         Ok(())
+    }
+}
+
+// Writes all bytes, and leaves none.
+fn write_unsent(stream: &mut UnixStream, unsent: &mut Vec<u8>) -> Result<(), ConnectionFault>
+    ensures { OnOk result (unsent.new.items ≡ []) }
+{
+    if unsent.is_empty() {
+        return Ok(());
+    }
+    match stream.write_all(unsent) {
+        Ok(()) => {
+            unsent.clear();
+            Ok(())
+        }
+        Err(error) => Err(lost_by(error)),
     }
 }
 
@@ -93,7 +111,7 @@ impl Connection {
         let buffer = vec![in rt.alloc(); 0; PIECE]?;
         match UnixStream::connect(rt, socket) {
             Ok(stream) => Ok(Connection {
-                session: Session::new(rt.alloc(), Socket { stream, buffer }),
+                session: session_over(rt.alloc(), stream, buffer),
                 owner,
                 caller: None,
             }),
@@ -149,6 +167,20 @@ impl Connection {
         Ok((before, last))
     }
 
+    /// Sends commands together and returns their replies, in the same order. After an error the connection must be given up.
+    pub fn exchange_all(
+        &mut self,
+        alloc: Global,
+        texts: &[Vec<u8>],
+    ) -> Result<Vec<Answer>, ConnectionFault> {
+        let mut answers = Vec::new(alloc);
+        for text in texts {
+            self.session.send((), text, &mut answers)?;
+        }
+        self.session.settle(&mut answers)?;
+        answers_of(alloc, answers)
+    }
+
     /// Waits for lines that the service sends without a command.
     pub fn receive_lines(&mut self) -> Result<Vec<Vec<u8>>, ConnectionFault> {
         if !self.session.is_settled() {
@@ -156,6 +188,26 @@ impl Connection {
         }
         self.session.receive_lines()
     }
+}
+
+fn session_over(alloc: Global, stream: UnixStream, buffer: Vec<u8>) -> Session<Socket, ()> {
+    let unsent = Vec::new(alloc);
+    Session::new(
+        alloc,
+        Socket {
+            stream,
+            buffer,
+            unsent,
+        },
+    )
+}
+
+fn answers_of(alloc: Global, replies: Vec<Answered<()>>) -> Result<Vec<Answer>, ConnectionFault> {
+    let mut answers = Vec::new(alloc);
+    for answered in replies {
+        answers.push(answer_of(alloc, answered.reply)?)?;
+    }
+    Ok(answers)
 }
 
 // Returns a reply with its last line as text. A last line that is no text is no reply.

@@ -1,6 +1,7 @@
 //! Printing files, each of which becomes a job.
 ghost use Rattle.std.specs.Prelude.{◌≡◌, IsTrue};
 ghost use Rattle.std.specs.Io.KnownBytes.{IsAtEnd};
+ghost use Rattle.spool_front.specs.DocumentPieces.{rest_of};
 ghost use Rattle.spool_front.specs.JobDrafts.{IsLastPart};
 ghost use Rattle.spool_front.specs.Submissions.{is_refused, is_removed, status_at, told_of, was_closed};
 
@@ -227,7 +228,7 @@ fn submit<S: Read + Drop>(
     submitting: Submitting<'_>,
     document: &mut Document<S>,
 ) -> End
-    ensures { IsTrue (was_closed result) → IsAtEnd (S.remaining document.new.source) }
+    ensures { IsTrue (was_closed result) → IsAtEnd (rest_of (S.remaining document.new.source) document.new) }
 {
     let mut submitting = submitting;
     let end = submitting.submit(client, document);

@@ -1,20 +1,20 @@
 //! Submitting a document as exactly one job.
-ghost use Rattle.std.specs.Prelude.{◌≡◌, ◌<◌, ◌↔◌, ◌⊎◌, IfOk, IsSome, IsTrue, None, Some, cond, drop, false, is_some, length, string_bytes, take};
+ghost use Rattle.std.specs.Prelude.{◌≡◌, ◌<◌, ◌++◌, ◌∷◌, [], ◌↔◌, ◌⊎◌, IfOk, IsSome, IsTrue, List, None, Some, cond, drop, false, is_some, length, map, string_bytes, take, true};
 ghost use Rattle.std.specs.Io.KnownBytes.{IsAtEnd};
 ghost use Rattle.std.specs.Option.{option_map};
 ghost use Rattle.std.specs.Str.Iter.{HasSubslice};
 ghost use Rattle.front_proof.specs.Standings.{standing_of};
 ghost use Rattle.spool_front.specs.FoundJobs.{found_one, may_be_own, own_job, token_of, with_job};
-ghost use Rattle.spool_front.specs.SentCommands.{job_user};
-ghost use Rattle.spool_front.specs.DocumentPieces.{piece_of};
-ghost use Rattle.service_replies.specs.ServiceReplies.{reply_in, shown_of};
-ghost use Rattle.spool_front.specs.Submissions.{IsAnswered, IsLooked, IsSupplied, cause_text, denied_text, is_refusal, joined_reply, refusal_text, lost_after, one_more, was_closed};
+ghost use Rattle.spool_front.specs.SentCommands.{job_user, piece_texts};
+ghost use Rattle.spool_front.specs.DocumentPieces.{is_last, piece_of, rest_of};
+ghost use Rattle.service_replies.specs.ServiceReplies.{closing_reply, reply_in, shown_of};
+ghost use Rattle.spool_front.specs.Submissions.{IsAnswered, IsHeard, IsLooked, IsSupplied, cause_text, denied_text, is_refusal, joined_reply, refusal_text, lost_after, one_more, was_closed};
 ghost use Rattle.front_submission.specs.Service.{First, Second, last_bytes, part_of};
 ghost use Rattle.front_submission.specs.SubmissionSteps.{deserted, heard, lost, unread};
 ghost use Rattle.front_submission.specs.declared.step.Step.{Step};
 
 use crate::client::{Answer, Client, pause};
-use crate::commands::{Draft, close_line, create_line, find_line, hold_line, job_line, job_user};
+use crate::commands::{Draft, close_line, closeat_line, create_line, find_line, hold_line, job_line, job_user};
 use crate::connection::ConnectionFault;
 use crate::document::Document;
 use crate::host::Screen;
@@ -25,7 +25,7 @@ use front_submission::{Cause, End, Found, Own, Reply, Request, Shown, Step};
 use front_texts::{JobLine, JobShown, read_job_line, read_job_shown};
 use refusal_sentences::sentence_of;
 use service_client::send_text;
-use service_replies::{has_reason, reply_in, shown_of};
+use service_replies::{closing_reply, has_reason, reply_in, shown_of};
 use std::alloc::{AllocError, Global};
 use std::io::Read;
 use std::time::Instant;
@@ -114,7 +114,7 @@ impl<'a> Submitting<'a> {
         client: &mut Client<'_>,
         document: &mut Document<S>,
     ) -> End
-        ensures { IsTrue (was_closed result) → IsAtEnd (S.remaining document.new.source) }
+        ensures { IsTrue (was_closed result) → IsAtEnd (rest_of (S.remaining document.new.source) document.new) }
     {
         let mut step = Step::start();
         for _ in 0..u64::MAX {
@@ -169,12 +169,13 @@ impl<'a> Submitting<'a> {
     }
 
     fn read_piece<S: Read + Drop>(&self, step: Step, document: &mut Document<S>, size: u64) -> Step
-        ensures step { IsSupplied step (length (piece_of document.new)) (is_some self.now.draft.now.hold) result }
-        ensures end { length (piece_of document.new) < 131071 → (result ≡ unread step) ⊎ IsAtEnd (S.remaining document.new.source) }
+        ensures step { IsSupplied step (length (piece_of document.new)) (is_last document.new) (is_some self.now.draft.now.hold) result }
+        ensures short { (result ≡ unread step) ⊎ (length (piece_of document.new) < 131071 → is_last document.new ≡ true) }
+        ensures end { (result ≡ unread step) ⊎ (is_last document.new ≡ true → IsAtEnd (rest_of (S.remaining document.new.source) document.new)) }
     {
         self.show_progress(size);
         match document.next_piece() {
-            Ok(piece) => step.supplied(piece, self.draft.hold.is_some()),
+            Ok(piece) => step.supplied(piece, document.is_last(), self.draft.hold.is_some()),
             Err(_) => step.unread(),
         }
     }
@@ -259,9 +260,13 @@ impl<'a> Submitting<'a> {
             Request::Create => self.create(client),
             Request::Send {
                 job,
+                size,
                 piece: count,
-                ..
-            } => self.send(client, job, last_bytes(piece, count)),
+                last,
+            } => {
+                let end = last.then_some(size.saturating_add(u64::from(count)));
+                self.send(client, job, last_bytes(piece, count), end)
+            }
             Request::Close { job } => self.order(client, &close_line(alloc, job, self.draft)?),
             Request::Cancel { job } => self.cancel(client, job),
             Request::Hold { job } => match self.draft.hold {
@@ -306,24 +311,58 @@ impl<'a> Submitting<'a> {
         self.order(client, &line)
     }
 
-    // Sends a piece. If it is long, two commands are sent together.
+    // Sends a piece. After the last one the job is closed at once, if it then has `end` bytes.
     fn send(
         &mut self,
         client: &mut Client<'_>,
         job: u32,
         piece: &[u8],
+        end: Option<u64>,
     ) -> Result<Reply, ConnectionFault> {
-        let alloc = self.rt.alloc();
-        let (first, second) = parts_of(piece);
-        let line = send_text(alloc, job, first)?;
-        if second.is_empty() {
-            return self.order(client, &line);
+        let texts = piece_texts(self.rt.alloc(), self.draft, job, piece, end)?;
+        let answers = client.exchange_all(&texts);
+        drop(texts);
+        let mut answers = answers?;
+        let reply = self.reply_to_piece(&mut answers, end.is_some());
+        drop(answers);
+        Ok(reply)
+    }
+
+    // Returns the reply to a piece. A refusal of the close that was sent together with it is not stored: another close follows, unless the
+    // piece was refused.
+    fn reply_to_piece(&mut self, answers: &mut Vec<Answer>, last: bool) -> Reply
+        ensures open { last ≡ false → IsHeard answers.old.items self.old.refusal result self.new.refusal }
+        ensures closed { last ≡ true → (sends : List Answer) (close : Answer) → answers.old.items ≡ sends ++ close ∷ [] → (reply : Reply)
+            × (result ≡ closing_reply reply (reply_in (string_bytes close.last))) × IsHeard sends self.old.refusal reply self.new.refusal }
+        ensures kept { self.new ≡ record self.old { refusal = self.new.refusal } }
+    {
+        if !last {
+            return self.reply_to_sends(answers);
         }
-        let last = send_text(alloc, job, second)?;
-        let (first, second) = client.exchange_both(&line, &last)?;
-        let first = self.reply_of(first);
-        let second = self.reply_of(second);
-        Ok(joined_reply(first, second))
+        let Some(answer) = answers.pop() else {
+            return Reply::Unclear;
+        };
+        let closed = reply_in(answer.last.as_str());
+        drop(answer);
+        closing_reply(self.reply_to_sends(answers), closed)
+    }
+
+    // Returns the reply to a piece from those to its commands.
+    fn reply_to_sends(&mut self, answers: &mut Vec<Answer>) -> Reply
+        ensures heard { IsHeard answers.old.items self.old.refusal result self.new.refusal }
+        ensures kept { self.new ≡ record self.old { refusal = self.new.refusal } }
+    {
+        let second = answers.pop();
+        let first = answers.pop();
+        match (first, second) {
+            (Some(first), Some(second)) => {
+                let first = self.reply_of(first);
+                let second = self.reply_of(second);
+                joined_reply(first, second)
+            }
+            (None, Some(only)) => self.reply_of(only),
+            _ => Reply::Unclear,
+        }
     }
 
     // Cancels the job. A refusal of `cancel` is not stored, since the message reports that of the document.
@@ -488,6 +527,28 @@ fn parts_at(piece: &[u8], most: usize) -> (&[u8], &[u8])
         return (piece, &[]);
     }
     piece.split_at(most)
+}
+
+// Returns the commands that send a piece, and the close that follows the last one.
+fn piece_texts(
+    alloc: Global,
+    draft: &Draft,
+    job: u32,
+    piece: &[u8],
+    end: Option<u64>,
+) -> Result<Vec<Vec<u8>>, AllocError>
+    ensures { IfOk result (λ texts. map (λ text. text.items) texts.items ≡ piece_texts draft.now job piece.now end) }
+{
+    let (first, second) = parts_of(piece);
+    let mut texts = Vec::new(alloc);
+    texts.push(send_text(alloc, job, first)?)?;
+    if !second.is_empty() {
+        texts.push(send_text(alloc, job, second)?)?;
+    }
+    if let Some(size) = end {
+        texts.push(closeat_line(alloc, job, size, draft)?)?;
+    }
+    Ok(texts)
 }
 
 // Returns the reply to a piece from the replies to its two commands. Only if the second command was refused, the first one decides: the other

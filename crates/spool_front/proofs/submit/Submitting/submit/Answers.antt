@@ -8,7 +8,8 @@ loop-preserved g c =
     elim c.match-request.branch [
       | in-Read w ↦
           rw (w.step-is, w.document-is)
-          (read_behind _ c.loop.step w.read_piece-step.result w.in-Read.size _ _ (sym c.request.ensures ∙ w.in-Read.is) w.read_piece-step.ensures.step w.read_piece-step.ensures.end)
+          (read_behind _ c.loop.step w.read_piece-step.result w.in-Read.size _ _ _ (sym c.request.ensures ∙ w.in-Read.is)
+          w.read_piece-step.ensures.step w.read_piece-step.ensures.short w.read_piece-step.ensures.end)
       | in_default-request w ↦
           rw (w.step-is, w.document-is)
           (λ h. c.loop.invariant (answered_behind c.loop.step w.request-step.result w.request-step.ensures h))
