@@ -14,7 +14,7 @@
 //! | `close` | `job N` | repeat `close` if the job is still incoming; otherwise the reply states how the job ended |
 //!
 //! The two commands of a piece are sent together. The first one has up to 65,536 bytes and the second one fewer, so the size of the job tells
-//! which of them were executed. If it was only the second one, the job is canceled.
+//! which of them were executed. If it was only the second one, the job is canceled. `closeat` closes the job only if both were executed.
 //!
 //! [`Step::heard`] takes one reply for all commands of [`Request::Send`]: [`Reply::Closed`] if `closeat` was accepted. Otherwise it is the reply
 //! to the piece, but [`Reply::Unclear`] if the piece was taken and `closeat` was not clearly refused. If the piece was taken and `closeat` was
