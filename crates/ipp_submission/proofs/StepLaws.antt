@@ -87,7 +87,7 @@ early_sent job size piece last tries (Jobs found) e = e
 early_sent job size piece last tries (Job shown) e = e
 early_sent job size piece last tries Gone e = e
 early_sent job size piece last tries Later e = one_early (tries == 0) _ _ tt e
-early_sent job size piece last tries NotIncoming e = tt
+early_sent job size piece last tries NotIncoming e = one_early last _ _ e tt
 early_sent job size piece last tries Denied e = tt
 early_sent job size piece last tries Unclear e = e
 
