@@ -1,6 +1,8 @@
 -- Whether a process ignores SIGCHLD, as the system shows it.
-use Rattle.std.specs.Prelude.{ℕ, ◌-◌, Bool, ◌&&◌, ◌==◌, nat_eq, nat_le, List, codes, length, slice_index_or}
+use Rattle.std.specs.Prelude.{◌≡◌, ◌⊎◌, ℕ, ◌-◌, Bool, ◌&&◌, ◌==◌, nat_eq, nat_le, List, codes, length, slice_index_or}
 use Rattle.std.specs.List.{list_any, slice_split, starts_with}
+use Rattle.spool_runtime.specs.declared.fault.ShellFault.{ShellFault}
+use Rattle.spool_runtime.specs.declared.fault.ShellFault.TheVariants.{Ignored, Memory}
 
 -- The codes of the odd hexadecimal digits, in lower case.
 abbrev pub is_odd : ℕ → Bool
@@ -14,3 +16,7 @@ reports_ignored line = nat_le 5 (length line) && starts_with nat_eq line (codes 
 -- A line of the text says so.
 abbrev pub ignores_in : List ℕ → Bool
 ignores_in status = list_any reports_ignored (slice_split (λ b. b == 10) status)
+
+-- The signal is ignored, or memory ran out.
+abbrev pub IsOfEnds : ShellFault → Type 0
+IsOfEnds fault = (fault ≡ Ignored) ⊎ (fault ≡ Memory)

@@ -1,5 +1,7 @@
 -- The reasons that are reported for a failed stage.
-use Rattle.std.specs.Prelude.{Bool, true, false, cond, ◌==◌, Option, None, Some}
+use Rattle.std.specs.Prelude.{ℕ, Bool, true, false, cond, ◌==◌, List, Option, None, Some}
+use Rattle.child_pipeline.specs.declared.order.Program.{Program}
+use Rattle.child_pipeline.specs.declared.order.Program.TheVariants as programs
 use Rattle.spool_types.specs.declared.effect.Effect.{Effect}
 use Rattle.spool_types.specs.declared.effect.Effect.TheVariants as effects
 use Rattle.spool_types.specs.declared.effect.Exit.{Exit}
@@ -22,3 +24,12 @@ is_message _ = false
 abbrev pub may_pass : Reason → Bool
 may_pass (reasons.Short shortage) = true
 may_pass _ = false
+
+-- The program of a stage.
+abbrev pub is_filter : Program → Bool
+is_filter (programs.Filter name) = true
+is_filter (programs.Backend scheme) = false
+
+abbrev pub name_of : Program → List ℕ
+name_of (programs.Filter name) = name
+name_of (programs.Backend scheme) = scheme

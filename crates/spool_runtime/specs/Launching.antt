@@ -1,5 +1,5 @@
 -- How a launcher handles an order and the end of a child.
-use Rattle.std.specs.Prelude.{◌≡◌, ℕ, ℤ, pos, Bool, false, not, ◌&&◌, ◌||◌, List, length, ◌==◌, codes, Option, None, Some, IsSome}
+use Rattle.std.specs.Prelude.{◌≡◌, ℕ, ℤ, pos, Bool, false, not, ◌&&◌, ◌||◌, List, length, ◌==◌, codes, cond, Option, None, Some, IsSome, Result, Ok, Err}
 use Rattle.std.specs.Option.{option_map}
 use Rattle.std.specs.Process.{exit_code, exit_signal}
 use Rattle.std.specs.declared.process.status.ExitStatus.{ExitStatus}
@@ -19,7 +19,7 @@ use Rattle.spool_runtime.specs.Shortage.{shortage_of}
 use Rattle.spool_runtime.specs.SideDevice.{device_in}
 use Rattle.spool_runtime.specs.declared.launcher.Room.{Room}
 use Rattle.spool_runtime.specs.declared.reasons.Reason.{Reason}
-use Rattle.spool_runtime.specs.declared.reasons.Reason.TheVariants.{Refused, Short}
+use Rattle.spool_runtime.specs.declared.reasons.Reason.TheVariants.{Cut, Refused, Short}
 use Rattle.spool_runtime.specs.declared.shortage.Shortage.{Shortage}
 
 -- The program that an order names, if the list has it.
@@ -58,6 +58,10 @@ is_success exit = false
 abbrev pub may_be_cut : Finish → Bool → Room → Bool
 may_be_cut finish filter room =
     is_success finish.exit && ((not room.output && (filter || not (length finish.output == 0))) || (not room.errors && not (length finish.errors == 0)))
+
+-- A child whose bytes may be cut off is lost.
+abbrev pub whole : Bool → Room → Finish → Result Finish Reason
+whole filter room finish = cond (may_be_cut finish filter room) (Err Cut) (Ok finish)
 
 -- ---- why a start was refused
 

@@ -15,3 +15,4 @@ pub mod Shortage
 pub mod SideDevice
 pub mod UserChecks
 pub mod ProgramArguments
+pub mod Patience

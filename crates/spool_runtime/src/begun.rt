@@ -4,7 +4,7 @@
 //! program cannot know how they ended, and each job would be printed again and again.
 ghost use Rattle.std.specs.Prelude.{◌≡◌, ◌⊎◌, OnOk, false, true, map, IfErr, IfOk};
 ghost use Rattle.std.specs.List.{list_any};
-ghost use Rattle.spool_runtime.specs.Begun.{ignores_in, is_odd, reports_ignored};
+ghost use Rattle.spool_runtime.specs.Begun.{IsOfEnds, ignores_in, is_odd, reports_ignored};
 ghost use Rattle.spool_runtime.specs.declared.fault.ShellFault.TheVariants.{Ignored, Memory};
 
 use crate::device_lines::lines_of;
@@ -21,7 +21,9 @@ const STATUS: &str = "/proc/self/status";
 const IGNORED: &[u8] = b"SigIgn:";
 
 /// Fails with `Ignored` if SIGCHLD is ignored, so that the ends of children cannot be known.
-pub fn check_child_ends(rt: &HostRuntime) -> Result<(), ShellFault> {
+pub fn check_child_ends(rt: &HostRuntime) -> Result<(), ShellFault>
+    ensures { IfErr result IsOfEnds }
+{
     match fs::read_to_string(rt, STATUS) {
         Ok(status) => check_status(rt.alloc(), status.as_bytes()),
         Err(error) if error.kind() == ErrorKind::OutOfMemory => Err(ShellFault::Memory),

@@ -1,5 +1,5 @@
 //! The files of a child, in the spool's folder.
-ghost use Rattle.std.specs.Prelude.{◌≡◌, IfOk};
+ghost use Rattle.std.specs.Prelude.{◌≡◌, ◌++◌, IfOk, codes};
 ghost use Rattle.std.specs.String.{string_bytes};
 ghost use Rattle.spool_runtime.specs.ChildFiles.{ReadsUpTo, file_of, folder_of, wants_room};
 ghost use Rattle.filter_args.specs.declared.files.ChildFile.TheVariants as files;
@@ -95,7 +95,9 @@ pub(crate) fn make_file(rt: &HostRuntime, path: &str) -> io::Result<File> {
 
 /// Returns the path of the file that tests whether the folder has room. It is named like the file of a child, so the
 /// next start removes it after a crash. No job has the number 0.
-pub(crate) fn probe_path(alloc: Global, place: &Place) -> Result<String, AllocError> {
+pub(crate) fn probe_path(alloc: Global, place: &Place) -> Result<String, AllocError>
+    ensures { IfOk result (λ path. string_bytes path ≡ string_bytes place.now.root ++ codes "/out-0-0-0") }
+{
     let root = place.root.as_str();
     format!(in alloc; "{root}/out-0-0-0")
 }

@@ -7,7 +7,7 @@
 //! There is no time limit: the user must stop a backend that hangs. Processes that a backend leaves running are not
 //! waited for. Its standard error is discarded, and so is everything that it prints after its first 1,048,576 bytes.
 
-ghost use Rattle.std.specs.Prelude.{◌≡◌, ◌≢◌, ℕ, ◌∷◌, List, None, Option, Some, Err, IfErr, IfOk, IsOk, OnErr, OnOk, codes, true};
+ghost use Rattle.std.specs.Prelude.{◌≡◌, ◌≢◌, ◌≤◌, ℕ, ◌∷◌, List, None, Option, Some, Err, IfErr, IfOk, IsOk, OnErr, OnOk, codes, length, true};
 ghost use Rattle.std.specs.IoError.{error_kind};
 ghost use Rattle.std.specs.Process.{clears_env, command_args, command_program};
 ghost use Rattle.spool_runtime.specs.DeviceLines.{IsOfPrinting, Knows, PrintsDevices, PrintsTold, lines_of};
@@ -134,7 +134,9 @@ struct Telling<'a> {
 impl<'a> Telling<'a> {
     // Returns its output up to the limit, and the backend, which must be waited for. The closed pipe ends a backend
     // that continues to print.
-    fn all(self, alloc: Global) -> (io::Result<Vec<u8>>, Child) {
+    fn all(self, alloc: Global) -> (io::Result<Vec<u8>>, Child)
+        ensures { IfOk result.0 (λ text. length text.items ≤ 1048576) }
+    {
         let mut telling = self;
         let told = read_at_most(alloc, &mut telling, MOST_LINES);
         let Telling { child, .. } = telling;

@@ -54,7 +54,7 @@
 //!
 //! Each error is logged in a line with its cause. So is the end of a child that failed without a message
 //! ([`crate::reasons`]).
-ghost use Rattle.std.specs.Prelude.{◌≡◌, ◌≤◌, ◌+◌, ◌-◌, ◌/◌, [], map, min, None, IfOk, IfSome, IsErr, IsOkAnd, IsSomeAnd, is_some, string_bytes};
+ghost use Rattle.std.specs.Prelude.{◌≡◌, ◌≤◌, ◌+◌, ◌-◌, ◌*◌, ◌/◌, [], false, map, min, None, true, IfOk, IfSome, IsErr, IsOkAnd, IsSomeAnd, is_some, string_bytes};
 ghost use Rattle.std.specs.Option.{option_map};
 ghost use Rattle.spool_types.specs.Limits.{longest_document};
 ghost use Rattle.child_pipeline.specs.Finishes.{most_errors};
@@ -63,7 +63,8 @@ ghost use Rattle.spool_runtime.specs.ChildUsers.{HasUsualLimits, run_user_of, us
 ghost use Rattle.spool_runtime.specs.Serving.{IsPlace};
 ghost use Rattle.std.specs.IoError.{error_kind, raw_os_error};
 ghost use Rattle.std.specs.Time.{instant_nanos};
-ghost use Rattle.spool_runtime.specs.Launching.{TellsEnd, TellsNoEnd, device_for, input_name, may_be_cut, program_for, refusal_of};
+ghost use Rattle.spool_runtime.specs.FailureReasons.{is_filter};
+ghost use Rattle.spool_runtime.specs.Launching.{TellsEnd, TellsNoEnd, device_for, input_name, may_be_cut, program_for, refusal_of, whole};
 
 use crate::child_files::{
     ChildPaths, has_room, make_file, make_file_of, output_to_hand, probe_path, read_at_most,
@@ -571,7 +572,9 @@ impl<'a, L: Log> Launcher<'a, L> {
 
     // Returns the finish, or an error if the child's bytes may be cut off. A folder without room is logged in either
     // case.
-    fn whole(&self, run: &StageRun, finish: Finish, room: Room) -> Result<Finish, Reason> {
+    fn whole(&self, run: &StageRun, finish: Finish, room: Room) -> Result<Finish, Reason>
+        ensures { result ≡ whole (is_filter run.now.program) room finish }
+    {
         if room.output && room.errors {
             return Ok(finish);
         }
@@ -606,7 +609,11 @@ fn millis_between(earlier: Instant, later: Instant) -> u64
 
 // Returns for how many milliseconds the side channels are not polled: 1 after something arrived, otherwise twice the
 // last time, at most 16.
-fn next_pause(last: u64, heard: bool) -> u64 {
+fn next_pause(last: u64, heard: bool) -> u64
+    ensures soon { heard ≡ true → result ≡ 1 }
+    ensures twice { heard ≡ false → 1 ≤ last → last ≤ 8 → result ≡ last * 2 }
+    ensures range { (1 ≤ result) × (result ≤ 16) }
+{
     if heard {
         1
     } else {

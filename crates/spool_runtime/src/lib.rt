@@ -54,8 +54,13 @@
 //!   users and the default limits (`users`, `limits`).
 //! - The decisions about a failed start, a program's first bytes, output that may be cut off, and the reason of a
 //!   failure are exactly as defined (`refusal_of`, `shortage_of`, `wants_room`, `begins_right` of `program_fitness`,
-//!   `may_be_cut`, `bad_end`, `says_why`, `check_status`). `child_of` returns the child that the name of a left-over
-//!   file shows.
+//!   `may_be_cut`, `whole`, `bad_end`, `says_why`, `reason_of`, `check_status`). `child_of` returns the child that the
+//!   name of a left-over file shows. [`check_child_ends`] fails only if SIGCHLD is ignored or memory runs out
+//!   (`IsOfEnds`).
+//! - The starts of a round wait 40 times in all, for 50 ms each, and those of a tick never wait ([`shortage`]:
+//!   `patient`, `may_wait`, `after_wait`).
+//! - A client of a side channel that leaves its answers for more than two seconds is lost (`lost`, `kept` of `wait`), and
+//!   no answer that it took is sent again (`all`, `part` of `pass`).
 //! - [`NamedDisk`] is the spool's file as a disk that promises nothing about its bytes. It meets the trait `Disk`.
 //! - [`side_device::device_of`] returns exactly the device of a URI's options, with their defaults (`device_in`,
 //!   `device_for`). `answer_all` appends the answers to a client's bytes, or a prefix of them, to the earlier ones
@@ -77,6 +82,7 @@
 //!   started, and that the script, the files and the sockets work.
 //! - The output of a real backend, and that an answer on a side channel reaches the client's socket.
 //! - That the launcher moves `first` on, and when it has room for fewer than four starts.
+//! - That the side channel of exactly the job that has ended is closed.
 //! - That a lock keeps a user for one child, what the script does, and that the system separates users.
 //!   `tests/test_hostile.py`
 //! - How long a poll and a start take: read in the code. A poll asks the system once. The starts of a round try again

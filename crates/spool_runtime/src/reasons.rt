@@ -1,9 +1,10 @@
 //! Logs why a stage failed, as far as the launcher knows: a line for each failure that the child did not explain
 //! itself.
-ghost use Rattle.std.specs.Prelude.{◌≡◌, IfOk};
+ghost use Rattle.std.specs.Prelude.{◌≡◌, ◌<◌, ◌≤◌, IfOk, IfSome, Some, false, length};
 ghost use Rattle.std.specs.List.{list_any};
 ghost use Rattle.stderr_lines.specs.Reports.{report_of};
-ghost use Rattle.spool_runtime.specs.FailureReasons.{bad_end, is_message, may_pass};
+ghost use Rattle.spool_types.specs.Limits.{longest_document};
+ghost use Rattle.spool_runtime.specs.FailureReasons.{bad_end, is_filter, is_message, may_pass, name_of};
 
 use crate::shortage::Shortage;
 use child_pipeline::{Finish, Program};
@@ -73,12 +74,16 @@ impl StageRun {
         error!(log; "job {job} attempt {attempt} stage {stage} {name}: {reason}");
     }
 
-    pub fn is_filter(&self) -> bool {
+    pub fn is_filter(&self) -> bool
+        ensures { result ≡ is_filter self.now.program }
+    {
         matches!(self.program, Program::Filter(_))
     }
 
     // Returns the name of its program in the file of programs.
-    fn name(&self) -> &str {
+    fn name(&self) -> &str
+        ensures { result.now ≡ name_of self.now.program }
+    {
         match &self.program {
             Program::Filter(name) => name.as_str(),
             Program::Backend(scheme) => scheme.as_str(),
@@ -86,8 +91,13 @@ impl StageRun {
     }
 }
 
-/// Returns why the stage with this finish failed, if only the launcher can report it.
-pub(crate) fn reason_of(alloc: Global, finish: &Finish) -> Option<Reason> {
+/// Returns why the stage with this finish failed, if only the launcher can report it. If memory runs out while its
+/// standard error is read, it counts as without a message.
+pub(crate) fn reason_of(alloc: Global, finish: &Finish) -> Option<Reason>
+    ensures long { longest_document < length finish.now.output → result ≡ Some (Reason.LongOutput longest_document) }
+    ensures silent { length finish.now.output ≤ longest_document → list_any is_message (report_of finish.now.errors).effects ≡ false → result ≡ bad_end finish.now.exit }
+    ensures bad { length finish.now.output ≤ longest_document → IfSome result (λ reason. bad_end finish.now.exit ≡ Some reason) }
+{
     if LONGEST_DOCUMENT < finish.output.as_slice().len() {
         return Some(Reason::LongOutput(LONGEST_DOCUMENT));
     }

@@ -29,9 +29,11 @@
 //! A client that disconnects, even within a packet, or that leaves its answers unread for two seconds loses its
 //! session, and nothing else. A child has at most eight clients at once. Others wait until one of these has
 //! disconnected. After 256 clients the socket is closed, so further clients are refused.
-ghost use Rattle.std.specs.Prelude.{◌≡◌, ◌<◌, ◌↔◌, IsTrue, IfOk, OnOk, drop};
+ghost use Rattle.std.specs.Prelude.{◌≡◌, ◌<◌, ◌≤◌, ◌+◌, ◌++◌, ◌∷◌, ◌↔◌, [], IsTrue, IfOk, IsSome, OnOk, drop, length, true};
+ghost use Rattle.std.specs.List.{list_all};
+ghost use Rattle.std.specs.IoError.{error_kind};
 ghost use Rattle.std.specs.Vec.{vec_capacity, vec_len};
-ghost use Rattle.spool_runtime.specs.ClientSessions.{AnswersPiece};
+ghost use Rattle.spool_runtime.specs.ClientSessions.{AnswersPiece, is_closed, may_pass};
 
 use crate::device::remove_if_there;
 use side_channel::{Device, Fed, Session, SideFault};
@@ -111,7 +113,9 @@ enum Heard {
 }
 
 impl SideLines {
-    pub fn new(alloc: Global) -> SideLines {
+    pub fn new(alloc: Global) -> SideLines
+        ensures { result.lines.items ≡ [] }
+    {
         SideLines {
             lines: Vec::new(alloc),
         }
@@ -119,7 +123,8 @@ impl SideLines {
 
     /// Reserves memory for one more channel.
     pub fn reserve(&mut self) -> Result<(), AllocError>
-        ensures { OnOk result (vec_len self.new.lines < vec_capacity self.new.lines) }
+        ensures room { OnOk result (vec_len self.new.lines < vec_capacity self.new.lines) }
+        ensures kept { self.new.lines.items ≡ self.old.lines.items }
     {
         self.lines.reserve(1)
     }
@@ -127,12 +132,15 @@ impl SideLines {
     /// Adds the channel of a child that has started.
     pub fn add(&mut self, line: SideLine)
         requires { vec_len self.old.lines < vec_capacity self.old.lines }
+        ensures { self.new.lines.items ≡ self.old.lines.items ++ line ∷ [] }
     {
         self.lines.push_reserved(line);
     }
 
     /// Returns whether no channel has a client or accepts one.
-    pub fn are_closed(&self) -> bool {
+    pub fn are_closed(&self) -> bool
+        ensures { result ≡ list_all is_closed self.now.lines.items }
+    {
         self.lines.iter().all(|line| line.is_closed())
     }
 
@@ -197,7 +205,9 @@ impl SideLine {
     /// Makes the socket of this job's child, which only its owner may use. A file that a crash left under this name is
     /// removed first.
     pub fn bind(rt: &HostRuntime, path: &str, job: JobId, device: Device) -> io::Result<SideLine>
-        ensures { IfOk result (λ line. line.device ≡ device) }
+        ensures device { IfOk result (λ line. line.device ≡ device) }
+        ensures job { IfOk result (λ line. line.job ≡ job) }
+        ensures clients { IfOk result (λ line. IsSome line.listener × (line.clients.items ≡ []) × (line.left ≡ 256)) }
     {
         remove_if_there(rt, Path::new(path))?;
         let listener = UnixListener::bind(rt, path)?;
@@ -213,7 +223,9 @@ impl SideLine {
         })
     }
 
-    fn is_closed(&self) -> bool {
+    fn is_closed(&self) -> bool
+        ensures { result ≡ is_closed self.now }
+    {
         self.listener.is_none() && self.clients.is_empty()
     }
 
@@ -329,7 +341,11 @@ impl SideClient {
     }
 
     // Notes that the client took `count` bytes.
-    fn pass(&mut self, count: usize) -> Heard {
+    fn pass(&mut self, count: usize) -> Heard
+        ensures heard { result ≡ Heard.Something }
+        ensures all { length self.old.unsent.items ≤ self.old.sent + count → (self.new.unsent.items ≡ []) × (self.new.sent ≡ 0) × (self.new.waited ≡ 0) }
+        ensures part { self.old.sent + count < length self.old.unsent.items → self.new ≡ record self.old { waited = 0; sent = self.old.sent + count } }
+    {
         self.waited = 0;
         self.sent = self.sent.saturating_add(count);
         if self.unsent.len() <= self.sent {
@@ -339,7 +355,10 @@ impl SideClient {
         Heard::Something
     }
 
-    fn wait(&mut self, since: u64) -> Heard {
+    fn wait(&mut self, since: u64) -> Heard
+        ensures lost { 2000 < self.old.waited + since → (result ≡ Heard.Something) × (self.new.gone ≡ true) }
+        ensures kept { self.old.waited + since ≤ 2000 → (result ≡ Heard.Nothing) × (self.new ≡ record self.old { waited = self.old.waited + since }) }
+    {
         self.waited = self.waited.saturating_add(since);
         if PATIENCE < self.waited {
             return self.leave();
@@ -348,7 +367,9 @@ impl SideClient {
     }
 
     // Notes that the client is lost or has disconnected.
-    fn leave(&mut self) -> Heard {
+    fn leave(&mut self) -> Heard
+        ensures { (result ≡ Heard.Something) × (self.new ≡ record self.old { gone = true }) }
+    {
         self.gone = true;
         Heard::Something
     }
@@ -366,7 +387,9 @@ fn left_of(bytes: &[u8], sent: usize) -> &[u8]
 }
 
 // Returns whether a call on a socket would wait, or was interrupted.
-fn may_pass(error: &io::Error) -> bool {
+fn may_pass(error: &io::Error) -> bool
+    ensures { result ≡ may_pass (error_kind error.now) }
+{
     matches!(error.kind(), ErrorKind::WouldBlock | ErrorKind::Interrupted)
 }
 

@@ -3,8 +3,9 @@
 //! The starts of a round wait two seconds in all. A finish begins another round, and so does a start for a queue that
 //! does not follow the last one in order. So two successive rounds without a start may count as one. Descriptors are
 //! tested by opening those that four starts need, and room by a file of 64 KiB. Memory and processes are not tested.
-ghost use Rattle.std.specs.Prelude.{◌≡◌, ◌≤◌};
+ghost use Rattle.std.specs.Prelude.{◌≡◌, ◌≤◌, ◌-◌, None, Some, cond, false, true};
 ghost use Rattle.std.specs.IoError.{error_kind, raw_os_error};
+ghost use Rattle.spool_runtime.specs.Patience.{after_wait, begun, may_wait, patient};
 ghost use Rattle.spool_runtime.specs.Shortage.{begins_round, short_number, shortage_of};
 
 use crate::child_files::make_file_of;
@@ -117,7 +118,9 @@ pub(crate) struct Descriptors {
 }
 
 impl Descriptors {
-    pub fn new() -> Descriptors {
+    pub fn new() -> Descriptors
+        ensures { result.left ≡ 0 }
+    {
         Descriptors {
             sight: Sight { at: None },
             left: 0,
@@ -137,7 +140,9 @@ impl Descriptors {
     }
 
     /// Counts the descriptors of one start as used.
-    pub fn take(&mut self) {
+    pub fn take(&mut self)
+        ensures { self.new ≡ record self.old { left = self.old.left - 1 } }
+    {
         self.left = self.left.saturating_sub(1);
     }
 }
@@ -213,7 +218,9 @@ pub(crate) struct Patience {
 }
 
 impl Patience {
-    pub fn new() -> Patience {
+    pub fn new() -> Patience
+        ensures { result ≡ patient }
+    {
         Patience {
             left: MOST_WAITS,
             failed: None,
@@ -223,12 +230,16 @@ impl Patience {
     }
 
     /// Begins the starts of a tick, which do not wait.
-    pub fn hurry(&mut self) {
+    pub fn hurry(&mut self)
+        ensures { self.new ≡ record self.old { hurried = true } }
+    {
         self.hurried = true;
     }
 
     /// A child is finished, and a round is over. The next start belongs to another round, and may succeed.
-    pub fn renew(&mut self) {
+    pub fn renew(&mut self)
+        ensures { self.new ≡ patient }
+    {
         self.left = MOST_WAITS;
         self.failed = None;
         self.last = None;
@@ -236,12 +247,16 @@ impl Patience {
     }
 
     /// Notes that a start failed for a shortage.
-    pub fn fail(&mut self, rt: &HostRuntime) {
+    pub fn fail(&mut self, rt: &HostRuntime)
+        ensures { self.new ≡ record self.old { failed = self.new.failed } }
+    {
         self.failed = Instant::now(rt).ok();
     }
 
     /// Returns whether a start failed for a shortage less than two seconds ago, and no child was finished since.
-    pub fn is_short(&self, rt: &HostRuntime) -> bool {
+    pub fn is_short(&self, rt: &HostRuntime) -> bool
+        ensures { self.now.failed ≡ None → result ≡ false }
+    {
         let Some(failed) = self.failed else {
             return false;
         };
@@ -252,7 +267,9 @@ impl Patience {
     }
 
     /// Begins a start for this queue. The queues of a round are in ascending order.
-    pub fn begin(&mut self, queue: &str) {
+    pub fn begin(&mut self, queue: &str)
+        ensures { self.new ≡ begun queue.now self.old }
+    {
         if let Some(last) = &self.last {
             if begins_round(last.as_str(), queue) {
                 self.left = MOST_WAITS;
@@ -261,12 +278,17 @@ impl Patience {
     }
 
     /// Ends the start for this queue.
-    pub fn pass(&mut self, queue: QueueName) {
+    pub fn pass(&mut self, queue: QueueName)
+        ensures { self.new ≡ record self.old { last = Some queue } }
+    {
         self.last = Some(queue);
     }
 
     /// Waits once, unless this round's starts have waited enough. Returns whether it waited.
-    pub fn wait(&mut self, rt: &HostRuntime) -> bool {
+    pub fn wait(&mut self, rt: &HostRuntime) -> bool
+        ensures waits { result ≡ may_wait self.old }
+        ensures left { self.new ≡ after_wait self.old }
+    {
         if self.hurried || self.left == 0 {
             return false;
         }

@@ -1,11 +1,12 @@
 -- The meaning of the arguments about children.
-use Rattle.std.specs.Prelude.{◌≡◌, ◌≤◌, ◌*◌, ◌==◌, ℕ, Bool, false, List, [], ◌∷◌, Option, None, Some, codes, cond}
+use Rattle.std.specs.Prelude.{◌≡◌, ◌≤◌, ◌*◌, ◌==◌, ℕ, Bool, false, List, [], ◌∷◌, Option, None, Some, codes, cond, map}
 use Rattle.std.specs.List.{slice_split}
 use Rattle.std.specs.Option.{option_map}
 use Rattle.clap.specs.Words.{App, Row, Text, first_of, one_of, with_rule}
 use Rattle.clap.specs.declared.parser.matches.ArgMatches.{ArgMatches}
 use Rattle.spool_runtime.specs.ProgramArguments.{HasNumberIn, number_or, option_in, text_option}
 use Rattle.spool_runtime.specs.declared.child_users.ChildLimits.{ChildLimits}
+use Rattle.spool_runtime.specs.declared.child_users.ChildUser.{ChildUser}
 use Rattle.spool_service.specs.declared.child_words.ChildWords.{ChildWords}
 
 -- `[--children-user USERS] [--child-memory MIB] [--child-processes N] [--child-file-size MIB] [--child-open-files N]`
@@ -41,6 +42,10 @@ pub record HasChildNumbers (m : ArgMatches) : Type 0 where
 abbrev pub user_names : Option Text → List Text
 user_names None = []
 user_names (Some text) = slice_split (λ b. b == 44) text
+
+-- The numbers of users, in their order.
+abbrev pub user_numbers : List ChildUser → List ℕ
+user_numbers users = map (λ user. user.uid) users
 
 -- ---- values together
 

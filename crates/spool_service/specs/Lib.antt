@@ -6,3 +6,4 @@ pub mod Proving
 pub mod Socket
 pub mod Start
 pub mod SocketNames
+pub mod ServiceFaults

@@ -1,5 +1,6 @@
 //! Creates what clients connect to: the sockets, and the folder of proofs.
-ghost use Rattle.std.specs.Prelude.{◌≡◌, IfOk, string_bytes};
+ghost use Rattle.std.specs.Prelude.{◌≡◌, IfErr, IfOk, string_bytes};
+ghost use Rattle.spool_service.specs.ServiceFaults.{IsOfListening, IsOfProofs, IsOfSocket, opened};
 ghost use Rattle.spool_service.specs.Start.{at_socket, hint_for, operators_mode, proofs_of, socket_of};
 
 use crate::lookups::group_of;
@@ -25,7 +26,9 @@ pub fn open_listener<L: Log>(
     rt: &HostRuntime,
     words: &ServiceWords<'_>,
     socket: &str,
-) -> Result<SocketListener, ShellFault> {
+) -> Result<SocketListener, ShellFault>
+    ensures { IfErr result (IsOfListening (proofs_of words.now.root.now words.now.proofs)) }
+{
     free_name(logged, rt, socket)?;
     let created = open_socket(rt, socket, words.mode);
     let clients = opened(logged, rt, socket, created)?;
@@ -51,7 +54,9 @@ pub fn remove_sockets(rt: &HostRuntime, words: &ServiceWords<'_>, socket: &str) 
 }
 
 // Removes the socket of this name that a killed service left. Another holder of the name is an error.
-fn free_name<L: Log>(logged: &L, rt: &HostRuntime, path: &str) -> Result<(), ShellFault> {
+fn free_name<L: Log>(logged: &L, rt: &HostRuntime, path: &str) -> Result<(), ShellFault>
+    ensures { IfErr result IsOfSocket }
+{
     match opened(logged, rt, path, holder_of(rt, path))? {
         Holder::Nobody => Ok(()),
         Holder::LeftSocket => {
@@ -70,7 +75,9 @@ fn free_name<L: Log>(logged: &L, rt: &HostRuntime, path: &str) -> Result<(), She
 }
 
 // Returns the owner of the socket, who is the user of the service, and its group.
-fn owner_of<L: Log>(logged: &L, rt: &HostRuntime, socket: &str) -> Result<(u32, u32), ShellFault> {
+fn owner_of<L: Log>(logged: &L, rt: &HostRuntime, socket: &str) -> Result<(u32, u32), ShellFault>
+    ensures { IfErr result IsOfSocket }
+{
     let found = opened(logged, rt, socket, fs::symlink_metadata(rt, socket))?;
     Ok((found.uid(), found.gid()))
 }
@@ -98,7 +105,9 @@ fn operators_socket<L: Log>(
     rt: &HostRuntime,
     words: &ServiceWords<'_>,
     operators: Option<u32>,
-) -> Result<Option<UnixListener>, ShellFault> {
+) -> Result<Option<UnixListener>, ShellFault>
+    ensures { IfErr result IsOfSocket }
+{
     let Some(path) = words.operators_socket else {
         return Ok(None);
     };
@@ -128,7 +137,9 @@ fn folder_of<L: Log>(
     rt: &HostRuntime,
     words: &ServiceWords<'_>,
     service: u32,
-) -> Result<Option<ProofFolder>, ShellFault> {
+) -> Result<Option<ProofFolder>, ShellFault>
+    ensures { IfErr result (IsOfProofs (proofs_of words.now.root.now words.now.proofs)) }
+{
     let path = proofs_name(rt, words)?;
     match open_folder(rt, path.as_str(), service) {
         Ok(folder) => Ok(Some(folder)),
@@ -150,7 +161,9 @@ fn opened<L: Log, T: Drop>(
     rt: &HostRuntime,
     path: &str,
     outcome: io::Result<T>,
-) -> Result<T, ShellFault> {
+) -> Result<T, ShellFault>
+    ensures { result ≡ opened outcome }
+{
     match outcome {
         Ok(value) => Ok(value),
         Err(error) => {

@@ -49,8 +49,12 @@
 //!   the last one, the steady clock and the table's moment, whatever the system's clock shows (`read`, `value` of `SystemTimes::system`).
 //! - `command_of` returns `/bin/sh` without variables, with exactly the fixed script, the signal and the number of the child
 //!   (`arguments_of`).
-//! - Each error of the loop and of the socket is converted to one of the program (`told_as`, `at_socket`). What to do about an error of a
-//!   socket is a table (`hint_for`).
+//! - The users of children have different numbers (`distinct`). `users_named` fails only for a user or for memory (`IsOfNames`), and then
+//!   `push_user` has added nothing (`kept`).
+//! - Each error of the loop and of the socket is converted to one of the program (`told_as`, `at_socket`, `opened`). What to do about an
+//!   error of a socket is a table (`hint_for`). A folder of proofs that belongs to something else is a fault with its name (`IsOfProofs`).
+//!   What clients connect to fails only so, for a socket or for memory (`IsOfListening`), and the service only so or for its disk
+//!   (`IsOfServing`).
 //!
 //! # Not proved
 //!

@@ -5,9 +5,10 @@
 //!
 //! Anybody may create names in the folder of proofs (mode 1733), nobody but the service can list them, and by the sticky bit nobody but
 //! their owner and the service can rename or remove them.
-ghost use Rattle.std.specs.Prelude.{◌≡◌};
+ghost use Rattle.std.specs.Prelude.{◌≡◌, IfErr};
 ghost use Rattle.std.specs.IoError.{error_kind};
 ghost use Rattle.spool_service.specs.Proving.{folder_fault_of};
+ghost use Rattle.spool_service.specs.ServiceFaults.{IsOfCall};
 
 use crate::lookups::{groups_of, user_of, value_of};
 use spool_types::{FileName, TextFault};
@@ -149,7 +150,9 @@ fn remove(rt: &HostRuntime, path: &str) -> bool {
 }
 
 // Returns the path from the root.
-fn whole_path(rt: &HostRuntime, path: &str) -> Result<FileName, FolderFault> {
+fn whole_path(rt: &HostRuntime, path: &str) -> Result<FileName, FolderFault>
+    ensures { IfErr result IsOfCall }
+{
     let whole = fs::canonicalize(rt, path)?;
     Ok(FileName::read(rt.alloc(), whole.as_path().as_str())?)
 }

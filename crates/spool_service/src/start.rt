@@ -1,8 +1,9 @@
 //! Starts the service: takes the folder's locks, opens the spool, and then creates the sockets.
-ghost use Rattle.std.specs.Prelude.{◌≡◌, IfOk, string_bytes};
+ghost use Rattle.std.specs.Prelude.{◌≡◌, IfErr, IfOk, string_bytes};
 ghost use Rattle.spool_service.specs.ChildArguments.{child_limits};
 ghost use Rattle.spool_service.specs.ServiceArguments.{AreInRange};
-ghost use Rattle.spool_service.specs.Start.{disk_of, keeping_of, told_of};
+ghost use Rattle.spool_service.specs.ServiceFaults.{IsOfDevice, IsOfServing};
+ghost use Rattle.spool_service.specs.Start.{disk_of, keeping_of, proofs_of, told_of};
 
 use crate::child_users::users_named;
 use crate::child_words::child_limits;
@@ -134,6 +135,7 @@ where
     L: Log,
     D: Disk + Drop,
     C: Children + Drop,
+    ensures { IfErr result (IsOfServing (proofs_of words.now.root.now words.now.proofs)) }
 {
     let keeping = keeping_of(words, disk_size(rt, words.root)?);
     let mut times = SystemTimes::new(logged, rt);
@@ -162,6 +164,7 @@ where
     L: Log,
     D: Disk + Drop,
     C: Children + Drop,
+    ensures { IfErr result (IsOfServing (proofs_of words.now.root.now words.now.proofs)) }
 {
     let socket = socket_name(rt, words)?;
     let served = listen(logged, rt, words, socket.as_str(), times, service);
@@ -182,6 +185,7 @@ where
     L: Log,
     D: Disk + Drop,
     C: Children + Drop,
+    ensures { IfErr result (IsOfServing (proofs_of words.now.root.now words.now.proofs)) }
 {
     let mut listener = open_listener(logged, rt, words, socket)?;
     info!(logged; "listening on {socket}");
@@ -191,7 +195,9 @@ where
 }
 
 // Returns the size of the folder's disk in bytes.
-fn disk_size(rt: &HostRuntime, root: &str) -> Result<u64, ShellFault> {
+fn disk_size(rt: &HostRuntime, root: &str) -> Result<u64, ShellFault>
+    ensures { IfErr result IsOfDevice }
+{
     let name = disk_name(rt.alloc(), root)?;
     match fs::metadata(rt, name.as_str()) {
         Ok(disk) => Ok(disk.len()),
