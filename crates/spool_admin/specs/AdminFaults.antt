@@ -1,5 +1,5 @@
 -- The program's errors for the faults of a checkpoint, of a half and of an edit.
-use Rattle.std.specs.Prelude.{◌≡◌, ℕ, false, is_some, not, List, Option, Result, Ok, Err, string_bytes}
+use Rattle.std.specs.Prelude.{◌≡◌, ◌⊎◌, ℕ, false, is_some, not, List, Option, None, Some, Result, Ok, Err, string_bytes}
 use Rattle.std.specs.List.{find}
 use Rattle.spool_types.specs.State.{State, queue_at}
 use Rattle.spool_types.specs.Values.{is_queue_name}
@@ -7,11 +7,13 @@ use Rattle.spool_core.specs.declared.spool.checkpoint_fault.CheckpointFault.{Che
 use Rattle.spool_core.specs.declared.spool.checkpoint_fault.CheckpointFault.TheVariants as checkpoint
 use Rattle.split_rows.specs.declared.fault.HalfFault.{HalfFault}
 use Rattle.split_rows.specs.declared.fault.HalfFault.TheVariants as half
+use Rattle.spool_runtime.specs.DeviceLines.{IsOfPrinting}
+use Rattle.spool_runtime.specs.Serving.{IsOfOpening}
 use Rattle.spool_runtime.specs.declared.fault.DiskCause.TheVariants.{Failed}
 use Rattle.spool_runtime.specs.declared.fault.ShellFault.{ShellFault}
 use Rattle.spool_runtime.specs.declared.fault.ShellFault.TheVariants.{Disk, Memory}
 use Rattle.spool_admin.specs.declared.fault.AdminFault.{AdminFault}
-use Rattle.spool_admin.specs.declared.fault.AdminFault.TheVariants.{Ended, EpochEnd, Full, Missing, Queue, Shell, Target, Unended}
+use Rattle.spool_admin.specs.declared.fault.AdminFault.TheVariants.{Ended, EpochEnd, Full, Missing, Queue, Shell, Smaller, Target, Unended}
 use Rattle.queue_edits.specs.declared.refusals.EditRefusal.{EditRefusal}
 use Rattle.queue_edits.specs.declared.refusals.EditRefusal.TheVariants as refusal
 use Rattle.spool_halves.specs.declared.edits.EditFault.{EditFault}
@@ -39,6 +41,29 @@ of_edit (edit.Refused cause) = of_refusal cause
 of_edit edit.Memory = Shell Memory
 of_edit edit.Full = Full
 of_edit edit.Disk = Shell (Disk Failed)
+
+-- The refusal of an edit that a result shows, if it shows one.
+abbrev pub refusal_shown : {A : Type 0} → Result A AdminFault → Option EditRefusal
+refusal_shown (Err Queue) = Some refusal.NoQueue
+refusal_shown (Err Unended) = Some refusal.Unended
+refusal_shown (Err Ended) = Some refusal.Ended
+refusal_shown _ = None
+
+-- The spool of the folder cannot be read.
+abbrev pub IsOfLoading : AdminFault → Type 0
+IsOfLoading told = (fault : ShellFault) × (told ≡ Shell fault) × IsOfOpening fault
+
+-- Its figures cannot be read or written.
+abbrev pub IsOfLooking : ShellFault → Type 0
+IsOfLooking fault = IsOfOpening fault ⊎ IsOfPrinting fault
+
+-- It cannot be listed in a larger file.
+abbrev pub IsOfGrowth : AdminFault → Type 0
+IsOfGrowth told = (told ≡ Smaller) ⊎ IsOfLoading told ⊎ ((fault : CheckpointFault) × (told ≡ of_checkpoint fault))
+
+-- It cannot be listed with a queue edited.
+abbrev pub IsOfEdit : AdminFault → Type 0
+IsOfEdit told = (fault : EditFault) × (told ≡ of_edit fault)
 
 -- The result of a call on the folder for the part.
 abbrev pub at_target : {A : Type 0} → Result A ShellFault → Result A AdminFault

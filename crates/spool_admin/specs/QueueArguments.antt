@@ -1,5 +1,5 @@
 -- The meaning of the words after `queue set` and `queue remove`, as clap parses them.
-use Rattle.std.specs.Prelude.{◌≡◌, ◌&&◌, ◌≤◌, Bool, List, Option, None, Some, Result, Ok, Err, IfSome, IsSome, cond, codes, false, is_some, nat_eq, not, true}
+use Rattle.std.specs.Prelude.{◌≡◌, ◌&&◌, ◌≤◌, ◌⊎◌, Bool, List, Option, None, Some, Result, Ok, Err, IfSome, IsSome, IsSomeAnd, cond, codes, false, is_some, nat_eq, not, true}
 use Rattle.std.specs.Cmp.Lexicographic.{pointwise}
 use Rattle.std.specs.Option.{option_map}
 use Rattle.std.specs.Str.{str_to_ascii_lowercase}
@@ -7,9 +7,14 @@ use Rattle.clap.specs.Words.{App, Row, Text, first_of, matches_of, new_app, one_
 use Rattle.clap.specs.declared.parser.matches.ArgMatches.{ArgMatches}
 use Rattle.spool_types.specs.declared.phase.Policy.{Policy}
 use Rattle.spool_types.specs.declared.phase.Policy.TheVariants.{AbortJob, RetryJob, RetryCurrentJob, StopPrinter}
+use Rattle.spool_types.specs.Values.{is_media_type}
+use Rattle.device_uri.specs.DeviceUris.{is_device_uri}
 use Rattle.queue_edits.specs.declared.change.QueueChange.{QueueChange}
 use Rattle.spool_runtime.specs.ProgramArguments.{AreFaultlessFor, HasNumberIn, flag_of, is_told, number_of, option_in, text_option}
+use Rattle.spool_runtime.specs.declared.fault.ShellFault.TheVariants.{Memory}
 use Rattle.spool_admin.specs.AdminArguments.{needed}
+use Rattle.spool_admin.specs.declared.fault.AdminFault.{AdminFault}
+use Rattle.spool_admin.specs.declared.fault.AdminFault.TheVariants.{BadMedia, BadUri, Shell}
 use Rattle.spool_admin.specs.declared.queue_words.SetWords.{SetWords}
 use Rattle.spool_admin.specs.declared.queue_words.RemoveWords.{RemoveWords}
 
@@ -107,3 +112,15 @@ pub record IsChangeOf (words : SetWords) (change : QueueChange) : Type 0 where
   pub policy : change.policy ≡ words.policy
   pub interval : change.interval ≡ words.interval
   pub limit : change.limit ≡ words.limit
+
+-- The URI that is given is not that of a device, or memory ran out.
+abbrev pub IsOfUri : Option Text → AdminFault → Type 0
+IsOfUri given told = (told ≡ Shell Memory) ⊎ ((told ≡ BadUri) × IsSomeAnd given (λ text. is_device_uri text ≡ false))
+
+-- The media type that is given is not one, or memory ran out.
+abbrev pub IsOfMedia : Option Text → AdminFault → Type 0
+IsOfMedia given told = (told ≡ Shell Memory) ⊎ ((told ≡ BadMedia) × IsSomeAnd given (λ text. is_media_type (str_to_ascii_lowercase text) ≡ false))
+
+-- A value cannot be that of a queue, or memory ran out.
+abbrev pub IsOfChange : SetWords → AdminFault → Type 0
+IsOfChange words told = IsOfUri (option_map (λ text. text.now) words.uri) told ⊎ IsOfMedia (option_map (λ text. text.now) words.media) told

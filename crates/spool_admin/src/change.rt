@@ -6,7 +6,7 @@ ghost use Rattle.spool_types.specs.Values.{is_media_type};
 ghost use Rattle.device_uri.specs.DeviceUris.{is_device_uri};
 ghost use Rattle.spool_runtime.specs.declared.fault.ShellFault.TheVariants.{Memory};
 ghost use Rattle.spool_admin.specs.declared.fault.AdminFault.TheVariants.{BadMedia, BadUri, Shell};
-ghost use Rattle.spool_admin.specs.QueueArguments.{AreInRange, IsChangeOf};
+ghost use Rattle.spool_admin.specs.QueueArguments.{AreInRange, IsChangeOf, IsOfChange, IsOfMedia, IsOfUri};
 
 use crate::fault::AdminFault;
 use crate::queue_words::SetWords;
@@ -18,7 +18,8 @@ use std::alloc::{AllocError, Global};
 /// Returns the change that the words request. A URI must be that of a device, and a media type one.
 pub fn change_in(alloc: Global, words: &SetWords<'_>) -> Result<QueueChange, AdminFault>
     requires { AreInRange words.now }
-    ensures { IfOk result (IsChangeOf words.now) }
+    ensures change { IfOk result (IsChangeOf words.now) }
+    ensures fault { IfErr result (IsOfChange words.now) }
 {
     let uri = uri_in(alloc, words.uri)?;
     let media = media_in(alloc, words.media)?;
@@ -32,7 +33,8 @@ pub fn change_in(alloc: Global, words: &SetWords<'_>) -> Result<QueueChange, Adm
 }
 
 fn uri_in(alloc: Global, given: Option<&str>) -> Result<Option<Uri>, AdminFault>
-    ensures { IfOk result (λ uri. uri ≡ option_map (λ text. text.now) given.entry) }
+    ensures uri { IfOk result (λ uri. uri ≡ option_map (λ text. text.now) given.entry) }
+    ensures fault { IfErr result (IsOfUri (option_map (λ text. text.now) given.entry)) }
 {
     match given {
         Some(text) => Ok(Some(uri_of(alloc, text)?)),
@@ -57,7 +59,8 @@ fn uri_of(alloc: Global, text: &str) -> Result<Uri, AdminFault>
 }
 
 fn media_in(alloc: Global, given: Option<&str>) -> Result<Option<MediaType>, AdminFault>
-    ensures { IfOk result (λ media. media ≡ option_map (λ text. str_to_ascii_lowercase text.now) given.entry) }
+    ensures media { IfOk result (λ media. media ≡ option_map (λ text. str_to_ascii_lowercase text.now) given.entry) }
+    ensures fault { IfErr result (IsOfMedia (option_map (λ text. text.now) given.entry)) }
 {
     match given {
         Some(text) => Ok(Some(media_of(alloc, text)?)),

@@ -3,6 +3,7 @@ ghost use Rattle.std.specs.Prelude.{◌≡◌, List, ℕ, None, Some, IfErr, IfO
 ghost use Rattle.spool_disk.specs.Disk.{ChangesNothing, IsSynced};
 ghost use Rattle.spool_core.specs.Image.{HasTable};
 ghost use Rattle.spool_halves.specs.Edited.{KeepsAllDocuments};
+ghost use Rattle.spool_admin.specs.AdminFaults.{IsOfEdit, refusal_shown};
 ghost use Rattle.spool_admin.specs.QueueEdit.{after_edit, edit_refusal};
 
 use crate::fault::AdminFault;
@@ -48,6 +49,8 @@ pub fn list_edited<S: Disk, T: Disk + Drop>(
     ensures documents { IfOk result (λ made. (r : List ℕ) → S.device.bytes whole.old.disk ≡ Some r → IsSome (T.device.bytes made) → (c : List ℕ) → T.device.image made c →
         KeepsAllDocuments whole.old.state r c) }
     ensures allowed { IfOk result (λ _. edit_refusal name.now edit.now whole.old.state ≡ None) }
+    ensures refused { refusal_shown result ≡ edit_refusal name.now edit.now whole.old.state }
+    ensures fault { IfErr result IsOfEdit }
     ensures synced { IfOk result (IsSynced T.device) }
     ensures state { whole.new.state ≡ whole.old.state }
     ensures still { ChangesNothing S.device whole.old.disk whole.new.disk }

@@ -1,6 +1,7 @@
 //! Making a spool's file larger.
-ghost use Rattle.std.specs.Prelude.{◌≡◌, ◌+◌, ◌<◌, ◌↔◌, List, ℕ, Some, IfOk, IsErrOf};
+ghost use Rattle.std.specs.Prelude.{◌≡◌, ◌+◌, ◌<◌, ◌↔◌, List, ℕ, Some, IfErr, IfOk, IsErrOf};
 ghost use Rattle.spool_disk.specs.Disk.{IsSynced};
+ghost use Rattle.spool_admin.specs.AdminFaults.{IsOfGrowth};
 ghost use Rattle.spool_admin.specs.Grown.{IsGrownFrom, copied_over};
 
 use crate::copying::copy;
@@ -13,7 +14,9 @@ use std::alloc::Global;
 
 /// Gives the spool of a folder a file of `size` bytes. After a fault the old spool exists unchanged, unless the last sync of the
 /// folder failed: then the new file already has the name.
-pub fn grow(rt: &HostRuntime, dir: &str, size: u64) -> Result<(), AdminFault> {
+pub fn grow(rt: &HostRuntime, dir: &str, size: u64) -> Result<(), AdminFault>
+    ensures { IfErr result IsOfGrowth }
+{
     let folder = SpoolFolder::own(rt, dir)?;
     let old = find(rt.alloc(), folder.device_there(rt)?)?;
     if size < old.account.size {
@@ -39,6 +42,7 @@ pub fn list<S: Disk + Drop, T: Disk + Drop>(
     requires within { old.base + old.account.used < S.device.size old.disk }
     requires short { old.account.used < old.account.size }
     ensures smaller { IsErrOf result AdminFault.Smaller ↔ (T.device.size next < old.account.size) }
+    ensures fault { IfErr result IsOfGrowth }
     ensures synced { IfOk result (IsSynced T.device) }
     // A crash leaves the table that opening the copied bytes yields, with their documents.
     ensures grown { IfOk result (λ disk. (r t : List ℕ) → S.device.bytes old.disk ≡ Some r → T.device.bytes next ≡ Some t →

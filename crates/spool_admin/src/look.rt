@@ -1,6 +1,8 @@
 //! Showing how full a spool is.
-ghost use Rattle.std.specs.Prelude.{◌≡◌, ◌++◌, IfOk, OnOk, string_bytes};
+ghost use Rattle.std.specs.Prelude.{◌≡◌, ◌++◌, IfErr, IfOk, OnOk, string_bytes};
 ghost use Rattle.std.specs.Io.KnownBytes.{Appends};
+ghost use Rattle.spool_runtime.specs.DeviceLines.{IsOfPrinting};
+ghost use Rattle.spool_admin.specs.AdminFaults.{IsOfLooking};
 ghost use Rattle.spool_admin.specs.Look.{account_text, area_text, jobs_text, line_of};
 
 use crate::found::{Account, JobCounts, find};
@@ -9,7 +11,9 @@ use std::alloc::{AllocError, Global};
 use std::io::Write;
 
 /// Prints the figures of a folder's spool, and changes nothing.
-pub fn look<W: Write>(rt: &HostRuntime, dir: &str, writer: &mut W) -> Result<(), ShellFault> {
+pub fn look<W: Write>(rt: &HostRuntime, dir: &str, writer: &mut W) -> Result<(), ShellFault>
+    ensures { IfErr result IsOfLooking }
+{
     let folder = SpoolFolder::own(rt, dir)?;
     let found = match find(rt.alloc(), folder.device_there(rt)?) {
         Ok(found) => found,
@@ -25,6 +29,7 @@ fn print_account<W: Write>(
     writer: &mut W,
 ) -> Result<(), ShellFault>
     ensures lines { OnOk result (Appends (W.contents writer.old) (W.contents writer.new) (account_text account.now)) }
+    ensures fault { IfErr result IsOfPrinting }
 {
     let text = account_text(alloc, account)?;
     match writer.write_all(text.as_bytes()) {

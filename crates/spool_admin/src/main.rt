@@ -61,10 +61,12 @@
 //!
 //! - [`read_words`] returns what clap's definition of the command of their form finds in the words (`asked`). It rejects them
 //!   exactly if clap finds an error or they are not those of a task (`taken`).
-//! - [`change::change_in`] returns exactly the values of the words (`IsChangeOf`).
+//! - [`change::change_in`] returns exactly the values of the words (`IsChangeOf`). It fails only for a value that it names, or for
+//!   memory (`IsOfChange`).
 //! - [`edit::list_edited`]: afterwards a crash leaves exactly the edited table (`edited`, `after_edit`), and each job that has not
 //!   ended has the document of the old disk (`documents`). The edit was allowed (`allowed`). The new disk is synced (`synced`), and
-//!   nothing changes on the old one (`state`, `still`). [`edit::refusal_of`] returns exactly why an edit is refused.
+//!   nothing changes on the old one (`state`, `still`). [`edit::refusal_of`] returns exactly why an edit is refused, and the fault
+//!   of `list_edited` shows exactly this (`refused`, `IsOfEdit`).
 //! - [`found::find`] changes nothing on the disk (`still`), and returns the current area of its bytes (`area`, `HasArea`) and the
 //!   number of queues and jobs of their table (`counts`, `HasCounts`). A fault of the bytes is theirs (`fault`).
 //! - [`copying::copy`] leaves exactly the copied bytes at the beginning of the target, and changes nothing else (`copied`,
@@ -79,6 +81,8 @@
 //!   (`fault`). [`names::missing_queue`] returns the first queue that the table does not have.
 //! - [`record::part_in`] finds a split that was begun exactly if [`record::noted`] noted it with the same words (`some`, `none`,
 //!   `IsNoted`).
+//! - `look`, `grow` and `queue` have the faults of an opening (`IsOfLoading`), and only those of their own in addition
+//!   (`IsOfLooking`, `IsOfGrowth`, `IsOfEdit`).
 //! - [`fault::report_admin_end`] returns status 0 after `Ok` and 1 after a fault (`ok`, `fault`). [`fault::at_target`] marks exactly the
 //!   faults of the folder INTO. The causes of the faults that only this program has are exactly a table ([`causes::admin_cause`]).
 //!

@@ -1,4 +1,7 @@
 //! Changing and removing a queue.
+ghost use Rattle.std.specs.Prelude.{◌⊎◌, IfErr};
+ghost use Rattle.spool_admin.specs.AdminFaults.{IsOfEdit, IsOfLoading};
+
 use crate::edit::{QueueEdit, list_edited, refusal_of};
 use crate::fault::AdminFault;
 use crate::whole::whole_spool;
@@ -13,7 +16,9 @@ pub fn edit_queue(
     dir: &str,
     name: &QueueName,
     edit: &QueueEdit,
-) -> Result<(), AdminFault> {
+) -> Result<(), AdminFault>
+    ensures { IfErr result (λ fault. IsOfLoading fault ⊎ IsOfEdit fault) }
+{
     let folder = SpoolFolder::own(rt, dir)?;
     match write_edited(rt, &folder, name, edit) {
         Ok(next) => drop(next),
@@ -26,12 +31,15 @@ pub fn edit_queue(
 }
 
 // Makes the new file, complete and synced, under the name of an unfinished one. Nothing is made for an edit that is refused.
+#[tactic(auto, using(crate::proofs::EditFaults::made))]
 fn write_edited(
     rt: &HostRuntime,
     folder: &SpoolFolder<'_>,
     name: &QueueName,
     edit: &QueueEdit,
-) -> Result<FileDisk, AdminFault> {
+) -> Result<FileDisk, AdminFault>
+    ensures { IfErr result (λ fault. IsOfLoading fault ⊎ IsOfEdit fault) }
+{
     let (mut whole, size) = whole_spool(rt, folder)?;
     if let Some(refusal) = refusal_of(whole.table(), name, edit) {
         return Err(AdminFault::from(refusal));

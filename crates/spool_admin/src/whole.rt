@@ -1,5 +1,6 @@
 //! Loading the spool of a folder.
-ghost use Rattle.std.specs.Prelude.{◌≡◌, IfOk, None};
+ghost use Rattle.std.specs.Prelude.{◌≡◌, IfErr, IfOk, None};
+ghost use Rattle.spool_admin.specs.AdminFaults.{IsOfLoading};
 
 use crate::fault::AdminFault;
 use spool_core::Spool;
@@ -12,6 +13,7 @@ pub fn whole_spool<'r>(
     folder: &SpoolFolder<'_>,
 ) -> Result<(Spool<NamedDisk<'r>>, u64), AdminFault>
     ensures settled { IfOk result (λ found. found.0.held ≡ None) }
+    ensures fault { IfErr result IsOfLoading }
 {
     let disk = folder.device_there(rt)?;
     let size = disk.len();
