@@ -1,5 +1,5 @@
 -- Nothing of a document is left to read only if its end was read.
-use Rattle.std.proofs.Common.{◌≡◌, ℕ, ◌<◌, ◌⊎◌, inl, inr, Bool, true, false, cond, not, ◌&&◌, ◌==◌, ◌+◌, refl, ap, sym, ◌∙◌, subst, arith, Option, None, Some}
+use Rattle.std.proofs.Common.{◌≡◌, ℕ, ◌<◌, ◌⊎◌, inl, inr, Bool, true, false, cond, not, ◌&&◌, ◌==◌, ◌+◌, refl, ap, sym, ◌∙◌, subst, arith, List, Option, None, Some}
 use Rattle.front_submission.specs.declared.step.Step.{Step}
 use Rattle.front_submission.specs.declared.step.Step.TheVariants.{Creating, Finding, Clearing, Reading, Sending, Measuring, Holding, Closing, Checking, Canceling, Ended}
 use Rattle.front_submission.specs.declared.reply.Own.{Own}
@@ -11,6 +11,9 @@ use Rattle.front_submission.specs.declared.step.Cause.{Cause}
 use Rattle.front_submission.specs.SubmissionSteps.{heard, lost, deserted, unread, supplied, after_create, after_find, own_found, one_of, first_of, sent_first, sent_all, after_send, shown_sent, after_measure, after_cancel}
 use Rattle.front_submission.specs.SubmissionSteps.{request}
 use Rattle.front_submission.specs.declared.step.Request.TheVariants.{Read}
+use Rattle.std.specs.Io.KnownBytes.{IsAtEnd}
+use Rattle.spool_front.specs.DocumentPieces.{rest_of}
+use Rattle.spool_front.specs.declared.document.Document.{Document}
 use Rattle.spool_front.specs.Submissions.{IsAnswered, IsSupplied, is_behind}
 
 either : (b : Bool) (x y : Step) → is_behind x ≡ false → is_behind y ≡ false → is_behind (cond b x y) ≡ false
@@ -139,3 +142,9 @@ read_behind P step next size count last holds reading (inl is) (inr short) (inr 
       | inr (inl none) ↦ p (short (omega (arith, none)))
       | inr (inr ends) ↦ p ends
     ]
+
+-- The same of a document and a step that are these.
+pub moved : {S : Type 0} (left : S → Option (List ℕ)) (step next : Step) (document new : Document S) → step ≡ next → document ≡ new
+    → (is_behind next ≡ true → IsAtEnd (rest_of (left new.source) new)) → is_behind step ≡ true → IsAtEnd (rest_of (left document.source) document)
+moved {S} left step next document new same other h behind =
+    subst (λ (d : Document S). IsAtEnd (rest_of (left d.source) d)) (sym other) (h (sym (ap is_behind same) ∙ behind))

@@ -1,5 +1,5 @@
 -- The commands that are sent to a service.
-use Rattle.std.specs.Prelude.{ℕ, Bool, ◌||◌, nat_lt, ◌==◌, List, [], ◌∷◌, ◌++◌, cond, codes, String, string_bytes, Option, None, Some, unwrap_or}
+use Rattle.std.specs.Prelude.{ℕ, Bool, ◌||◌, nat_lt, ◌==◌, List, [], ◌∷◌, ◌++◌, length, cond, codes, String, string_bytes, Option, None, Some, unwrap_or}
 use Rattle.std.specs.Global.{Global}
 use Rattle.std.specs.Fmt.{decimal}
 use Rattle.command_lines.specs.Replies.{quoted}
@@ -57,8 +57,7 @@ closeat_line job size d =
 
 -- A long piece is sent by two commands.
 abbrev pub second_text : ℕ → List ℕ → List (List ℕ)
-second_text job [] = []
-second_text job (b ∷ bs) = send_text job (b ∷ bs) ∷ []
+second_text job bytes = cond (length bytes == 0) [] (send_text job bytes ∷ [])
 
 -- After the last piece the job is closed, if it then has this size.
 abbrev pub close_text : Draft → ℕ → Option ℕ → List (List ℕ)

@@ -1,11 +1,11 @@
 //! Submitting a document as exactly one job.
-ghost use Rattle.std.specs.Prelude.{◌≡◌, ◌<◌, ◌++◌, ◌∷◌, [], ◌↔◌, ◌⊎◌, IfOk, IsSome, IsTrue, List, None, Some, cond, drop, false, is_some, length, map, string_bytes, take, true};
+ghost use Rattle.std.specs.Prelude.{◌≡◌, ◌<◌, ◌++◌, ◌∷◌, [], ◌↔◌, ◌⊎◌, IfOk, IsSome, IsTrue, List, None, OnOk, Some, cond, drop, false, is_some, length, map, string_bytes, take, true};
 ghost use Rattle.std.specs.Io.KnownBytes.{IsAtEnd};
 ghost use Rattle.std.specs.Option.{option_map};
 ghost use Rattle.std.specs.Str.Iter.{HasSubslice};
 ghost use Rattle.front_proof.specs.Standings.{standing_of};
 ghost use Rattle.spool_front.specs.FoundJobs.{found_one, may_be_own, own_job, token_of, with_job};
-ghost use Rattle.spool_front.specs.SentCommands.{job_user, piece_texts};
+ghost use Rattle.spool_front.specs.SentCommands.{close_text, job_user, piece_texts, second_text};
 ghost use Rattle.spool_front.specs.DocumentPieces.{is_last, piece_of, rest_of};
 ghost use Rattle.service_replies.specs.ServiceReplies.{closing_reply, reply_in, shown_of};
 ghost use Rattle.spool_front.specs.Submissions.{IsAnswered, IsHeard, IsLooked, IsSupplied, cause_text, denied_text, is_refusal, joined_reply, refusal_text, lost_after, one_more, was_closed};
@@ -542,13 +542,36 @@ fn piece_texts(
     let (first, second) = parts_of(piece);
     let mut texts = Vec::new(alloc);
     texts.push(send_text(alloc, job, first)?)?;
-    if !second.is_empty() {
-        texts.push(send_text(alloc, job, second)?)?;
-    }
-    if let Some(size) = end {
-        texts.push(closeat_line(alloc, job, size, draft)?)?;
-    }
+    push_second(&mut texts, job, second)?;
+    push_close(&mut texts, draft, job, end)?;
     Ok(texts)
+}
+
+fn push_second(texts: &mut Vec<Vec<u8>>, job: u32, bytes: &[u8]) -> Result<(), AllocError>
+    ensures { OnOk result (map (λ text. text.items) texts.new.items ≡ map (λ text. text.items) texts.old.items ++ second_text job bytes.now) }
+{
+    if bytes.is_empty() {
+        return Ok(());
+    }
+    let text = send_text(*texts.allocator(), job, bytes)?;
+    texts.push(text)?;
+    Ok(())
+}
+
+fn push_close(
+    texts: &mut Vec<Vec<u8>>,
+    draft: &Draft,
+    job: u32,
+    end: Option<u64>,
+) -> Result<(), AllocError>
+    ensures { OnOk result (map (λ text. text.items) texts.new.items ≡ map (λ text. text.items) texts.old.items ++ close_text draft.now job end) }
+{
+    let Some(size) = end else {
+        return Ok(());
+    };
+    let text = closeat_line(*texts.allocator(), job, size, draft)?;
+    texts.push(text)?;
+    Ok(())
 }
 
 // Returns the reply to a piece from the replies to its two commands. Only if the second command was refused, the first one decides: the other
